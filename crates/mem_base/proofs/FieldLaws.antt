@@ -1,0 +1,112 @@
+-- Laws of calls that change one region but not where it leads, and of calls that take a step away.
+use Rattle.std.proofs.Common.{◌≡◌, ◌≢◌, ℕ, ◌+◌, ◌<◌, ◌≤◌, max, Bool, true, false, cond, eqb, List, [], ◌∷◌, ◌++◌, map, Option, Some, None, refl, sym, ap, subst, ◌∙◌, arith}
+use Rattle.std.specs.Prelude.{filter}
+use Rattle.std.specs.declared.cmp.Ordering.{Ordering}
+use Rattle.std.specs.Ordering.{is_lt}
+use Rattle.mem_base.specs.declared.ids.RegionId.{RegionId}
+use Rattle.mem_base.specs.declared.forests.Node.{Node}
+use Rattle.mem_base.specs.declared.forests.Forest.{Forest}
+use Rattle.mem_base.specs.declared.kinds.Kind.{Kind}
+use Rattle.mem_base.specs.declared.kinds.Kind.TheVariants.{Alias}
+use Rattle.mem_base.specs.Every.{Every}
+use Rattle.mem_base.specs.Region.{has_id, node_of, is_in, is_child_of}
+use Rattle.mem_base.specs.Sorting.{put_by, sorted_by}
+use Rattle.mem_base.specs.Order.{trial_order, children_of}
+use Rattle.mem_base.specs.Forest.{IsForest}
+use Rattle.mem_base.specs.Changes.{changed_at}
+use Rattle.mem_base.specs.Steps.{Steps, steps_of, steps_from, steps_at, greatest, total, depth_by, weight_by, depth_of, weight_of, greatest_depth, greatest_weight}
+use Rattle.mem_base.proofs.StepLaws.{Alike, Fewer, map_agree, every_of, depth_by-alike, weight_by-alike, depth_by-fewer, weight_by-fewer}
+use Rattle.mem_base.proofs.JoinLaws.{node_of-changed_at, map_ids-changed_at, steps_seen, steps_alike}
+
+-- the order of two regions, and where they lie
+abbrev pub SeesSame : (Node → Node) → Type 0
+SeesSame g = (x y : Node) → trial_order (g x) (g y) ≡ trial_order x y
+
+-- a change of one region that keeps its id, its place and its kind, but for an alias's offset
+pub record IsField (g : Node → Node) : Type 0 where
+  pub id : (n : Node) → (g n).id ≡ n.id
+  pub parent : (n : Node) → (g n).parent ≡ n.parent
+  pub priority : (n : Node) → (g n).priority ≡ n.priority
+  pub placing : (n : Node) → (g n).placing ≡ n.placing
+  pub kind : (n : Node) → (g n).kind ≡ n.kind
+
+module _ (r : RegionId) (g : Node → Node) (field : IsField g) where
+  abbrev one : Node → Node
+  one n = cond (has_id r n) (g n) n
+
+  one_id : (n : Node) → (one n).id ≡ n.id
+  one_id n = elim (has_id r n) as (λ b. (cond b (g n) n).id ≡ n.id) [ true ↦ field.id n | false ↦ refl ]
+
+  one_parent : (n : Node) → (one n).parent ≡ n.parent
+  one_parent n = elim (has_id r n) as (λ b. (cond b (g n) n).parent ≡ n.parent) [ true ↦ field.parent n | false ↦ refl ]
+
+  one_priority : (n : Node) → (one n).priority ≡ n.priority
+  one_priority n = elim (has_id r n) as (λ b. (cond b (g n) n).priority ≡ n.priority) [ true ↦ field.priority n | false ↦ refl ]
+
+  one_placing : (n : Node) → (one n).placing ≡ n.placing
+  one_placing n = elim (has_id r n) as (λ b. (cond b (g n) n).placing ≡ n.placing) [ true ↦ field.placing n | false ↦ refl ]
+
+  one_order : (x y : Node) → trial_order (one x) (one y) ≡ trial_order x y
+  one_order x y =
+      let a = one_priority x in
+      let b = one_priority y in
+      let c = one_placing x in
+      let d = one_placing y in
+      simp (a, b, c, d)
+
+  put_one : (x : Node) (l : List Node) → put_by trial_order (one x) (map one l) ≡ map one (put_by trial_order x l)
+  put_one x [] = refl
+  put_one x (y ∷ ys) =
+      let same = ap is_lt (one_order x y) in
+      let ih = put_one x ys in
+      rw same (elim (is_lt (trial_order x y)) as (λ b. cond b (one x ∷ one y ∷ map one ys) (one y ∷ put_by trial_order (one x) (map one ys)) ≡ map one (cond b (x ∷ y ∷ ys) (y ∷ put_by trial_order x ys))) [ true ↦ refl | false ↦ ap (λ l. one y ∷ l) ih ])
+
+  sorted_one : (l : List Node) → sorted_by trial_order (map one l) ≡ map one (sorted_by trial_order l)
+  sorted_one [] = refl
+  sorted_one (x ∷ xs) = ap (put_by trial_order (one x)) (sorted_one xs) ∙ put_one x (sorted_by trial_order xs)
+
+  filter_one : (q : RegionId) (l : List Node) → filter (is_child_of q) (map one l) ≡ map one (filter (is_child_of q) l)
+  filter_one q [] = refl
+  filter_one q (x ∷ xs) =
+      let ih = filter_one q xs in
+      let same : is_child_of q (one x) ≡ is_child_of q x = ap (is_in q) (one_parent x) in
+      rw same (elim (is_child_of q x) as (λ b. cond b (one x ∷ filter (is_child_of q) (map one xs)) (filter (is_child_of q) (map one xs)) ≡ map one (cond b (x ∷ filter (is_child_of q) xs) (filter (is_child_of q) xs))) [ true ↦ ap (λ l. one x ∷ l) ih | false ↦ ih ])
+
+  -- the children are the same regions in the same order
+  pub children_field : (nodes : List Node) (q : RegionId) → children_of (changed_at r g nodes) q ≡ map one (children_of nodes q)
+  children_field nodes q = ap (sorted_by trial_order) (filter_one q nodes) ∙ sorted_one (filter (is_child_of q) nodes)
+
+  ids_one : (l : List Node) → map (λ (c : Node). c.id) (map one l) ≡ map (λ (c : Node). c.id) l
+  ids_one [] = refl
+  ids_one (x ∷ xs) = let a = one_id x in let b = ids_one xs in cc
+
+  pub child_ids_field : (nodes : List Node) (q : RegionId) → map (λ (c : Node). c.id) (children_of (changed_at r g nodes) q) ≡ map (λ (c : Node). c.id) (children_of nodes q)
+  child_ids_field nodes q = ap (map (λ (c : Node). c.id)) (children_field nodes q) ∙ ids_one (children_of nodes q)
+
+  steps_at_field : (nodes : List Node) (k : Kind) (n : Node) → steps_at (changed_at r g nodes) k n ≡ steps_at nodes k n
+  steps_at_field nodes (Alias target offset) n = refl
+  steps_at_field nodes _ n = child_ids_field nodes n.id
+
+  steps_from_field : (nodes : List Node) (o : Option Node) → steps_from (changed_at r g nodes) o ≡ steps_from nodes o
+  steps_from_field nodes None = refl
+  steps_from_field nodes (Some n) = steps_at_field nodes n.kind n
+
+  -- no step changes, so no depth and no weight does
+  pub steps_field : (nodes : List Node) (q : RegionId) → steps_of (changed_at r g nodes) q ≡ steps_of nodes q
+  steps_field nodes q =
+      ap (steps_from (changed_at r g nodes)) (node_of-changed_at r g field.id nodes q)
+      ∙ steps_seen (changed_at r g nodes) r g field.id field.kind (node_of nodes q)
+      ∙ steps_from_field nodes (node_of nodes q)
+
+  alike_field : (nodes : List Node) (q : RegionId) → Alike (steps_of (changed_at r g nodes) q) (steps_of nodes q)
+  alike_field nodes q w = (ap (λ l. greatest (map w l)) (steps_field nodes q), ap (λ l. total (map w l)) (steps_field nodes q))
+
+  pub greatest_depth_field : (nodes : List Node) → greatest_depth (changed_at r g nodes) ≡ greatest_depth nodes
+  greatest_depth_field nodes =
+      ap greatest (map_ids-changed_at (depth_of (changed_at r g nodes)) r g field.id nodes
+      ∙ map_agree (λ (n : Node). depth_of (changed_at r g nodes) n.id) (λ (n : Node). depth_of nodes n.id) nodes (every_of _ (λ n. depth_by-alike (steps_of (changed_at r g nodes)) (steps_of nodes) (alike_field nodes) 64 n.id) nodes))
+
+  pub greatest_weight_field : (nodes : List Node) → greatest_weight (changed_at r g nodes) ≡ greatest_weight nodes
+  greatest_weight_field nodes =
+      ap greatest (map_ids-changed_at (weight_of (changed_at r g nodes)) r g field.id nodes
+      ∙ map_agree (λ (n : Node). weight_of (changed_at r g nodes) n.id) (λ (n : Node). weight_of nodes n.id) nodes (every_of _ (λ n. weight_by-alike (steps_of (changed_at r g nodes)) (steps_of nodes) (alike_field nodes) 64 n.id) nodes))

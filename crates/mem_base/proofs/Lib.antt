@@ -1,0 +1,12 @@
+pub mod EveryLaws
+pub mod SortingLaws
+pub mod StepLaws
+pub mod ForestLaws
+pub mod SearchLaws
+pub mod JoinLaws
+pub mod MadeLaws
+pub mod FieldLaws
+pub mod DelLaws
+pub mod EntryLaws
+pub mod KeptLaws
+pub mod ViewLaws

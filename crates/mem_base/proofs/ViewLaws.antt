@@ -1,0 +1,161 @@
+use Rattle.std.proofs.Common.{◌≡◌, ◌≢◌, ℕ, ◌+◌, ◌-◌, ◌^◌, ◌<◌, ◌≤◌, Bool, true, false, ◌&&◌, cond, List, [], ◌∷◌, ◌++◌, Option, Some, None, refl, sym, ap, subst, ◌∙◌, arith, ⊎_elim}
+use Rattle.std.specs.Option.{option_or}
+use Rattle.std.specs.Prelude.{nat_le, nat_lt}
+use Rattle.std.proofs.lemmas.Bool.{cases_lt}
+use Rattle.std.proofs.lemmas.Bool.Decides.{nat_tests}
+use Rattle.mem_base.specs.declared.forests.Forest.{Forest}
+use Rattle.mem_base.specs.declared.ids.SpaceId.{SpaceId}
+use Rattle.mem_base.specs.declared.spots.Spot.{Spot}
+use Rattle.mem_base.specs.declared.ids.RegionId.{RegionId}
+use Rattle.mem_base.specs.declared.spots.Attrs.{Attrs}
+use Rattle.mem_base.specs.declared.flat.FlatRange.{FlatRange}
+use Rattle.mem_base.specs.View.{holds, seen, shown, IsRanges, Merges, MergesNot, IsMerged}
+use Rattle.mem_base.specs.View.{Agrees, IsView}
+
+abbrev pub spot_at : FlatRange → ℕ → Spot
+spot_at r a = record { leaf = r.leaf; offset = r.offset + (a - r.start); attrs = r.attrs }
+
+pub seen-outside : (r : FlatRange) (a : ℕ) → holds r a ≡ false → seen r a ≡ None
+seen-outside r a t = simp t
+
+pub seen-within : (r : FlatRange) (a : ℕ) → r.start ≤ a → a ≤ r.last → seen r a ≡ Some (spot_at r a)
+seen-within r a l k = let t : holds r a ≡ true = grind (arith, nat_tests) in simp t
+
+pub seen-before : (r : FlatRange) (a : ℕ) → a < r.start → seen r a ≡ None
+seen-before r a l = seen-outside r a (grind (arith, nat_tests))
+
+pub seen-after : (r : FlatRange) (a : ℕ) → r.last < a → seen r a ≡ None
+seen-after r a l = seen-outside r a (grind (arith, nat_tests))
+
+-- nothing is shown before the first range
+pub shown-before : (from end : ℕ) (rs : List FlatRange) (a : ℕ) → IsRanges from end rs → a < from → shown rs a ≡ None
+shown-before from end [] a h l = refl
+shown-before from end (r ∷ rs) a h l =
+    let first : seen r a ≡ None = let k = h.0 in seen-before r a (omega arith) in
+    let others = shown-before (r.last + 1) end rs a h.3 (let k = h.0 in let m = h.1 in omega arith) in
+    simp (first, others)
+
+pub IsRanges-within : (from end : ℕ) (rs : List FlatRange) → IsRanges from end rs → from ≤ end
+IsRanges-within from end [] h = h
+IsRanges-within from end (r ∷ rs) h = let w = IsRanges-within (r.last + 1) end rs h.3 in let k = h.0 in let m = h.1 in omega arith
+
+-- nothing is shown past the last range
+pub shown-past : (from end : ℕ) (rs : List FlatRange) (a : ℕ) → IsRanges from end rs → end ≤ a → shown rs a ≡ None
+shown-past from end [] a h l = refl
+shown-past from end (r ∷ rs) a h l =
+    let w = IsRanges-within (r.last + 1) end rs h.3 in
+    let first : seen r a ≡ None = seen-after r a (omega arith) in
+    let others = shown-past (r.last + 1) end rs a h.3 l in
+    simp (first, others)
+
+-- the first range shows itself
+pub shown-first : (r : FlatRange) (rs : List FlatRange) (a : ℕ) → r.start ≤ a → a ≤ r.last → shown (r ∷ rs) a ≡ Some (spot_at r a)
+shown-first r rs a l k = let t = seen-within r a l k in simp t
+
+-- past the first range the others show
+pub shown-later : (r : FlatRange) (rs : List FlatRange) (a : ℕ) → r.last < a → shown (r ∷ rs) a ≡ shown rs a
+shown-later r rs a l = let t = seen-after r a l in simp t
+
+-- what is shown at the first address of all is shown by a range that starts there
+starts_at : (from end : ℕ) (rs : List FlatRange) (s : Spot) → IsRanges from end rs → shown rs from ≡ Some s → (q : FlatRange) × (qs : List FlatRange) × (rs ≡ q ∷ qs) × (q.start ≡ from) × (spot_at q from ≡ s)
+starts_at from end [] s h e = cc
+starts_at from end (q ∷ qs) s h e =
+    let k = h.0 in let m = h.1 in
+    ⊎_elim
+    (λ low. let none = shown-before q.start end (q ∷ qs) from ((omega arith, h.1, h.2, h.3)) low in let e' : None ≡ Some s = sym none ∙ e in cc)
+    (λ high.
+    let at : q.start ≡ from = omega arith in
+    let here = shown-first q qs from (omega arith) (omega arith) in
+    let both : Some (spot_at q from) ≡ Some s = sym here ∙ e in
+    (q, qs, refl, at, cc))
+    (cases_lt from q.start)
+
+spot_leaf : (x y : Spot) → x ≡ y → (x.leaf ≡ y.leaf) × (x.offset ≡ y.offset) × (x.attrs ≡ y.attrs)
+spot_leaf x y e = (ap (λ (s : Spot). s.leaf) e, ap (λ (s : Spot). s.offset) e, ap (λ (s : Spot). s.attrs) e)
+
+some_same : (x y : Spot) → Some x ≡ Some y → x ≡ y
+some_same x y e = cc
+
+-- one list cannot stop short in a range of the other
+stops : (end : ℕ) (r : FlatRange) (rs : List FlatRange) (q : FlatRange) (qs : List FlatRange) → IsRanges (r.last + 1) end rs → IsMerged (r ∷ rs) → r.start ≡ q.start → r.start ≤ r.last → spot_at r r.start ≡ spot_at q r.start → r.last < q.last → shown (r ∷ rs) (r.last + 1) ≡ shown (q ∷ qs) (r.last + 1) → ⊥
+stops end r rs q qs h m st ne sp l e =
+    let here : shown (q ∷ qs) (r.last + 1) ≡ Some (spot_at q (r.last + 1)) = shown-first q qs (r.last + 1) (omega arith) (omega arith) in
+    let there : shown rs (r.last + 1) ≡ Some (spot_at q (r.last + 1)) = sym (shown-later r rs (r.last + 1) (omega arith)) ∙ e ∙ here in
+    let next = starts_at (r.last + 1) end rs (spot_at q (r.last + 1)) h there in
+    let x = next.0 in
+    let first = spot_leaf _ _ sp in
+    let second = spot_leaf _ _ next.4 in
+    let at = next.3 in
+    let o1 : r.offset ≡ q.offset = let o = first.1 in omega arith in
+    let o2 : x.offset ≡ r.offset + (x.start - r.start) = let o = second.1 in omega arith in
+    let lf : x.leaf ≡ r.leaf = second.0 ∙ sym first.0 in
+    let at' : x.attrs ≡ r.attrs = second.2 ∙ sym first.2 in
+    let apart : MergesNot r (x ∷ next.1) = subst (MergesNot r) next.2 m.0 in
+    apart (at, lf, o2, at')
+
+abbrev range_of : ℕ → ℕ → RegionId → ℕ → Attrs → FlatRange
+range_of start last leaf offset attrs = record { start = start; last = last; leaf = leaf; offset = offset; attrs = attrs }
+
+same_range : (r q : FlatRange) → r.start ≡ q.start → r.last ≡ q.last → r.leaf ≡ q.leaf → r.offset ≡ q.offset → r.attrs ≡ q.attrs → r ≡ q
+same_range r q a b c d e =
+    let p : range_of r.start r.last r.leaf r.offset r.attrs ≡ range_of q.start q.last q.leaf q.offset q.attrs = cc in p
+
+-- a range that shows something is not matched by no range
+shows_something : (from end : ℕ) (q : FlatRange) (qs : List FlatRange) → IsRanges from end (q ∷ qs) → ((a : ℕ) → a < end → None ≡ shown (q ∷ qs) a) → ⊥
+shows_something from end q qs k e =
+    let w = IsRanges-within (q.last + 1) end qs k.3 in let l = k.1 in
+    let here = shown-first q qs q.start (omega arith) (omega arith) in
+    let there = e q.start (omega arith) in
+    let both : None ≡ Some (spot_at q q.start) = there ∙ here in cc
+
+-- one list cannot begin before the other
+begins : (from end : ℕ) (r : FlatRange) (rs : List FlatRange) (q : FlatRange) (qs : List FlatRange) → IsRanges from end (r ∷ rs) → IsRanges from end (q ∷ qs) → ((a : ℕ) → a < end → shown (r ∷ rs) a ≡ shown (q ∷ qs) a) → q.start ≤ r.start
+begins from end r rs q qs h k e =
+    ⊎_elim
+    (λ low.
+    let w = IsRanges-within (r.last + 1) end rs h.3 in let l = h.1 in
+    let here = shown-first r rs r.start (omega arith) (omega arith) in
+    let none = shown-before q.start end (q ∷ qs) r.start (omega arith, k.1, k.2, k.3) low in
+    let both : None ≡ Some (spot_at r r.start) = sym none ∙ sym (e r.start (omega arith)) ∙ here in cc)
+    (λ high. high)
+    (cases_lt r.start q.start)
+
+-- two lists that show the same, of which no neighbours merge, are the same
+pub shown-injective : (from end : ℕ) (rs qs : List FlatRange) → IsRanges from end rs → IsRanges from end qs → IsMerged rs → IsMerged qs → ((a : ℕ) → a < end → shown rs a ≡ shown qs a) → rs ≡ qs
+shown-injective from end [] [] h k m n e = refl
+shown-injective from end [] (q ∷ qs) h k m n e = absurd (shows_something from end q qs k e)
+shown-injective from end (r ∷ rs) [] h k m n e = absurd (shows_something from end r rs h (λ a l. sym (e a l)))
+shown-injective from end (r ∷ rs) (q ∷ qs) h k m n e =
+    let back : (a : ℕ) → a < end → shown (q ∷ qs) a ≡ shown (r ∷ rs) a = λ a l. sym (e a l) in
+    let low = begins from end r rs q qs h k e in
+    let high = begins from end q qs r rs k h back in
+    let st : r.start ≡ q.start = omega arith in
+    let w = IsRanges-within (r.last + 1) end rs h.3 in
+    let v = IsRanges-within (q.last + 1) end qs k.3 in
+    let hl = h.1 in let kl = k.1 in
+    let sp : spot_at r r.start ≡ spot_at q r.start = some_same _ _ (sym (shown-first r rs r.start (omega arith) (omega arith)) ∙ e r.start (omega arith) ∙ shown-first q qs r.start (omega arith) (omega arith)) in
+    let sp' : spot_at q q.start ≡ spot_at r q.start = subst (λ x. spot_at q x ≡ spot_at r x) st (sym sp) in
+    let parts = spot_leaf _ _ sp in
+    let of : r.offset ≡ q.offset = let o = parts.1 in omega arith in
+    let la : r.last ≡ q.last =
+    ⊎_elim
+    (λ less. absurd (stops end r rs q qs h.3 m st hl sp less (e (r.last + 1) (omega arith))))
+    (λ more. ⊎_elim
+    (λ less. absurd (stops end q qs r rs k.3 n (sym st) kl sp' less (back (q.last + 1) (omega arith))))
+    (λ also. omega arith)
+    (cases_lt q.last r.last))
+    (cases_lt r.last q.last) in
+    let same = same_range r q st la parts.0 of parts.2 in
+    let k' : IsRanges (r.last + 1) end qs = subst (λ x. IsRanges (x + 1) end qs) (sym la) k.3 in
+    let rest : (a : ℕ) → a < end → shown rs a ≡ shown qs a = λ a l.
+    ⊎_elim
+    (λ low. shown-before (r.last + 1) end rs a h.3 low ∙ sym (shown-before (r.last + 1) end qs a k' low))
+    (λ past. sym (shown-later r rs a (omega arith)) ∙ e a l ∙ shown-later q qs a (omega arith))
+    (cases_lt a (r.last + 1)) in
+    let others = shown-injective (r.last + 1) end rs qs h.3 k' m.1 n.1 rest in
+    cc
+
+-- there is at most one view
+pub IsView-unique : (f : Forest) (s : SpaceId) (rs qs : List FlatRange) → IsView f s rs → IsView f s qs → rs ≡ qs
+IsView-unique f s rs qs v w =
+    shown-injective 0 (2 ^ 64) rs qs v.agrees.ranges w.agrees.ranges v.merged w.merged (λ a l. v.agrees.shows a l ∙ sym (w.agrees.shows a l))

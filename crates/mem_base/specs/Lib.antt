@@ -1,0 +1,16 @@
+pub mod Every
+pub mod Sorting
+pub mod Limits
+pub mod Region
+pub mod Kinds
+pub mod Order
+pub mod Search
+pub mod Paths
+pub mod Steps
+pub mod Forest
+pub mod Refusals
+pub mod TableRefusals
+pub mod Changes
+pub mod Calls
+pub mod View
+pub mod Editions

@@ -1,0 +1,43 @@
+-- The search as a relation, rule by rule of QEMU's manual ("The memory API", "Visibility"), with no bound on its
+-- depth.
+use Rattle.std.specs.Prelude.{◌≡◌, ℕ, zero, suc, ◌+◌, ◌-◌, true, false, ◌&&◌, nat_lt, nat_le, List, [], ◌∷◌, Option, Some, None, option_map}
+use Rattle.std.specs.Option.{option_or}
+use Rattle.mem_base.specs.declared.ids.RegionId.{RegionId}
+use Rattle.mem_base.specs.declared.forests.Node.{Node}
+use Rattle.mem_base.specs.declared.forests.Forest.{Forest}
+use Rattle.mem_base.specs.declared.spots.Spot.{Spot}
+use Rattle.mem_base.specs.declared.kinds.Kind.{Kind}
+use Rattle.mem_base.specs.declared.kinds.Kind.TheVariants.{Alias}
+use Rattle.mem_base.specs.Region.{node_of}
+use Rattle.mem_base.specs.Every.{Every}
+use Rattle.mem_base.specs.Order.{children_of}
+use Rattle.mem_base.specs.Search.{passed, itself}
+
+abbrev pub IsNoAlias : Kind → Type 0
+IsNoAlias (Alias target offset) = ⊥
+IsNoAlias _ = Unit {0}
+
+mutual
+  -- a search from a region at an offset finds this
+  pub data Finds : Forest → RegionId → ℕ → Option Spot → Type 0 where
+    missing : {f : Forest} {r : RegionId} {a : ℕ} → node_of f.nodes r ≡ None → Finds f r a None
+    outside : {f : Forest} {r : RegionId} {a : ℕ} (n : Node) → node_of f.nodes r ≡ Some n → (n.enabled && nat_lt a n.size) ≡ false → Finds f r a None
+    through : {f : Forest} {r : RegionId} {a : ℕ} {y : Option Spot} (n : Node) (target : RegionId) (offset : ℕ) (x : Option Spot) → node_of f.nodes r ≡ Some n → (n.enabled && nat_lt a n.size) ≡ true → n.kind ≡ Alias target offset → Finds f target (a + offset) x → y ≡ option_map (passed n) x → Finds f r a y
+    within : {f : Forest} {r : RegionId} {a : ℕ} {y : Option Spot} (n : Node) (x : Option Spot) → node_of f.nodes r ≡ Some n → (n.enabled && nat_lt a n.size) ≡ true → IsNoAlias n.kind → FindsFirst f (children_of f.nodes n.id) a x → y ≡ option_map (passed n) (option_or x (itself f.global n.kind n a)) → Finds f r a y
+
+  -- the first of these regions in which something is found
+  pub data FindsFirst : Forest → List Node → ℕ → Option Spot → Type 0 where
+    nowhere : {f : Forest} {a : ℕ} → FindsFirst f [] a None
+    above : {f : Forest} {a : ℕ} {c : Node} {cs : List Node} {x : Option Spot} → nat_le c.offset a ≡ false → FindsFirst f cs a x → FindsFirst f (c ∷ cs) a x
+    at : {f : Forest} {a : ℕ} {c : Node} {cs : List Node} (s : Spot) → nat_le c.offset a ≡ true → Finds f c.id (a - c.offset) (Some s) → FindsFirst f (c ∷ cs) a (Some s)
+    past : {f : Forest} {a : ℕ} {c : Node} {cs : List Node} {x : Option Spot} → nat_le c.offset a ≡ true → Finds f c.id (a - c.offset) None → FindsFirst f cs a x → FindsFirst f (c ∷ cs) a x
+
+-- each step from a region leads to one of which this holds
+abbrev pub StepsWithin : Forest → (RegionId → Type 0) → Kind → Node → Type 0
+StepsWithin f below (Alias target offset) n = below target
+StepsWithin f below _ n = Every (λ c. below c.id) (children_of f.nodes n.id)
+
+-- each path from a region has at most so many regions
+abbrev pub HasPathsWithin : Forest → ℕ → RegionId → Type 0
+HasPathsWithin f zero r = ⊥
+HasPathsWithin f (suc depth) r = (n : Node) → node_of f.nodes r ≡ Some n → StepsWithin f (HasPathsWithin f depth) n.kind n

@@ -1,0 +1,92 @@
+// The steps of a running machine.
+
+use crate::{Client, Config, PassId, RegionId};
+
+/// How an access ended: a fault of a device, or bytes that nothing answers.
+#[derive(Clone, Copy, Debug, PartialEq, Eq)]
+pub struct TxResult {
+    pub error: bool,
+    pub decode: bool,
+}
+
+/// One atomic step on a word of 8 bytes.
+#[derive(Clone, Copy, Debug, PartialEq, Eq)]
+pub enum WordStep {
+    Load,
+    /// Replaces the bytes from `first` on, so many, by those of the value, the lowest first.
+    Replace { first: u32, bytes: u32, value: u64 },
+    /// Adds one, modulo 2^64.
+    AddOne,
+    Or { bits: u64 },
+    /// Leaves 0.
+    Take,
+}
+
+/// A word of a region: its data, then its registers, then its marks.
+#[derive(Clone, Copy, Debug, PartialEq, Eq)]
+pub struct Cell {
+    pub region: RegionId,
+    pub word: usize,
+}
+
+/// Who makes a step on a word.
+#[derive(Clone, Copy, Debug, PartialEq, Eq)]
+pub enum Hand {
+    Pass(PassId),
+    Writer,
+}
+
+/// The words of the pool that back a region: `words` words of 8 bytes from `start` on.
+#[derive(Clone, Copy, Debug, PartialEq, Eq)]
+pub struct Place {
+    pub region: RegionId,
+    pub start: usize,
+    pub words: usize,
+    /// The bytes of data, in the first `bytes / 8` words.
+    pub bytes: u64,
+    /// The registers, in the words behind the data.
+    pub regs: u32,
+}
+
+/// What may happen in a machine: one atomic step of an actor, or the writer's private work.
+#[derive(Clone, Copy, Debug, PartialEq, Eq)]
+pub enum Event {
+    /// The pass looks at the current generation's number.
+    Look(PassId),
+    /// The pass announces the number that it looked at.
+    Announce(PassId),
+    /// The pass enters the generation that is then current.
+    Enter(PassId),
+    Leave(PassId),
+    /// The writer looks at what the pass has announced.
+    Sweep(PassId),
+    /// The writer gives the pass its copy of the next generation.
+    Place(PassId),
+    /// The next generation becomes the current one.
+    Publish,
+    Word {
+        hand: Hand,
+        cell: Cell,
+        step: WordStep,
+    },
+    /// The page of a region is marked as written, for one client.
+    Mark {
+        pass: PassId,
+        region: RegionId,
+        client: Client,
+        page: u64,
+    },
+    /// The writer takes one word of marks.
+    Harvest {
+        region: RegionId,
+        client: Client,
+        index: usize,
+    },
+    /// The writer clears a word of a new region.
+    Fill {
+        cell: Cell,
+    },
+    Config(Config),
+    /// The writer releases the dropped regions that no held generation names.
+    Reap,
+}
