@@ -6,6 +6,7 @@ pub mod SearchLaws
 pub mod JoinLaws
 pub mod MadeLaws
 pub mod FieldLaws
+pub mod LeadLaws
 pub mod DelLaws
 pub mod EntryLaws
 pub mod KeptLaws
