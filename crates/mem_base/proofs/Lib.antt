@@ -10,4 +10,8 @@ pub mod LeadLaws
 pub mod DelLaws
 pub mod EntryLaws
 pub mod KeptLaws
+pub mod MoveLaws
+pub mod RefusalLaws
+pub mod DropLaws
+pub mod CallLaws
 pub mod ViewLaws
