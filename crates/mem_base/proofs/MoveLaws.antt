@@ -104,3 +104,56 @@ move_forest f child offset m h e =
       shallow = let d = greatest_depth-kept child g keeps f.nodes in let l = h.shallow in omega arith;
       narrow = let w = greatest_weight-kept child g keeps f.nodes in let l = h.narrow in omega arith;
     }
+
+-- a move to the offset where the region is changes nothing
+pub unmoved : (f : Forest) (child : RegionId) (offset : ℕ) (m : Node) → IsForest f → node_of f.nodes child ≡ Some m → eqb m.offset offset ≡ true → changed_at child (moved offset f.placings) f.nodes ≡ f.nodes
+unmoved f child offset m h e same =
+    let here : moved offset f.placings m ≡ m = ap (λ b. cond b m (record m { offset = offset; placing = f.placings })) same in
+    changed_at-agree child (moved offset f.placings) (λ n. n) m here f.nodes (only_node f.nodes child m h.ascending e) ∙ changed_at-same child f.nodes
+
+module _ (f : Forest) (h : IsForest f) (child : RegionId) (offset : ℕ) (m : Node) (at_child : node_of f.nodes child ≡ Some m)
+    (parent : RegionId) (in_parent : m.parent ≡ Some parent) where
+  abbrev taken : Node → Node
+  taken n = record n { parent = None }
+
+  abbrev put : Node → Node
+  put n = moved offset f.placings (record n { parent = m.parent })
+
+  abbrev others : List Node
+  others = changed_at child taken f.nodes
+
+  -- a move is the region taken out, and put in at its new place
+  two_steps : changed_at child put others ≡ changed_at child (moved offset f.placings) f.nodes
+  two_steps =
+      changed_at-twice child taken put (λ n. refl) f.nodes
+      ∙ changed_at-agree child (λ n. put (taken n)) (moved offset f.placings) m refl f.nodes (only_node f.nodes child m h.ascending at_child)
+
+  taken_there : node_of others child ≡ Some (taken m)
+  taken_there =
+      let found : has_id child m ≡ true = (every_node_of (λ n. n.id.0 < f.made) f.nodes child m at_child h.made_before).1 in
+      node_of-changed_at child taken (λ n. refl) f.nodes child
+      ∙ ap (option_map (λ (n : Node). cond (has_id child n) (taken n) n)) at_child
+      ∙ ap (λ b. Some (cond b (taken m) m)) found
+
+  -- the other containers keep their children
+  pub children_elsewhere : (q : RegionId) → q.0 ≢ parent.0 → children_of (changed_at child (moved offset f.placings) f.nodes) q ≡ children_of f.nodes q
+  children_elsewhere q k =
+      let other : is_in q (Some parent) ≡ false = grind (arith, nat_tests) in
+      let only = only_node f.nodes child m h.ascending at_child in
+      let out : is_child_of q m ≡ false = ap (is_in q) in_parent ∙ other in
+      ap (sorted_by trial_order) (filter-changed_at (is_child_of q) child (moved offset f.placings) f.nodes
+      (weaker (λ n. has_id child n ≡ true → n ≡ m) (λ n. has_id child n ≡ true → (is_child_of q n ≡ false) × (is_child_of q (moved offset f.placings n) ≡ false))
+      (λ n w t. (ap (is_child_of q) (w t) ∙ out, ap (is_in q) (moved_parent offset f.placings n) ∙ ap (is_child_of q) (w t) ∙ out)) f.nodes only))
+
+  -- in its container the region is taken out, and put in at its place, the last placed of all
+  pub children_there : eqb m.offset offset ≡ false → children_of (changed_at child (moved offset f.placings) f.nodes) parent ≡ put_by trial_order (moved offset f.placings m) (filter (λ n. not (has_id child n)) (children_of f.nodes parent))
+  children_there differs =
+      let inside : is_in parent (Some parent) ≡ true = grind (arith, nat_tests) in
+      let joins : is_child_of parent (put (taken m)) ≡ true = ap (is_in parent) (moved_parent offset f.placings m ∙ in_parent) ∙ inside in
+      let last : (put (taken m)).placing ≡ f.placings = ap (λ b. (cond b m (record m { offset = offset; placing = f.placings })).placing) differs in
+      let before = weaker (λ x. is_child_of parent x ≡ true → (parent.0 < f.made) × (x.placing < f.placings)) (λ x. is_child_of parent x ≡ true → x.placing < f.placings) (λ x w t. (w t).1) f.nodes (child_before f parent h) in
+      let left = every_changed_at (λ x. is_child_of parent x ≡ true → x.placing < f.placings) child taken (λ n w t. cc) f.nodes before in
+      let apart = weaker (λ x. is_child_of parent x ≡ true → x.placing < f.placings) (λ x. is_child_of parent x ≡ true → trial_order x (put (taken m)) ≢ Equal) (λ x w t. trial_apart x (put (taken m)) (let l = w t in omega arith)) others left in
+      ap (λ l. children_of l parent) (sym two_steps)
+      ∙ children_of-joined child parent put (taken m) others taken_there refl joins (ascending_changed_at child taken (λ n. refl) f.nodes h.ascending) apart
+      ∙ ap (put_by trial_order (moved offset f.placings m)) (children_of-left child taken (λ n. refl) f.nodes parent)
