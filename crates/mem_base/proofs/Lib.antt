@@ -6,7 +6,12 @@ pub mod SearchLaws
 pub mod JoinLaws
 pub mod MadeLaws
 pub mod FieldLaws
+pub mod LeadLaws
 pub mod DelLaws
 pub mod EntryLaws
 pub mod KeptLaws
+pub mod MoveLaws
+pub mod RefusalLaws
+pub mod DropLaws
+pub mod CallLaws
 pub mod ViewLaws

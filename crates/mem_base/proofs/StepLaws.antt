@@ -7,7 +7,7 @@ use Rattle.std.specs.Ordering.{is_lt}
 use Rattle.mem_base.specs.declared.ids.RegionId.{RegionId}
 use Rattle.mem_base.specs.declared.forests.Node.{Node}
 use Rattle.mem_base.specs.Every.{Every}
-use Rattle.mem_base.specs.Sorting.{put_by}
+use Rattle.mem_base.specs.Sorting.{put_by, sorted_by}
 use Rattle.mem_base.specs.Steps.{Steps, greatest, total, depth_by, weight_by, reaches_by, IsWithin}
 use Rattle.mem_base.proofs.EveryLaws.{weaker, both}
 
@@ -49,6 +49,14 @@ alike-put_by R x (y ∷ ys) g =
       | true ↦ (refl, refl)
       | false ↦ (ap (max (g y.id)) d ∙ omega arith, ap (λ k. g y.id + k) w ∙ omega arith)
     ]
+
+-- a list in order has what the list has
+pub alike-sorted_by : (R : Node → Node → Ordering) (l : List Node) → Alike (ids (sorted_by R l)) (ids l)
+alike-sorted_by R [] g = (refl, refl)
+alike-sorted_by R (x ∷ xs) g =
+    let front = alike-put_by R x (sorted_by R xs) g in
+    let rest = alike-sorted_by R xs g in
+    (front.0 ∙ ap (max (g x.id)) rest.0, front.1 ∙ ap (λ k. g x.id + k) rest.1)
 
 -- what is at most the greatest is at most each
 each_below : (g : RegionId → ℕ) (k : ℕ) (xs : List RegionId) → greatest (map g xs) < k → Every (λ x. g x < k) xs
