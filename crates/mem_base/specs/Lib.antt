@@ -14,3 +14,9 @@ pub mod Changes
 pub mod Calls
 pub mod View
 pub mod Editions
+pub mod Spelling
+pub mod Form
+pub mod Scripts
+pub mod Flattened
+pub mod Output
+pub mod Run

@@ -7,6 +7,7 @@
 #![tactic(auto)]
 
 mod calls;
+mod commands;
 mod editions;
 mod flat;
 mod forests;
@@ -21,6 +22,7 @@ mod spots;
 mod translations;
 
 pub use calls::{Applied, Call, Config};
+pub use commands::{Command, Name};
 pub use editions::Edition;
 pub use flat::{FlatRange, Pieces, View};
 pub use forests::{Forest, Node, Nodes, Spaces};
