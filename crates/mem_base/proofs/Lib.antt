@@ -10,6 +10,7 @@ pub mod FieldLaws
 pub mod LeadLaws
 pub mod DelLaws
 pub mod EntryLaws
+pub mod PlaceLaws
 pub mod KeptLaws
 pub mod MoveLaws
 pub mod RefusalLaws
