@@ -15,10 +15,10 @@ use Rattle.mem_base.specs.Sorting.{put_by, sorted_by}
 use Rattle.mem_base.specs.Order.{trial_order, children_of}
 use Rattle.mem_base.specs.Forest.{IsForest}
 use Rattle.mem_base.specs.Changes.{placed, changed_at}
-use Rattle.mem_base.specs.Steps.{steps_of, steps_from, steps_at, greatest, total, depth_by, weight_by, reaches, greatest_weight, weight_of, depth_of, IsWithin}
+use Rattle.mem_base.specs.Steps.{steps_of, steps_from, steps_at, greatest, total, depth_by, weight_by, reaches, greatest_weight, weight_of, depth_of}
 use Rattle.mem_base.proofs.EveryLaws.{weaker}
 use Rattle.mem_base.proofs.ForestLaws.{trial_apart, filter-changed_at, children_of-joined, only_node, child_before, id_of, every_node_of}
-use Rattle.mem_base.proofs.StepLaws.{Alike, joined_steps, alike-put_by, weight_by-bounded, depth_by-longer, IsWithin-depth_by}
+use Rattle.mem_base.proofs.StepLaws.{Alike, joined_steps, alike-put_by, weight_by-bounded, depth_by-longer, IsWithin, IsWithin-depth_by, IsWithin-depth_at_most}
 
 -- a change that keeps the id keeps where a region is found
 pub node_of-changed_at : (r : RegionId) (g : Node → Node) → ((n : Node) → (g n).id ≡ n.id) → (nodes : List Node) (q : RegionId) → node_of (changed_at r g nodes) q ≡ option_map (λ n. cond (has_id r n) (g n) n) (node_of nodes q)
@@ -175,3 +175,10 @@ within_forest f h r =
     let a = depth_at_most f h r in
     let b = depth_by-longer (steps_of f.nodes) 63 64 r (omega arith) in
     IsWithin-depth_by (steps_of f.nodes) 63 r (omega arith)
+
+-- no path of a forest has more than 32 regions
+pub within_most_depth : (f : Forest) → IsForest f → (r : RegionId) → IsWithin (steps_of f.nodes) 32 r
+within_most_depth f h r =
+    let a = depth_at_most f h r in
+    let b = depth_by-longer (steps_of f.nodes) 33 64 r (omega arith) in
+    IsWithin-depth_at_most (steps_of f.nodes) 32 r (omega arith)

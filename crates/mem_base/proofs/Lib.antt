@@ -4,6 +4,7 @@ pub mod StepLaws
 pub mod ForestLaws
 pub mod SearchLaws
 pub mod JoinLaws
+pub mod PathLaws
 pub mod MadeLaws
 pub mod FieldLaws
 pub mod LeadLaws
