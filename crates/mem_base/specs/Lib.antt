@@ -14,3 +14,9 @@ pub mod Changes
 pub mod Calls
 pub mod View
 pub mod Editions
+pub mod MachineLimits
+pub mod Words
+pub mod Runs
+pub mod Places
+pub mod Cells
+pub mod Pieces
