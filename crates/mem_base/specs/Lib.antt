@@ -20,3 +20,9 @@ pub mod Runs
 pub mod Places
 pub mod Cells
 pub mod Pieces
+pub mod Translations
+pub mod Trails
+pub mod Doings
+pub mod MemoryAccess
+pub mod DeviceAccess
+pub mod Access
