@@ -26,3 +26,9 @@ pub mod Doings
 pub mod MemoryAccess
 pub mod DeviceAccess
 pub mod Access
+pub mod Views
+pub mod LiveEvents
+pub mod Walk
+pub mod Replay
+pub mod Committed
+pub mod Listening
