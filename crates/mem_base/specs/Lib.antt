@@ -23,6 +23,7 @@ pub mod Pieces
 pub mod Translations
 pub mod Trails
 pub mod Doings
+pub mod Marks
 pub mod MemoryAccess
 pub mod DeviceAccess
 pub mod Access
@@ -32,3 +33,11 @@ pub mod Walk
 pub mod Replay
 pub mod Committed
 pub mod Listening
+pub mod Passes
+pub mod Generations
+pub mod Desk
+pub mod Reaps
+pub mod Configs
+pub mod Guards
+pub mod World
+pub mod History

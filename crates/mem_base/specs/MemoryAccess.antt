@@ -1,28 +1,17 @@
 -- An access to RAM, to ROM, or to a ROM device that is read directly: one atomic step for each word that it touches,
 -- and behind a write the marks of the pages.
 -- QEMU's core, `flatview_read_continue` and `flatview_write_continue`, and `invalidate_and_set_dirty` for the marks.
-use Rattle.std.specs.Prelude.{ℕ, ◌+◌, ◌-◌, ◌/◌, ◌%◌, Bool, false, ◌==◌, not, if◌then◌else◌, bit_and, List, [], ◌∷◌, ◌++◌, map, take, drop, flat_map, filter}
+use Rattle.std.specs.Prelude.{ℕ, ◌-◌, ◌/◌, ◌%◌, false, if◌then◌else◌, List, ◌++◌, map, take, drop}
 use Rattle.mem_base.specs.declared.ids.RegionId.{RegionId}
 use Rattle.mem_base.specs.declared.spots.Spot.{Spot}
-use Rattle.mem_base.specs.declared.kinds.Client.{Client}
-use Rattle.mem_base.specs.declared.kinds.Client.TheVariants.{Vga, Code, Migration}
 use Rattle.mem_base.specs.declared.machine.WordStep.{WordStep}
 use Rattle.mem_base.specs.declared.machine.WordStep.TheVariants.{Load, Replace}
-use Rattle.mem_base.specs.Limits.{page_size}
 use Rattle.mem_base.specs.MachineLimits.{word_size}
-use Rattle.mem_base.specs.Changes.{bit_of}
 use Rattle.mem_base.specs.Words.{little_endian}
-use Rattle.mem_base.specs.Runs.{Run, runs}
+use Rattle.mem_base.specs.Runs.{Run, touched}
+use Rattle.mem_base.specs.Marks.{marks_of}
 use Rattle.mem_base.specs.Cells.{cell}
 use Rattle.mem_base.specs.Doings.{Job, reading, writing, length_of, Doing, steps, marks, shown, nothing_shown, unanswered}
-
--- the offset is in one word, or one page, with the next
-abbrev pub is_in_unit : ℕ → ℕ → Bool
-is_in_unit unit offset = not ((offset + 1) % unit == 0)
-
--- the words, or the pages, that so many bytes from an offset on touch, each with the bytes touched in it
-abbrev pub touched : ℕ → ℕ → ℕ → List Run
-touched unit offset bytes = runs (is_in_unit unit) offset bytes
 
 -- the step that writes some bytes, given from `offset` on, into the word in which a run of them lies
 abbrev pub replaces : ℕ → List ℕ → Run → WordStep
@@ -40,14 +29,9 @@ on_word region offset (writing bs) w =
 abbrev pub on_words : RegionId → ℕ → Job → List Doing
 on_words region offset job = map (on_word region offset job) (touched word_size offset (length_of job))
 
--- the clients of a logging mask, ascending
-abbrev pub clients_of : ℕ → List Client
-clients_of log = filter (λ c. not (bit_and log (bit_of c) == 0)) (Vga ∷ Code ∷ Migration ∷ [])
-
--- the marks of so many bytes: pages ascending, and the clients of a page ascending
-abbrev pub marks_of : RegionId → ℕ → ℕ → ℕ → List Doing
-marks_of region log offset bytes =
-    flat_map (λ p. map (λ c. marks region c (p.start / page_size)) (clients_of log)) (touched page_size offset bytes)
+-- the marks of a write of so many bytes
+abbrev pub marked : RegionId → ℕ → ℕ → ℕ → List Doing
+marked region log offset bytes = map (λ m. marks region m.1 m.0) (marks_of log offset bytes)
 
 -- a read loads each touched word; a write replaces the touched bytes of each and then marks the pages, but where the
 -- leaf is read-only it changes nothing
@@ -55,4 +39,4 @@ abbrev pub in_memory : Spot → Job → List Doing
 in_memory spot (reading n) = on_words spot.leaf spot.offset (reading n)
 in_memory spot (writing bs) =
     if spot.attrs.readonly then unanswered (writing bs)
-    else on_words spot.leaf spot.offset (writing bs) ++ marks_of spot.leaf spot.attrs.log spot.offset (length_of (writing bs))
+    else on_words spot.leaf spot.offset (writing bs) ++ marked spot.leaf spot.attrs.log spot.offset (length_of (writing bs))

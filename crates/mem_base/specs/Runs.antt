@@ -1,6 +1,6 @@
 -- Numbers in a row, cut into runs where two neighbours do not belong together. An access is cut into chunks by it,
 -- a chunk of memory into words and pages, a pool into holes and taken parts, and an address space into ranges.
-use Rattle.std.specs.Prelude.{ℕ, zero, suc, ◌+◌, Bool, true, false, List, [], ◌∷◌}
+use Rattle.std.specs.Prelude.{ℕ, zero, suc, ◌+◌, ◌%◌, ◌==◌, not, Bool, true, false, List, [], ◌∷◌}
 
 -- the numbers from a start on, so many
 pub record Run : Type 0 where
@@ -19,3 +19,11 @@ put_before _ a rs = run a 1 ∷ rs
 abbrev pub runs : (ℕ → Bool) → ℕ → ℕ → List Run
 runs with_next a zero = []
 runs with_next a (suc n) = put_before (with_next a) a (runs with_next (a + 1) n)
+
+-- the offset lies in one unit of so many bytes, a word or a page, with the next offset
+abbrev pub is_in_unit : ℕ → ℕ → Bool
+is_in_unit unit offset = not ((offset + 1) % unit == 0)
+
+-- the units that so many bytes from an offset on touch, each as the bytes touched in it
+abbrev pub touched : ℕ → ℕ → ℕ → List Run
+touched unit offset bytes = runs (is_in_unit unit) offset bytes
