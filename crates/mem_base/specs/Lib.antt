@@ -41,3 +41,7 @@ pub mod Configs
 pub mod Guards
 pub mod World
 pub mod History
+pub mod Orders
+pub mod Composites
+pub mod SharedHistory
+pub mod Turns
