@@ -17,6 +17,8 @@ use Rattle.mem_base.specs.declared.listening.Listener.{Listener}
 use Rattle.mem_base.specs.declared.machine.Event.{Event}
 use Rattle.mem_base.specs.declared.machine.Event.TheVariants as events
 use Rattle.mem_base.specs.declared.machine.Carried.{Carried}
+use Rattle.mem_base.specs.declared.machine.Reply.{Reply}
+use Rattle.mem_base.specs.declared.machine.Reply.TheVariants as replies
 use Rattle.mem_base.specs.declared.refusals.Refusal.{Refusal}
 use Rattle.mem_base.specs.declared.refusals.Refusal.TheVariants.{NoTransaction, TooNested, NoBacking, Held}
 use Rattle.mem_base.specs.MachineLimits.{most_generations, most_nested}
@@ -149,6 +151,17 @@ configured g d configs.Commit = committed g d
 configured g d (configs.Listen listener space priority) =
     listened g d (record { listener = listener; space = space; priority = priority })
 configured g d (configs.Unlisten listener) = unlistened g d listener
+
+-- a region that is made answers its id, any other accepted call that it is done
+abbrev pub answers : Config → Result Applied Refusal → Result Reply Refusal
+answers (configs.Call call) (Ok applied) = Ok (replies.Applied applied)
+answers k (Ok applied) = Ok replies.Done
+answers k (Err why) = Err why
+
+-- what a private event answers; a reap is done
+abbrev pub private_reply : Writer → Event → Result Reply Refusal
+private_reply w (events.Config k) = answers k (configured w.generations w.desk k).answer
+private_reply w e = Ok replies.Done
 
 -- the desk after an event of the writer
 abbrev pub desk_after : Writer → Event → Desk

@@ -45,3 +45,4 @@ pub mod Orders
 pub mod Composites
 pub mod SharedHistory
 pub mod Turns
+pub mod JoinedHistory

@@ -8,7 +8,8 @@ use Rattle.mem_base.specs.declared.machine.Carried.{Carried}
 use Rattle.mem_base.specs.declared.machine.HistoryEntry.{HistoryEntry}
 use Rattle.mem_base.specs.Desk.{carried_by}
 use Rattle.mem_base.specs.Reaps.{Writer}
-use Rattle.mem_base.specs.Configs.{writer_after}
+use Rattle.mem_base.specs.Configs.{writer_after, private_reply}
+use Rattle.mem_base.specs.History.{Happened, happened}
 use Rattle.mem_base.specs.Orders.{Order, events_before, private_of, events_behind, Answer, answer_to, first_or_zero}
 
 abbrev pub history_entry : Event → Carried → ℕ → HistoryEntry
@@ -28,7 +29,12 @@ played w (e ∷ es) replies =
     let rest = played (writer_after w e carried number) es (drop 1 replies) in
     record rest { entries = history_entry e carried number ∷ rest.entries }
 
--- the writer's part after private events, which carry and tell nothing
+-- private events with what they answer
+abbrev pub private_entries : Writer → List Event → List Happened
+private_entries w [] = []
+private_entries w (e ∷ es) = happened e (private_reply w e) ∷ private_entries (writer_after w e (carried_by w.desk e) 0) es
+
+-- the writer's part after private events, which tell no number
 abbrev pub after_private : Writer → List Event → Writer
 after_private w [] = w
 after_private w (e ∷ es) = after_private (writer_after w e (carried_by w.desk e) 0) es
@@ -38,7 +44,7 @@ replies_of xs = map (λ x. x.reply) xs
 
 pub record Turn : Type 0 where
   pub before : List HistoryEntry
-  pub private : List Event
+  pub private : List Happened
   pub behind : List HistoryEntry
   pub writer : Writer
   pub answer : Answer
@@ -49,7 +55,7 @@ turn w k replies =
     let middle = after_private before.writer (private_of k) in
     let behind = played middle (events_behind middle k) before.replies in record {
       before = before.entries;
-      private = private_of k;
+      private = private_entries before.writer (private_of k);
       behind = behind.entries;
       writer = behind.writer;
       answer = answer_to before.writer middle k (replies_of behind.entries);

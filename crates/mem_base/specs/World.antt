@@ -1,11 +1,8 @@
 -- The pure machine: which events are possible, what each answers, and what it leaves.
 -- It is the machine of QEMU's core with one lock round everything: the desk, the generations that are kept, the
 -- passes, and the cells of all regions that have a place.
-use Rattle.std.specs.Prelude.{ℕ, ◌+◌, Bool, true, false, ◌==◌, ◌&&◌, ◌||◌, not, nat_lt, if◌then◌else◌, List, [], map, replicate, slice_index, Option, Some, None, option_and_then, Result, Ok, Err}
+use Rattle.std.specs.Prelude.{ℕ, ◌+◌, Bool, true, false, ◌==◌, ◌&&◌, ◌||◌, not, nat_lt, if◌then◌else◌, List, [], map, replicate, slice_index, Option, Some, None, option_and_then, Result, Ok}
 use Rattle.mem_base.specs.declared.ids.RegionId.{RegionId}
-use Rattle.mem_base.specs.declared.calls.Applied.{Applied}
-use Rattle.mem_base.specs.declared.calls.Config.{Config}
-use Rattle.mem_base.specs.declared.calls.Config.TheVariants as configs
 use Rattle.mem_base.specs.declared.refusals.Refusal.{Refusal}
 use Rattle.mem_base.specs.declared.machine.Place.{Place}
 use Rattle.mem_base.specs.declared.machine.Cell.{Cell}
@@ -13,7 +10,7 @@ use Rattle.mem_base.specs.declared.machine.Hand.TheVariants as hands
 use Rattle.mem_base.specs.declared.machine.Event.{Event}
 use Rattle.mem_base.specs.declared.machine.Event.TheVariants as events
 use Rattle.mem_base.specs.declared.machine.Reply.{Reply}
-use Rattle.mem_base.specs.declared.machine.Reply.TheVariants.{Number, Old, Applied as Answers, Done}
+use Rattle.mem_base.specs.declared.machine.Reply.TheVariants.{Number, Old, Done}
 use Rattle.mem_base.specs.Editions.{place_in}
 use Rattle.mem_base.specs.Places.{mark_words}
 use Rattle.mem_base.specs.Cells.{Touch, touch_of, region_of, Block, has_block, cells_in, blocks_after}
@@ -21,7 +18,7 @@ use Rattle.mem_base.specs.Passes.{PassState, idle, passes_after}
 use Rattle.mem_base.specs.Generations.{may, number_told, entered_generation}
 use Rattle.mem_base.specs.Desk.{Desk, places_of, is_unfilled, is_all_filled, is_all_swept, carried_by}
 use Rattle.mem_base.specs.Reaps.{Writer, first_writer}
-use Rattle.mem_base.specs.Configs.{would_publish, configured, writer_after}
+use Rattle.mem_base.specs.Configs.{would_publish, private_reply, writer_after}
 use Rattle.mem_base.specs.Guards.{may_reach, may_mark}
 
 pub record World : Type 0 where
@@ -78,12 +75,6 @@ old_at w _ _ = 0
 abbrev pub old_value : World → Event → ℕ
 old_value w e = old_at w (region_of e) (touch_at w e (region_of e))
 
--- a region that is made answers its id, any other accepted call that it is done
-abbrev pub answers : Config → Result Applied Refusal → Result Reply Refusal
-answers (configs.Call call) (Ok applied) = Ok (Answers applied)
-answers k (Ok applied) = Ok Done
-answers k (Err why) = Err why
-
 -- what an event answers
 abbrev pub reply : World → Event → Result Reply Refusal
 reply w (events.Look pass) = Ok (Number (number_told w.writer.generations w.passes (events.Look pass)))
@@ -92,7 +83,7 @@ reply w (events.Sweep pass) = Ok (Number (number_told w.writer.generations w.pas
 reply w events.Publish = Ok (Number (number_told w.writer.generations w.passes events.Publish))
 reply w (events.Word hand c step) = Ok (Old (old_value w (events.Word hand c step)))
 reply w (events.Harvest region client index) = Ok (Old (old_value w (events.Harvest region client index)))
-reply w (events.Config k) = answers k (configured w.writer.generations w.writer.desk k).answer
+reply w (events.Config k) = private_reply w.writer (events.Config k)
 reply w e = Ok Done
 
 -- the number in a reply; 0 where it has none
