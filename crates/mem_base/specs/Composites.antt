@@ -13,7 +13,8 @@ use Rattle.mem_base.specs.Passes.{pass_of}
 use Rattle.mem_base.specs.Generations.{Generation, entered_generation}
 use Rattle.mem_base.specs.World.{World, number_in}
 use Rattle.mem_base.specs.History.{Ran, Happened, run_events}
-use Rattle.mem_base.specs.Orders.{Order, events_before, private_of, events_behind, Answer, answer_to}
+use Rattle.mem_base.specs.Orders.{Order, events_before, private_of, events_behind}
+use Rattle.mem_base.specs.Answers.{Answer, answer_to}
 
 -- the numbers in the replies
 abbrev pub numbers_of : List Happened → List ℕ

@@ -1,9 +1,7 @@
 -- The writer's private events: calls, transactions and listeners, with their refusals, and what they leave.
 -- QEMU's core, `memory_region_transaction_begin` and `_commit` and the functions that change regions between them.
--- That there are at most 64 open transactions, that backing may be wanting, and that a publish is refused while a pass
--- may use a generation of seven or more before, are this project's own rules.
-use Rattle.std.specs.Prelude.{ℕ, ◌+◌, ◌-◌, Bool, true, false, ◌==◌, ◌&&◌, not, nat_le, if◌then◌else◌, List, [], ◌∷◌, ◌++◌, slice_set, filter, Option, Some, None, is_ok, Result, Ok, Err}
-use Rattle.mem_base.specs.declared.ids.PassId.{PassId}
+-- That there are at most 64 open transactions, and that backing may be wanting, are this project's own rules.
+use Rattle.std.specs.Prelude.{ℕ, ◌+◌, ◌-◌, Bool, true, false, ◌==◌, ◌&&◌, not, if◌then◌else◌, List, [], ◌∷◌, ◌++◌, slice_set, filter, Option, Some, None, Result, Ok, Err}
 use Rattle.mem_base.specs.declared.ids.RegionId.{RegionId}
 use Rattle.mem_base.specs.declared.ids.ListenerId.{ListenerId}
 use Rattle.mem_base.specs.declared.forests.Forest.{Forest}
@@ -20,81 +18,19 @@ use Rattle.mem_base.specs.declared.machine.Carried.{Carried}
 use Rattle.mem_base.specs.declared.machine.Reply.{Reply}
 use Rattle.mem_base.specs.declared.machine.Reply.TheVariants as replies
 use Rattle.mem_base.specs.declared.refusals.Refusal.{Refusal}
-use Rattle.mem_base.specs.declared.refusals.Refusal.TheVariants.{NoTransaction, TooNested, NoBacking, Held}
-use Rattle.mem_base.specs.MachineLimits.{most_generations, most_nested}
+use Rattle.mem_base.specs.declared.refusals.Refusal.TheVariants.{NoTransaction, TooNested, NoBacking}
+use Rattle.mem_base.specs.MachineLimits.{most_nested}
 use Rattle.mem_base.specs.Refusals.{first_refusal, unknown_space}
-use Rattle.mem_base.specs.Calls.{after, answer_of, empty, is_quiet}
+use Rattle.mem_base.specs.Calls.{after, answer_of, is_quiet}
 use Rattle.mem_base.specs.Places.{Extent, extent_of, words_of, place_at, first_fit}
 use Rattle.mem_base.specs.Cells.{is_same_cell}
 use Rattle.mem_base.specs.LiveEvents.{lives_of}
 use Rattle.mem_base.specs.Views.{view_of}
-use Rattle.mem_base.specs.Listening.{joined, join_refusal, left, leave_refusal, Listening, delivered, changes_between}
-use Rattle.mem_base.specs.Generations.{Generation, Generations, Known, generations_after}
+use Rattle.mem_base.specs.Listening.{joined, join_refusal, left, leave_refusal}
+use Rattle.mem_base.specs.Generations.{Generations, generations_after}
 use Rattle.mem_base.specs.Desk.{Desk, cells_of, unswept}
 use Rattle.mem_base.specs.Reaps.{Writer, writer, reaped}
-
--- the desk after a private event, and its answer
-pub record Settled : Type 0 where
-  pub desk : Desk
-  pub answer : Result Applied Refusal
-
-abbrev pub settled : Desk → Applied → Settled
-settled d answer = record { desk = d; answer = Ok answer }
-
--- a refused event leaves the desk as it is
-abbrev pub refused : Desk → Refusal → Settled
-refused d why = record { desk = d; answer = Err why }
-
-abbrev pub unless_refused : Option Refusal → Desk → Settled → Settled
-unless_refused None d otherwise = otherwise
-unless_refused (Some why) d otherwise = refused d why
-
--- a private event would publish: a change outside all transactions that is accepted, or the outermost commit with a
--- change pending
-abbrev pub would_publish : Desk → Config → Bool
-would_publish d (configs.Call call) = (d.depth == 0) && not (is_quiet call) && is_ok (after d.forest call)
-would_publish d configs.Commit = (d.depth == 1) && d.pending
-would_publish d _ = false
-
--- the pass was found at a number so old that the next generation would take its slot
-abbrev pub is_behind : ℕ → Option ℕ → Bool
-is_behind current None = false
-is_behind current (Some number) = nat_le (number + (most_generations - 1)) current
-
-abbrev pub held_at : PassId → Option ℕ → Option Refusal
-held_at pass None = None
-held_at pass (Some number) = Some (Held pass number)
-
--- the least pass that holds a publish up, with the number that it was found at; passes are counted from `first`
-abbrev pub held_from : ℕ → ℕ → List Known → Option Refusal
-held_from current first [] = None
-held_from current first (k ∷ ks) =
-    if is_behind current k.found then held_at (record { 0 = first }) k.found else held_from current (first + 1) ks
-
-abbrev pub held_up : Generations → Option Refusal
-held_up g = held_from g.current 0 g.passes
-
-abbrev pub forest_in : List Generation → Forest
-forest_in [] = empty
-forest_in (x ∷ xs) = x.forest
-
--- the forest of the current generation
-abbrev pub current_forest : Generations → Forest
-current_forest g = forest_in g.kept
-
--- all is ready for a publish of a forest: the listeners have their calls, from the current generation to this one
-abbrev pub readied : Generations → Desk → Forest → Desk
-readied g d f = record d {
-  forest = f;
-  depth = 0;
-  pending = false;
-  due = true;
-  listening = delivered d.listening (changes_between (current_forest g) f);
-}
-
--- a publish, unless it is held up
-abbrev pub publishing : Generations → Desk → Forest → Applied → Settled
-publishing g d f answer = unless_refused (held_up g) d (settled (readied g d f) answer)
+use Rattle.mem_base.specs.Publishing.{Settled, settled, refused, unless_refused, current_forest, publishing}
 
 -- a region that is made gets its place, and none of its cells is filled yet
 abbrev pub backed : Desk → Forest → RegionId → Extent → Option ℕ → Settled

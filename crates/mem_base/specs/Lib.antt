@@ -37,11 +37,13 @@ pub mod Passes
 pub mod Generations
 pub mod Desk
 pub mod Reaps
+pub mod Publishing
 pub mod Configs
 pub mod Guards
 pub mod World
 pub mod History
 pub mod Orders
+pub mod Answers
 pub mod Composites
 pub mod SharedHistory
 pub mod Turns

@@ -10,7 +10,8 @@ use Rattle.mem_base.specs.Desk.{carried_by}
 use Rattle.mem_base.specs.Reaps.{Writer}
 use Rattle.mem_base.specs.Configs.{writer_after, private_reply}
 use Rattle.mem_base.specs.History.{Happened, happened}
-use Rattle.mem_base.specs.Orders.{Order, events_before, private_of, events_behind, Answer, answer_to, first_or_zero}
+use Rattle.mem_base.specs.Orders.{Order, events_before, private_of, events_behind}
+use Rattle.mem_base.specs.Answers.{Answer, answer_to, first_or_zero}
 
 abbrev pub history_entry : Event → Carried → ℕ → HistoryEntry
 history_entry event carried reply = record { event = event; carried = carried; reply = reply }

@@ -18,7 +18,8 @@ use Rattle.mem_base.specs.Passes.{PassState, idle, passes_after}
 use Rattle.mem_base.specs.Generations.{may, number_told, entered_generation}
 use Rattle.mem_base.specs.Desk.{Desk, places_of, is_unfilled, is_all_filled, is_all_swept, carried_by}
 use Rattle.mem_base.specs.Reaps.{Writer, first_writer}
-use Rattle.mem_base.specs.Configs.{would_publish, private_reply, writer_after}
+use Rattle.mem_base.specs.Publishing.{would_publish}
+use Rattle.mem_base.specs.Configs.{private_reply, writer_after}
 use Rattle.mem_base.specs.Guards.{may_reach, may_mark}
 
 pub record World : Type 0 where
