@@ -7,6 +7,7 @@ pub mod Order
 pub mod Search
 pub mod Paths
 pub mod Steps
+pub mod Tables
 pub mod Forest
 pub mod Refusals
 pub mod TableRefusals

@@ -4,3 +4,4 @@ pub mod Memory
 pub mod Remainder
 pub mod Sink
 pub mod Source
+pub mod Standard

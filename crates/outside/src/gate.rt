@@ -17,7 +17,7 @@ pub trait Gate: Sync {
 }
 
 /// Lets every actor pass at once.
-#[derive(Clone, Copy, Debug)]
+#[derive(Clone, Copy, Debug, PartialEq, Eq)]
 pub struct OpenGate;
 
 impl Gate for OpenGate {

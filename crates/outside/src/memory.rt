@@ -120,7 +120,23 @@ impl Sink for MemSink {
 
     ghost told = { Prim.search rules };
 
-    fn write(&mut self, piece: &[u8]) -> Result<usize, Failed> {
+    fn write(&mut self, piece: &[u8]) -> Result<usize, Failed>
+        ensures bound { WritesAtMost result piece.now }
+        ensures some { IfOk result (λ n. 0 < length piece.now → 0 < n) }
+        ensures takes { TakesCount (λ s. Some (taken_of s)) (λ s text. text ≡ taken_of s) self.old self.new result piece.now }
+        ensures cause { HasCause (write_faults self.old) (write_faults self.new) result }
+
+        // It takes the whole piece, or fails: at the listed calls and beyond its room, and nowhere else.
+        ensures whole { IfOk result (λ n. n ≡ length piece.now) }
+        ensures fails { IsErr result ↔ (Contains (failing_writes self.old) (writes_of self.new)
+            ⊎ (room_of self.old < length (taken_of self.old) + length piece.now)) }
+
+        // It counts each call and each fault.
+        ensures calls { writes_of self.new ≡ one_call_more (writes_of self.old) }
+        ensures faults { write_faults self.new ≡ faults_after (write_faults self.old) result }
+        ensures same_list { failing_writes self.new ≡ failing_writes self.old }
+        ensures same_room { room_of self.new ≡ room_of self.old }
+    {
         self.calls = self.calls.saturating_add(1);
         if self.fails.contains(&self.calls) || piece.len() > self.room - self.taken.len() {
             self.faults = self.faults.saturating_add(1);
