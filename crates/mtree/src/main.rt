@@ -2,6 +2,8 @@
 #![tactic(auto)]
 
 mod forms;
+mod lines;
+mod names;
 mod scripts;
 mod spellings;
 mod tokens;
