@@ -11,6 +11,7 @@ pub mod LeadLaws
 pub mod DelLaws
 pub mod EntryLaws
 pub mod PlaceLaws
+pub mod TableLaws
 pub mod KeptLaws
 pub mod MoveLaws
 pub mod RefusalLaws
