@@ -12,6 +12,7 @@ pub mod DelLaws
 pub mod EntryLaws
 pub mod PlaceLaws
 pub mod TableLaws
+pub mod PageLaws
 pub mod KeptLaws
 pub mod MoveLaws
 pub mod RefusalLaws
