@@ -10,6 +10,7 @@ use Rattle.mem_base.specs.declared.forests.Node.{Node}
 use Rattle.mem_base.specs.declared.kinds.Kind.{Kind}
 use Rattle.mem_base.specs.declared.kinds.Kind.TheVariants.{Alias}
 use Rattle.mem_base.specs.Every.{Every}
+use Rattle.mem_base.specs.Kinds.{target_of}
 use Rattle.mem_base.specs.Region.{has_id, node_of, is_in, is_child_of}
 use Rattle.mem_base.specs.Sorting.{put_by, sorted_by}
 use Rattle.mem_base.specs.Order.{trial_order, children_of}
@@ -121,14 +122,14 @@ greatest_at_most_by v w [] h = omega arith
 greatest_at_most_by v w (x ∷ xs) h = let a = h x in let b = greatest_at_most_by v w xs h in omega arith
 
 -- a region taken out of its container leaves no region deeper or wider
-module _ (c : RegionId) (g : Node → Node) (ids : (n : Node) → (g n).id ≡ n.id) (kinds : (n : Node) → (g n).kind ≡ n.kind) (lost : (n : Node) → (g n).parent ≡ None) (nodes : List Node) where
+module _ (c : RegionId) (g : Node → Node) (ids : (n : Node) → (g n).id ≡ n.id) (targets : (n : Node) → target_of (g n).kind ≡ target_of n.kind) (lost : (n : Node) → (g n).parent ≡ None) (nodes : List Node) where
   fewer_from : (o : Option Node) → Fewer (steps_from (changed_at c g nodes) o) (steps_from nodes o)
   fewer_from None w = (omega arith, omega arith)
   fewer_from (Some n) w = same_steps (changed_at c g nodes) nodes n.kind n (λ x. not (has_id c x)) (children_of-left c g lost nodes n.id) w
 
   fewer_left : (q : RegionId) → Fewer (steps_of (changed_at c g nodes) q) (steps_of nodes q)
   fewer_left q =
-      let seen = ap (steps_from (changed_at c g nodes)) (node_of-changed_at c g ids nodes q) ∙ steps_seen (changed_at c g nodes) c g ids kinds (node_of nodes q) in
+      let seen = ap (steps_from (changed_at c g nodes)) (node_of-changed_at c g ids nodes q) ∙ steps_seen (changed_at c g nodes) c g ids targets (node_of nodes q) in
       subst (λ xs. Fewer xs (steps_of nodes q)) (sym seen) (fewer_from (node_of nodes q))
 
   pub greatest_depth_left : greatest_depth (changed_at c g nodes) ≤ greatest_depth nodes

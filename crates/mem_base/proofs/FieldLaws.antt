@@ -1,4 +1,4 @@
--- Laws of calls that change one region but not where it leads, and of calls that take a step away.
+-- Laws of calls that change one region but not its place: the children of each region stay.
 use Rattle.std.proofs.Common.{◌≡◌, ◌≢◌, ℕ, ◌+◌, ◌<◌, ◌≤◌, max, Bool, true, false, cond, eqb, List, [], ◌∷◌, ◌++◌, map, Option, Some, None, refl, sym, ap, subst, ◌∙◌, arith}
 use Rattle.std.specs.Prelude.{filter}
 use Rattle.std.specs.declared.cmp.Ordering.{Ordering}
@@ -9,6 +9,7 @@ use Rattle.mem_base.specs.declared.forests.Forest.{Forest}
 use Rattle.mem_base.specs.declared.kinds.Kind.{Kind}
 use Rattle.mem_base.specs.declared.kinds.Kind.TheVariants.{Alias}
 use Rattle.mem_base.specs.Every.{Every}
+use Rattle.mem_base.specs.Kinds.{target_of}
 use Rattle.mem_base.specs.Region.{has_id, node_of, is_in, is_child_of}
 use Rattle.mem_base.specs.Sorting.{put_by, sorted_by}
 use Rattle.mem_base.specs.Order.{trial_order, children_of}
@@ -22,13 +23,13 @@ use Rattle.mem_base.proofs.JoinLaws.{node_of-changed_at, map_ids-changed_at, ste
 abbrev pub SeesSame : (Node → Node) → Type 0
 SeesSame g = (x y : Node) → trial_order (g x) (g y) ≡ trial_order x y
 
--- a change of one region that keeps its id, its place and its kind, but for an alias's offset
+-- a change of one region that keeps its id, its place and its target
 pub record IsField (g : Node → Node) : Type 0 where
   pub id : (n : Node) → (g n).id ≡ n.id
   pub parent : (n : Node) → (g n).parent ≡ n.parent
   pub priority : (n : Node) → (g n).priority ≡ n.priority
   pub placing : (n : Node) → (g n).placing ≡ n.placing
-  pub kind : (n : Node) → (g n).kind ≡ n.kind
+  pub target : (n : Node) → target_of (g n).kind ≡ target_of n.kind
 
 module _ (r : RegionId) (g : Node → Node) (field : IsField g) where
   abbrev one : Node → Node
@@ -82,31 +83,3 @@ module _ (r : RegionId) (g : Node → Node) (field : IsField g) where
 
   pub child_ids_field : (nodes : List Node) (q : RegionId) → map (λ (c : Node). c.id) (children_of (changed_at r g nodes) q) ≡ map (λ (c : Node). c.id) (children_of nodes q)
   child_ids_field nodes q = ap (map (λ (c : Node). c.id)) (children_field nodes q) ∙ ids_one (children_of nodes q)
-
-  steps_at_field : (nodes : List Node) (k : Kind) (n : Node) → steps_at (changed_at r g nodes) k n ≡ steps_at nodes k n
-  steps_at_field nodes (Alias target offset) n = refl
-  steps_at_field nodes _ n = child_ids_field nodes n.id
-
-  steps_from_field : (nodes : List Node) (o : Option Node) → steps_from (changed_at r g nodes) o ≡ steps_from nodes o
-  steps_from_field nodes None = refl
-  steps_from_field nodes (Some n) = steps_at_field nodes n.kind n
-
-  -- no step changes, so no depth and no weight does
-  pub steps_field : (nodes : List Node) (q : RegionId) → steps_of (changed_at r g nodes) q ≡ steps_of nodes q
-  steps_field nodes q =
-      ap (steps_from (changed_at r g nodes)) (node_of-changed_at r g field.id nodes q)
-      ∙ steps_seen (changed_at r g nodes) r g field.id field.kind (node_of nodes q)
-      ∙ steps_from_field nodes (node_of nodes q)
-
-  alike_field : (nodes : List Node) (q : RegionId) → Alike (steps_of (changed_at r g nodes) q) (steps_of nodes q)
-  alike_field nodes q w = (ap (λ l. greatest (map w l)) (steps_field nodes q), ap (λ l. total (map w l)) (steps_field nodes q))
-
-  pub greatest_depth_field : (nodes : List Node) → greatest_depth (changed_at r g nodes) ≡ greatest_depth nodes
-  greatest_depth_field nodes =
-      ap greatest (map_ids-changed_at (depth_of (changed_at r g nodes)) r g field.id nodes
-      ∙ map_agree (λ (n : Node). depth_of (changed_at r g nodes) n.id) (λ (n : Node). depth_of nodes n.id) nodes (every_of _ (λ n. depth_by-alike (steps_of (changed_at r g nodes)) (steps_of nodes) (alike_field nodes) 64 n.id) nodes))
-
-  pub greatest_weight_field : (nodes : List Node) → greatest_weight (changed_at r g nodes) ≡ greatest_weight nodes
-  greatest_weight_field nodes =
-      ap greatest (map_ids-changed_at (weight_of (changed_at r g nodes)) r g field.id nodes
-      ∙ map_agree (λ (n : Node). weight_of (changed_at r g nodes) n.id) (λ (n : Node). weight_of nodes n.id) nodes (every_of _ (λ n. weight_by-alike (steps_of (changed_at r g nodes)) (steps_of nodes) (alike_field nodes) 64 n.id) nodes))

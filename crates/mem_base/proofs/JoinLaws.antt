@@ -9,16 +9,16 @@ use Rattle.mem_base.specs.declared.forests.Forest.{Forest}
 use Rattle.mem_base.specs.declared.kinds.Kind.{Kind}
 use Rattle.mem_base.specs.declared.kinds.Kind.TheVariants.{Alias}
 use Rattle.mem_base.specs.Every.{Every}
-use Rattle.mem_base.specs.Kinds.{is_alias}
+use Rattle.mem_base.specs.Kinds.{is_alias, target_of}
 use Rattle.mem_base.specs.Region.{has_id, node_of, is_in, is_child_of}
 use Rattle.mem_base.specs.Sorting.{put_by, sorted_by}
 use Rattle.mem_base.specs.Order.{trial_order, children_of}
 use Rattle.mem_base.specs.Forest.{IsForest}
 use Rattle.mem_base.specs.Changes.{placed, changed_at}
-use Rattle.mem_base.specs.Steps.{steps_of, steps_from, steps_at, greatest, total, depth_by, weight_by, reaches, greatest_weight, weight_of, depth_of, IsWithin}
+use Rattle.mem_base.specs.Steps.{steps_of, steps_from, steps_at, greatest, total, depth_by, weight_by, reaches, greatest_weight, weight_of, depth_of}
 use Rattle.mem_base.proofs.EveryLaws.{weaker}
 use Rattle.mem_base.proofs.ForestLaws.{trial_apart, filter-changed_at, children_of-joined, only_node, child_before, id_of, every_node_of}
-use Rattle.mem_base.proofs.StepLaws.{Alike, joined_steps, alike-put_by, weight_by-bounded, depth_by-longer, IsWithin-depth_by}
+use Rattle.mem_base.proofs.StepLaws.{Alike, joined_steps, alike-put_by, weight_by-bounded, depth_by-longer, IsWithin, IsWithin-depth_by, IsWithin-depth_at_most}
 
 -- a change that keeps the id keeps where a region is found
 pub node_of-changed_at : (r : RegionId) (g : Node → Node) → ((n : Node) → (g n).id ≡ n.id) → (nodes : List Node) (q : RegionId) → node_of (changed_at r g nodes) q ≡ option_map (λ n. cond (has_id r n) (g n) n) (node_of nodes q)
@@ -42,12 +42,21 @@ steps_by_id : (nodes : List Node) (k : Kind) (m n : Node) → m.id ≡ n.id → 
 steps_by_id nodes (Alias target offset) m n e = refl
 steps_by_id nodes _ m n e = ap (λ q. map (λ (c : Node). c.id) (children_of nodes q)) e
 
--- what the steps see of a region is its kind and its id
-pub steps_seen : (nodes : List Node) (r : RegionId) (g : Node → Node) → ((n : Node) → (g n).id ≡ n.id) → ((n : Node) → (g n).kind ≡ n.kind) → (o : Option Node) → steps_from nodes (option_map (λ n. cond (has_id r n) (g n) n) o) ≡ steps_from nodes o
+-- where a region leads, by its target and its id
+abbrev steps_by : List Node → Option RegionId → Node → List RegionId
+steps_by nodes None n = map (λ (c : Node). c.id) (children_of nodes n.id)
+steps_by nodes (Some target) n = target ∷ []
+
+steps_by-target : (nodes : List Node) (k : Kind) (n : Node) → steps_at nodes k n ≡ steps_by nodes (target_of k) n
+steps_by-target nodes (Alias target offset) n = refl
+steps_by-target nodes _ n = refl
+
+-- what the steps see of a region is its target and its id
+pub steps_seen : (nodes : List Node) (r : RegionId) (g : Node → Node) → ((n : Node) → (g n).id ≡ n.id) → ((n : Node) → target_of (g n).kind ≡ target_of n.kind) → (o : Option Node) → steps_from nodes (option_map (λ n. cond (has_id r n) (g n) n) o) ≡ steps_from nodes o
 steps_seen nodes r g k l None = refl
 steps_seen nodes r g k l (Some n) =
     elim (has_id r n) as (λ b. steps_at nodes (cond b (g n) n).kind (cond b (g n) n) ≡ steps_at nodes n.kind n) [
-      | true ↦ ap (λ x. steps_at nodes x (g n)) (l n) ∙ steps_by_id nodes n.kind (g n) n (k n)
+      | true ↦ steps_by-target nodes (g n).kind (g n) ∙ ap (λ o. steps_by nodes o (g n)) (l n) ∙ sym (steps_by-target nodes n.kind (g n)) ∙ steps_by_id nodes n.kind (g n) n (k n)
       | false ↦ refl
     ]
 
@@ -166,3 +175,10 @@ within_forest f h r =
     let a = depth_at_most f h r in
     let b = depth_by-longer (steps_of f.nodes) 63 64 r (omega arith) in
     IsWithin-depth_by (steps_of f.nodes) 63 r (omega arith)
+
+-- no path of a forest has more than 32 regions
+pub within_most_depth : (f : Forest) → IsForest f → (r : RegionId) → IsWithin (steps_of f.nodes) 32 r
+within_most_depth f h r =
+    let a = depth_at_most f h r in
+    let b = depth_by-longer (steps_of f.nodes) 33 64 r (omega arith) in
+    IsWithin-depth_at_most (steps_of f.nodes) 32 r (omega arith)

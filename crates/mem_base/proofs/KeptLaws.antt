@@ -1,35 +1,57 @@
 -- What the calls on one region keep of a forest.
-use Rattle.std.proofs.Common.{◌≡◌, ℕ, ◌+◌, ◌<◌, ◌≤◌, List, Option, None, refl, sym, ap, subst, ◌∙◌, arith}
+use Rattle.std.proofs.Common.{◌≡◌, ℕ, ◌+◌, ◌<◌, ◌≤◌, Bool, true, false, cond, List, Option, Some, None, refl, sym, ap, subst, ◌∙◌, arith}
 use Rattle.mem_base.specs.declared.ids.RegionId.{RegionId}
 use Rattle.mem_base.specs.declared.forests.Node.{Node}
 use Rattle.mem_base.specs.declared.kinds.Kind.{Kind}
+use Rattle.mem_base.specs.declared.kinds.Kind.TheVariants.{Alias}
 use Rattle.mem_base.specs.declared.forests.Forest.{Forest}
 use Rattle.mem_base.specs.declared.calls.Call.TheVariants as calls
+use Rattle.mem_base.specs.Kinds.{target_of}
 use Rattle.mem_base.specs.Forest.{IsForest, IsPlacedBefore, IsTargetBefore}
-use Rattle.mem_base.specs.Changes.{changed_at, at_region, changed, logged}
+use Rattle.mem_base.specs.Changes.{changed_at, at_region, changed, retargeted}
 use Rattle.mem_base.specs.Calls.{counted}
-use Rattle.mem_base.specs.Steps.{greatest_depth, greatest_weight}
 use Rattle.mem_base.proofs.ForestLaws.{every_changed_at, ascending_changed_at}
-use Rattle.mem_base.proofs.FieldLaws.{IsField, greatest_depth_field, greatest_weight_field}
+use Rattle.mem_base.proofs.FieldLaws.{IsField}
+use Rattle.mem_base.proofs.LeadLaws.{KeepsSteps, greatest_depth-kept, greatest_weight-kept}
 use Rattle.mem_base.proofs.DelLaws.{greatest_depth_left, greatest_weight_left}
 
--- a change of one field of one region
+abbrev IsBelow : ℕ → Option RegionId → Type 0
+IsBelow made None = Unit {0}
+IsBelow made (Some target) = target.0 < made
+
+below_by_target : (made : ℕ) (k : Kind) → IsTargetBefore made k → IsBelow made (target_of k)
+below_by_target made (Alias target offset) h = h
+below_by_target made _ h = tt
+
+target_below : (made : ℕ) (k : Kind) → IsBelow made (target_of k) → IsTargetBefore made k
+target_below made (Alias target offset) h = h
+target_below made _ h = tt
+
+-- kinds with one target
+pub same_target_before : (made : ℕ) (k l : Kind) → target_of l ≡ target_of k → IsTargetBefore made k → IsTargetBefore made l
+same_target_before made k l e h = target_below made l (subst (IsBelow made) (sym e) (below_by_target made k h))
+
+-- a change of one region that leaves its place and its target
 pub field_forest : (f : Forest) (r : RegionId) (g : Node → Node) → IsField g → IsForest f → IsForest (counted (at_region f r g))
-field_forest f r g field h = record {
-  ascending = ascending_changed_at r g field.id f.nodes h.ascending;
-  made_before = every_changed_at (λ n. n.id.0 < f.made) r g (λ n l. subst (λ (q : RegionId). q.0 < f.made) (sym (field.id n)) l) f.nodes h.made_before;
-  placed_before = every_changed_at (λ n. IsPlacedBefore f.made f.placings n.parent n.placing) r g (λ n w. subst (λ (p : Option RegionId). IsPlacedBefore f.made f.placings p (g n).placing) (sym (field.parent n)) (subst (λ (k : ℕ). IsPlacedBefore f.made f.placings n.parent k) (sym (field.placing n)) w)) f.nodes h.placed_before;
-  few_placings = let few = h.few_placings in omega arith;
-  targets_before = every_changed_at (λ n. IsTargetBefore f.made n.kind) r g (λ n w. subst (λ (k : Kind). IsTargetBefore f.made k) (sym (field.kind n)) w) f.nodes h.targets_before;
-  shallow = let e = greatest_depth_field r g field f.nodes in let l = h.shallow in omega arith;
-  narrow = let e = greatest_weight_field r g field f.nodes in let l = h.narrow in omega arith;
-}
+field_forest f r g field h =
+    let keeps : KeepsSteps g = record { id = field.id; parent = field.parent; target = field.target } in
+    record {
+      ascending = ascending_changed_at r g field.id f.nodes h.ascending;
+      made_before = every_changed_at (λ n. n.id.0 < f.made) r g (λ n l. subst (λ (q : RegionId). q.0 < f.made) (sym (field.id n)) l) f.nodes h.made_before;
+      placed_before = every_changed_at (λ n. IsPlacedBefore f.made f.placings n.parent n.placing) r g (λ n w. subst (λ (p : Option RegionId). IsPlacedBefore f.made f.placings p (g n).placing) (sym (field.parent n)) (subst (λ (k : ℕ). IsPlacedBefore f.made f.placings n.parent k) (sym (field.placing n)) w)) f.nodes h.placed_before;
+      few_placings = let few = h.few_placings in omega arith;
+      targets_before = every_changed_at (λ n. IsTargetBefore f.made n.kind) r g (λ n w. same_target_before f.made n.kind (g n).kind (field.target n) w) f.nodes h.targets_before;
+      shallow = let e = greatest_depth-kept r g keeps f.nodes in let l = h.shallow in omega arith;
+      narrow = let e = greatest_weight-kept r g keeps f.nodes in let l = h.narrow in omega arith;
+    }
 
-pub enable_forest : (f : Forest) (r : RegionId) (on : _) → IsForest f → IsForest (counted (changed f (calls.Enable r on)))
-enable_forest f r on h = field_forest f r (λ n. record n { enabled = on }) (record { id = λ n. refl; parent = λ n. refl; priority = λ n. refl; placing = λ n. refl; kind = λ n. refl }) h
+-- an alias goes on to the same target
+target_retargeted : (offset : ℕ) (k : Kind) → target_of (retargeted offset k) ≡ target_of k
+target_retargeted offset (Alias target old) = refl
+target_retargeted offset _ = refl
 
-pub log_forest : (f : Forest) (r : RegionId) (client on : _) → IsForest f → IsForest (counted (changed f (calls.Log r client on)))
-log_forest f r client on h = field_forest f r (λ n. record n { log = logged client on n.log }) (record { id = λ n. refl; parent = λ n. refl; priority = λ n. refl; placing = λ n. refl; kind = λ n. refl }) h
+pub retarget_field : (offset : ℕ) → IsField (λ n. record n { kind = retargeted offset n.kind })
+retarget_field offset = record { id = λ n. refl; parent = λ n. refl; priority = λ n. refl; placing = λ n. refl; target = λ n. target_retargeted offset n.kind }
 
 -- a region taken out of its container
 pub del_forest : (f : Forest) (parent child : RegionId) → IsForest f → IsForest (counted (changed f (calls.Del parent child)))

@@ -4,9 +4,16 @@ pub mod StepLaws
 pub mod ForestLaws
 pub mod SearchLaws
 pub mod JoinLaws
+pub mod PathLaws
 pub mod MadeLaws
 pub mod FieldLaws
+pub mod LeadLaws
 pub mod DelLaws
 pub mod EntryLaws
+pub mod PlaceLaws
 pub mod KeptLaws
+pub mod MoveLaws
+pub mod RefusalLaws
+pub mod DropLaws
+pub mod CallLaws
 pub mod ViewLaws

@@ -11,7 +11,7 @@ use Rattle.mem_base.specs.declared.kinds.Kind.TheVariants.{Container, Alias}
 use Rattle.mem_base.specs.Region.{node_of}
 use Rattle.mem_base.specs.Order.{children_of}
 use Rattle.mem_base.specs.Search.{Search, passed, itself, inside, at_node, spot_in, first_of_children}
-use Rattle.mem_base.specs.Paths.{Finds, FindsFirst, missing, outside, through, within, nowhere, above, at, past, HasPathsWithin, StepsWithin, IsNoAlias}
+use Rattle.mem_base.specs.Paths.{Finds, FindsFirst, missing, outside, through, within, nowhere, above, at, past, IsNoAlias}
 use Rattle.mem_base.specs.Every.{Every}
 use Rattle.mem_base.proofs.EveryLaws.{weaker}
 
@@ -26,6 +26,16 @@ firsts f below (c ∷ cs) a h =
       ] (h.0 (a - c.offset))
       | false ↦ λ e. above e (firsts f below cs a h.1)
     ] refl
+
+-- each step from a region leads to one of which this holds
+abbrev pub StepsWithin : Forest → (RegionId → Type 0) → Kind → Node → Type 0
+StepsWithin f below (Alias target offset) n = below target
+StepsWithin f below _ n = Every (λ c. below c.id) (children_of f.nodes n.id)
+
+-- each path from a region has at most so many regions
+abbrev pub HasPathsWithin : Forest → ℕ → RegionId → Type 0
+HasPathsWithin f zero r = ⊥
+HasPathsWithin f (suc depth) r = (n : Node) → node_of f.nodes r ≡ Some n → StepsWithin f (HasPathsWithin f depth) n.kind n
 
 -- one level, by the kind
 at_kind : (f : Forest) (below : Search) (P : RegionId → Type 0) (n : Node) (r : RegionId) (a : ℕ) → ((q : RegionId) (b : ℕ) → P q → Finds f q b (below q b)) → node_of f.nodes r ≡ Some n → (n.enabled && nat_lt a n.size) ≡ true → (k : Kind) → n.kind ≡ k → StepsWithin f P k n → Finds f r a (option_map (passed n) (inside f below k n a))

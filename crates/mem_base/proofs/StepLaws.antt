@@ -7,8 +7,8 @@ use Rattle.std.specs.Ordering.{is_lt}
 use Rattle.mem_base.specs.declared.ids.RegionId.{RegionId}
 use Rattle.mem_base.specs.declared.forests.Node.{Node}
 use Rattle.mem_base.specs.Every.{Every}
-use Rattle.mem_base.specs.Sorting.{put_by}
-use Rattle.mem_base.specs.Steps.{Steps, greatest, total, depth_by, weight_by, reaches_by, IsWithin}
+use Rattle.mem_base.specs.Sorting.{put_by, sorted_by}
+use Rattle.mem_base.specs.Steps.{Steps, greatest, total, depth_by, weight_by, reaches_by}
 use Rattle.mem_base.proofs.EveryLaws.{weaker, both}
 
 pub map_agree : {A : Type 0} (g h : A → ℕ) (xs : List A) → Every (λ x. g x ≡ h x) xs → map g xs ≡ map h xs
@@ -50,10 +50,35 @@ alike-put_by R x (y ∷ ys) g =
       | false ↦ (ap (max (g y.id)) d ∙ omega arith, ap (λ k. g y.id + k) w ∙ omega arith)
     ]
 
+-- a list in order has what the list has
+pub alike-sorted_by : (R : Node → Node → Ordering) (l : List Node) → Alike (ids (sorted_by R l)) (ids l)
+alike-sorted_by R [] g = (refl, refl)
+alike-sorted_by R (x ∷ xs) g =
+    let front = alike-put_by R x (sorted_by R xs) g in
+    let rest = alike-sorted_by R xs g in
+    (front.0 ∙ ap (max (g x.id)) rest.0, front.1 ∙ ap (λ k. g x.id + k) rest.1)
+
 -- what is at most the greatest is at most each
 each_below : (g : RegionId → ℕ) (k : ℕ) (xs : List RegionId) → greatest (map g xs) < k → Every (λ x. g x < k) xs
 each_below g k [] h = tt
 each_below g k (x ∷ xs) h = (omega arith, each_below g k xs (omega arith))
+
+-- each path from a region has at most so many regions
+unfoldable pub IsWithin : Steps → ℕ → RegionId → Type 0
+IsWithin steps zero r = ⊥
+IsWithin steps (suc most) r = Every (IsWithin steps most) (steps r)
+
+each_at_most : (g : RegionId → ℕ) (k : ℕ) (xs : List RegionId) → greatest (map g xs) ≤ k → Every (λ x. g x ≤ k) xs
+each_at_most g k [] h = tt
+each_at_most g k (x ∷ xs) h = (omega arith, each_at_most g k xs (omega arith))
+
+-- no path is longer than the depth, where longer paths were looked at too
+pub IsWithin-depth_at_most : (s : Steps) (most : ℕ) (r : RegionId) → depth_by s (suc most) r ≤ most → IsWithin s most r
+unfolding depth_by IsWithin
+IsWithin-depth_at_most s zero r h = absurd (omega arith)
+IsWithin-depth_at_most s (suc most) r h =
+    let below : greatest (map (depth_by s (suc most)) (s r)) ≤ most = omega arith in
+    weaker (λ q. depth_by s (suc most) q ≤ most) (IsWithin s most) (λ q l. IsWithin-depth_at_most s most q l) (s r) (each_at_most (depth_by s (suc most)) most (s r) below)
 
 -- a depth that is less than what was looked at is the whole depth
 pub IsWithin-depth_by : (s : Steps) (most : ℕ) (r : RegionId) → depth_by s most r < most → IsWithin s most r

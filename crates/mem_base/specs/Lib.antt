@@ -7,6 +7,7 @@ pub mod Order
 pub mod Search
 pub mod Paths
 pub mod Steps
+pub mod Tables
 pub mod Forest
 pub mod Refusals
 pub mod TableRefusals
@@ -27,7 +28,7 @@ pub mod Marks
 pub mod MemoryAccess
 pub mod DeviceAccess
 pub mod Access
-pub mod Views
+pub mod Naming
 pub mod LiveEvents
 pub mod Walk
 pub mod Replay
@@ -48,3 +49,9 @@ pub mod Composites
 pub mod SharedHistory
 pub mod Turns
 pub mod JoinedHistory
+pub mod Spelling
+pub mod Form
+pub mod Scripts
+pub mod Flattened
+pub mod Output
+pub mod Run

@@ -1,6 +1,6 @@
 -- The search as a relation, rule by rule of QEMU's manual ("The memory API", "Visibility"), with no bound on its
 -- depth.
-use Rattle.std.specs.Prelude.{◌≡◌, ℕ, zero, suc, ◌+◌, ◌-◌, true, false, ◌&&◌, nat_lt, nat_le, List, [], ◌∷◌, Option, Some, None, option_map}
+use Rattle.std.specs.Prelude.{◌≡◌, ℕ, ◌+◌, ◌-◌, true, false, ◌&&◌, nat_lt, nat_le, List, [], ◌∷◌, Option, Some, None, option_map}
 use Rattle.std.specs.Option.{option_or}
 use Rattle.mem_base.specs.declared.ids.RegionId.{RegionId}
 use Rattle.mem_base.specs.declared.forests.Node.{Node}
@@ -9,7 +9,6 @@ use Rattle.mem_base.specs.declared.spots.Spot.{Spot}
 use Rattle.mem_base.specs.declared.kinds.Kind.{Kind}
 use Rattle.mem_base.specs.declared.kinds.Kind.TheVariants.{Alias}
 use Rattle.mem_base.specs.Region.{node_of}
-use Rattle.mem_base.specs.Every.{Every}
 use Rattle.mem_base.specs.Order.{children_of}
 use Rattle.mem_base.specs.Search.{passed, itself}
 
@@ -31,13 +30,3 @@ mutual
     above : {f : Forest} {a : ℕ} {c : Node} {cs : List Node} {x : Option Spot} → nat_le c.offset a ≡ false → FindsFirst f cs a x → FindsFirst f (c ∷ cs) a x
     at : {f : Forest} {a : ℕ} {c : Node} {cs : List Node} (s : Spot) → nat_le c.offset a ≡ true → Finds f c.id (a - c.offset) (Some s) → FindsFirst f (c ∷ cs) a (Some s)
     past : {f : Forest} {a : ℕ} {c : Node} {cs : List Node} {x : Option Spot} → nat_le c.offset a ≡ true → Finds f c.id (a - c.offset) None → FindsFirst f cs a x → FindsFirst f (c ∷ cs) a x
-
--- each step from a region leads to one of which this holds
-abbrev pub StepsWithin : Forest → (RegionId → Type 0) → Kind → Node → Type 0
-StepsWithin f below (Alias target offset) n = below target
-StepsWithin f below _ n = Every (λ c. below c.id) (children_of f.nodes n.id)
-
--- each path from a region has at most so many regions
-abbrev pub HasPathsWithin : Forest → ℕ → RegionId → Type 0
-HasPathsWithin f zero r = ⊥
-HasPathsWithin f (suc depth) r = (n : Node) → node_of f.nodes r ≡ Some n → StepsWithin f (HasPathsWithin f depth) n.kind n

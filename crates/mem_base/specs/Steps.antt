@@ -7,7 +7,6 @@ use Rattle.mem_base.specs.declared.ids.RegionId.{RegionId}
 use Rattle.mem_base.specs.declared.forests.Node.{Node}
 use Rattle.mem_base.specs.declared.kinds.Kind.{Kind}
 use Rattle.mem_base.specs.declared.kinds.Kind.TheVariants.{Alias}
-use Rattle.mem_base.specs.Every.{Every}
 use Rattle.mem_base.specs.Region.{node_of}
 use Rattle.mem_base.specs.Order.{children_of}
 
@@ -50,11 +49,6 @@ weight_by steps (suc most) r = total (map (weight_by steps most) (steps r)) + 1
 unfoldable pub reaches_by : Steps → ℕ → RegionId → RegionId → Bool
 reaches_by steps zero from to = false
 reaches_by steps (suc most) from to = (from.0 == to.0) || list_any (λ q. reaches_by steps most q to) (steps from)
-
--- each path from a region has at most so many regions
-unfoldable pub IsWithin : Steps → ℕ → RegionId → Type 0
-IsWithin steps zero r = ⊥
-IsWithin steps (suc most) r = Every (IsWithin steps most) (steps r)
 
 -- no path has more regions than two of the deepest, one behind the other: twice the greatest depth
 abbrev pub longest : ℕ

@@ -8,6 +8,7 @@
 
 mod accesses;
 mod calls;
+mod commands;
 mod editions;
 mod flat;
 mod forests;
@@ -23,6 +24,7 @@ mod translations;
 
 pub use accesses::{Access, DeviceStep, Piece, Target};
 pub use calls::{Applied, Call, Config};
+pub use commands::{Command, Name};
 pub use editions::Edition;
 pub use flat::{FlatRange, Pieces, View};
 pub use forests::{Forest, Node, Nodes, Spaces};

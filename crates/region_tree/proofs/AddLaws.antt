@@ -1,0 +1,118 @@
+-- Laws of why an Add is refused.
+use Rattle.std.proofs.Common.{◌≡◌, ◌≢◌, ℕ, zero, suc, ◌+◌, ◌<◌, ◌≤◌, Bool, true, false, cond, ltb, leb, ◌^◌, ℤ, List, [], ◌∷◌, ◌++◌, map, Option, Some, None, refl, sym, ap, subst, ◌∙◌, arith}
+use Rattle.std.specs.Prelude.{is_some}
+use Rattle.std.specs.Option.{option_or}
+use Rattle.std.proofs.lemmas.Bool.Decides.{nat_tests}
+use Rattle.mem_base.specs.declared.ids.RegionId.{RegionId}
+use Rattle.mem_base.specs.declared.forests.Forest.{Forest}
+use Rattle.mem_base.specs.declared.refusals.Refusal.{Refusal}
+use Rattle.mem_base.specs.declared.refusals.Refusal.TheVariants.{TooDeep, TooWide, Unknown, Loop}
+use Rattle.mem_base.specs.declared.refusals.What.TheVariants as what
+use Rattle.mem_base.specs.declared.calls.Call.TheVariants as calls
+use Rattle.mem_base.specs.Region.{node_of}
+use Rattle.mem_base.specs.Refusals.{first_refusal, refuse_if, unknown_region, has_container, alias_parent, makes_loop, too_deep, too_wide, in_container, container_of}
+use Rattle.mem_base.specs.TableRefusals.{no_more_calls}
+use Rattle.mem_base.specs.Changes.{changed}
+use Rattle.mem_base.specs.Calls.{refusal_of}
+use Rattle.mem_base.specs.declared.forests.Node.{Node}
+use Rattle.mem_base.proofs.StepLaws.{reaches_by-apart}
+use Rattle.mem_base.specs.Steps.{steps_of, reaches, greatest_depth, greatest_weight}
+
+pub none_or : (a b : Option Refusal) → option_or a b ≡ None → (a ≡ None) × (b ≡ None)
+none_or None b e = (refl, e)
+none_or (Some x) b e = cc
+
+pub first_refusal-append : (xs ys : List (Option Refusal)) → first_refusal (xs ++ ys) ≡ option_or (first_refusal xs) (first_refusal ys)
+first_refusal-append [] ys = refl
+first_refusal-append (None ∷ xs) ys = first_refusal-append xs ys
+first_refusal-append (Some x ∷ xs) ys = refl
+
+pub or_none : (a : Option Refusal) → option_or a None ≡ a
+or_none None = refl
+or_none (Some x) = refl
+
+pub stands : (a b : Option Refusal) → is_some a ≡ true → option_or a b ≡ a
+stands None b e = cc
+stands (Some x) b e = refl
+
+pub refused_not : (b : Bool) (why : Refusal) → refuse_if b why ≡ None → b ≡ false
+refused_not true why e = cc
+refused_not false why e = refl
+
+pub known : (f : Forest) (r : RegionId) → unknown_region f r ≡ None → is_some (node_of f.nodes r) ≡ true
+known f r e = elim (is_some (node_of f.nodes r)) as (λ b. cond b None (Some (Unknown (what.Region r))) ≡ None → b ≡ true) [ true ↦ λ h. refl | false ↦ λ h. cc ] e
+
+-- what holds where nothing stands against an Add but the lengths of paths
+pub record IsFree (f : Forest) (parent child : RegionId) : Type 0 where
+  pub parent_known : is_some (node_of f.nodes parent) ≡ true
+  pub child_known : is_some (node_of f.nodes child) ≡ true
+  pub no_container : has_container f child ≡ None
+  pub no_alias : alias_parent f parent ≡ None
+  pub no_loop : reaches f.nodes child parent ≡ false
+
+pub free_of : (f : Forest) (parent child : RegionId) → first_refusal (unknown_region f parent ∷ unknown_region f child ∷ has_container f child ∷ alias_parent f parent ∷ makes_loop f parent child ∷ []) ≡ None → IsFree f parent child
+free_of f parent child e =
+    let a = none_or (unknown_region f parent) (first_refusal (unknown_region f child ∷ has_container f child ∷ alias_parent f parent ∷ makes_loop f parent child ∷ [])) e in
+    let b = none_or (unknown_region f child) (first_refusal (has_container f child ∷ alias_parent f parent ∷ makes_loop f parent child ∷ [])) a.1 in
+    let c = none_or (has_container f child) (first_refusal (alias_parent f parent ∷ makes_loop f parent child ∷ [])) b.1 in
+    let d = none_or (alias_parent f parent) (first_refusal (makes_loop f parent child ∷ [])) c.1 in
+    let l = none_or (makes_loop f parent child) None d.1 in
+    record {
+      parent_known = known f parent a.0;
+      child_known = known f child b.0;
+      no_container = c.0;
+      no_alias = d.0;
+      no_loop = refused_not (reaches f.nodes child parent) (Loop parent) l.0;
+    }
+
+-- the refusal of an Add in three parts
+pub refusal_of-add : (f : Forest) (parent : RegionId) (offset : ℕ) (child : RegionId) (priority : ℤ) →
+    refusal_of f (calls.Add parent offset child priority) ≡
+    option_or (first_refusal (unknown_region f parent ∷ unknown_region f child ∷ has_container f child ∷ alias_parent f parent ∷ makes_loop f parent child ∷ []))
+    (option_or (first_refusal (too_deep (changed f (calls.Add parent offset child priority)).nodes ∷ too_wide (changed f (calls.Add parent offset child priority)).nodes ∷ [])) (no_more_calls f))
+refusal_of-add f parent offset child priority =
+    let early = unknown_region f parent ∷ unknown_region f child ∷ has_container f child ∷ alias_parent f parent ∷ makes_loop f parent child ∷ [] in
+    let late = too_deep (changed f (calls.Add parent offset child priority)).nodes ∷ too_wide (changed f (calls.Add parent offset child priority)).nodes ∷ [] in
+    first_refusal-append early (late ++ no_more_calls f ∷ [])
+    ∙ ap (option_or (first_refusal early)) (first_refusal-append late (no_more_calls f ∷ []) ∙ ap (option_or (first_refusal late)) (or_none (no_more_calls f)))
+
+not_below : (a b : ℕ) → ltb a b ≡ false → b ≤ a
+not_below a b e = grind (arith, nat_tests)
+
+above : (a b : ℕ) → leb a b ≡ false → b < a
+above a b e = grind (arith, nat_tests)
+
+-- what an accepted Add keeps
+pub record IsAllowed (f : Forest) (parent : RegionId) (offset : ℕ) (child : RegionId) (priority : ℤ) : Type 0 where
+  pub free : IsFree f parent child
+  pub shallow : greatest_depth (changed f (calls.Add parent offset child priority)).nodes ≤ 32
+  pub narrow : greatest_weight (changed f (calls.Add parent offset child priority)).nodes ≤ 65536
+  pub few : f.calls < 2 ^ 62
+
+pub allowed_of : (f : Forest) (parent : RegionId) (offset : ℕ) (child : RegionId) (priority : ℤ) → refusal_of f (calls.Add parent offset child priority) ≡ None → IsAllowed f parent offset child priority
+allowed_of f parent offset child priority e =
+    let deep = too_deep (changed f (calls.Add parent offset child priority)).nodes in
+    let wide = too_wide (changed f (calls.Add parent offset child priority)).nodes in
+    let a = none_or (first_refusal (unknown_region f parent ∷ unknown_region f child ∷ has_container f child ∷ alias_parent f parent ∷ makes_loop f parent child ∷ [])) (option_or (first_refusal (deep ∷ wide ∷ [])) (no_more_calls f)) (sym (refusal_of-add f parent offset child priority) ∙ e) in
+    let b = none_or (first_refusal (deep ∷ wide ∷ [])) (no_more_calls f) a.1 in
+    let c = none_or deep (first_refusal (wide ∷ [])) b.0 in
+    let d = none_or wide None c.1 in
+    let s = refused_not _ (TooDeep (greatest_depth (changed f (calls.Add parent offset child priority)).nodes)) c.0 in
+    let n = refused_not _ (TooWide (greatest_weight (changed f (calls.Add parent offset child priority)).nodes)) d.0 in
+    let k = refused_not _ _ b.1 in
+    record {
+      free = free_of f parent child a.0;
+      shallow = not_below _ _ s;
+      narrow = not_below _ _ n;
+      few = above _ _ k;
+    }
+
+pub apart_of : (f : Forest) (parent child : RegionId) → IsFree f parent child → parent.0 ≢ child.0
+apart_of f parent child h e = reaches_by-apart (steps_of f.nodes) 64 child parent (omega arith) h.no_loop (sym e)
+
+no_parent : (p : Option RegionId) → in_container p ≡ None → p ≡ None
+no_parent None h = refl
+no_parent (Some p) h = cc
+
+pub loose_of : (f : Forest) (child : RegionId) (n : Node) → has_container f child ≡ None → node_of f.nodes child ≡ Some n → n.parent ≡ None
+loose_of f child n h e = no_parent n.parent (sym (ap (λ o. in_container (container_of o)) e) ∙ h)

@@ -1,0 +1,48 @@
+use Rattle.std.proofs.Common.{◌≡◌, ◌∙◌, sym, ap, refl, subst, false, true, None, map, List}
+use Rattle.std.specs.Prelude.{is_some}
+use Rattle.mem_base.specs.declared.forests.Forest.{Forest}
+use Rattle.mem_base.specs.declared.calls.Call.TheVariants.{Add}
+use Rattle.mem_base.specs.Region.{node_of}
+use Rattle.mem_base.specs.Changes.{changed}
+use Rattle.mem_base.specs.Refusals.{alias_parent, has_container}
+use Rattle.mem_base.specs.Steps.{reaches, greatest, greatest_depth, greatest_weight}
+use Rattle.mem_base.proofs.JoinLaws.{weight_joined_bound}
+use Rattle.region_tree.specs.declared.extents.Extent.{Extent}
+use Rattle.region_tree.specs.declared.slots.Slot.{Slot}
+use Rattle.region_tree.specs.Tree.{forest_of}
+use Rattle.region_tree.specs.Slots.{nodes_of}
+use Rattle.region_tree.specs.Extents.{extents_by}
+use Rattle.region_tree.proofs.StretchLaws.{stretched, slots_show_steps}
+use Rattle.region_tree.proofs.forest_tree.Tree.stretch.Goals as goal
+
+pub extents-requires-clause-steps : goal.extents-requires-clause-steps
+extents-requires-clause-steps c = rw c.deref.ensures.value (slots_show_steps c.self.inside.slots.items c.self.invariant.forest.ascending c.self.invariant.children)
+
+pub extents-requires-clause-few : goal.extents-requires-clause-few
+extents-requires-clause-few c =
+    let apart = subst (λ (f : Forest). reaches f.nodes c.args.child c.args.parent ≡ false) (sym c.self.view_is) c.requires.no_loop in
+    rw c.deref.ensures.value (weight_joined_bound (forest_of c.self.inside) c.self.invariant.forest c.args.parent c.args.child apart)
+
+pub returns-clause-depth : goal.returns-clause-depth
+returns-clause-depth c offset priority =
+    let f = forest_of c.self.inside in
+    let parent = subst (λ (g : Forest). is_some (node_of g.nodes c.args.parent) ≡ true) (sym c.self.view_is) c.requires.parent in
+    let child = subst (λ (g : Forest). is_some (node_of g.nodes c.args.child) ≡ true) (sym c.self.view_is) c.requires.child in
+    let no_alias = subst (λ (g : Forest). alias_parent g c.args.parent ≡ None) (sym c.self.view_is) c.requires.no_alias in
+    let free = subst (λ (g : Forest). has_container g c.args.child ≡ None) (sym c.self.view_is) c.requires.free in
+    let found = c.in_ok-found.ensures ∙ ap (λ (ss : List Slot). extents_by (nodes_of ss) (record { parent = c.args.parent; child = c.args.child }) 64 ss) c.deref.ensures.value in
+    let all = stretched f c.self.invariant.forest c.self.inside.slots.items refl c.args.parent c.args.child parent child no_alias free c.in_ok-found.found.items found offset priority in
+    c.widest.ensures.depth ∙ ap (λ (es : List Extent). greatest (map (λ (e : Extent). e.depth) es)) c.as_slice.ensures.value ∙ all.0
+    ∙ ap (λ (g : Forest). greatest_depth (changed g (Add c.args.parent offset c.args.child priority)).nodes) c.self.view_is
+
+pub returns-clause-weight : goal.returns-clause-weight
+returns-clause-weight c offset priority =
+    let f = forest_of c.self.inside in
+    let parent = subst (λ (g : Forest). is_some (node_of g.nodes c.args.parent) ≡ true) (sym c.self.view_is) c.requires.parent in
+    let child = subst (λ (g : Forest). is_some (node_of g.nodes c.args.child) ≡ true) (sym c.self.view_is) c.requires.child in
+    let no_alias = subst (λ (g : Forest). alias_parent g c.args.parent ≡ None) (sym c.self.view_is) c.requires.no_alias in
+    let free = subst (λ (g : Forest). has_container g c.args.child ≡ None) (sym c.self.view_is) c.requires.free in
+    let found = c.in_ok-found.ensures ∙ ap (λ (ss : List Slot). extents_by (nodes_of ss) (record { parent = c.args.parent; child = c.args.child }) 64 ss) c.deref.ensures.value in
+    let all = stretched f c.self.invariant.forest c.self.inside.slots.items refl c.args.parent c.args.child parent child no_alias free c.in_ok-found.found.items found offset priority in
+    c.widest.ensures.weight ∙ ap (λ (es : List Extent). greatest (map (λ (e : Extent). e.weight) es)) c.as_slice.ensures.value ∙ all.1
+    ∙ ap (λ (g : Forest). greatest_weight (changed g (Add c.args.parent offset c.args.child priority)).nodes) c.self.view_is

@@ -1,0 +1,181 @@
+// How deep and how wide regions are.
+
+ghost use Rattle.std.specs.Prelude.{◌≡◌, ◌+◌, ◌<◌, ◌≤◌, ◌^◌, ℕ, List, length, map, take, slice_index_or, [], ◌∷◌, IfOk, IsSome};
+ghost use Rattle.mem_base.specs.declared.ids.RegionId.{RegionId as Region};
+ghost use Rattle.mem_base.specs.Every.{Every};
+ghost use Rattle.mem_base.specs.Forest.{IsAscending};
+ghost use Rattle.mem_base.specs.Region.{node_of};
+ghost use Rattle.mem_base.specs.Kinds.{target_of as target};
+ghost use Rattle.mem_base.specs.Steps.{greatest, total, steps_of, depth_by, weight_by};
+ghost use Rattle.region_tree.specs.Slots.{nodes_of};
+ghost use Rattle.region_tree.specs.Tree.{HasItsChildren};
+ghost use Rattle.region_tree.specs.Extents.{steps_with, extent_by, extents_by, HasItsSteps};
+
+use crate::slots::{Slot, place_of};
+use mem_base::{Kind, RegionId};
+use std::alloc::{AllocError, Global};
+
+/// The regions on the longest path from a region, and one for each path from it.
+#[derive(Clone, Copy, Debug, PartialEq, Eq)]
+pub(crate) struct Extent {
+    pub(crate) depth: u32,
+    pub(crate) weight: u64,
+}
+
+/// One more step, from a parent to a child.
+#[derive(Clone, Copy, Debug)]
+pub(crate) struct Join {
+    pub(crate) parent: RegionId,
+    pub(crate) child: RegionId,
+}
+
+/// The extent of one region, where those of the slots are known.
+fn extent_at(slots: &[Slot], join: Join, round: u32, known: &[Extent], region: RegionId) -> Extent
+    requires known { known.now ≡ extents_by (nodes_of slots.now) join round slots.now }
+    requires round { 1 ≤ round }
+    requires ascending { IsAscending (nodes_of slots.now) }
+    requires parent { IsSome (node_of (nodes_of slots.now) join.parent) }
+    ensures { result ≡ extent_by (nodes_of slots.now) join round region }
+{
+    match place_of(slots, region) {
+        Some(i) => known[i],
+        None => Extent {
+            depth: 1,
+            weight: 1,
+        },
+    }
+}
+
+#[tactic(auto, unfolding(crate::specs::Extents::extent_by))]
+/// The greatest depth of some regions, and their weights together.
+fn extent_over(slots: &[Slot], join: Join, round: u32, known: &[Extent], ids: &[RegionId]) -> Extent
+    requires known { known.now ≡ extents_by (nodes_of slots.now) join round slots.now }
+    requires round { 1 ≤ round }
+    requires ascending { IsAscending (nodes_of slots.now) }
+    requires parent { IsSome (node_of (nodes_of slots.now) join.parent) }
+    requires few { total (map (weight_by (steps_with (nodes_of slots.now) join) round) ids.now) < 2 ^ 64 }
+    ensures depth { result.depth ≡ greatest (map (depth_by (steps_with (nodes_of slots.now) join) round) ids.now) }
+    ensures weight { result.weight ≡ total (map (weight_by (steps_with (nodes_of slots.now) join) round) ids.now) }
+{
+    let mut depth: u32 = 0;
+    let mut weight: u64 = 0;
+    for id in ids {
+        let one = extent_at(slots, join, round, known, *id);
+        depth = depth.max(one.depth);
+        weight += one.weight;
+    }
+    Extent { depth, weight }
+}
+
+/// The target of an alias.
+pub(crate) fn target_of(kind: &Kind) -> Option<RegionId>
+    ensures { result ≡ target kind.now }
+{
+    match *kind {
+        Kind::Alias { target, .. } => Some(target),
+        _ => None,
+    }
+}
+
+/// What one region's own steps lead to.
+fn extent_below(slots: &[Slot], join: Join, round: u32, known: &[Extent], slot: &Slot) -> Extent
+    requires known { known.now ≡ extents_by (nodes_of slots.now) join round slots.now }
+    requires round { 1 ≤ round }
+    requires ascending { IsAscending (nodes_of slots.now) }
+    requires parent { IsSome (node_of (nodes_of slots.now) join.parent) }
+    requires steps { HasItsSteps (nodes_of slots.now) slot.now }
+    requires few { total (map (weight_by (steps_with (nodes_of slots.now) join) round) (steps_of (nodes_of slots.now) slot.now.node.id)) < 2 ^ 64 }
+    ensures depth { result.depth ≡ greatest (map (depth_by (steps_with (nodes_of slots.now) join) round) (steps_of (nodes_of slots.now) slot.now.node.id)) }
+    ensures weight { result.weight ≡ total (map (weight_by (steps_with (nodes_of slots.now) join) round) (steps_of (nodes_of slots.now) slot.now.node.id)) }
+{
+    match target_of(&slot.node.kind) {
+        Some(target) => extent_over(slots, join, round, known, &[target]),
+        None => extent_over(slots, join, round, known, slot.children.as_slice()),
+    }
+}
+
+/// One more round at one region.
+fn extent_of(slots: &[Slot], join: Join, round: u32, known: &[Extent], slot: &Slot) -> Extent
+    requires known { known.now ≡ extents_by (nodes_of slots.now) join round slots.now }
+    requires round { 1 ≤ round }
+    requires last { round < 64 }
+    requires ascending { IsAscending (nodes_of slots.now) }
+    requires parent { IsSome (node_of (nodes_of slots.now) join.parent) }
+    requires steps { HasItsSteps (nodes_of slots.now) slot.now }
+    requires few { weight_by (steps_with (nodes_of slots.now) join) (round + 1) slot.now.node.id < 2 ^ 63 }
+    ensures { result ≡ extent_by (nodes_of slots.now) join (round + 1) slot.now.node.id }
+{
+    let below = extent_below(slots, join, round, known, slot);
+    if slot.node.id.0 == join.parent.0 {
+        let joined = extent_at(slots, join, round, known, join.child);
+        Extent {
+            depth: joined.depth.max(below.depth) + 1,
+            weight: joined.weight + below.weight + 1,
+        }
+    } else {
+        Extent {
+            depth: below.depth + 1,
+            weight: below.weight + 1,
+        }
+    }
+}
+
+/// One more round.
+fn lengthen(
+    alloc: Global,
+    slots: &[Slot],
+    join: Join,
+    round: u32,
+    known: &[Extent],
+) -> Result<Vec<Extent>, AllocError>
+    requires known { known.now ≡ extents_by (nodes_of slots.now) join round slots.now }
+    requires round { 1 ≤ round }
+    requires last { round < 64 }
+    requires ascending { IsAscending (nodes_of slots.now) }
+    requires parent { IsSome (node_of (nodes_of slots.now) join.parent) }
+    requires steps { Every (HasItsSteps (nodes_of slots.now)) slots.now }
+    requires few { (r : Region) → weight_by (steps_with (nodes_of slots.now) join) (round + 1) r < 2 ^ 63 }
+    ensures { IfOk result (λ v. v.items ≡ extents_by (nodes_of slots.now) join (round + 1) slots.now) }
+{
+    let mut new = Vec::new(alloc);
+    for slot in slots {
+        new.push(extent_of(slots, join, round, known, slot))?;
+    }
+    Ok(new)
+}
+
+/// How deep and how wide each region is.
+pub(crate) fn extents(alloc: Global, slots: &[Slot], join: Join) -> Result<Vec<Extent>, AllocError>
+    requires ascending { IsAscending (nodes_of slots.now) }
+    requires parent { IsSome (node_of (nodes_of slots.now) join.parent) }
+    requires steps { Every (HasItsSteps (nodes_of slots.now)) slots.now }
+    requires few { (k : ℕ) (r : Region) → k ≤ 64 → weight_by (steps_with (nodes_of slots.now) join) k r < 2 ^ 63 }
+    ensures { IfOk result (λ v. v.items ≡ extents_by (nodes_of slots.now) join 64 slots.now) }
+{
+    let mut known = vec![in alloc; Extent {
+        depth: 1,
+        weight: 1
+    }; slots.len()]?;
+    for round in 1..64_u32 {
+        let next = lengthen(alloc, slots, join, round, &known)?;
+        if next == known {
+            return Ok(known);
+        }
+        known = next;
+    }
+    Ok(known)
+}
+
+/// The greatest depth and the greatest weight.
+pub(crate) fn widest(extents: &[Extent]) -> Extent
+    ensures depth { result.depth ≡ greatest (map (λ e. e.depth) extents.now) }
+    ensures weight { result.weight ≡ greatest (map (λ e. e.weight) extents.now) }
+{
+    let mut depth: u32 = 0;
+    let mut weight: u64 = 0;
+    for one in extents {
+        depth = depth.max(one.depth);
+        weight = weight.max(one.weight);
+    }
+    Extent { depth, weight }
+}
