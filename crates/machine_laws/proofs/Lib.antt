@@ -1,2 +1,4 @@
 pub mod Values
 pub mod AccessRows
+pub mod ListenerRows
+pub mod WorldRows
