@@ -1,4 +1,6 @@
 pub mod Values
+pub mod Tests
+pub mod OrderLaws
 pub mod AccessRows
 pub mod ListenerRows
 pub mod WorldRows
