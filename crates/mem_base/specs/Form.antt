@@ -96,15 +96,15 @@ region t = chain (name t) region_named
 abbrev pub space : List Text → Option Command
 space t = chain (name t) (λ space t. chain (name t) (λ root t. ends (commands.Space space root) t))
 
--- nothing, or prio N
-abbrev pub added : (ℤ → Command) → List Text → Option Command
-added make [] = Some (make (pos 0))
-added make (token ∷ t) = chain (word (codes "prio") (token ∷ t)) (λ prio t. chain (priority t) (λ n t. ends (make n) t))
+-- nothing, or prio N, at the end of a line
+abbrev pub last_priority : List Text → Option ℤ
+last_priority [] = Some (pos 0)
+last_priority (token ∷ t) = chain (word (codes "prio") (token ∷ t)) (λ prio t. chain (priority t) (λ n t. ends n t))
 
--- add REGION OFFSET REGION [prio N]
+-- add REGION OFFSET REGION              add REGION OFFSET REGION prio N
 abbrev pub add : List Text → Option Command
 add t = chain (name t) (λ parent t. chain (number most_address t) (λ offset t. chain (name t) (λ child t.
-    added (λ n. commands.Add parent offset child n) t)))
+    option_map (λ n. commands.Add parent offset child n) (last_priority t))))
 
 -- at SPACE ADDR
 abbrev pub at : List Text → Option Command

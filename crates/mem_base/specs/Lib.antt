@@ -15,6 +15,12 @@ pub mod Changes
 pub mod Calls
 pub mod View
 pub mod Editions
+pub mod Spelling
+pub mod Form
+pub mod Scripts
+pub mod Flattened
+pub mod Output
+pub mod Run
 pub mod MachineLimits
 pub mod Words
 pub mod Runs
@@ -49,9 +55,3 @@ pub mod Composites
 pub mod SharedHistory
 pub mod Turns
 pub mod JoinedHistory
-pub mod Spelling
-pub mod Form
-pub mod Scripts
-pub mod Flattened
-pub mod Output
-pub mod Run

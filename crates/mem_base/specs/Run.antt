@@ -1,5 +1,5 @@
 -- What a script means: its commands one after another over a forest that begins empty, and the text that they write.
-use Rattle.std.specs.Prelude.{ℕ, ◌+◌, Bool, if◌then◌else◌, is_some, List, [], ◌∷◌, ◌++◌, length, position, Option, Some, None, Result, Ok, Err}
+use Rattle.std.specs.Prelude.{ℕ, ◌+◌, Bool, if◌then◌else◌, is_some, List, [], ◌∷◌, ◌++◌, length, position, Option, Some, None, option_map, Result, Ok, Err}
 use Rattle.std.specs.Str.{bytes_eq}
 use Rattle.mem_base.specs.declared.ids.RegionId.{RegionId}
 use Rattle.mem_base.specs.declared.ids.SpaceId.{SpaceId}
@@ -35,26 +35,30 @@ Told = Text × State
 abbrev pub number_of_name : List Text → Text → Option ℕ
 number_of_name names name = position (λ other. bytes_eq other name) names
 
+abbrev pub region_of_name : Names → Text → Option RegionId
+region_of_name names name = option_map (λ n. record { 0 = n }) (number_of_name names.regions name)
+
+abbrev pub space_of_name : Names → Text → Option SpaceId
+space_of_name names name = option_map (λ n. record { 0 = n }) (number_of_name names.spaces name)
+
 abbrev pub refused : State → ℕ → Text → Told
 refused state line why = (refused_line line why, state)
 
 -- the rest of a command, with what a name stands for; a name that stands for nothing is refused
-abbrev pub where_known : State → ℕ → Text → Option ℕ → (ℕ → Told) → Told
+abbrev pub where_known : {I : Type 0} → State → ℕ → Text → Option I → (I → Told) → Told
 where_known state line name None rest = refused state line (unknown_text name)
-where_known state line name (Some n) rest = rest n
+where_known state line name (Some id) rest = rest id
 
 abbrev pub with_region : State → ℕ → Text → (RegionId → Told) → Told
-with_region state line name rest =
-    where_known state line name (number_of_name state.names.regions name) (λ n. rest (record { 0 = n }))
+with_region state line name rest = where_known state line name (region_of_name state.names name) rest
 
 abbrev pub with_space : State → ℕ → Text → (SpaceId → Told) → Told
-with_space state line name rest =
-    where_known state line name (number_of_name state.names.spaces name) (λ n. rest (record { 0 = n }))
+with_space state line name rest = where_known state line name (space_of_name state.names name) rest
 
 -- the rest of a command that makes a name; one that is made already is refused
-abbrev pub where_new : State → ℕ → List Text → Text → Told → Told
-where_new state line names name rest =
-    if is_some (number_of_name names name) then refused state line (taken_text name) else rest
+abbrev pub where_new : {I : Type 0} → State → ℕ → Text → Option I → Told → Told
+where_new state line name there rest =
+    if is_some there then refused state line (taken_text name) else rest
 
 -- a call that is accepted writes nothing; the names are those behind it
 abbrev pub told : State → ℕ → Names → Call → Result Forest Refusal → Told
@@ -68,13 +72,13 @@ called state line names call = told state line names call (after state.forest ca
 
 abbrev pub make_region : State → ℕ → Text → Kind → ℕ → Told
 make_region state line name kind size =
-    where_new state line state.names.regions name
+    where_new state line name (region_of_name state.names name)
     (called state line (record state.names { regions = state.names.regions ++ name ∷ [] }) (calls.Region kind size))
 
 -- spaces are numbered in order of making
 abbrev pub make_space : State → ℕ → Text → RegionId → Told
 make_space state line name root =
-    where_new state line state.names.spaces name
+    where_new state line name (space_of_name state.names name)
     (called state line (record state.names { spaces = state.names.spaces ++ name ∷ [] }) (calls.Space (record { 0 = length state.names.spaces }) root))
 
 -- one command: names are resolved from left to right, then a new name is tried, then the call

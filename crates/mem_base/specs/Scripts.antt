@@ -89,14 +89,14 @@ lines_fit lines =
 abbrev pub most_text : ℕ
 most_text = 1048576
 
--- a text of no form that is built names no line
-abbrev pub not_built : Result (List Line) BadScript
-not_built = Err (record { line = 0; cause = Later })
+-- what is said of a text that is no script: no line of it is named
+abbrev pub faulty : BadScript
+faulty = record { line = 0; cause = Later }
 
 abbrev pub script_with : Option (List Line) → Result (List Line) BadScript
-script_with None = not_built
-script_with (Some lines) = if lines_fit lines then Ok lines else not_built
+script_with None = Err faulty
+script_with (Some lines) = if lines_fit lines then Ok lines else Err faulty
 
--- the commands of a script, each with its line; a text that is no script has no line at fault that is named yet
+-- the commands of a script, each with its line
 abbrev pub script_of : Text → Result (List Line) BadScript
-script_of text = if nat_le (length text) most_text then script_with (lines_of text) else not_built
+script_of text = if nat_le (length text) most_text then script_with (lines_of text) else Err faulty

@@ -1,0 +1,91 @@
+// The parts of a line that is to be written.
+ghost use Rattle.std.specs.Prelude.{◌≡◌, ◌++◌, [], List, ℕ, OnOk, decimal};
+ghost use Rattle.mem_base.specs.Output.{hex};
+
+use std::alloc::{AllocError, Global};
+use std::marker::Model;
+
+/// A line, as far as it is made.
+#[derive(Drop)]
+pub struct Line {
+    bytes: Vec<u8>,
+}
+
+impl Model for Line {
+    ghost Value = { List ℕ };
+
+    ghost view = { λ l. l.bytes.items };
+}
+
+impl Line {
+    /// An empty line.
+    pub fn new(alloc: Global) -> Line
+        ensures { result ≡ [] }
+    {
+        Line {
+            bytes: Vec::new(alloc),
+        }
+    }
+
+    /// Its bytes.
+    pub fn as_bytes(&self) -> &[u8]
+        ensures { result.now ≡ self.now }
+    {
+        &self.bytes
+    }
+
+    /// These bytes behind it.
+    pub fn bytes(&mut self, bytes: &[u8]) -> Result<(), AllocError>
+        ensures { OnOk result (self.new ≡ self.old ++ bytes.now) }
+    {
+        self.bytes.extend_from_slice(bytes)?;
+        Ok(())
+    }
+
+    /// This text behind it.
+    pub fn text(&mut self, text: &str) -> Result<(), AllocError>
+        ensures { OnOk result (self.new ≡ self.old ++ text.now) }
+    {
+        self.bytes(text.as_bytes())
+    }
+
+    /// A number in decimal behind it.
+    pub fn decimal(&mut self, alloc: Global, number: u64) -> Result<(), AllocError>
+        ensures { OnOk result (self.new ≡ self.old ++ decimal number) }
+    {
+        let digits = number.to_string(alloc)?;
+        self.bytes(digits.as_bytes())
+    }
+
+    /// A number in hexadecimal behind it.
+    pub fn hex(&mut self, alloc: Global, number: u64) -> Result<(), AllocError>
+        ensures { OnOk result (self.new ≡ self.old ++ hex number) }
+    {
+        let digits = format!(in alloc; "{number:x}")?;
+        self.bytes(digits.as_bytes())
+    }
+
+    /// A text and then these bytes behind it.
+    pub fn named(&mut self, text: &str, name: &[u8]) -> Result<(), AllocError>
+        ensures { OnOk result (self.new ≡ self.old ++ (text.now ++ name.now)) }
+    {
+        self.text(text)?;
+        self.bytes(name)
+    }
+
+    /// A text and then a number in decimal behind it.
+    pub fn counted(&mut self, alloc: Global, text: &str, number: u64) -> Result<(), AllocError>
+        ensures { OnOk result (self.new ≡ self.old ++ (text.now ++ decimal number)) }
+    {
+        self.text(text)?;
+        self.decimal(alloc, number)
+    }
+
+    /// A text and then a number in hexadecimal behind it.
+    pub fn placed(&mut self, alloc: Global, text: &str, number: u64) -> Result<(), AllocError>
+        ensures { OnOk result (self.new ≡ self.old ++ (text.now ++ hex number)) }
+    {
+        self.text(text)?;
+        self.hex(alloc, number)
+    }
+}
