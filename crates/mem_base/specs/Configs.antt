@@ -25,7 +25,7 @@ use Rattle.mem_base.specs.Calls.{after, answer_of, is_quiet}
 use Rattle.mem_base.specs.Places.{Extent, extent_of, words_of, place_at, first_fit}
 use Rattle.mem_base.specs.Cells.{is_same_cell}
 use Rattle.mem_base.specs.LiveEvents.{lives_of}
-use Rattle.mem_base.specs.Views.{view_of}
+use Rattle.mem_base.specs.Flattened.{view_of}
 use Rattle.mem_base.specs.Listening.{joined, join_refusal, left, leave_refusal}
 use Rattle.mem_base.specs.Generations.{Generations, generations_after}
 use Rattle.mem_base.specs.Desk.{Desk, cells_of, unswept}

@@ -14,7 +14,8 @@ use Rattle.mem_base.specs.Editions.{place_in}
 use Rattle.mem_base.specs.Calls.{empty}
 use Rattle.mem_base.specs.Places.{notifiers_place, is_notifiers}
 use Rattle.mem_base.specs.Cells.{cell, is_same_cell, region_of}
-use Rattle.mem_base.specs.Views.{view_of, names}
+use Rattle.mem_base.specs.Flattened.{view_of}
+use Rattle.mem_base.specs.Naming.{names}
 use Rattle.mem_base.specs.LiveEvents.{events_of}
 use Rattle.mem_base.specs.Listening.{Listening, no_listeners}
 

@@ -5,7 +5,7 @@ use Rattle.mem_base.specs.declared.machine.Cell.{Cell}
 use Rattle.mem_base.specs.declared.machine.Place.{Place}
 use Rattle.mem_base.specs.MachineLimits.{notifier_count}
 use Rattle.mem_base.specs.Places.{is_notifiers, is_data_or_register, pages_in}
-use Rattle.mem_base.specs.Views.{names}
+use Rattle.mem_base.specs.Naming.{names}
 use Rattle.mem_base.specs.Generations.{Generation}
 
 -- the cell is a notifier

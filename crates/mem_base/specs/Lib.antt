@@ -34,7 +34,7 @@ pub mod Marks
 pub mod MemoryAccess
 pub mod DeviceAccess
 pub mod Access
-pub mod Views
+pub mod Naming
 pub mod LiveEvents
 pub mod Walk
 pub mod Replay

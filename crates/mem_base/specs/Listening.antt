@@ -24,7 +24,7 @@ use Rattle.mem_base.specs.MachineLimits.{most_listeners}
 use Rattle.mem_base.specs.Refusals.{first_refusal, refuse_if}
 use Rattle.mem_base.specs.Sorting.{put_by, sorted_by}
 use Rattle.mem_base.specs.LiveEvents.{live_order, lives_of, lost, gained}
-use Rattle.mem_base.specs.Views.{view_of}
+use Rattle.mem_base.specs.Flattened.{view_of}
 use Rattle.mem_base.specs.Walk.{walk}
 
 -- a call with the listener that got it

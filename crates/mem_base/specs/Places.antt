@@ -4,7 +4,7 @@
 -- client in their place.
 use Rattle.std.specs.Prelude.{ℕ, ◌+◌, ◌-◌, ◌*◌, ◌/◌, ◌%◌, ◌^◌, Bool, not, ◌==◌, ◌&&◌, nat_le, nat_lt, List, filter, Option, option_map, find}
 use Rattle.std.specs.List.{list_any}
-use Rattle.std.specs.Bool.{beq}
+use Rattle.mem_base.specs.TableRefusals.{bool_eq}
 use Rattle.mem_base.specs.declared.ids.RegionId.{RegionId}
 use Rattle.mem_base.specs.declared.kinds.Kind.{Kind}
 use Rattle.mem_base.specs.declared.kinds.Kind.TheVariants.{Ram, Rom, RomDevice, Io}
@@ -88,7 +88,7 @@ is_free places word = not (list_any (λ p. nat_le p.start word && nat_lt word (p
 
 -- a word and the next are both free or both taken
 abbrev pub is_as_free : List Place → ℕ → Bool
-is_as_free places word = beq (is_free places word) (is_free places (word + 1))
+is_as_free places word = bool_eq (is_free places word) (is_free places (word + 1))
 
 -- the holes of a pool of so many words: its longest runs of words that are in no place
 unfoldable pub holes : ℕ → List Place → List Run

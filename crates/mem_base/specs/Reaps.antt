@@ -7,7 +7,7 @@ use Rattle.std.specs.declared.cmp.Ordering.{Ordering}
 use Rattle.std.specs.Ordering.{nat_cmp}
 use Rattle.mem_base.specs.declared.ids.RegionId.{RegionId}
 use Rattle.mem_base.specs.Sorting.{sorted_by}
-use Rattle.mem_base.specs.Views.{names}
+use Rattle.mem_base.specs.Naming.{names}
 use Rattle.mem_base.specs.Generations.{Generations, first_generations, held_generations}
 use Rattle.mem_base.specs.Desk.{Desk, first_desk}
 

@@ -1,10 +1,10 @@
 -- The way of one address through translations to a leaf, which neighbours share it, and so the route of an access.
 -- QEMU's core, `address_space_translate` and its IOMMU walk. The bound of eight translations is this project's own.
 use Rattle.std.specs.Prelude.{ℕ, zero, suc, ◌+◌, Bool, true, false, ◌==◌, ◌&&◌, if◌then◌else◌, List, [], ◌∷◌, Option, Some, None, filter_map}
-use Rattle.std.specs.Bool.{beq}
+use Rattle.mem_base.specs.TableRefusals.{bool_eq}
 use Rattle.mem_base.specs.declared.ids.SpaceId.{SpaceId}
 use Rattle.mem_base.specs.declared.forests.Forest.{Forest}
-use Rattle.mem_base.specs.declared.spots.Attrs.{Attrs}
+use Rattle.mem_base.specs.Flattened.{same_attrs}
 use Rattle.mem_base.specs.declared.spots.Spot.{Spot}
 use Rattle.mem_base.specs.declared.translations.Entry.{Entry}
 use Rattle.mem_base.specs.declared.accesses.Target.{Target}
@@ -59,12 +59,9 @@ trail_within f write (suc left) s a = trail_at f write (Some (trail_within f wri
 abbrev pub trail_of : Forest → Bool → SpaceId → ℕ → Trail
 trail_of f write s a = trail_within f write most_translations s a
 
-abbrev pub is_same_attrs : Attrs → Attrs → Bool
-is_same_attrs x y = beq x.readonly y.readonly && beq x.nonvolatile y.nonvolatile && beq x.romd y.romd && (x.log == y.log)
-
 -- the second spot is the byte behind the first: in leaf, offset and attributes
 abbrev pub is_next_spot : Spot → Spot → Bool
-is_next_spot x y = (x.leaf.0 == y.leaf.0) && is_same_attrs x.attrs y.attrs && (x.offset + 1 == y.offset)
+is_next_spot x y = (x.leaf.0 == y.leaf.0) && same_attrs x.attrs y.attrs && (x.offset + 1 == y.offset)
 
 -- the same translation of one region, whose translations differ in iova; or none twice
 abbrev pub is_same_entry : Option Entry → Option Entry → Bool
@@ -86,7 +83,7 @@ is_leaf Unassigned = false
 
 -- the same steps, and both end in a leaf or neither does, from whatever cause
 abbrev pub is_next_trail : Trail → Trail → Bool
-is_next_trail x y = are_next_hops x.hops y.hops && beq (is_leaf x.target) (is_leaf y.target)
+is_next_trail x y = are_next_hops x.hops y.hops && bool_eq (is_leaf x.target) (is_leaf y.target)
 
 -- an address shares the route with the next one
 abbrev pub shares_next : Forest → Bool → SpaceId → ℕ → Bool

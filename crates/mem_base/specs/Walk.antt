@@ -2,7 +2,7 @@
 -- QEMU's core, `address_space_update_topology_pass`: first the deletes, then all else. Two ranges are the same where
 -- all but the logging mask agrees.
 use Rattle.std.specs.Prelude.{ℕ, Bool, true, ◌==◌, ◌&&◌, not, if◌then◌else◌, bit_or, List, [], ◌∷◌, ◌++◌, map, filter, flat_map, find, Option, Some, None}
-use Rattle.std.specs.Bool.{beq}
+use Rattle.mem_base.specs.TableRefusals.{bool_eq}
 use Rattle.std.specs.List.{list_any}
 use Rattle.mem_base.specs.declared.flat.FlatRange.{FlatRange}
 use Rattle.mem_base.specs.declared.spots.Attrs.{Attrs}
@@ -11,7 +11,7 @@ use Rattle.mem_base.specs.declared.listening.RangeEvent.TheVariants.{Delete, Add
 
 -- read-only, non-volatile and ROM device mode agree
 abbrev pub is_same_flags : Attrs → Attrs → Bool
-is_same_flags x y = beq x.readonly y.readonly && beq x.nonvolatile y.nonvolatile && beq x.romd y.romd
+is_same_flags x y = bool_eq x.readonly y.readonly && bool_eq x.nonvolatile y.nonvolatile && bool_eq x.romd y.romd
 
 -- start, last, leaf, offset and flags agree; the log is left out
 abbrev pub is_same_range : FlatRange → FlatRange → Bool
