@@ -15,6 +15,8 @@ pub mod TableLaws
 pub mod PageLaws
 pub mod PairLaws
 pub mod RegionLaws
+pub mod SoundLaws
+pub mod SoundCallLaws
 pub mod KeptLaws
 pub mod MoveLaws
 pub mod RefusalLaws

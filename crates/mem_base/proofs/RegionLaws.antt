@@ -64,7 +64,7 @@ module _ (r : RegionId) (g : Node → Node) (ids : (n : Node) → (g n).id ≡ n
   pub there_changed : (q : RegionId) → IsSome (node_of nodes q) → IsSome (node_of (changed_at r g nodes) q)
   there_changed q h = subst IsSome (sym (node_of-changed_at r g ids nodes q)) (some_after (node_of nodes q) h)
 
-  container_changed : (p : Option RegionId) → HasContainer nodes p → HasContainer (changed_at r g nodes) p
+  pub container_changed : (p : Option RegionId) → HasContainer nodes p → HasContainer (changed_at r g nodes) p
   container_changed None h = tt
   container_changed (Some p) h = subst IsPlainRegion (sym (node_of-changed_at r g ids nodes p)) (plain_after (node_of nodes p) h)
 
