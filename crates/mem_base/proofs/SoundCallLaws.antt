@@ -20,6 +20,9 @@ use Rattle.mem_base.specs.declared.refusals.Which.TheVariants as which
 use Rattle.mem_base.specs.declared.calls.Call.{Call}
 use Rattle.mem_base.specs.declared.calls.Call.TheVariants as calls
 use Rattle.mem_base.specs.Every.{Every, EveryPair}
+use Rattle.mem_base.specs.declared.kinds.Client.{Client}
+use Rattle.mem_base.specs.declared.translations.Perm.{Perm}
+use Rattle.mem_base.specs.Sorting.{put_by}
 use Rattle.mem_base.specs.Limits.{most_calls, most_made, most_regions, most_spaces, most_entries, most_events, most_bytes, page_size}
 use Rattle.mem_base.specs.Kinds.{is_alias, has_bytes, is_rom_device, target_of}
 use Rattle.mem_base.specs.Region.{has_id, node_of, is_child_of}
@@ -27,7 +30,7 @@ use Rattle.mem_base.specs.Search.{is_space, root_of}
 use Rattle.mem_base.specs.Forest.{IsForest, IsSound, IsRegion, IsPlainRegion, HasTarget, ArePlacedApart, AreOtherSpaces, IsPlacedBefore, FitsTypes}
 use Rattle.mem_base.specs.Refusals.{first_refusal, refuse_if, refuse_where, unknown_region, unknown_target, taken_space, targets, has_root, zero_size, bad_size}
 use Rattle.mem_base.specs.TableRefusals.{at_limit, no_more_calls, count_of, page_overlap, least_met, bad_page, has_iova, is_event, has_event}
-use Rattle.mem_base.specs.Changes.{changed_at, at_region, changed, made_region, placed, moved, moves, retargeted}
+use Rattle.mem_base.specs.Changes.{changed_at, at_region, changed, made_region, placed, moved, moves, retargeted, logged, entry_order, event_order}
 use Rattle.mem_base.specs.Calls.{refusals, refusal_of, counted, after, left_by, after_all, empty}
 use Rattle.mem_base.proofs.EveryLaws.{weaker, both, every_push}
 use Rattle.mem_base.proofs.ForestLaws.{only_node, every_node_of}
@@ -37,7 +40,7 @@ use Rattle.mem_base.proofs.RefusalLaws.{each_none, refuse_if-none, refuse_where-
 use Rattle.mem_base.proofs.PageLaws.{bad_page-none}
 use Rattle.mem_base.proofs.PairLaws.{pairs_changed, pairs_fresh, pairs_push, pairs_filter, length-push, length-filter, length-changed_at}
 use Rattle.mem_base.proofs.RegionLaws.{there_changed, container_changed, region_changed, there_more, target_more, region_more, there_without, region_without, region_at, region_moved, region_resized, region_romd, region_logged, region_retargeted, region_mapped, region_unmapped, region_with_event, region_without_event}
-use Rattle.mem_base.proofs.CallLaws.{IsForest-accepted, IsForest-left_by, after-accepted}
+use Rattle.mem_base.proofs.CallLaws.{IsForest-accepted, IsForest-left_by, IsForest-empty, after-accepted}
 use Rattle.mem_base.proofs.SoundLaws.{at_limit-none, few_calls_yet, count-none, with_nodes, here, one_changed, field_changed, fresh_placing}
 
 -- what refusals that do not stand say
@@ -184,3 +187,150 @@ module _ (f : Forest) (h : IsForest f) (s : IsSound f) where
       ] refl in
       one_changed f s (few_calls_yet f (calls.Move child offset) e) h child n m.1 g (f.placings + moves offset (node_of f.nodes child)) keeps.id (λ x. ap is_alias (moved_kind offset f.placings x)) apart
       (λ w. region_moved (changed_at child g f.nodes) n w offset f.placings)
+
+  -- one field of one region
+  field_sound : (r : RegionId) (m : Node) → node_of f.nodes r ≡ Some m → (call : Call) → refusal_of f call ≡ None → (g : Node → Node) (ids : (n : Node) → (g n).id ≡ n.id) (plain : (n : Node) → is_alias (g n).kind ≡ is_alias n.kind) → ((n : Node) → ((g n).parent ≡ n.parent) × ((g n).placing ≡ n.placing)) → (IsRegion (changed_at r g f.nodes) m → IsRegion (changed_at r g f.nodes) (g m)) → IsSound (counted (at_region f r g))
+  field_sound r m at call e g ids plain place change =
+      field_changed f s (few_calls_yet f call e) h r m at g ids plain
+      (λ x y w a b. subst (λ k. k ≢ y.placing) (sym (place x).1) (w (subst IsSome (place x).0 a) b))
+      (λ x y w a b. subst (λ k. x.placing ≢ k) (sym (place y).1) (w a (subst IsSome (place y).0 b)))
+      change
+
+  resize_sound : (region : RegionId) (size : ℕ) → size ≤ 2 ^ 64 → refusal_of f (calls.Resize region size) ≡ None → IsSound (counted (changed f (calls.Resize region size)))
+  resize_sound region size small e =
+      let each = each_none (no_calls f (calls.Resize region size)) e in
+      let m = known_node f region each.0 in
+      let wrong = refuse_where-none (λ n. not (not (has_bytes n.kind))) (WrongKind region) (node_of f.nodes region) m.0 m.1 each.1.0 in
+      field_sound region m.0 m.1 (calls.Resize region size) e (λ n. record n { size = size }) (λ n. refl) (λ n. refl) (λ n. (refl, refl))
+      (λ w. region_resized (changed_at region (λ n. record n { size = size }) f.nodes) m.0 w size small (resized m.0.kind size (not_not (has_bytes m.0.kind) wrong) each.1.1.0))
+    where
+      not_not : (b : Bool) → not (not b) ≡ false → b ≡ false
+      not_not true e = cc
+      not_not false e = refl
+
+  retarget_sound : (alias : RegionId) (offset : ℕ) → refusal_of f (calls.Retarget alias offset) ≡ None → IsSound (counted (changed f (calls.Retarget alias offset)))
+  retarget_sound alias offset e =
+      let each = each_none (no_calls f (calls.Retarget alias offset)) e in
+      let m = known_node f alias each.0 in
+      field_sound alias m.0 m.1 (calls.Retarget alias offset) e (λ n. record n { kind = retargeted offset n.kind }) (λ n. refl) (λ n. alias_still offset n.kind) (λ n. (refl, refl))
+      (λ w. region_retargeted (changed_at alias (λ n. record n { kind = retargeted offset n.kind }) f.nodes) m.0 w offset)
+    where
+      alias_still : (offset : ℕ) (k : Kind) → is_alias (retargeted offset k) ≡ is_alias k
+      alias_still offset (Alias target old) = refl
+      alias_still offset _ = refl
+
+  -- a flag of a region
+  flag_sound : (region : RegionId) (call : Call) → refusal_of f call ≡ None → unknown_region f region ≡ None → (enabled readonly nonvolatile : Node → Bool) → IsSound (counted (at_region f region (λ n. record n { enabled = enabled n; readonly = readonly n; nonvolatile = nonvolatile n })))
+  flag_sound region call e known enabled readonly nonvolatile =
+      let m = known_node f region known in
+      let n = m.0 in
+      let g : Node → Node = λ x. record x { enabled = enabled x; readonly = readonly x; nonvolatile = nonvolatile x } in
+      field_sound region n m.1 call e g (λ x. refl) (λ x. refl) (λ x. (refl, refl))
+      (λ w. region_at (changed_at region g f.nodes) n w n.parent n.offset n.priority n.placing (enabled n) (readonly n) (nonvolatile n) w.container)
+
+  romd_sound : (region : RegionId) (on : Bool) → refusal_of f (calls.Romd region on) ≡ None → IsSound (counted (changed f (calls.Romd region on)))
+  romd_sound region on e =
+      let each = each_none (no_calls f (calls.Romd region on)) e in
+      let m = known_node f region each.0 in
+      let wrong = refuse_where-none (λ n. not (is_rom_device n.kind)) (WrongKind region) (node_of f.nodes region) m.0 m.1 each.1.0 in
+      field_sound region m.0 m.1 (calls.Romd region on) e (λ n. record n { romd = on }) (λ n. refl) (λ n. refl) (λ n. (refl, refl))
+      (λ w. region_romd (changed_at region (λ n. record n { romd = on }) f.nodes) m.0 w on (not_false (is_rom_device m.0.kind) wrong))
+
+  log_sound : (region : RegionId) (client : Client) (on : Bool) → refusal_of f (calls.Log region client on) ≡ None → IsSound (counted (changed f (calls.Log region client on)))
+  log_sound region client on e =
+      let each = each_none (no_calls f (calls.Log region client on)) e in
+      let m = known_node f region each.0 in
+      field_sound region m.0 m.1 (calls.Log region client on) e (λ n. record n { log = logged client on n.log }) (λ n. refl) (λ n. refl) (λ n. (refl, refl))
+      (λ w. region_logged (changed_at region (λ n. record n { log = logged client on n.log }) f.nodes) m.0 w client on)
+
+  map_sound : (region : RegionId) (iova size : ℕ) (space : SpaceId) (translated : ℕ) (perm : Perm) → iova < 2 ^ 64 → size ≤ 2 ^ 64 → refusal_of f (calls.Map region iova size space translated perm) ≡ None → IsSound (counted (changed f (calls.Map region iova size space translated perm)))
+  map_sound region iova size space translated perm below small e =
+      let call = calls.Map region iova size space translated perm in
+      let each = each_none (no_calls f call) e in
+      let m = known_node f region each.0 in
+      let page = bad_page-none iova size each.1.1.1.0 below small in
+      let entry : Entry = record { iova = iova; mask = size - 1; space = space; translated = translated; perm = perm } in
+      let good : bad_page iova (size - 1 + 1) ≡ None = subst (λ k. bad_page iova k ≡ None) (sym page.mask) each.1.1.1.0 in
+      let free : least_met iova (size - 1 + 1) m.0.entries ≡ None = subst (λ k. least_met iova k m.0.entries ≡ None) (sym page.mask) (page_free iova size (node_of f.nodes region) m.0 m.1 each.1.1.1.1.0) in
+      let few = count-none (λ n. n.entries) which.Entries most_entries (node_of f.nodes region) m.0 m.1 each.1.1.1.1.1.0 in
+      field_sound region m.0 m.1 call e (λ n. record n { entries = put_by entry_order entry n.entries }) (λ n. refl) (λ n. refl) (λ n. (refl, refl))
+      (λ w. region_mapped (changed_at region (λ n. record n { entries = put_by entry_order entry n.entries }) f.nodes) m.0 w entry page.ends good free few)
+
+  unmap_sound : (region : RegionId) (iova : ℕ) → refusal_of f (calls.Unmap region iova) ≡ None → IsSound (counted (changed f (calls.Unmap region iova)))
+  unmap_sound region iova e =
+      let each = each_none (no_calls f (calls.Unmap region iova)) e in
+      let m = known_node f region each.0 in
+      field_sound region m.0 m.1 (calls.Unmap region iova) e (λ n. record n { entries = filter (λ x. not (has_iova iova x)) n.entries }) (λ n. refl) (λ n. refl) (λ n. (refl, refl))
+      (λ w. region_unmapped (changed_at region (λ n. record n { entries = filter (λ x. not (has_iova iova x)) n.entries }) f.nodes) m.0 w (λ x. not (has_iova iova x)))
+
+  event_sound : (region : RegionId) (event : Ioevent) → refusal_of f (calls.Event region event) ≡ None → IsSound (counted (changed f (calls.Event region event)))
+  event_sound region event e =
+      let each = each_none (no_calls f (calls.Event region event)) e in
+      let m = known_node f region each.0 in
+      let free = refuse_where-none (has_event event.offset event.size event.matched event.value) EventTaken (node_of f.nodes region) m.0 m.1 each.1.1.1.0 in
+      let few = count-none (λ n. n.events) which.Events most_events (node_of f.nodes region) m.0 m.1 each.1.1.1.1.0 in
+      field_sound region m.0 m.1 (calls.Event region event) e (λ n. record n { events = put_by event_order event n.events }) (λ n. refl) (λ n. refl) (λ n. (refl, refl))
+      (λ w. region_with_event (changed_at region (λ n. record n { events = put_by event_order event n.events }) f.nodes) m.0 w event each.1.1.0 free few)
+
+  unevent_sound : (region : RegionId) (offset size : ℕ) (matched : Bool) (value : ℕ) → refusal_of f (calls.Unevent region offset size matched value) ≡ None → IsSound (counted (changed f (calls.Unevent region offset size matched value)))
+  unevent_sound region offset size matched value e =
+      let each = each_none (no_calls f (calls.Unevent region offset size matched value)) e in
+      let m = known_node f region each.0 in
+      field_sound region m.0 m.1 (calls.Unevent region offset size matched value) e (λ n. record n { events = filter (λ x. not (is_event offset size matched value x)) n.events }) (λ n. refl) (λ n. refl) (λ n. (refl, refl))
+      (λ w. region_without_event (changed_at region (λ n. record n { events = filter (λ x. not (is_event offset size matched value x)) n.events }) f.nodes) m.0 w (λ x. not (is_event offset size matched value x)))
+
+  drop_sound : (region : RegionId) → refusal_of f (calls.Drop region) ≡ None → IsSound (counted (changed f (calls.Drop region)))
+  drop_sound region e =
+      let each = each_none (no_calls f (calls.Drop region)) e in
+      let unused = in_use-none f region each.1.1.0 in
+      let left = without region f.nodes in
+      let regions = weaker (λ n. IsRegion f.nodes n × ((is_child_of region n ≡ false) × (targets region n.kind ≡ false))) (IsRegion left) (λ n w. region_without region f.nodes n w.1.0 w.1.1 w.0) f.nodes
+      (both (IsRegion f.nodes) (λ n. (is_child_of region n ≡ false) × (targets region n.kind ≡ false)) f.nodes s.regions
+      (both (λ n. is_child_of region n ≡ false) (λ n. targets region n.kind ≡ false) f.nodes unused.no_children unused.no_aliases)) in
+      with_nodes f s (few_calls_yet f (calls.Drop region) e) left f.placings
+      (every_without (IsRegion left) region f.nodes regions)
+      (pairs_filter ArePlacedApart (λ n. not (has_id region n)) f.nodes s.placings)
+      (weaker (λ p. IsSome (node_of f.nodes p.1) × (has_root region p ≡ false)) (λ p. IsSome (node_of left p.1)) (λ p w. there_without region f.nodes p.1 (λ k. let t = w.1 in grind (arith, nat_tests)) w.0) f.spaces (both (λ p. IsSome (node_of f.nodes p.1)) (λ p. has_root region p ≡ false) f.spaces s.roots unused.no_spaces))
+      (length-filter (λ n. not (has_id region n)) f.nodes)
+
+-- an accepted call whose numbers fit keeps it
+pub IsSound-accepted : (f : Forest) (call : Call) → IsForest f → IsSound f → FitsTypes call → refusal_of f call ≡ None → IsSound (counted (changed f call))
+IsSound-accepted f (calls.Region kind size) h s fits e = region_sound f h s kind size fits e
+IsSound-accepted f (calls.Space space root) h s fits e = space_sound f h s space root e
+IsSound-accepted f (calls.Add parent offset child priority) h s fits e = add_sound f h s parent offset child priority e
+IsSound-accepted f (calls.Del parent child) h s fits e = del_sound f h s parent child e
+IsSound-accepted f (calls.Move child offset) h s fits e = move_sound f h s child offset e
+IsSound-accepted f (calls.Resize region size) h s fits e = resize_sound f h s region size fits e
+IsSound-accepted f (calls.Retarget alias offset) h s fits e = retarget_sound f h s alias offset e
+IsSound-accepted f (calls.Enable region on) h s fits e = flag_sound f h s region (calls.Enable region on) e (each_none (no_calls f (calls.Enable region on)) e).0 (λ n. on) (λ n. n.readonly) (λ n. n.nonvolatile)
+IsSound-accepted f (calls.Readonly region on) h s fits e = flag_sound f h s region (calls.Readonly region on) e (each_none (no_calls f (calls.Readonly region on)) e).0 (λ n. n.enabled) (λ n. on) (λ n. n.nonvolatile)
+IsSound-accepted f (calls.Nonvolatile region on) h s fits e = flag_sound f h s region (calls.Nonvolatile region on) e (each_none (no_calls f (calls.Nonvolatile region on)) e).0 (λ n. n.enabled) (λ n. n.readonly) (λ n. on)
+IsSound-accepted f (calls.Romd region on) h s fits e = romd_sound f h s region on e
+IsSound-accepted f (calls.Log region client on) h s fits e = log_sound f h s region client on e
+IsSound-accepted f (calls.Global on) h s fits e = global_sound f h s on e
+IsSound-accepted f (calls.Map region iova size space translated perm) h s fits e = map_sound f h s region iova size space translated perm fits.0 fits.1 e
+IsSound-accepted f (calls.Unmap region iova) h s fits e = unmap_sound f h s region iova e
+IsSound-accepted f (calls.Event region event) h s fits e = event_sound f h s region event e
+IsSound-accepted f (calls.Unevent region offset size matched value) h s fits e = unevent_sound f h s region offset size matched value e
+IsSound-accepted f (calls.Drop region) h s fits e = drop_sound f h s region e
+
+pub IsSound-after : (f g : Forest) (call : Call) → IsForest f → IsSound f → FitsTypes call → after f call ≡ Ok g → IsSound g
+IsSound-after f g call h s fits e =
+    let ok = after-accepted f g call e in
+    subst IsSound (sym ok.1) (IsSound-accepted f call h s fits ok.0)
+
+-- a call keeps it, accepted or not
+pub IsSound-left_by : (f : Forest) (call : Call) → IsForest f → IsSound f → FitsTypes call → IsSound (left_by f (after f call))
+IsSound-left_by f call h s fits =
+    elim (after f call) as (λ o. after f call ≡ o → IsSound (left_by f o)) [ Ok g ↦ λ e. IsSound-after f g call h s fits e | Err why ↦ λ e. s ] refl
+
+pub IsSound-after_all : (f : Forest) (list : List Call) → IsForest f → IsSound f → Every FitsTypes list → IsSound (after_all f list)
+IsSound-after_all f [] h s fits = s
+IsSound-after_all f (call ∷ rest) h s fits = IsSound-after_all (left_by f (after f call)) rest (IsForest-left_by f call h) (IsSound-left_by f call h s fits.0) fits.1
+
+pub IsSound-empty : IsSound empty
+IsSound-empty = record { regions = tt; placings = tt; roots = tt; spaces = tt; few_regions = omega arith; few_made = omega arith; few_spaces = omega arith; few_calls = omega arith }
+
+-- it holds of every forest that calls make of the empty one
+pub IsSound-made : (list : List Call) → Every FitsTypes list → IsSound (after_all empty list)
+IsSound-made list fits = IsSound-after_all empty list IsForest-empty IsSound-empty fits
