@@ -11,7 +11,7 @@ pub mod LeadLaws
 pub mod DelLaws
 pub mod EntryLaws
 pub mod PlaceLaws
-pub mod TableLaws
+pub mod EventLaws
 pub mod PageLaws
 pub mod PairLaws
 pub mod RegionLaws
