@@ -199,13 +199,13 @@ every_sorted : {K : Type 0} (P : K → Type 0) (R : K → K → Ordering) (xs : 
 every_sorted P R [] h = tt
 every_sorted P R (x ∷ xs) h = every_put P R x (sorted_by R xs) h.0 (every_sorted P R xs h.1)
 
-every_filter : {K : Type 0} (P : K → Type 0) (p : K → Bool) (xs : List K) → Every (λ x. p x ≡ true → P x) xs → Every P (filter p xs)
-every_filter P p [] h = tt
-every_filter P p (x ∷ xs) h = elim (p x) as (λ b. p x ≡ b → Every P (cond b (x ∷ filter p xs) (filter p xs))) [ true ↦ λ e. (h.0 e, every_filter P p xs h.1) | false ↦ λ e. every_filter P p xs h.1 ] refl
+every_passing : {K : Type 0} (P : K → Type 0) (p : K → Bool) (xs : List K) → Every (λ x. p x ≡ true → P x) xs → Every P (filter p xs)
+every_passing P p [] h = tt
+every_passing P p (x ∷ xs) h = elim (p x) as (λ b. p x ≡ b → Every P (cond b (x ∷ filter p xs) (filter p xs))) [ true ↦ λ e. (h.0 e, every_passing P p xs h.1) | false ↦ λ e. every_passing P p xs h.1 ] refl
 
 -- what holds of each region in a container holds of its children in order
 pub every_child : (P : Node → Type 0) (r : RegionId) (nodes : List Node) → Every (λ n. is_child_of r n ≡ true → P n) nodes → Every P (children_of nodes r)
-every_child P r nodes h = every_sorted P trial_order _ (every_filter P (is_child_of r) nodes h)
+every_child P r nodes h = every_sorted P trial_order _ (every_passing P (is_child_of r) nodes h)
 
 in_one : (r : RegionId) (p : Option RegionId) (made placings placing : ℕ) → is_in r p ≡ true → IsPlacedBefore made placings p placing → (r.0 < made) × (placing < placings)
 in_one r None made placings placing e h = cc

@@ -11,10 +11,12 @@ pub mod LeadLaws
 pub mod DelLaws
 pub mod EntryLaws
 pub mod PlaceLaws
-pub mod TableLaws
+pub mod EventLaws
 pub mod PageLaws
 pub mod PairLaws
 pub mod RegionLaws
+pub mod SoundLaws
+pub mod SoundCallLaws
 pub mod KeptLaws
 pub mod MoveLaws
 pub mod RefusalLaws

@@ -61,7 +61,7 @@ moved_id offset placing n = elim (eqb n.offset offset) as (λ b. (cond b n (reco
 moved_parent : (offset placing : ℕ) (n : Node) → (moved offset placing n).parent ≡ n.parent
 moved_parent offset placing n = elim (eqb n.offset offset) as (λ b. (cond b n (record n { offset = offset; placing = placing })).parent ≡ n.parent) [ true ↦ refl | false ↦ refl ]
 
-moved_kind : (offset placing : ℕ) (n : Node) → (moved offset placing n).kind ≡ n.kind
+pub moved_kind : (offset placing : ℕ) (n : Node) → (moved offset placing n).kind ≡ n.kind
 moved_kind offset placing n = elim (eqb n.offset offset) as (λ b. (cond b n (record n { offset = offset; placing = placing })).kind ≡ n.kind) [ true ↦ refl | false ↦ refl ]
 
 pub moved_keeps : (offset placing : ℕ) → KeepsSteps (moved offset placing)

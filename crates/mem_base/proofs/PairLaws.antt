@@ -13,7 +13,7 @@ use Rattle.mem_base.specs.Changes.{changed_at}
 use Rattle.mem_base.proofs.EveryLaws.{weaker, every_push}
 use Rattle.mem_base.proofs.ForestLaws.{changed_at-absent, absent_after, every_changed_at}
 use Rattle.mem_base.proofs.MoveLaws.{every_changed_one}
-use Rattle.mem_base.proofs.TableLaws.{every_filter}
+use Rattle.mem_base.proofs.EveryLaws.{every_filter}
 
 -- a change that a relation does not see
 pub pairs_changed : (R : Node → Node → Type 0) (r : RegionId) (g : Node → Node) → ((x y : Node) → R x y → R (g x) y) → ((x y : Node) → R x y → R x (g y)) → (nodes : List Node) → EveryPair R nodes → EveryPair R (changed_at r g nodes)

@@ -29,7 +29,10 @@ use Rattle.mem_base.proofs.DelLaws.{every_put_by}
 use Rattle.mem_base.proofs.DropLaws.{without, node_of-without}
 use Rattle.mem_base.proofs.JoinLaws.{node_of-changed_at}
 use Rattle.mem_base.proofs.RefusalLaws.{refuse_if-none}
-use Rattle.mem_base.proofs.TableLaws.{every_filter, entries-filter, entries-added, events-put, rising-filter}
+use Rattle.mem_base.proofs.EveryLaws.{every_filter}
+use Rattle.mem_base.proofs.EntryLaws.{entries-filter, entries-added}
+use Rattle.mem_base.proofs.EventLaws.{events-put}
+use Rattle.mem_base.proofs.PlaceLaws.{rising-filter}
 use Rattle.mem_base.proofs.PairLaws.{length-filter, length-put_by, node_of-more}
 
 -- a region among others that have what it names
@@ -64,7 +67,7 @@ module _ (r : RegionId) (g : Node → Node) (ids : (n : Node) → (g n).id ≡ n
   pub there_changed : (q : RegionId) → IsSome (node_of nodes q) → IsSome (node_of (changed_at r g nodes) q)
   there_changed q h = subst IsSome (sym (node_of-changed_at r g ids nodes q)) (some_after (node_of nodes q) h)
 
-  container_changed : (p : Option RegionId) → HasContainer nodes p → HasContainer (changed_at r g nodes) p
+  pub container_changed : (p : Option RegionId) → HasContainer nodes p → HasContainer (changed_at r g nodes) p
   container_changed None h = tt
   container_changed (Some p) h = subst IsPlainRegion (sym (node_of-changed_at r g ids nodes p)) (plain_after (node_of nodes p) h)
 

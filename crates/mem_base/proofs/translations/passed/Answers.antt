@@ -1,6 +1,6 @@
 use Rattle.std.proofs.Common.{rules}
 use Rattle.std.proofs.lemmas.Fn.{always_returns_same}
-use Rattle.mem_base.proofs.TableLaws.{ends_before, ends_parted}
+use Rattle.mem_base.proofs.EntryLaws.{ends_before, ends_parted}
 use Rattle.mem_base.proofs.translations.passed.Goals as goal
 
 pub returns-clause-passed : goal.returns-clause-passed

@@ -2,7 +2,7 @@ use Rattle.std.proofs.Common.{rules, sym}
 use Rattle.std.proofs.lemmas.Fn.{always_returns_same}
 use Rattle.mem_base.specs.Tables.{iova_cmp}
 use Rattle.mem_base.proofs.PlaceLaws.{place_of-searched}
-use Rattle.mem_base.proofs.TableLaws.{rises_entries}
+use Rattle.mem_base.proofs.EntryLaws.{rises_entries}
 use Rattle.mem_base.proofs.translations.place_of.Goals as goal
 
 pub returns-clause-place : goal.returns-clause-place

@@ -3,7 +3,7 @@ use Rattle.mem_base.specs.Sorting.{place_of}
 use Rattle.mem_base.specs.Tables.{event_cmp}
 use Rattle.mem_base.specs.TableRefusals.{is_event}
 use Rattle.mem_base.proofs.PlaceLaws.{any-place_of}
-use Rattle.mem_base.proofs.TableLaws.{rises_events, is_event-is}
+use Rattle.mem_base.proofs.EventLaws.{rises_events, is_event-is}
 use Rattle.mem_base.proofs.ioevents.Events.has.Goals as goal
 
 pub returns : goal.returns

@@ -3,7 +3,7 @@ use Rattle.std.specs.List.{list_any}
 use Rattle.mem_base.specs.Sorting.{place_of, put_by}
 use Rattle.mem_base.specs.Tables.{AreEvents}
 use Rattle.mem_base.specs.Changes.{event_order}
-use Rattle.mem_base.proofs.TableLaws.{stands_to, is_same, event_gap, event-inserted, events-put}
+use Rattle.mem_base.proofs.EventLaws.{stands_to, is_same, event_gap, event-inserted, events-put}
 use Rattle.mem_base.proofs.ioevents.Events.put.Goals as goal
 use Rattle.mem_base.proofs.ioevents.Events.put.Goals.{in-Ok, in-Ok-2}
 

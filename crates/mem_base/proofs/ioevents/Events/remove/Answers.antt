@@ -4,7 +4,8 @@ use Rattle.mem_base.specs.Sorting.{place_of}
 use Rattle.mem_base.specs.Tables.{event_cmp, match_order, AreEvents}
 use Rattle.mem_base.specs.TableRefusals.{is_event}
 use Rattle.mem_base.proofs.PlaceLaws.{remove-place_of, filter-absent}
-use Rattle.mem_base.proofs.TableLaws.{rises_events, is_event-is, rising-filter}
+use Rattle.mem_base.proofs.EventLaws.{rises_events, is_event-is}
+use Rattle.mem_base.proofs.PlaceLaws.{rising-filter}
 use Rattle.mem_base.proofs.ioevents.Events.remove.Goals as goal
 
 -- what is left is what was not sought

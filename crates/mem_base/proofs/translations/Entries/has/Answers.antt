@@ -3,7 +3,7 @@ use Rattle.mem_base.specs.Sorting.{place_of}
 use Rattle.mem_base.specs.Tables.{iova_cmp}
 use Rattle.mem_base.specs.TableRefusals.{has_iova}
 use Rattle.mem_base.proofs.PlaceLaws.{any-place_of}
-use Rattle.mem_base.proofs.TableLaws.{rises_entries, has_iova-is}
+use Rattle.mem_base.proofs.EntryLaws.{rises_entries, has_iova-is}
 use Rattle.mem_base.proofs.translations.Entries.has.Goals as goal
 
 pub returns : goal.returns

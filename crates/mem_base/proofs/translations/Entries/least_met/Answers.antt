@@ -1,9 +1,9 @@
-use Rattle.std.proofs.Common.{◌≡◌, ◌+◌, ◌≤◌, ◌<◌, ◌∙◌, sym, ap, true, false, cond, Some, None, arith, nat_lt, subst}
+use Rattle.std.proofs.Common.{◌≡◌, ◌+◌, ◌∙◌, sym, ap, true, false, cond, Some, None, arith, nat_lt, subst}
 use Rattle.std.proofs.lemmas.Bool.Decides.{nat_tests}
 use Rattle.mem_base.specs.declared.translations.Entry.{Entry}
 use Rattle.mem_base.specs.Tables.{AreEntries}
 use Rattle.mem_base.specs.TableRefusals.{least_met}
-use Rattle.mem_base.proofs.TableLaws.{least_met-end, least_met-at}
+use Rattle.mem_base.proofs.EntryLaws.{least_met-end, least_met-at}
 use Rattle.mem_base.proofs.translations.Entries.least_met.Goals as goal
 
 pub returns-in_err-entry : goal.returns-in_err-entry

@@ -3,7 +3,7 @@ use Rattle.mem_base.specs.Sorting.{place_of, put_by}
 use Rattle.mem_base.specs.Tables.{iova_cmp, AreEntries}
 use Rattle.mem_base.specs.TableRefusals.{least_met}
 use Rattle.mem_base.specs.Changes.{entry_order}
-use Rattle.mem_base.proofs.TableLaws.{entry_gap, entry-inserted, entries-added}
+use Rattle.mem_base.proofs.EntryLaws.{entry_gap, entry-inserted, entries-added}
 use Rattle.mem_base.proofs.translations.Entries.put.Goals as goal
 use Rattle.mem_base.proofs.translations.Entries.put.Goals.{in-Ok, in-Ok-2}
 

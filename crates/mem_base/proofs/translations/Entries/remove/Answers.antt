@@ -4,7 +4,7 @@ use Rattle.mem_base.specs.Sorting.{place_of}
 use Rattle.mem_base.specs.Tables.{iova_cmp, AreEntries}
 use Rattle.mem_base.specs.TableRefusals.{has_iova}
 use Rattle.mem_base.proofs.PlaceLaws.{remove-place_of, filter-absent}
-use Rattle.mem_base.proofs.TableLaws.{rises_entries, has_iova-is, entries-filter}
+use Rattle.mem_base.proofs.EntryLaws.{rises_entries, has_iova-is, entries-filter}
 use Rattle.mem_base.proofs.translations.Entries.remove.Goals as goal
 
 pub invariant_of-self : goal.invariant_of-self
