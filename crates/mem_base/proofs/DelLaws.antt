@@ -45,7 +45,7 @@ InOrder R (x ∷ xs) = Every (λ z. is_lt (R z x) ≡ false) xs × InOrder R xs
 not_before : {K : Type 0} (R : K → K → Ordering) (o : IsTotalOrder R) (x y : K) → is_lt (R x y) ≡ true → is_lt (R y x) ≡ false
 not_before R o x y e = ap is_lt (o.antisymm y x ∙ ap ordering_reverse (is_less (R x y) e))
 
-every_put_by : {K : Type 0} (P : K → Type 0) (R : K → K → Ordering) (x : K) (xs : List K) → P x → Every P xs → Every P (put_by R x xs)
+pub every_put_by : {K : Type 0} (P : K → Type 0) (R : K → K → Ordering) (x : K) (xs : List K) → P x → Every P xs → Every P (put_by R x xs)
 every_put_by P R x [] k h = (k, tt)
 every_put_by P R x (y ∷ ys) k h = elim (is_lt (R x y)) as (λ b. Every P (cond b (x ∷ y ∷ ys) (y ∷ put_by R x ys))) [ true ↦ (k, h) | false ↦ (h.0, every_put_by P R x ys k h.1) ]
 

@@ -52,7 +52,7 @@ changed_at-absent r g [] h = refl
 changed_at-absent r g (n ∷ ns) h = let e = h.0 in let t = changed_at-absent r g ns h.1 in simp (e, t)
 
 -- the regions after one have other ids
-absent_after : (r : RegionId) (n : Node) (ns : List Node) → has_id r n ≡ true → Every (λ m. n.id.0 < m.id.0) ns → IsAbsent r ns
+pub absent_after : (r : RegionId) (n : Node) (ns : List Node) → has_id r n ≡ true → Every (λ m. n.id.0 < m.id.0) ns → IsAbsent r ns
 absent_after r n ns e h = weaker (λ m. n.id.0 < m.id.0) (λ m. has_id r m ≡ false) (λ m l. grind (arith, nat_tests)) ns h
 
 pub changed_at-set : (r : RegionId) (g : Node → Node) (nodes : List Node) (i : ℕ) (d : Node) → i < length nodes → has_id r (get_or nodes i d) ≡ true → IsAscending nodes → changed_at r g nodes ≡ set nodes i (g (get_or nodes i d))

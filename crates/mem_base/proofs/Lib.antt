@@ -11,6 +11,10 @@ pub mod LeadLaws
 pub mod DelLaws
 pub mod EntryLaws
 pub mod PlaceLaws
+pub mod TableLaws
+pub mod PageLaws
+pub mod PairLaws
+pub mod RegionLaws
 pub mod KeptLaws
 pub mod MoveLaws
 pub mod RefusalLaws

@@ -6,6 +6,7 @@
 //! other crate's contracts cite those and nothing else.
 #![tactic(auto)]
 
+mod accesses;
 mod calls;
 mod commands;
 mod editions;
@@ -21,6 +22,7 @@ mod sizes;
 mod spots;
 mod translations;
 
+pub use accesses::{Access, DeviceStep, Piece, Target};
 pub use calls::{Applied, Call, Config};
 pub use commands::{Command, Name};
 pub use editions::Edition;
@@ -29,8 +31,8 @@ pub use forests::{Forest, Node, Nodes, Spaces};
 pub use ids::{ListenerId, PassId, RegionId, SpaceId};
 pub use ioevents::{Events, Ioevent, Live, Lives};
 pub use kinds::{Client, Device, DeviceKind, Kind, Ops};
-pub use listening::{ListenerEvent, RangeEvent, Walk};
-pub use machine::{Cell, Event, Hand, Place, TxResult, WordStep};
+pub use listening::{Change, Changes, Listener, ListenerEvent, RangeEvent, Walk};
+pub use machine::{Carried, Cell, Event, Hand, HistoryEntry, Place, Reply, TxResult, WordStep};
 pub use refusals::{BadScript, Cause, Refusal, User, What, Which};
 pub use sizes::Size;
 pub use spots::{Attrs, Spot};

@@ -1,7 +1,7 @@
 // What listeners are told.
 ghost use Rattle.std.specs.Prelude.{◌≡◌};
 
-use crate::{FlatRange, Live};
+use crate::{FlatRange, ListenerId, Live, Lives, SpaceId};
 use std::marker::Model;
 
 /// How one range differs between two views: QEMU's listener callbacks `region_del`, `region_add`,
@@ -60,6 +60,64 @@ impl Walk {
 
     /// All of them, in a vector. It takes no memory.
     pub fn into_vec(self) -> Vec<RangeEvent>
+        ensures { result.items ≡ self }
+    {
+        self.items
+    }
+}
+
+/// A listener with its address space. Of two listeners of one space, the one of lower priority hears of
+/// additions first and of deletions last.
+#[derive(Clone, Copy, Debug, PartialEq, Eq)]
+pub struct Listener {
+    pub listener: ListenerId,
+    pub space: SpaceId,
+    pub priority: i32,
+}
+
+/// How what one address space shows differs between two generations.
+#[derive(Debug, Drop)]
+pub struct Change {
+    pub space: SpaceId,
+    pub walk: Walk,
+    /// The ioeventfds that are live no more.
+    pub lost: Lives,
+    /// The ioeventfds that are live now and were not.
+    pub gained: Lives,
+}
+
+/// The changes of all address spaces, in order of making of the spaces.
+#[derive(Debug, Drop)]
+pub struct Changes {
+    items: Vec<Change>,
+}
+
+impl Model for Changes {
+    ghost use Rattle.std.specs.Prelude.{List};
+    ghost use Rattle.mem_base.specs.declared.listening.Change.{Change};
+
+    ghost Value = { List Change };
+
+    ghost view = { λ c. c.items.items };
+}
+
+impl Changes {
+    /// These changes.
+    pub fn new(items: Vec<Change>) -> Self
+        ensures { result ≡ items.items }
+    {
+        Changes { items }
+    }
+
+    /// All of them, in order.
+    pub fn as_slice(&self) -> &[Change]
+        ensures { result.now ≡ self.now }
+    {
+        self.items.as_slice()
+    }
+
+    /// All of them, in a vector. It takes no memory.
+    pub fn into_vec(self) -> Vec<Change>
         ensures { result.items ≡ self }
     {
         self.items

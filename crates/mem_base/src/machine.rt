@@ -1,6 +1,7 @@
 // The steps of a running machine.
 
-use crate::{Client, Config, PassId, RegionId};
+use crate::{Applied, Client, Config, Forest, PassId, RegionId};
+use std::collections::LinkedList;
 
 /// How an access ended: a fault of a device, or bytes that nothing answers.
 #[derive(Clone, Copy, Debug, PartialEq, Eq)]
@@ -89,4 +90,38 @@ pub enum Event {
     Config(Config),
     /// The writer releases the dropped regions that no held generation names.
     Reap,
+}
+
+/// What an event of the pure machine answers, where it is not refused.
+#[derive(Clone, Copy, Debug, PartialEq, Eq)]
+pub enum Reply {
+    /// The number of a generation; for a Sweep the announced number plus one, or 0.
+    Number(u64),
+    /// The value of a word before the step.
+    Old(u64),
+    /// What a call answers.
+    Applied(Applied),
+    Done,
+}
+
+/// What an entry of the shared history tells beside its event.
+#[derive(Debug, Drop)]
+pub enum Carried {
+    Nothing,
+    /// The next generation, which a Publish makes current: its forest, and the places that it shows.
+    Edition {
+        forest: Forest,
+        places: LinkedList<Place>,
+    },
+    /// The place that a step on a cell was handed.
+    At(Place),
+}
+
+/// An entry of the history that the atomic steps of a running machine make.
+#[derive(Debug, Drop)]
+pub struct HistoryEntry {
+    pub event: Event,
+    pub carried: Carried,
+    /// What the step answered; 0 where it answers nothing.
+    pub reply: u64,
 }

@@ -1,7 +1,9 @@
 pub mod Calm
 pub mod Causes
+pub mod Faults
 pub mod Memory
 pub mod Remainder
+pub mod Schedule
 pub mod Sink
 pub mod Source
 pub mod Standard

@@ -13,12 +13,16 @@
 #![tactic(auto)]
 
 mod calm;
+mod faults;
 mod gate;
 mod memory;
 mod remainder;
+mod schedule;
 mod sink;
 mod source;
 mod standard;
+#[cfg(test)]
+mod tests;
 
 pub use calm::{CalmSink, CalmSource};
 pub use gate::{Actor, Gate, OpenGate};

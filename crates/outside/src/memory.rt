@@ -3,8 +3,11 @@ ghost use Rattle.std.specs.Prelude.{◌≡◌, ◌≤◌, ◌<◌, ◌+◌, ◌-
 ghost use Rattle.std.specs.Io.{ReadsAtMost, WritesAtMost};
 ghost use Rattle.std.specs.Io.KnownBytes.{ReadConsumes};
 ghost use Rattle.outside.specs.Causes.{HasCause, faults_after};
+ghost use Rattle.outside.specs.Schedule.{one_call_more};
 
+use crate::faults::FaultCount;
 use crate::remainder::Remainder;
+use crate::schedule::Schedule;
 use crate::{Failed, Sink, Source};
 use std::alloc::{AllocError, Global};
 
@@ -12,9 +15,8 @@ use std::alloc::{AllocError, Global};
 #[derive(Drop)]
 pub struct MemSource {
     rest: Remainder,
-    fails: Vec<u32>,
-    calls: u32,
-    faults: u64,
+    schedule: Schedule,
+    faults: FaultCount,
 }
 
 impl MemSource {
@@ -29,15 +31,14 @@ impl MemSource {
     {
         MemSource {
             rest: Remainder::new(bytes),
-            fails,
-            calls: 0,
-            faults: 0,
+            schedule: Schedule::new(fails),
+            faults: FaultCount::new(),
         }
     }
 }
 
 impl Source for MemSource {
-    ghost use Rattle.outside.specs.Memory.{left_of, failing_reads, reads_of, read_faults, one_call_more};
+    ghost use Rattle.outside.specs.Memory.{left_of, failing_reads, reads_of, read_faults};
 
     ghost left = { λ s. Some (left_of s) };
 
@@ -57,10 +58,8 @@ impl Source for MemSource {
         ensures faults { read_faults self.new ≡ faults_after (read_faults self.old) result }
         ensures same_list { failing_reads self.new ≡ failing_reads self.old }
     {
-        self.calls = self.calls.saturating_add(1);
-        if self.fails.contains(&self.calls) {
-            self.faults = self.faults.saturating_add(1);
-            return Err(Failed);
+        if self.schedule.next_fails() {
+            return Err(self.faults.failure());
         }
         Ok(self.rest.read_into(buf))
     }
@@ -72,9 +71,8 @@ impl Source for MemSource {
 pub struct MemSink {
     taken: Vec<u8>,
     room: usize,
-    fails: Vec<u32>,
-    calls: u32,
-    faults: u64,
+    schedule: Schedule,
+    faults: FaultCount,
     ghost in_room: { vec_len taken ≤ room },
     ghost reserved: { room ≤ vec_capacity taken },
 }
@@ -93,9 +91,8 @@ impl MemSink {
         Ok(MemSink {
             taken: Vec::with_capacity(alloc, room)?,
             room,
-            fails,
-            calls: 0,
-            faults: 0,
+            schedule: Schedule::new(fails),
+            faults: FaultCount::new(),
         })
     }
 
@@ -110,7 +107,7 @@ impl MemSink {
 impl Sink for MemSink {
     ghost use Rattle.std.proofs.Common.{rules};
     ghost use Rattle.outside.specs.Sink.{TakesCount};
-    ghost use Rattle.outside.specs.Memory.{taken_of, room_of, failing_writes, writes_of, write_faults, one_call_more};
+    ghost use Rattle.outside.specs.Memory.{taken_of, room_of, failing_writes, writes_of, write_faults};
 
     ghost written = { λ s. Some (taken_of s) };
 
@@ -137,10 +134,9 @@ impl Sink for MemSink {
         ensures same_list { failing_writes self.new ≡ failing_writes self.old }
         ensures same_room { room_of self.new ≡ room_of self.old }
     {
-        self.calls = self.calls.saturating_add(1);
-        if self.fails.contains(&self.calls) || piece.len() > self.room - self.taken.len() {
-            self.faults = self.faults.saturating_add(1);
-            return Err(Failed);
+        let is_listed = self.schedule.next_fails();
+        if is_listed || piece.len() > self.room - self.taken.len() {
+            return Err(self.faults.failure());
         }
         self.taken.extend_from_slice(piece).unwrap();
         Ok(piece.len())

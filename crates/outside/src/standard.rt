@@ -4,6 +4,7 @@ ghost use Rattle.std.specs.Io.{ReadsAtMost, WritesAtMost};
 ghost use Rattle.std.specs.Io.KnownBytes.{ReadConsumes, WriteAppends};
 ghost use Rattle.outside.specs.Causes.{HasCause, faults_after};
 
+use crate::faults::FaultCount;
 use crate::{Failed, Sink, Source};
 use std::io::{Read, Write};
 
@@ -14,7 +15,7 @@ use std::io::{Read, Write};
 #[derive(Drop)]
 pub struct StdSource<R: Read> {
     reader: R,
-    faults: u64,
+    faults: FaultCount,
 }
 
 impl<R: Read> StdSource<R> {
@@ -25,7 +26,10 @@ impl<R: Read> StdSource<R> {
         ensures reader { reader_of result ≡ reader }
         ensures faults { reader_faults result ≡ 0 }
     {
-        StdSource { reader, faults: 0 }
+        StdSource {
+            reader,
+            faults: FaultCount::new(),
+        }
     }
 }
 
@@ -45,10 +49,7 @@ impl<R: Read> Source for StdSource<R> {
     {
         match self.reader.read(buf) {
             Ok(count) => Ok(count),
-            Err(_) => {
-                self.faults = self.faults.saturating_add(1);
-                Err(Failed)
-            }
+            Err(_) => Err(self.faults.failure()),
         }
     }
 }
@@ -60,7 +61,7 @@ impl<R: Read> Source for StdSource<R> {
 #[derive(Drop)]
 pub struct StdSink<W: Write> {
     writer: W,
-    faults: u64,
+    faults: FaultCount,
 }
 
 impl<W: Write> StdSink<W> {
@@ -71,7 +72,10 @@ impl<W: Write> StdSink<W> {
         ensures writer { writer_of result ≡ writer }
         ensures faults { writer_faults result ≡ 0 }
     {
-        StdSink { writer, faults: 0 }
+        StdSink {
+            writer,
+            faults: FaultCount::new(),
+        }
     }
 }
 
@@ -99,8 +103,7 @@ impl<W: Write> Sink for StdSink<W> {
             Err(_) => 0,
         };
         if taken == 0 && !piece.is_empty() {
-            self.faults = self.faults.saturating_add(1);
-            return Err(Failed);
+            return Err(self.faults.failure());
         }
         Ok(taken)
     }

@@ -1,0 +1,148 @@
+-- Worked calls of the pure machine and turns of the running one, by computing. What a forest names is never computed,
+-- so what a reap releases is shown by laws and not here.
+use Rattle.std.specs.Prelude.{◌≡◌, ℕ, zero, suc, Bool, true, false, List, [], ◌∷◌, ◌++◌, map, replicate, Option, Some, None, Result, Ok, Err, pos, refl}
+use Rattle.mem_base.specs.declared.kinds.DeviceKind.TheVariants.{Latch}
+use Rattle.mem_base.specs.declared.kinds.Kind.{Kind}
+use Rattle.mem_base.specs.declared.kinds.Kind.TheVariants as kinds
+use Rattle.mem_base.specs.declared.calls.Call.{Call}
+use Rattle.mem_base.specs.declared.calls.Call.TheVariants as calls
+use Rattle.mem_base.specs.declared.calls.Config.TheVariants as configs
+use Rattle.mem_base.specs.declared.calls.Applied.TheVariants as applied
+use Rattle.mem_base.specs.declared.refusals.Refusal.TheVariants as refusals
+use Rattle.mem_base.specs.declared.refusals.What.TheVariants as what
+use Rattle.mem_base.specs.declared.accesses.Access.{Access}
+use Rattle.mem_base.specs.declared.machine.Event.{Event}
+use Rattle.mem_base.specs.declared.machine.Event.TheVariants as events
+use Rattle.mem_base.specs.declared.machine.Hand.TheVariants as hands
+use Rattle.mem_base.specs.declared.machine.WordStep.TheVariants as word_steps
+use Rattle.mem_base.specs.Search.{spot_in}
+use Rattle.mem_base.specs.Steps.{depth_by, weight_by, reaches_by}
+use Rattle.mem_base.specs.Places.{holes, first_fit, place_at, extent}
+use Rattle.mem_base.specs.Cells.{cell, notifier_cell}
+use Rattle.mem_base.specs.Doings.{Job, reading, writing, tx}
+use Rattle.mem_base.specs.World.{World, opening}
+use Rattle.mem_base.specs.History.{run_events}
+use Rattle.mem_base.specs.Composites.{completed, accessed, Accessed, enters, leaves}
+use Rattle.mem_base.specs.Orders.{Order, configure, reap, load, harvest, notified}
+use Rattle.mem_base.specs.Answers.{Answer, called, committed, finished, reaped, harvested, value}
+use Rattle.mem_base.specs.Reaps.{first_writer}
+use Rattle.mem_base.specs.Turns.{turn, turns, entries_of}
+use Rattle.mem_base.specs.JoinedHistory.{accepted_in}
+use Rattle.machine_laws.proofs.Values.{region, space, listener, pass, ops, device}
+
+-- a call of the writer, or an enter, a leave, or an access of pass 0 to space 0 at address 0
+data Command : Type 0 where
+  order : Order → Command
+  enter : Command
+  leave : Command
+  access : Job → Command
+
+data Outcome : Type 0 where
+  answered : Answer → Outcome
+  entered : Outcome
+  left : Outcome
+  accessed_to : ℕ → Bool → List ℕ → Outcome  -- the number, a decode error, the bytes
+
+outcome_of : Accessed → Outcome
+outcome_of x = accessed_to x.answer.number x.answer.result.decode x.bytes
+
+outcomes : World → List Command → List Outcome
+outcomes w [] = []
+outcomes w (order k ∷ cs) = let x = completed w k in answered x.answer ∷ outcomes x.world cs
+outcomes w (enter ∷ cs) = entered ∷ outcomes (run_events w (enters (pass 0))).world cs
+outcomes w (leave ∷ cs) = left ∷ outcomes (run_events w (leaves (pass 0))).world cs
+outcomes w (access job ∷ cs) = let x = accessed w (pass 0) (space 0) 0 job in outcome_of x ∷ outcomes x.world cs
+
+call : Call → Command
+call k = order (configure (configs.Call k))
+
+latch : ℕ → Kind
+latch regs = kinds.Io (device Latch regs (ops 1 4 1 4 false))
+
+made : ℕ → Outcome
+made n = answered (called (Ok (applied.Made (region n), None)))
+
+published : ℕ → Outcome
+published n = answered (called (Ok (applied.Done, Some n)))
+
+pending : Outcome
+pending = answered (called (Ok (applied.Done, None)))
+
+-- a pass that stays in generation 1 holds the ninth generation up
+
+enabling : Command
+enabling = call (calls.Enable (region 0) true)
+
+eight-generations : outcomes (opening 16 1) (call (calls.Region kinds.Container 4096) ∷ call (calls.Space (space 0) (region 0)) ∷ enter ∷ replicate 8 enabling ++ (leave ∷ enabling ∷ []))
+    ≡ made 0 ∷ published 1 ∷ entered ∷ published 2 ∷ published 3 ∷ published 4 ∷ published 5 ∷ published 6 ∷ published 7 ∷ published 8
+    ∷ answered (called (Err (refusals.Held (pass 0) 1))) ∷ left ∷ published 9 ∷ []
+unfolding outcomes call made published enabling outcome_of
+eight-generations = refl
+
+-- a pass that stays in an old generation reads what was there
+
+an-old-generation : outcomes (opening 16 1) (call (calls.Region kinds.Container 4096) ∷ call (calls.Region (latch 1) 8) ∷ order (configure configs.Begin) ∷ call (calls.Space (space 0) (region 0)) ∷ call (calls.Add (region 0) 0 (region 1) (pos 0)) ∷ order (configure configs.Commit)
+    ∷ access (writing (0x2a ∷ [])) ∷ enter ∷ call (calls.Del (region 0) (region 1)) ∷ access (reading 1) ∷ leave ∷ access (reading 1) ∷ [])
+    ≡ made 0 ∷ made 1 ∷ answered (finished (Ok tt)) ∷ pending ∷ pending ∷ answered (committed (Ok (Some 1)))
+    ∷ accessed_to 1 false [] ∷ entered ∷ published 2 ∷ accessed_to 1 false (0x2a ∷ []) ∷ left ∷ accessed_to 2 true (0 ∷ []) ∷ []
+unfolding outcomes call made published pending latch outcome_of spot_in holes depth_by weight_by reaches_by
+an-old-generation = refl
+
+-- refusals that no forest gives
+
+refusals-of-the-machine : outcomes (opening 8 1) (order (configure configs.Commit) ∷ call (calls.Region (latch 5) 8) ∷ call (calls.Region (latch 4) 8) ∷ call (calls.Region (latch 3) 8)
+    ∷ order (configure (configs.Listen (listener 2) (space 0) (pos 0))) ∷ order (configure (configs.Unlisten (listener 2)))
+    ∷ order (load (region 0) 0 (1 ∷ [])) ∷ order (load (region 9) 0 (1 ∷ [])) ∷ order (notified 3) ∷ order (configure configs.Begin) ∷ order (configure configs.Commit) ∷ [])
+    ≡ answered (committed (Err refusals.NoTransaction)) ∷ made 0 ∷ answered (called (Err (refusals.NoBacking 4))) ∷ made 1
+    ∷ answered (finished (Err (refusals.Unknown (what.Space (space 0))))) ∷ answered (finished (Err (refusals.Unknown (what.Listener (listener 2)))))
+    ∷ answered (finished (Err (refusals.WrongKind (region 0)))) ∷ answered (finished (Err (refusals.Unknown (what.Region (region 9))))) ∷ answered (value 0) ∷ answered (finished (Ok tt)) ∷ answered (committed (Ok None)) ∷ []
+unfolding outcomes call made latch holes
+refusals-of-the-machine = refl
+
+too-nested : outcomes (opening 8 1) (replicate 65 (order (configure configs.Begin))) ≡ replicate 64 (answered (finished (Ok tt))) ++ answered (finished (Err refusals.TooNested)) ∷ []
+unfolding outcomes
+too-nested = refl
+
+-- a pool of 16 words: a place of 3, a hole of 4, and a place of 5; what fits goes into the first hole
+
+fits-the-hole : first_fit 16 (place_at (region 0) 0 (extent 0 3) ∷ place_at (region 2) 7 (extent 0 5) ∷ []) 4 ≡ Some 3
+unfolding holes
+fits-the-hole = refl
+
+no-hole-fits : first_fit 16 (place_at (region 0) 0 (extent 0 3) ∷ place_at (region 2) 7 (extent 0 5) ∷ []) 5 ≡ None
+unfolding holes
+no-hole-fits = refl
+
+-- turns: a publish of two passes, of which the first was found at 0
+
+global : Order
+global = configure (configs.Call (calls.Global true))
+
+a-publish : map (λ x. x.event) (entries_of (turn (first_writer 16 2) global (1 ∷ 0 ∷ 0 ∷ 0 ∷ 1 ∷ [])))
+    ≡ events.Sweep (pass 0) ∷ events.Sweep (pass 1) ∷ events.Place (pass 0) ∷ events.Place (pass 1) ∷ events.Publish ∷ []
+unfolding global
+a-publish = refl
+
+-- eight publishes while the first pass stays announced at 0: the eighth is refused, and is none of the accepted
+eight-turns : map (λ t. t.answer) (turns (first_writer 16 2) (map (λ n. (global, 1 ∷ 0 ∷ 0 ∷ 0 ∷ n ∷ [])) (1 ∷ 2 ∷ 3 ∷ 4 ∷ 5 ∷ 6 ∷ 7 ∷ 8 ∷ [])))
+    ≡ map (λ n. called (Ok (applied.Done, Some n))) (1 ∷ 2 ∷ 3 ∷ 4 ∷ 5 ∷ 6 ∷ 7 ∷ []) ++ called (Err (refusals.Held (pass 0) 0)) ∷ []
+unfolding global
+eight-turns = refl
+
+seven-accepted : accepted_in (turns (first_writer 16 2) (map (λ n. (global, 1 ∷ 0 ∷ 0 ∷ 0 ∷ n ∷ [])) (1 ∷ 2 ∷ 3 ∷ 4 ∷ 5 ∷ 6 ∷ 7 ∷ 8 ∷ [])))
+    ≡ replicate 7 (configs.Call (calls.Global true))
+unfolding global
+seven-accepted = refl
+
+-- a region with three words is made and then cleared
+a-fill : map (λ x. x.event) (entries_of (turn (first_writer 4 1) (configure (configs.Call (calls.Region (latch 3) 8))) (0 ∷ 0 ∷ 0 ∷ [])))
+    ≡ map (λ i. events.Fill (cell (region 0) i)) (0 ∷ 1 ∷ 2 ∷ [])
+unfolding latch holes
+a-fill = refl
+
+-- a notifier is taken
+a-notifier : (turn (first_writer 4 1) (notified 7) (5 ∷ [])).answer ≡ value 5
+a-notifier = refl
+
+its-event : map (λ x. x.event) (entries_of (turn (first_writer 4 1) (notified 7) (5 ∷ []))) ≡ events.Word hands.Writer (notifier_cell 7) word_steps.Take ∷ []
+its-event = refl

@@ -1,0 +1,21 @@
+// Laws of the pure machine's histories.
+ghost use Rattle.machine_laws.specs.Histories.{EachEventKeepsOrder, LegalHistoriesAreInOrder, FewGenerationsAreKept};
+
+/// Each possible event keeps four facts of every pass: how its lowest number stands to the current one and to what
+/// a sweep found, which numbers it may know, and how near the lowest number is while a publish is due.
+pub fn each_event_keeps_order()
+    ensures { EachEventKeepsOrder }
+{
+}
+
+/// The four facts hold of every pass after every legal history.
+pub fn legal_histories_are_in_order()
+    ensures { LegalHistoriesAreInOrder }
+{
+}
+
+/// After every legal history at most eight generations are held, and each is kept.
+pub fn few_generations_are_kept()
+    ensures { FewGenerationsAreKept }
+{
+}

@@ -1,0 +1,10 @@
+//! Laws of accesses and of the running machine, each shown by a function that does nothing.
+//!
+//! The definitions stand in `mem_base`; what follows from them for every history, every walk and every access
+//! stands here, so that the layers above may rest on it without a proof of their own. A law holds of the
+//! definitions alone: no code is run by it.
+#![tactic(auto)]
+
+mod histories;
+
+pub use histories::{each_event_keeps_order, few_generations_are_kept, legal_histories_are_in_order};

@@ -1,0 +1,86 @@
+-- The calls of the pure machine, as the events that they make and what they answer.
+use Rattle.std.specs.Prelude.{ℕ, Bool, true, false, if◌then◌else◌, List, [], ◌∷◌, ◌++◌, map, Option, Some, None, is_some, unwrap_or}
+use Rattle.mem_base.specs.declared.ids.PassId.{PassId}
+use Rattle.mem_base.specs.declared.ids.SpaceId.{SpaceId}
+use Rattle.mem_base.specs.declared.forests.Forest.{Forest}
+use Rattle.mem_base.specs.declared.accesses.Access.{Access}
+use Rattle.mem_base.specs.declared.machine.Event.{Event}
+use Rattle.mem_base.specs.declared.machine.Event.TheVariants.{Look, Announce, Enter, Leave}
+use Rattle.mem_base.specs.Calls.{empty}
+use Rattle.mem_base.specs.Doings.{Job, Doing, events_of, result_of, bytes_read}
+use Rattle.mem_base.specs.Access.{access}
+use Rattle.mem_base.specs.Passes.{pass_of}
+use Rattle.mem_base.specs.Generations.{Generation, entered_generation}
+use Rattle.mem_base.specs.World.{World, number_in}
+use Rattle.mem_base.specs.History.{Ran, Happened, run_events}
+use Rattle.mem_base.specs.Orders.{Order, events_before, private_of, events_behind}
+use Rattle.mem_base.specs.Answers.{Answer, answer_to}
+
+-- the numbers in the replies
+abbrev pub numbers_of : List Happened → List ℕ
+numbers_of xs = map (λ x. number_in x.reply) xs
+
+-- a call of the writer: the world after it, its entries, and its answer
+pub record Completed : Type 0 where
+  pub world : World
+  pub entries : List Happened
+  pub answer : Answer
+
+abbrev pub completed : World → Order → Completed
+completed w k =
+    let before = run_events w (events_before w.writer k) in
+    let private = run_events before.world (private_of k) in
+    let behind = run_events private.world (events_behind private.world.writer k) in record {
+      world = behind.world;
+      entries = before.entries ++ (private.entries ++ behind.entries);
+      answer = answer_to before.world.writer private.world.writer k (numbers_of behind.entries);
+    }
+
+-- a pass looks at the current number, announces it, and enters
+abbrev pub enters : PassId → List Event
+enters pass = Look pass ∷ Announce pass ∷ Enter pass ∷ []
+
+abbrev pub leaves : PassId → List Event
+leaves pass = Leave pass ∷ []
+
+-- a pass that is entered stays so; any other enters before an access and leaves behind it
+abbrev pub enters_unless : Bool → PassId → List Event
+enters_unless entered pass = if entered then [] else enters pass
+
+abbrev pub leaves_unless : Bool → PassId → List Event
+leaves_unless entered pass = if entered then [] else leaves pass
+
+-- all events of an access by a pass, which was entered before or not, to a space of a forest
+abbrev pub access_events : Bool → PassId → Forest → SpaceId → ℕ → Job → List Event
+access_events entered pass f s a job =
+    enters_unless entered pass ++ (events_of pass (access f s a job) ++ leaves_unless entered pass)
+
+abbrev pub forest_at : Option Generation → Forest
+forest_at None = empty
+forest_at (Some x) = x.forest
+
+abbrev pub is_entered : World → PassId → Bool
+is_entered w pass = is_some (pass_of w.passes pass).entered
+
+-- what an access does in a world in which the pass is entered
+abbrev pub done_by : World → PassId → SpaceId → ℕ → Job → List Doing
+done_by w pass s a job = access (forest_at (entered_generation w.writer.generations w.passes pass)) s a job
+
+-- an access of a pass: the world after it, its entries, how it ended in which generation, and the bytes read
+pub record Accessed : Type 0 where
+  pub world : World
+  pub entries : List Happened
+  pub answer : Access
+  pub bytes : List ℕ
+
+abbrev pub accessed : World → PassId → SpaceId → ℕ → Job → Accessed
+accessed w pass s a job =
+    let before = run_events w (enters_unless (is_entered w pass) pass) in
+    let doings = done_by before.world pass s a job in
+    let steps = run_events before.world (events_of pass doings) in
+    let behind = run_events steps.world (leaves_unless (is_entered w pass) pass) in record {
+      world = behind.world;
+      entries = before.entries ++ (steps.entries ++ behind.entries);
+      answer = record { result = result_of doings; number = unwrap_or (pass_of before.world.passes pass).entered 0 };
+      bytes = bytes_read doings (numbers_of steps.entries);
+    }

@@ -1,0 +1,16 @@
+-- Which regions a forest names: the leaves of its views. Nothing reaches the others, so they may be released once they
+-- are dropped. This project's own rule, in place of the reference counts of QEMU's core.
+use Rattle.std.specs.Prelude.{Bool, ◌==◌, List}
+use Rattle.std.specs.List.{list_any}
+use Rattle.mem_base.specs.declared.ids.RegionId.{RegionId}
+use Rattle.mem_base.specs.declared.flat.FlatRange.{FlatRange}
+use Rattle.mem_base.specs.declared.forests.Forest.{Forest}
+use Rattle.mem_base.specs.Flattened.{view_of}
+
+-- some range has this leaf
+abbrev pub has_leaf : RegionId → List FlatRange → Bool
+has_leaf region rs = list_any (λ r. r.leaf.0 == region.0) rs
+
+-- some address of some space has the region as its leaf
+abbrev pub names : Forest → RegionId → Bool
+names f region = list_any (λ p. has_leaf region (view_of f p.0)) f.spaces

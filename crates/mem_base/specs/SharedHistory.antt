@@ -1,0 +1,118 @@
+-- The history that the atomic steps of a running machine make: which are legal. Everything that changes by them is
+-- what changes in the pure machine, with words of the pool in place of cells; what differs is when a copy is placed,
+-- a generation is published, and a step is made on a cell.
+-- This project's own rule: every entry is one atomic step on one word, so the history is one list.
+use Rattle.std.specs.Prelude.{◌≡◌, ℕ, ◌+◌, Bool, true, false, ◌==◌, ◌&&◌, nat_lt, nat_le, if◌then◌else◌, List, [], ◌∷◌, length, replicate, slice_index, Option, Some, None, option_map}
+use Rattle.std.specs.List.{list_any}
+use Rattle.mem_base.specs.declared.machine.Place.{Place}
+use Rattle.mem_base.specs.declared.machine.Cell.{Cell}
+use Rattle.mem_base.specs.declared.machine.Hand.TheVariants as hands
+use Rattle.mem_base.specs.declared.machine.Event.{Event}
+use Rattle.mem_base.specs.declared.machine.Event.TheVariants as events
+use Rattle.mem_base.specs.declared.machine.Carried.{Carried}
+use Rattle.mem_base.specs.declared.machine.Carried.TheVariants.{Nothing, Edition, At}
+use Rattle.mem_base.specs.declared.machine.HistoryEntry.{HistoryEntry}
+use Rattle.mem_base.specs.Places.{mark_word, past}
+use Rattle.mem_base.specs.Cells.{Touch, touch_of, words_after}
+use Rattle.mem_base.specs.Passes.{PassState, idle, passes_after}
+use Rattle.mem_base.specs.Generations.{Generation, Generations, first_generations, known_of, may, number_told, generations_after, entered_generation}
+use Rattle.mem_base.specs.Guards.{may_reach, may_mark}
+
+pub record Shared : Type 0 where
+  pub generations : Generations
+  pub passes : List PassState
+  pub words : List ℕ  -- of the cabinet: the pool's, and behind them the notifiers'
+
+abbrev pub shared : Generations → List PassState → List ℕ → Shared
+shared generations passes words = record { generations = generations; passes = passes; words = words }
+
+abbrev pub is_same_place : Place → Place → Bool
+is_same_place p q = (p.region.0 == q.region.0) && (p.start == q.start) && (p.words == q.words) && (p.bytes == q.bytes) && (p.regs == q.regs)
+
+-- the Publish of the generation carried this place
+abbrev pub carries : Option Generation → Place → Bool
+carries None p = false
+carries (Some x) p = list_any (is_same_place p) x.places
+
+-- the word is one of the place's, and the place ends within the cabinet's words
+abbrev pub is_within : Shared → Place → ℕ → Bool
+is_within s p word = nat_lt word p.words && nat_le (past p) (length s.words)
+
+-- a step on a cell of a region with the place that it names, which is that region's. A pass does what the pure
+-- machine lets it do, and its generation carries the place; the writer needs only that the word is there
+abbrev pub may_touch : Shared → Event → Place → Bool
+may_touch s (events.Word (hands.Pass pass) c step) p =
+    let entered = entered_generation s.generations s.passes pass in
+    (p.region.0 == c.region.0) && may_reach entered p c && carries entered p
+may_touch s (events.Mark pass region client page) p =
+    let entered = entered_generation s.generations s.passes pass in
+    (p.region.0 == region.0) && may_mark entered p region page && carries entered p
+may_touch s (events.Word hands.Writer c step) p = (p.region.0 == c.region.0) && is_within s p c.word
+may_touch s (events.Harvest region client index) p = (p.region.0 == region.0) && is_within s p (mark_word p client index)
+may_touch s (events.Fill c) p = (p.region.0 == c.region.0) && is_within s p c.word
+may_touch s _ p = false
+
+-- the pass can't be in a generation whose slot the next one takes
+abbrev pub is_near : Shared → Event → Bool
+is_near s (events.Place pass) = nat_le s.generations.current ((known_of s.generations pass).lowest + 6)
+is_near s _ = true
+
+-- the event is possible where it stands, with what it carries: a Publish carries an edition, a step on a cell its
+-- place, and any other event nothing. Private events are not shared
+abbrev pub possible : Shared → Event → Carried → Bool
+possible s (events.Look pass) Nothing = may s.generations s.passes (events.Look pass)
+possible s (events.Announce pass) Nothing = may s.generations s.passes (events.Announce pass)
+possible s (events.Enter pass) Nothing = may s.generations s.passes (events.Enter pass)
+possible s (events.Leave pass) Nothing = may s.generations s.passes (events.Leave pass)
+possible s (events.Sweep pass) Nothing = may s.generations s.passes (events.Sweep pass)
+possible s (events.Place pass) Nothing = is_near s (events.Place pass) && may s.generations s.passes (events.Place pass)
+possible s events.Publish (Edition forest places) = may s.generations s.passes events.Publish
+possible s e (At p) = may_touch s e p
+possible s e _ = false
+
+-- the touch of an event, on a word of the cabinet
+pub record PoolTouch : Type 0 where
+  pub word : ℕ
+  pub touch : Touch
+
+abbrev pub pool_touch : Place → Touch → PoolTouch
+pool_touch p t = record { word = p.start + t.word; touch = t }
+
+abbrev pub pool_touch_of : Event → Carried → Option PoolTouch
+pool_touch_of e (At p) = option_map (pool_touch p) (touch_of p e)
+pool_touch_of e _ = None
+
+abbrev pub old_in : List ℕ → Option PoolTouch → ℕ
+old_in words None = 0
+old_in words (Some t) = if t.touch.tells then slice_index words t.word else 0
+
+abbrev pub pool_after : List ℕ → Option PoolTouch → List ℕ
+pool_after words None = words
+pool_after words (Some t) = words_after words t.word t.touch.step
+
+-- what an event answers
+abbrev pub reply : Shared → Event → Carried → ℕ
+reply s e (At p) = old_in s.words (pool_touch_of e (At p))
+reply s e _ = number_told s.generations s.passes e
+
+abbrev pub after_entry : Shared → HistoryEntry → Shared
+after_entry s x = shared
+    (generations_after s.generations x.event x.carried x.reply)
+    (passes_after s.passes x.event x.reply)
+    (pool_after s.words (pool_touch_of x.event x.carried))
+
+abbrev pub after_entries : Shared → List HistoryEntry → Shared
+after_entries s [] = s
+after_entries s (x ∷ xs) = after_entries (after_entry s x) xs
+
+-- at first, with so many words in the cabinet, the notifiers' among them
+abbrev pub opening : ℕ → ℕ → Shared
+opening cabinet_words passes = shared (first_generations passes) (replicate passes idle) (replicate cabinet_words 0)
+
+-- each event is possible where it stands, and its reply is the machine's
+abbrev pub IsLegalFrom : Shared → List HistoryEntry → Type 0
+IsLegalFrom s [] = Unit {0}
+IsLegalFrom s (x ∷ xs) = (possible s x.event x.carried ≡ true) × (x.reply ≡ reply s x.event x.carried) × IsLegalFrom (after_entry s x) xs
+
+abbrev pub IsLegal : ℕ → ℕ → List HistoryEntry → Type 0
+IsLegal cabinet_words passes xs = IsLegalFrom (opening cabinet_words passes) xs
