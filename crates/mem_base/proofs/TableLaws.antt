@@ -47,10 +47,10 @@ then_is Greater q = refl
 
 and_right : (a b c d : Bool) → a && b && c && d ≡ a && (b && (c && d))
 and_right true b c d = and_three b c d
-    where
-      and_three : (b c d : Bool) → b && c && d ≡ b && (c && d)
-      and_three true c d = refl
-      and_three false c d = refl
+  where
+    and_three : (b c d : Bool) → b && c && d ≡ b && (c && d)
+    and_three true c d = refl
+    and_three false c d = refl
 and_right false b c d = refl
 
 and_same : (a b c d a' b' c' d' : Bool) → a ≡ a' → b ≡ b' → c ≡ c' → d ≡ d' → a && (b && (c && d)) ≡ a' && (b' && (c' && d'))
@@ -260,10 +260,10 @@ none_there iova size [] p h = refl
 none_there iova size (e ∷ es) p h =
     let no : has_iova iova e ≡ false = apart h.0 in
     rw no (none_there iova size es p h.1)
-    where
-      apart : IsOff iova size e → has_iova iova e ≡ false
-      apart (inl l) = grind (arith, nat_tests)
-      apart (inr l) = grind (arith, nat_tests)
+  where
+    apart : IsOff iova size e → has_iova iova e ≡ false
+    apart (inl l) = grind (arith, nat_tests)
+    apart (inr l) = grind (arith, nat_tests)
 
 -- an entry that meets none has no iova that is there
 pub entry_absent : (e : Entry) (l : List Entry) (i : ℕ) → least_met e.iova (e.mask + 1) l ≡ None → place_of (iova_cmp e.iova) l ≢ Ok i
