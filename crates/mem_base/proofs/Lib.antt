@@ -23,3 +23,4 @@ pub mod RefusalLaws
 pub mod DropLaws
 pub mod CallLaws
 pub mod ViewLaws
+pub mod FlattenedLaws

@@ -24,11 +24,13 @@ use Rattle.mem_base.proofs.LeadLaws.{KeepsSteps, greatest_depth-kept, greatest_w
 -- what holds of each region, and of the changed one, holds after the change
 pub every_changed_one : (P : Node → Type 0) (r : RegionId) (g : Node → Node) (m : Node) → P (g m) → (nodes : List Node) → Every (λ n. has_id r n ≡ true → n ≡ m) nodes → Every P nodes → Every P (changed_at r g nodes)
 every_changed_one P r g m k [] only h = tt
-every_changed_one P r g m k (n ∷ ns) only h =
-    (elim (has_id r n) as (λ b. has_id r n ≡ b → P (cond b (g n) n)) [
-      | true ↦ λ e. subst (λ x. P (g x)) (sym (only.0 e)) k
-      | false ↦ λ e. h.0
-    ] refl, every_changed_one P r g m k ns only.1 h.1)
+every_changed_one P r g m k (n ∷ ns) only h = (
+  elim (has_id r n) as (λ b. has_id r n ≡ b → P (cond b (g n) n)) [
+    | true ↦ λ e. subst (λ x. P (g x)) (sym (only.0 e)) k
+    | false ↦ λ e. h.0
+  ] refl,
+  every_changed_one P r g m k ns only.1 h.1,
+)
 
 -- two changes that agree on the region make one list
 changed_at-agree : (r : RegionId) (g h : Node → Node) (m : Node) → g m ≡ h m → (nodes : List Node) → Every (λ n. has_id r n ≡ true → n ≡ m) nodes → changed_at r g nodes ≡ changed_at r h nodes
@@ -82,10 +84,10 @@ moved_before made placings offset n h =
       | true ↦ sooner made placings (placings + 0) n.parent n.placing (omega arith) h
       | false ↦ latest made placings n.parent n.placing h
     ]
-    where
-      latest : (made placings : ℕ) (p : Option RegionId) (placing : ℕ) → IsPlacedBefore made placings p placing → IsPlacedBefore made (placings + 1) p placings
-      latest made placings None placing h = tt
-      latest made placings (Some p) placing h = (h.0, omega arith)
+  where
+    latest : (made placings : ℕ) (p : Option RegionId) (placing : ℕ) → IsPlacedBefore made placings p placing → IsPlacedBefore made (placings + 1) p placings
+    latest made placings None placing h = tt
+    latest made placings (Some p) placing h = (h.0, omega arith)
 
 pub move_forest : (f : Forest) (child : RegionId) (offset : ℕ) (m : Node) → IsForest f → node_of f.nodes child ≡ Some m → IsForest (counted (changed f (calls.Move child offset)))
 move_forest f child offset m h e =

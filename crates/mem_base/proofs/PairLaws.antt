@@ -19,11 +19,13 @@ use Rattle.mem_base.proofs.EveryLaws.{every_filter}
 pub pairs_changed : (R : Node → Node → Type 0) (r : RegionId) (g : Node → Node) → ((x y : Node) → R x y → R (g x) y) → ((x y : Node) → R x y → R x (g y)) → (nodes : List Node) → EveryPair R nodes → EveryPair R (changed_at r g nodes)
 pairs_changed R r g left right [] h = tt
 pairs_changed R r g left right (n ∷ ns) h =
-    let later = every_changed_at (R n) r g (λ m w. right n m w) ns h.0 in
-    (elim (has_id r n) as (λ b. Every (R (cond b (g n) n)) (changed_at r g ns)) [
-      | true ↦ weaker (R n) (R (g n)) (λ m w. left n m w) (changed_at r g ns) later
-      | false ↦ later
-    ], pairs_changed R r g left right ns h.1)
+    let later = every_changed_at (R n) r g (λ m w. right n m w) ns h.0 in (
+      elim (has_id r n) as (λ b. Every (R (cond b (g n) n)) (changed_at r g ns)) [
+        | true ↦ weaker (R n) (R (g n)) (λ m w. left n m w) (changed_at r g ns) later
+        | false ↦ later
+      ],
+      pairs_changed R r g left right ns h.1,
+    )
 
 -- a change of one region, from what holds of each other
 pub pairs_fresh : (P : Node → Type 0) (R : Node → Node → Type 0) (r : RegionId) (g : Node → Node) (m : Node) → ((x : Node) → P x → R x (g m)) → ((x : Node) → P x → R (g m) x) → (nodes : List Node) → IsAscending nodes → Every P nodes → Every (λ n. has_id r n ≡ true → n ≡ m) nodes → EveryPair R nodes → EveryPair R (changed_at r g nodes)

@@ -146,6 +146,7 @@ module _ (nodes : List Node) (n : Node) (h : IsRegion nodes n) where
       bit_low Vga = omega arith
       bit_low Code = omega arith
       bit_low Migration = omega arith
+
       low_log : (client : Client) (on : Bool) (mask : ℕ) → mask ≤ 7 → logged client on mask ≤ 7
       low_log client true mask l = let below : mask < 2 ^ 3 = omega arith in let bit = bit_low client in let w = or_lt 3 mask (bit_of client) below bit in omega arith
       low_log client false mask l = omega arith

@@ -88,8 +88,13 @@ impl Events {
             value,
             ..
         } = event;
-        let (Ok(place) | Err(place)) =
-            place_of(self.items.as_slice(), offset, size, matched, value);
+        let (Ok(place) | Err(place)) = place_of(
+            self.items.as_slice(),
+            offset,
+            size,
+            matched,
+            value,
+        );
         self.items.insert(place, event)?;
         Ok(())
     }
