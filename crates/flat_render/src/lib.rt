@@ -16,6 +16,8 @@ mod carving;
 mod descent;
 mod leaves;
 mod spares;
+#[cfg(test)]
+mod tests;
 mod windows;
 
 use descent::render_from;
@@ -30,11 +32,12 @@ use windows::whole;
 /// The longest path of regions.
 const MOST_DEPTH: u32 = 32;
 
-/// The ranges of a space: at each address they show what the search finds there, and neighbours may go on where
-/// one another end.
+/// The ranges of a space: at each address they show what the search finds there.
 ///
-/// The space has to be there (`Tree::root` tells). A step is one range that is put into a list that is laid over
-/// another; there are at most as many as the square of the root's weight, also where memory runs out.
+/// They ascend and do not meet, and neighbours may still go on where one another end; `flat_simplify` merges them.
+/// The space has to be there, which `Tree::root` tells. A step is one carve: one range that is put into the list
+/// that comes of laying a list of ranges over another. There are at most as many carves as the square of the root's
+/// weight, also where memory runs out. The bound is this project's own.
 pub fn render<L: Ledger>(
     alloc: Global,
     tree: &Tree,

@@ -31,6 +31,12 @@ pub or_none : (a : Option Refusal) → option_or a None ≡ a
 or_none None = refl
 or_none (Some x) = refl
 
+-- three refusals, one after another
+pub or_three : (a b d : Option Refusal) → option_or (option_or a b) d ≡ option_or a (option_or b (option_or d None))
+or_three (Some x) b d = refl
+or_three None (Some x) d = refl
+or_three None None d = sym (or_none d)
+
 pub stands : (a b : Option Refusal) → is_some a ≡ true → option_or a b ≡ a
 stands None b e = cc
 stands (Some x) b e = refl
