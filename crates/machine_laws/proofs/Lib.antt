@@ -1,5 +1,6 @@
 pub mod Values
 pub mod Tests
+pub mod CutLaws
 pub mod OrderLaws
 pub mod HeldLaws
 pub mod AccessRows
