@@ -1,6 +1,8 @@
 pub mod Values
 pub mod Tests
 pub mod CutLaws
+pub mod RangeLaws
+pub mod WalkLaws
 pub mod OrderLaws
 pub mod HeldLaws
 pub mod AccessRows
