@@ -5,6 +5,8 @@ pub mod RangeLaws
 pub mod WalkLaws
 pub mod OrderLaws
 pub mod HeldLaws
+pub mod Backed
+pub mod Coupled
 pub mod AccessRows
 pub mod ListenerRows
 pub mod WorldRows
