@@ -7,6 +7,7 @@ pub mod OrderLaws
 pub mod HeldLaws
 pub mod Backed
 pub mod Coupled
+pub mod PassSteps
 pub mod AccessRows
 pub mod ListenerRows
 pub mod WorldRows
