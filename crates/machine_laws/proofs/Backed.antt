@@ -10,7 +10,7 @@ use Rattle.mem_base.specs.declared.machine.Cell.{Cell}
 use Rattle.mem_base.specs.declared.machine.WordStep.{WordStep}
 use Rattle.mem_base.specs.Editions.{place_in}
 use Rattle.mem_base.specs.Words.{word_after}
-use Rattle.mem_base.specs.Cells.{cell, is_same_cell, Block, cells_in, blocks_after, words_after}
+use Rattle.mem_base.specs.Cells.{cell, is_same_cell, Block, has_block, cells_in, blocks_after, words_after}
 
 -- the cell waits to be cleared
 abbrev pub waits : List Cell → RegionId → ℕ → Bool
@@ -89,3 +89,13 @@ steps_both places unfilled blocks words k r p i step at near = record {
     away : (q : Place) (j : ℕ) → (p.start + p.words ≤ q.start) ⊎ (q.start + q.words ≤ p.start) → j < q.words → q.start + j ≡ p.start + i → ⊥
     away q j (inl h) l z = absurd (omega arith)
     away q j (inr h) l z = absurd (omega arith)
+
+-- a step makes no cells
+pub same_blocks : (blocks : List Block) (r s : RegionId) (i : ℕ) (step : WordStep) → has_block (blocks_after blocks r i step) s ≡ has_block blocks s
+same_blocks [] r s i step = refl
+same_blocks (b ∷ bs) r s i step = go (b.region.0 == r.0) (same_blocks bs r s i step)
+  where
+    go : (t : Bool) → has_block (blocks_after bs r i step) s ≡ has_block bs s
+        → has_block (if t then (record b { words = words_after b.words i step }) ∷ bs else b ∷ blocks_after bs r i step) s ≡ (if b.region.0 == s.0 then true else has_block bs s)
+    go true rest = refl
+    go false rest = ap (λ (t : Bool). if b.region.0 == s.0 then true else t) rest

@@ -1,5 +1,5 @@
 -- The pure machine beside the running one: what holds between them at any moment.
-use Rattle.std.specs.Prelude.{◌≡◌, ℕ, ◌+◌, ◌/◌, ◌<◌, ◌≤◌, Bool, true, false, ◌||◌, List, [], Option, Some, Result, Ok}
+use Rattle.std.specs.Prelude.{◌≡◌, ℕ, ◌+◌, ◌/◌, ◌<◌, ◌≤◌, Bool, true, false, ◌||◌, List, [], Option, Some, None, Result, Ok}
 use Rattle.mem_base.specs.declared.ids.RegionId.{RegionId}
 use Rattle.mem_base.specs.declared.kinds.Client.{Client}
 use Rattle.mem_base.specs.declared.machine.Place.{Place}
@@ -11,6 +11,7 @@ use Rattle.mem_base.specs.Editions.{place_in}
 use Rattle.mem_base.specs.MachineLimits.{notifier_count}
 use Rattle.mem_base.specs.Naming.{names}
 use Rattle.mem_base.specs.Places.{is_notifiers, data_words, pages_in, mark_word, mark_words, word_of_page}
+use Rattle.mem_base.specs.Cells.{has_block}
 use Rattle.mem_base.specs.Generations.{Generation, Generations, held_generations}
 use Rattle.mem_base.specs.Desk.{Desk, places_of}
 use Rattle.mem_base.specs.World.{World, possible, reply, after, number_in}
@@ -48,6 +49,7 @@ pub record Coupled (w : World) (words : List ℕ) : Type 0 where
   pub whole : Every (IsWhole (places_of w.writer.desk)) (places_of w.writer.desk)
   pub low : Every (λ r. is_notifiers r ≡ false) w.writer.desk.dropped
   pub still : w.writer.desk.due ≡ true → w.writer.desk.unfilled ≡ []
+  pub bare : (r : RegionId) → place_in (places_of w.writer.desk) r ≡ None → has_block w.blocks r ≡ false
   pub order : IsOrderly w
 
 -- an event of the running machine, with what it carries, is one of the world, with the same reply

@@ -8,6 +8,8 @@ pub mod HeldLaws
 pub mod Backed
 pub mod Coupled
 pub mod PassSteps
+pub mod WriterSteps
+pub mod FillSteps
 pub mod AccessRows
 pub mod ListenerRows
 pub mod WorldRows

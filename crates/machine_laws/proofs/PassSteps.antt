@@ -23,7 +23,7 @@ use Rattle.mem_base.specs.Editions.{place_in}
 use Rattle.mem_base.specs.Naming.{names}
 use Rattle.mem_base.specs.MachineLimits.{notifier_count}
 use Rattle.mem_base.specs.Places.{is_notifiers, is_data_or_register, data_words, pages_in, word_of_page, bit_of_page}
-use Rattle.mem_base.specs.Cells.{Touch, touch_of, cells_in, words_after}
+use Rattle.mem_base.specs.Cells.{Touch, touch_of, has_block, cells_in, words_after}
 use Rattle.mem_base.specs.Passes.{PassState, pass_of, is_pass}
 use Rattle.mem_base.specs.Generations.{Generation, Generations, Known, nothing_known, least_lowest, held_generations, generation_of, generation_at, entered_generation}
 use Rattle.mem_base.specs.Guards.{is_notifier, may_reach, may_mark}
@@ -34,7 +34,7 @@ use Rattle.mem_base.specs.SharedHistory as running
 use Rattle.mem_base.specs.Turns.{is_writers}
 use Rattle.machine_laws.proofs.Tests.{both_of, same_some, true_is_not_false, none_is_not_some}
 use Rattle.machine_laws.proofs.OrderLaws.{order_after}
-use Rattle.machine_laws.proofs.Backed.{IsBacked, waits, steps_both, same_region}
+use Rattle.machine_laws.proofs.Backed.{IsBacked, waits, steps_both, same_region, same_blocks}
 use Rattle.machine_laws.proofs.Coupled.{Stands, AllStand, IsWhole, Coupled, Follows, seen}
 
 least_low : (c : ℕ) (ks : List Known) (v : ℕ) → v < length ks → least_lowest c ks ≤ (get_or ks v nothing_known).lowest
@@ -132,6 +132,11 @@ backed_touch w words k e r p t here is near =
     subst (λ (o : Option Touch). IsBacked (places_of w.writer.desk) w.writer.desk.unfilled (touched w.blocks (Some r) o) (words_after words (p.start + t.word) t.step)) (sym (touch_there w e r p t here is))
     (steps_both (places_of w.writer.desk) w.writer.desk.unfilled w.blocks words k.backed r p t.word t.step here near)
 
+pub bare_touch : (w : World) (words : List ℕ) → Coupled w words → (e : Event) (r : RegionId) (p : Place) (t : Touch) → place_in (places_of w.writer.desk) r ≡ Some p → touch_of p e ≡ Some t
+    → (s : RegionId) → place_in (places_of w.writer.desk) s ≡ None → has_block (touched w.blocks (Some r) (touch_at w e (Some r))) s ≡ false
+bare_touch w words k e r p t here is s none =
+    ap (λ (o : Option Touch). has_block (touched w.blocks (Some r) o) s) (touch_there w e r p t here is) ∙ same_blocks w.blocks r s t.word t.step ∙ k.bare s none
+
 pub old_touch : (w : World) (words : List ℕ) → Coupled w words → (e : Event) (r : RegionId) (p : Place) (t : Touch) → place_in (places_of w.writer.desk) r ≡ Some p → touch_of p e ≡ Some t → t.word < p.words → waits w.writer.desk.unfilled r t.word ≡ false
     → slice_index words (p.start + t.word) ≡ old_at w (Some r) (touch_at w e (Some r))
 old_touch w words k e r p t here is near filled =
@@ -157,6 +162,7 @@ steps_word w words k v c step p h =
         whole = k.whole;
         low = k.low;
         still = k.still;
+        bare = bare_touch w words k (events.Word (hands.Pass v) c step) c.region p _ here refl;
         order = order_after w k.order (events.Word (hands.Pass v) c step) _ may refl;
       };
     }
@@ -180,6 +186,7 @@ steps_mark w words k v r client page p h =
         whole = k.whole;
         low = k.low;
         still = k.still;
+        bare = bare_touch w words k (events.Mark v r client page) r p _ here refl;
         order = order_after w k.order (events.Mark v r client page) _ may refl;
       };
     }
@@ -193,7 +200,7 @@ looks w words k v h = record {
   may = h;
   tells = refl;
   leads = refl;
-  coupled = record { backed = k.backed; held = k.held; whole = k.whole; low = k.low; still = k.still; order = quiet_step w words k (events.Look v) h };
+  coupled = record { backed = k.backed; held = k.held; whole = k.whole; low = k.low; still = k.still; bare = k.bare; order = quiet_step w words k (events.Look v) h };
 }
 
 pub announces : (w : World) (words : List ℕ) → Coupled w words → (v : PassId) → running.possible (seen w words) (events.Announce v) Nothing ≡ true → Follows w words (events.Announce v) Nothing
@@ -201,7 +208,7 @@ announces w words k v h = record {
   may = h;
   tells = refl;
   leads = refl;
-  coupled = record { backed = k.backed; held = k.held; whole = k.whole; low = k.low; still = k.still; order = quiet_step w words k (events.Announce v) h };
+  coupled = record { backed = k.backed; held = k.held; whole = k.whole; low = k.low; still = k.still; bare = k.bare; order = quiet_step w words k (events.Announce v) h };
 }
 
 pub enters : (w : World) (words : List ℕ) → Coupled w words → (v : PassId) → running.possible (seen w words) (events.Enter v) Nothing ≡ true → Follows w words (events.Enter v) Nothing
@@ -209,7 +216,7 @@ enters w words k v h = record {
   may = h;
   tells = refl;
   leads = refl;
-  coupled = record { backed = k.backed; held = k.held; whole = k.whole; low = k.low; still = k.still; order = quiet_step w words k (events.Enter v) h };
+  coupled = record { backed = k.backed; held = k.held; whole = k.whole; low = k.low; still = k.still; bare = k.bare; order = quiet_step w words k (events.Enter v) h };
 }
 
 pub leaves : (w : World) (words : List ℕ) → Coupled w words → (v : PassId) → running.possible (seen w words) (events.Leave v) Nothing ≡ true → Follows w words (events.Leave v) Nothing
@@ -217,7 +224,7 @@ leaves w words k v h = record {
   may = h;
   tells = refl;
   leads = refl;
-  coupled = record { backed = k.backed; held = k.held; whole = k.whole; low = k.low; still = k.still; order = quiet_step w words k (events.Leave v) h };
+  coupled = record { backed = k.backed; held = k.held; whole = k.whole; low = k.low; still = k.still; bare = k.bare; order = quiet_step w words k (events.Leave v) h };
 }
 
 -- each event of a pass, with what it carries
