@@ -10,6 +10,8 @@ pub mod Coupled
 pub mod PassSteps
 pub mod WriterSteps
 pub mod FillSteps
+pub mod Replaced
+pub mod ReapSteps
 pub mod AccessRows
 pub mod ListenerRows
 pub mod WorldRows
