@@ -22,10 +22,11 @@ use Rattle.mem_base.specs.JoinedHistory.{reply_read}
 use Rattle.mem_base.specs.Turns.{history_entry}
 use Rattle.machine_laws.proofs.Backed.{IsBacked, waits}
 
--- a place by itself: it is the one of its region, it has the words that its bytes and registers ask for, and the
+-- a place by itself: it is the one of its region, it has words, it has the words that its bytes and registers ask for, and the
 -- notifiers' has 64
 pub record IsWhole (places : List Place) (p : Place) : Type 0 where
   pub stands : place_in places p.region ≡ Some p
+  pub some : 0 < p.words
   pub wide : data_words p.bytes + p.regs ≤ p.words
   pub marks : (client : Client) (page : ℕ) → page < pages_in p → word_of_page p client page < p.words
   pub notifiers : is_notifiers p.region ≡ true → p.words ≡ notifier_count

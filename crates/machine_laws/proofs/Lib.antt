@@ -10,6 +10,7 @@ pub mod Coupled
 pub mod PassSteps
 pub mod WriterSteps
 pub mod FillSteps
+pub mod FitLaws
 pub mod Replaced
 pub mod ReapSteps
 pub mod AccessRows

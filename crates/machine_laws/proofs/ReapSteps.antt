@@ -105,7 +105,7 @@ named_kept h low x r f named = go (is_notifiers r) refl named
     go false y z = held_kept h r (f z)
 
 whole_left : (h : Writer) (p : Place) → kept_by h p.region ≡ true → IsWhole (places_of h.desk) p → IsWhole (left h) p
-whole_left h p is s = record { stands = kept_place (kept_by h) h.desk.places (notifiers_place h.desk.pool_words ∷ []) p.region is ∙ s.stands; wide = s.wide; marks = s.marks; notifiers = s.notifiers }
+whole_left h p is s = record { stands = kept_place (kept_by h) h.desk.places (notifiers_place h.desk.pool_words ∷ []) p.region is ∙ s.stands; some = s.some; wide = s.wide; marks = s.marks; notifiers = s.notifiers }
 
 -- only the notifiers' place stands behind those of regions
 behind_all : (n : ℕ) (r : RegionId) (q : Place) → place_in (notifiers_place n ∷ []) r ≡ Some q → is_notifiers r ≡ true
