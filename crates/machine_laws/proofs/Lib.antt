@@ -13,6 +13,8 @@ pub mod FillSteps
 pub mod FitLaws
 pub mod Replaced
 pub mod ReapSteps
+pub mod NewPlace
+pub mod PrivateSteps
 pub mod AccessRows
 pub mod ListenerRows
 pub mod WorldRows
