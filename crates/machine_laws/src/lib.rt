@@ -5,6 +5,10 @@
 //! definitions alone: no code is run by it.
 #![tactic(auto)]
 
+mod cuts;
 mod histories;
+mod walks;
 
+pub use cuts::runs_cover_once;
 pub use histories::{each_event_keeps_order, few_generations_are_kept, legal_histories_are_in_order};
+pub use walks::a_walk_replays;

@@ -7,7 +7,9 @@ use Rattle.mem_base.specs.declared.accesses.Access.{Access}
 use Rattle.mem_base.specs.declared.machine.Event.{Event}
 use Rattle.mem_base.specs.declared.machine.Event.TheVariants.{Look, Announce, Enter, Leave}
 use Rattle.mem_base.specs.Calls.{empty}
-use Rattle.mem_base.specs.Doings.{Job, Doing, events_of, result_of, bytes_read}
+use Rattle.mem_base.specs.MachineLimits.{word_size}
+use Rattle.mem_base.specs.Words.{bytes_of}
+use Rattle.mem_base.specs.Doings.{Job, writing, Doing, events_of, result_of, bytes_read, has_partial}
 use Rattle.mem_base.specs.Access.{access}
 use Rattle.mem_base.specs.Passes.{pass_of}
 use Rattle.mem_base.specs.Generations.{Generation, entered_generation}
@@ -43,6 +45,10 @@ enters pass = Look pass ∷ Announce pass ∷ Enter pass ∷ []
 abbrev pub leaves : PassId → List Event
 leaves pass = Leave pass ∷ []
 
+-- a virtual CPU that enters anew leaves first where it was entered
+abbrev pub enters_anew : Bool → PassId → List Event
+enters_anew entered pass = if entered then leaves pass ++ enters pass else enters pass
+
 -- a pass that is entered stays so; any other enters before an access and leaves behind it
 abbrev pub enters_unless : Bool → PassId → List Event
 enters_unless entered pass = if entered then [] else enters pass
@@ -54,6 +60,20 @@ leaves_unless entered pass = if entered then [] else leaves pass
 abbrev pub access_events : Bool → PassId → Forest → SpaceId → ℕ → Job → List Event
 access_events entered pass f s a job =
     enters_unless entered pass ++ (events_of pass (access f s a job) ++ leaves_unless entered pass)
+
+-- a write of one word, whose bytes stand in the order of addresses, the lowest first
+abbrev pub word_write : ℕ → Job
+word_write value = writing (bytes_of value word_size false)
+
+-- such a write would replace only a part of some word, so it can't be done by stores of whole words
+abbrev pub is_not_whole : Forest → SpaceId → ℕ → ℕ → Bool
+is_not_whole f s a value = has_partial (access f s a (word_write value))
+
+-- its events: those of the access, or none of them where it is not whole
+abbrev pub word_write_events : Bool → PassId → Forest → SpaceId → ℕ → ℕ → List Event
+word_write_events entered pass f s a value =
+    if is_not_whole f s a value then enters_unless entered pass ++ leaves_unless entered pass
+    else access_events entered pass f s a (word_write value)
 
 abbrev pub forest_at : Option Generation → Forest
 forest_at None = empty
