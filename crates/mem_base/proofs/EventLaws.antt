@@ -37,10 +37,10 @@ then_is Greater q = refl
 
 and_right : (a b c d : Bool) → a && b && c && d ≡ a && (b && (c && d))
 and_right true b c d = and_three b c d
-    where
-      and_three : (b c d : Bool) → b && c && d ≡ b && (c && d)
-      and_three true c d = refl
-      and_three false c d = refl
+  where
+    and_three : (b c d : Bool) → b && c && d ≡ b && (c && d)
+    and_three true c d = refl
+    and_three false c d = refl
 and_right false b c d = refl
 
 and_same : (a b c d a' b' c' d' : Bool) → a ≡ a' → b ≡ b' → c ≡ c' → d ≡ d' → a && (b && (c && d)) ≡ a' && (b' && (c' && d'))
