@@ -1,5 +1,5 @@
 -- Laws of one region among others: what changes of the others and of itself keep.
-use Rattle.std.proofs.Common.{◌≡◌, ◌≢◌, ℕ, ◌+◌, ◌-◌, ◌<◌, ◌≤◌, ◌^◌, Bool, true, false, not, ◌&&◌, ◌||◌, cond, eqb, ℤ, List, [], ◌∷◌, ◌++◌, length, filter, Option, Some, None, IsSome, is_some, bit_or, bit_and, refl, sym, ap, subst, ◌∙◌, arith}
+use Rattle.std.proofs.Common.{◌≡◌, ◌≢◌, ℕ, ◌+◌, ◌<◌, ◌≤◌, ◌^◌, Bool, true, false, not, ◌&&◌, ◌||◌, cond, eqb, ℤ, List, [], ◌∷◌, ◌++◌, length, filter, Option, Some, None, IsSome, refl, sym, ap, subst, ◌∙◌, arith}
 use Rattle.std.specs.Prelude.{option_map, nat_lt, ◌%◌}
 use Rattle.std.proofs.lemmas.Bool.Decides.{nat_tests}
 use Rattle.std.specs.List.{list_any}
@@ -12,23 +12,19 @@ use Rattle.mem_base.specs.declared.kinds.Client.{Client}
 use Rattle.mem_base.specs.declared.kinds.Client.TheVariants.{Vga, Code, Migration}
 use Rattle.mem_base.specs.declared.translations.Entry.{Entry}
 use Rattle.mem_base.specs.declared.ioevents.Ioevent.{Ioevent}
-use Rattle.mem_base.specs.declared.refusals.Refusal.{Refusal}
 use Rattle.mem_base.specs.declared.refusals.Refusal.TheVariants.{BadSize}
-use Rattle.mem_base.specs.Every.{Every}
 use Rattle.mem_base.specs.Limits.{page_size, most_bytes, most_entries, most_events}
 use Rattle.mem_base.specs.Kinds.{is_alias, has_bytes, is_rom_device, device_of, target_of}
 use Rattle.mem_base.specs.Region.{has_id, node_of, is_in, is_child_of}
 use Rattle.mem_base.specs.Sorting.{put_by}
 use Rattle.mem_base.specs.Forest.{IsPlainRegion, HasContainer, HasTarget, IsRegion}
-use Rattle.mem_base.specs.Refusals.{targets, refuse_if, zero_size, bad_size}
-use Rattle.mem_base.specs.Tables.{AreEntries, AreEvents, match_order}
-use Rattle.mem_base.specs.TableRefusals.{bad_device, bad_page, bad_event, least_met, has_iova, is_event}
+use Rattle.mem_base.specs.Refusals.{targets, refuse_if, bad_size}
+use Rattle.mem_base.specs.Tables.{match_order}
+use Rattle.mem_base.specs.TableRefusals.{bad_device, bad_page, bad_event, least_met, is_event}
 use Rattle.mem_base.specs.Changes.{changed_at, moved, retargeted, bit_of, logged, entry_order, event_order}
-use Rattle.mem_base.proofs.ForestLaws.{id_of}
 use Rattle.mem_base.proofs.DelLaws.{every_put_by}
 use Rattle.mem_base.proofs.DropLaws.{without, node_of-without}
 use Rattle.mem_base.proofs.JoinLaws.{node_of-changed_at}
-use Rattle.mem_base.proofs.RefusalLaws.{refuse_if-none}
 use Rattle.mem_base.proofs.EveryLaws.{every_filter}
 use Rattle.mem_base.proofs.EntryLaws.{entries-filter, entries-added}
 use Rattle.mem_base.proofs.EventLaws.{events-put}

@@ -1,8 +1,7 @@
 -- Every accepted call keeps what holds of a forest's regions and spaces: call by call.
-use Rattle.std.proofs.Common.{◌≡◌, ◌≢◌, ℕ, ◌+◌, ◌-◌, ◌<◌, ◌≤◌, ◌^◌, Bool, true, false, not, ◌&&◌, ◌||◌, cond, eqb, ℤ, List, [], ◌∷◌, ◌++◌, length, filter, find, Option, Some, None, IsSome, is_some, Result, Ok, Err, refl, sym, ap, subst, ◌∙◌, arith}
-use Rattle.std.specs.Prelude.{option_map, option_and_then, nat_le, nat_lt, ◌%◌}
+use Rattle.std.proofs.Common.{◌≡◌, ◌≢◌, ℕ, ◌+◌, ◌-◌, ◌<◌, ◌≤◌, ◌^◌, Bool, true, false, not, ◌&&◌, ◌||◌, cond, eqb, ℤ, List, [], ◌∷◌, ◌++◌, length, filter, find, Option, Some, None, IsSome, is_some, Ok, Err, refl, sym, ap, subst, ◌∙◌, arith}
+use Rattle.std.specs.Prelude.{option_map, option_and_then, nat_lt, ◌%◌}
 use Rattle.std.specs.Option.{option_or}
-use Rattle.std.specs.List.{list_any}
 use Rattle.std.proofs.lemmas.Bool.Decides.{nat_tests}
 use Rattle.mem_base.specs.declared.ids.RegionId.{RegionId}
 use Rattle.mem_base.specs.declared.ids.SpaceId.{SpaceId}
@@ -13,9 +12,8 @@ use Rattle.mem_base.specs.declared.kinds.Kind.TheVariants.{Alias}
 use Rattle.mem_base.specs.declared.translations.Entry.{Entry}
 use Rattle.mem_base.specs.declared.ioevents.Ioevent.{Ioevent}
 use Rattle.mem_base.specs.declared.refusals.Refusal.{Refusal}
-use Rattle.mem_base.specs.declared.refusals.Refusal.TheVariants.{WrongKind, AliasParent, NameTaken, BadSize, PageOverlap, EventTaken, LimitReached}
+use Rattle.mem_base.specs.declared.refusals.Refusal.TheVariants.{WrongKind, AliasParent, NameTaken, BadSize, PageOverlap, EventTaken}
 use Rattle.mem_base.specs.declared.refusals.What.TheVariants as what
-use Rattle.mem_base.specs.declared.refusals.Which.{Which}
 use Rattle.mem_base.specs.declared.refusals.Which.TheVariants as which
 use Rattle.mem_base.specs.declared.calls.Call.{Call}
 use Rattle.mem_base.specs.declared.calls.Call.TheVariants as calls
@@ -23,25 +21,24 @@ use Rattle.mem_base.specs.Every.{Every, EveryPair}
 use Rattle.mem_base.specs.declared.kinds.Client.{Client}
 use Rattle.mem_base.specs.declared.translations.Perm.{Perm}
 use Rattle.mem_base.specs.Sorting.{put_by}
-use Rattle.mem_base.specs.Limits.{most_calls, most_made, most_regions, most_spaces, most_entries, most_events, most_bytes, page_size}
+use Rattle.mem_base.specs.Limits.{most_made, most_regions, most_spaces, most_entries, most_events, most_bytes, page_size}
 use Rattle.mem_base.specs.Kinds.{is_alias, has_bytes, is_rom_device, target_of}
 use Rattle.mem_base.specs.Region.{has_id, node_of, is_child_of}
 use Rattle.mem_base.specs.Search.{is_space, root_of}
-use Rattle.mem_base.specs.Forest.{IsForest, IsSound, IsRegion, IsPlainRegion, HasTarget, ArePlacedApart, AreOtherSpaces, IsPlacedBefore, FitsTypes}
-use Rattle.mem_base.specs.Refusals.{first_refusal, refuse_if, refuse_where, unknown_region, unknown_target, taken_space, targets, has_root, zero_size, bad_size}
-use Rattle.mem_base.specs.TableRefusals.{at_limit, no_more_calls, count_of, page_overlap, least_met, bad_page, has_iova, is_event, has_event}
+use Rattle.mem_base.specs.Forest.{IsForest, IsSound, IsRegion, IsPlainRegion, HasTarget, ArePlacedApart, AreOtherSpaces, FitsTypes}
+use Rattle.mem_base.specs.Refusals.{refuse_if, unknown_region, unknown_target, taken_space, targets, has_root, zero_size, bad_size}
+use Rattle.mem_base.specs.TableRefusals.{no_more_calls, least_met, bad_page, has_iova, is_event, has_event}
 use Rattle.mem_base.specs.Changes.{changed_at, at_region, changed, made_region, placed, moved, moves, retargeted, logged, entry_order, event_order}
 use Rattle.mem_base.specs.Calls.{refusals, refusal_of, counted, after, left_by, after_all, empty}
 use Rattle.mem_base.proofs.EveryLaws.{weaker, both, every_push}
-use Rattle.mem_base.proofs.ForestLaws.{only_node, every_node_of}
-use Rattle.mem_base.proofs.MoveLaws.{every_changed_one, moved_keeps, moved_kind, unmoved}
+use Rattle.mem_base.proofs.MoveLaws.{moved_keeps, moved_kind, unmoved}
 use Rattle.mem_base.proofs.DropLaws.{without, every_without}
-use Rattle.mem_base.proofs.RefusalLaws.{each_none, refuse_if-none, refuse_where-none, is_known, known_node, find-none, in_use-none, IsUnused}
+use Rattle.mem_base.proofs.RefusalLaws.{each_none, refuse_if-none, refuse_where-none, is_known, known_node, find-none, in_use-none}
 use Rattle.mem_base.proofs.PageLaws.{bad_page-none}
-use Rattle.mem_base.proofs.PairLaws.{pairs_changed, pairs_fresh, pairs_push, pairs_filter, length-push, length-filter, length-changed_at}
-use Rattle.mem_base.proofs.RegionLaws.{there_changed, container_changed, region_changed, there_more, target_more, region_more, there_without, region_without, region_at, region_moved, region_resized, region_romd, region_logged, region_retargeted, region_mapped, region_unmapped, region_with_event, region_without_event}
-use Rattle.mem_base.proofs.CallLaws.{IsForest-accepted, IsForest-left_by, IsForest-empty, after-accepted}
-use Rattle.mem_base.proofs.SoundLaws.{at_limit-none, few_calls_yet, count-none, with_nodes, here, one_changed, field_changed, fresh_placing}
+use Rattle.mem_base.proofs.PairLaws.{pairs_push, pairs_filter, length-push, length-filter}
+use Rattle.mem_base.proofs.RegionLaws.{container_changed, there_more, target_more, region_more, there_without, region_without, region_at, region_moved, region_resized, region_romd, region_logged, region_retargeted, region_mapped, region_unmapped, region_with_event, region_without_event}
+use Rattle.mem_base.proofs.CallLaws.{IsForest-left_by, IsForest-empty, after-accepted}
+use Rattle.mem_base.proofs.SoundLaws.{at_limit-none, few_calls_yet, count-none, with_nodes, one_changed, field_changed, fresh_placing}
 
 -- what refusals that do not stand say
 

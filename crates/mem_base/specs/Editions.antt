@@ -1,5 +1,5 @@
 -- What an edition shows: its forest, and the places of the regions that this forest names.
-use Rattle.std.specs.Prelude.{◌≡◌, ℕ, ◌<◌, ◌==◌, ◌-◌, ◌^◌, ◌⊎◌, Bool, List, Option, Some, None, find, IfSome, IsSomeAnd}
+use Rattle.std.specs.Prelude.{◌≡◌, ℕ, ◌<◌, ◌==◌, ◌-◌, ◌^◌, ◌⊎◌, List, Option, find, IsSomeAnd}
 use Rattle.mem_base.specs.declared.ids.RegionId.{RegionId}
 use Rattle.mem_base.specs.declared.ids.SpaceId.{SpaceId}
 use Rattle.mem_base.specs.declared.forests.Forest.{Forest}
