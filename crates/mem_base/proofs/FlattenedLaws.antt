@@ -1,5 +1,5 @@
 -- The ranges that are made address by address are the one view.
-use Rattle.std.proofs.Common.{◌≡◌, ℕ, zero, suc, ◌+◌, ◌-◌, ◌^◌, ◌<◌, ◌≤◌, ◌==◌, ◌&&◌, Bool, true, false, cond, List, [], ◌∷◌, Option, Some, None, refl, sym, ap, subst, ◌∙◌, arith, ⊎_elim, eqb-true}
+use Rattle.std.proofs.Common.{◌≡◌, ℕ, zero, suc, ◌+◌, ◌-◌, ◌^◌, ◌<◌, ◌≤◌, ◌==◌, ◌&&◌, Bool, true, false, cond, List, [], ◌∷◌, Option, Some, None, refl, sym, ap, subst, ◌∙◌, arith, ⊎_elim, eqb-true, option_and_then}
 use Rattle.std.proofs.lemmas.Bool.{cases_lt}
 use Rattle.std.proofs.lemmas.Bool.Decides.{nat_tests}
 use Rattle.mem_base.specs.declared.forests.Forest.{Forest}
@@ -9,7 +9,8 @@ use Rattle.mem_base.specs.declared.spots.Attrs.{Attrs}
 use Rattle.mem_base.specs.declared.spots.Spot.{Spot}
 use Rattle.mem_base.specs.declared.flat.FlatRange.{FlatRange}
 use Rattle.mem_base.specs.TableRefusals.{bool_eq}
-use Rattle.mem_base.specs.Search.{look}
+use Rattle.mem_base.specs.Limits.{most_depth}
+use Rattle.mem_base.specs.Search.{look, root_of, spot_in}
 use Rattle.mem_base.specs.View.{shown, IsRanges, Merges, MergesNot, IsMerged, Agrees, IsView}
 use Rattle.mem_base.specs.Flattened.{lone, same_attrs, goes_on, put_before, ranges_from, view_of}
 use Rattle.mem_base.proofs.ViewLaws.{spot_at, shown-before, shown-first, shown-later, IsRanges-within, IsView-unique}
@@ -190,3 +191,9 @@ view_of-is f s rs v =
     let made = flattens (look f s) (2 ^ 64) below 0 (2 ^ 64) (omega arith) in
     IsView-unique f s (ranges_from (look f s) 0 (2 ^ 64)) rs
     (record { agrees = record { ranges = made.ranges; shows = λ a l. made.shows a (omega arith) l }; merged = made.merged }) v
+
+-- a space that is not there shows nothing
+pub view_of-no_space : (f : Forest) (s : SpaceId) → root_of f s ≡ None → view_of f s ≡ []
+view_of-no_space f s none =
+    view_of-is f s []
+    (record { agrees = record { ranges = omega arith; shows = λ a l. sym (ap (option_and_then (λ r. spot_in f most_depth r a)) none) }; merged = tt })
