@@ -15,6 +15,7 @@ pub mod Replaced
 pub mod ReapSteps
 pub mod NewPlace
 pub mod PrivateSteps
+pub mod Openings
 pub mod AccessRows
 pub mod ListenerRows
 pub mod WorldRows
