@@ -16,6 +16,7 @@ pub mod ReapSteps
 pub mod NewPlace
 pub mod PrivateSteps
 pub mod Openings
+pub mod Joining
 pub mod AccessRows
 pub mod ListenerRows
 pub mod WorldRows
