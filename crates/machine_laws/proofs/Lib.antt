@@ -17,6 +17,7 @@ pub mod NewPlace
 pub mod PrivateSteps
 pub mod Openings
 pub mod Joining
+pub mod Readies
 pub mod AccessRows
 pub mod ListenerRows
 pub mod WorldRows

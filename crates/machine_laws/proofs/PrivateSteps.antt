@@ -44,9 +44,14 @@ use Rattle.machine_laws.proofs.FitLaws.{fits, clear}
 use Rattle.machine_laws.proofs.NewPlace.{others_rest, between_new, found_new, last_of, first_of, put_in, backs_new}
 
 -- a region that is made has no place yet, and a region that is dropped is not the notifiers'
+abbrev pub IsNew : Desk → Call → Type 0
+IsNew d (calls.Region kind size) = place_in (places_of d) (record { 0 = d.forest.made }) ≡ None
+IsNew d (calls.Drop region) = is_notifiers region ≡ false
+IsNew d call = Unit {0}
+
+-- where the call is accepted
 abbrev pub IsFresh : Desk → Config → Type 0
-IsFresh d (configs.Call (calls.Region kind size)) = place_in (places_of d) (record { 0 = d.forest.made }) ≡ None
-IsFresh d (configs.Call (calls.Drop region)) = is_notifiers region ≡ false
+IsFresh d (configs.Call call) = (f : Forest) → forest_after d.forest call ≡ Ok f → IsNew d call
 IsFresh d k = Unit {0}
 
 -- what a private event leaves as it was
@@ -173,18 +178,18 @@ module _ (w : World) (words : List ℕ) (k : Coupled w words) (rest : is_at_rest
   abbrev g : Generations
   g = w.writer.generations
 
-  kept_back_kept : (call : Call) (f : Forest) → IsFresh a (configs.Call call) → Kept w words (kept_back a call f).desk
+  kept_back_kept : (call : Call) (f : Forest) → IsNew a call → Kept w words (kept_back a call f).desk
   kept_back_kept (calls.Region kind size) f fresh = made_kept w words k rest (record { 0 = a.forest.made }) fresh f (extent_of kind size)
   kept_back_kept (calls.Drop region) f fresh = quietly w words k rest _ (record { places = refl; pool = refl; unfilled = refl; low = λ e. append_low a.dropped region fresh e })
   kept_back_kept call f fresh = quietly w words k rest _ (leaves a _ refl refl refl refl)
 
-  called_kept : (call : Call) → IsFresh a (configs.Call call) → (x : Result Forest Refusal) → Kept w words (called g a call x).desk
-  called_kept call fresh (Err why) = same w words k rest
-  called_kept call fresh (Ok f) = go ((a.depth == 0) && not (is_quiet call))
+  called_kept : (call : Call) → IsFresh a (configs.Call call) → (x : Result Forest Refusal) → forest_after a.forest call ≡ x → Kept w words (called g a call x).desk
+  called_kept call fresh (Err why) e = same w words k rest
+  called_kept call fresh (Ok f) e = go ((a.depth == 0) && not (is_quiet call))
     where
       go : (b : Bool) → Kept w words (if b then publishing g a f (answer_of a.forest call) else kept_back a call f).desk
       go true = publishing_kept w words k rest f (answer_of a.forest call)
-      go false = kept_back_kept call f fresh
+      go false = kept_back_kept call f (fresh f e)
 
   begun_kept : Kept w words (begun a).desk
   begun_kept = go (a.depth == most_nested)
@@ -219,7 +224,7 @@ module _ (w : World) (words : List ℕ) (k : Coupled w words) (rest : is_at_rest
 
   configured_kept : (c : Config) → IsFresh a c → Kept w words (configured g a c).desk
   configured_kept configs.Begin fresh = begun_kept
-  configured_kept (configs.Call call) fresh = called_kept call fresh (forest_after a.forest call)
+  configured_kept (configs.Call call) fresh = called_kept call fresh (forest_after a.forest call) refl
   configured_kept configs.Commit fresh = committed_kept
   configured_kept (configs.Listen listener space priority) fresh =
       listened_kept (record { listener = listener; space = space; priority = priority })
