@@ -18,6 +18,7 @@ pub mod PrivateSteps
 pub mod Openings
 pub mod Joining
 pub mod Readies
+pub mod TurnGoes
 pub mod AccessRows
 pub mod ListenerRows
 pub mod WorldRows
