@@ -19,6 +19,7 @@ pub mod Openings
 pub mod Joining
 pub mod Readies
 pub mod TurnGoes
+pub mod Idles
 pub mod AccessRows
 pub mod ListenerRows
 pub mod WorldRows
