@@ -15,6 +15,11 @@ pub mod Replaced
 pub mod ReapSteps
 pub mod NewPlace
 pub mod PrivateSteps
+pub mod Openings
+pub mod Joining
+pub mod Readies
+pub mod TurnGoes
+pub mod Idles
 pub mod AccessRows
 pub mod ListenerRows
 pub mod WorldRows
