@@ -14,7 +14,7 @@ use Rattle.mem_base.specs.Every.{Every, EveryPair}
 use Rattle.mem_base.specs.Limits.{most_calls}
 use Rattle.mem_base.specs.Kinds.{is_alias}
 use Rattle.mem_base.specs.Region.{node_of}
-use Rattle.mem_base.specs.Forest.{IsForest, IsSound, IsRegion, ArePlacedApart, IsPlacedBefore}
+use Rattle.mem_base.specs.Forest.{HasSpaces, IsForest, IsSound, IsRegion, ArePlacedApart, IsPlacedBefore}
 use Rattle.mem_base.specs.Refusals.{first_refusal}
 use Rattle.mem_base.specs.TableRefusals.{at_limit, no_more_calls, count_of}
 use Rattle.mem_base.specs.Changes.{changed_at, at_region}
@@ -45,11 +45,12 @@ count-none list w most o n e h = at_limit-none w most (length (list n)) (ap (λ 
 -- the regions of a forest changed
 
 module _ (f : Forest) (s : IsSound f) (few : f.calls < most_calls) where
-  pub with_nodes : (nodes : List Node) (placings : ℕ) → Every (IsRegion nodes) nodes → EveryPair ArePlacedApart nodes → Every (λ p. IsSome (node_of nodes p.1)) f.spaces → length nodes ≤ length f.nodes → IsSound (record f { nodes = nodes; placings = placings; calls = f.calls + 1 })
-  with_nodes nodes placings regions apart roots short = record {
+  pub with_nodes : (nodes : List Node) (placings : ℕ) → Every (IsRegion nodes) nodes → EveryPair ArePlacedApart nodes → Every (λ p. IsSome (node_of nodes p.1)) f.spaces → Every (HasSpaces f) nodes → length nodes ≤ length f.nodes → IsSound (record f { nodes = nodes; placings = placings; calls = f.calls + 1 })
+  with_nodes nodes placings regions apart roots translated short = record {
     regions = regions;
     placings = apart;
     roots = roots;
+    translated = translated;
     spaces = s.spaces;
     few_regions = let l = s.few_regions in omega arith;
     few_made = s.few_made;
@@ -62,8 +63,8 @@ module _ (f : Forest) (s : IsSound f) (few : f.calls < most_calls) where
     here = (every_node_of (IsRegion f.nodes) f.nodes r m at s.regions).0
 
     -- one region changed
-    pub one_changed : (g : Node → Node) (placings : ℕ) (ids : (n : Node) → (g n).id ≡ n.id) (plain : (n : Node) → is_alias (g n).kind ≡ is_alias n.kind) → EveryPair ArePlacedApart (changed_at r g f.nodes) → (IsRegion (changed_at r g f.nodes) m → IsRegion (changed_at r g f.nodes) (g m)) → IsSound (record f { nodes = changed_at r g f.nodes; placings = placings; calls = f.calls + 1 })
-    one_changed g placings ids plain apart change =
+    pub one_changed : (g : Node → Node) (placings : ℕ) (ids : (n : Node) → (g n).id ≡ n.id) (plain : (n : Node) → is_alias (g n).kind ≡ is_alias n.kind) → EveryPair ArePlacedApart (changed_at r g f.nodes) → (IsRegion (changed_at r g f.nodes) m → IsRegion (changed_at r g f.nodes) (g m)) → (HasSpaces f m → HasSpaces f (g m)) → IsSound (record f { nodes = changed_at r g f.nodes; placings = placings; calls = f.calls + 1 })
+    one_changed g placings ids plain apart change spaces =
         let new = changed_at r g f.nodes in
         let still = region_changed r g ids plain f.nodes in
         let l = length-changed_at r g f.nodes in
@@ -71,11 +72,12 @@ module _ (f : Forest) (s : IsSound f) (few : f.calls < most_calls) where
         (every_changed_one (IsRegion new) r g m (change (still m here)) f.nodes (only_node f.nodes r m h.ascending at) (weaker (IsRegion f.nodes) (IsRegion new) still f.nodes s.regions))
         apart
         (weaker (λ p. IsSome (node_of f.nodes p.1)) (λ p. IsSome (node_of new p.1)) (λ p w. there_changed r g ids plain f.nodes p.1 w) f.spaces s.roots)
+        (every_changed_one (HasSpaces f) r g m (spaces (every_node_of (HasSpaces f) f.nodes r m at s.translated).0) f.nodes (only_node f.nodes r m h.ascending at) s.translated)
         (omega arith)
 
     -- one region changed where it is
-    pub field_changed : (g : Node → Node) (ids : (n : Node) → (g n).id ≡ n.id) (plain : (n : Node) → is_alias (g n).kind ≡ is_alias n.kind) → ((x y : Node) → ArePlacedApart x y → ArePlacedApart (g x) y) → ((x y : Node) → ArePlacedApart x y → ArePlacedApart x (g y)) → (IsRegion (changed_at r g f.nodes) m → IsRegion (changed_at r g f.nodes) (g m)) → IsSound (counted (at_region f r g))
-    field_changed g ids plain left right change = one_changed g f.placings ids plain (pairs_changed ArePlacedApart r g left right f.nodes s.placings) change
+    pub field_changed : (g : Node → Node) (ids : (n : Node) → (g n).id ≡ n.id) (plain : (n : Node) → is_alias (g n).kind ≡ is_alias n.kind) → ((x y : Node) → ArePlacedApart x y → ArePlacedApart (g x) y) → ((x y : Node) → ArePlacedApart x y → ArePlacedApart x (g y)) → (IsRegion (changed_at r g f.nodes) m → IsRegion (changed_at r g f.nodes) (g m)) → (HasSpaces f m → HasSpaces f (g m)) → IsSound (counted (at_region f r g))
+    field_changed g ids plain left right change spaces = one_changed g f.placings ids plain (pairs_changed ArePlacedApart r g left right f.nodes s.placings) change spaces
 
 placed_less : (made placings : ℕ) (p : Option RegionId) (placing : ℕ) → IsPlacedBefore made placings p placing → IsSome p → placing < placings
 placed_less made placings None placing h e = cc
