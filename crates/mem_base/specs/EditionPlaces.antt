@@ -1,5 +1,5 @@
 -- The places that an edition shows, beside its forest. This project's own rule.
-use Rattle.std.specs.Prelude.{◌≡◌, ◌≢◌, ℕ, ◌<◌, ◌⊎◌, true, List, IsSomeAnd}
+use Rattle.std.specs.Prelude.{◌≡◌, ◌≢◌, ◌<◌, ◌⊎◌, true, List, IsSomeAnd}
 use Rattle.mem_base.specs.declared.forests.Node.{Node}
 use Rattle.mem_base.specs.declared.forests.Forest.{Forest}
 use Rattle.mem_base.specs.declared.machine.Place.{Place}

@@ -1,5 +1,5 @@
 -- Places by their regions.
-use Rattle.std.specs.Prelude.{ℕ, ◌==◌, ◌-◌, ◌^◌, List, Option, find}
+use Rattle.std.specs.Prelude.{◌==◌, ◌-◌, ◌^◌, List, Option, find}
 use Rattle.mem_base.specs.declared.ids.RegionId.{RegionId}
 use Rattle.mem_base.specs.declared.machine.Place.{Place}
 
