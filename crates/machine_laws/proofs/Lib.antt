@@ -20,6 +20,7 @@ pub mod Joining
 pub mod Readies
 pub mod TurnGoes
 pub mod Idles
+pub mod Outcomes
 pub mod AccessRows
 pub mod ListenerRows
 pub mod WorldRows
