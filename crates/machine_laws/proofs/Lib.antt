@@ -21,6 +21,7 @@ pub mod Readies
 pub mod TurnGoes
 pub mod Idles
 pub mod Outcomes
+pub mod Rows
 pub mod AccessRows
 pub mod ListenerRows
 pub mod WorldRows
