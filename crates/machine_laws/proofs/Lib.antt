@@ -22,6 +22,7 @@ pub mod TurnGoes
 pub mod Idles
 pub mod Outcomes
 pub mod Rows
+pub mod Turning
 pub mod AccessRows
 pub mod ListenerRows
 pub mod WorldRows
