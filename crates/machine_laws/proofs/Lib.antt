@@ -20,6 +20,9 @@ pub mod Joining
 pub mod Readies
 pub mod TurnGoes
 pub mod Idles
+pub mod Outcomes
+pub mod Rows
+pub mod Turning
 pub mod AccessRows
 pub mod ListenerRows
 pub mod WorldRows
