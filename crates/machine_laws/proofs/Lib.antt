@@ -23,6 +23,7 @@ pub mod Idles
 pub mod Outcomes
 pub mod Rows
 pub mod Turning
+pub mod TurnsLaw
 pub mod AccessRows
 pub mod ListenerRows
 pub mod WorldRows
