@@ -11,6 +11,9 @@ ghost use Rattle.mem_base.specs.declared.forests.Forest.{Forest};
 ghost use Rattle.mem_base.specs.declared.ids.SpaceId.{SpaceId};
 ghost use Rattle.mem_base.specs.View.{shown, IsRanges, IsMerged, Merges, Agrees, IsView};
 
+#[cfg(test)]
+mod tests;
+
 use mem_base::{FlatRange, Pieces, View};
 
 /// Whether `next` goes on where `range` ends: in addresses, leaf, offset and attributes.

@@ -1,5 +1,5 @@
 -- Laws of forests and of what a call makes of them.
-use Rattle.std.proofs.Common.{◌≡◌, ◌≢◌, ℕ, zero, suc, ◌+◌, ◌<◌, ◌≤◌, Bool, true, false, cond, ℤ, List, [], ◌∷◌, ◌++◌, length, get_or, set, drop, map, Option, Some, None, Ok, Err, refl, sym, ap, subst, ◌∙◌, arith, add-one}
+use Rattle.std.proofs.Common.{◌≡◌, ◌≢◌, ℕ, zero, suc, ◌+◌, ◌<◌, ◌≤◌, Bool, true, false, cond, ℤ, List, [], ◌∷◌, ◌++◌, length, get_or, set, drop, map, Option, Some, None, refl, sym, ap, subst, ◌∙◌, arith, add-one}
 use Rattle.std.proofs.lemmas.Bool.Decides.{nat_tests}
 use Rattle.std.specs.Prelude.{filter, is_some}
 use Rattle.std.specs.declared.cmp.Ordering.{Ordering}
@@ -10,22 +10,16 @@ use Rattle.std.proofs.lemmas.Cmp.{then_total, on_total, back_total, nat_cmp_tota
 use Rattle.mem_base.specs.declared.ids.RegionId.{RegionId}
 use Rattle.mem_base.specs.declared.forests.Node.{Node}
 use Rattle.mem_base.specs.declared.forests.Forest.{Forest}
-use Rattle.mem_base.specs.declared.calls.Call.{Call}
 use Rattle.mem_base.specs.Every.{Every}
 use Rattle.mem_base.specs.Region.{has_id, node_of, is_in, is_child_of}
 use Rattle.mem_base.specs.Sorting.{put_by, sorted_by}
 use Rattle.mem_base.specs.Order.{trial_order, children_of}
 use Rattle.mem_base.specs.Forest.{IsAscending, IsPlacedBefore, IsTargetBefore, IsForest}
 use Rattle.mem_base.specs.declared.kinds.Kind.TheVariants.{Alias}
-use Rattle.std.specs.Option.{option_or}
 use Rattle.std.specs.Prelude.{if◌then◌else◌}
 use Rattle.mem_base.specs.declared.kinds.Kind.{Kind}
 use Rattle.mem_base.specs.declared.calls.Call.TheVariants as calls
-use Rattle.mem_base.specs.declared.refusals.What.TheVariants as what
-use Rattle.mem_base.specs.declared.refusals.Refusal.{Refusal}
-use Rattle.mem_base.specs.declared.refusals.Refusal.TheVariants.{Unknown, HasContainer}
-use Rattle.mem_base.specs.declared.ids.SpaceId.{SpaceId}
-use Rattle.mem_base.specs.Changes.{changed_at, changed, placed, made_region}
+use Rattle.mem_base.specs.Changes.{changed_at, changed, placed}
 use Rattle.mem_base.specs.Calls.{counted}
 use Rattle.mem_base.specs.Steps.{greatest_depth, greatest_weight}
 use Rattle.mem_base.proofs.EveryLaws.{weaker, both, every_push, every_at}
@@ -52,7 +46,7 @@ changed_at-absent r g [] h = refl
 changed_at-absent r g (n ∷ ns) h = let e = h.0 in let t = changed_at-absent r g ns h.1 in simp (e, t)
 
 -- the regions after one have other ids
-absent_after : (r : RegionId) (n : Node) (ns : List Node) → has_id r n ≡ true → Every (λ m. n.id.0 < m.id.0) ns → IsAbsent r ns
+pub absent_after : (r : RegionId) (n : Node) (ns : List Node) → has_id r n ≡ true → Every (λ m. n.id.0 < m.id.0) ns → IsAbsent r ns
 absent_after r n ns e h = weaker (λ m. n.id.0 < m.id.0) (λ m. has_id r m ≡ false) (λ m l. grind (arith, nat_tests)) ns h
 
 pub changed_at-set : (r : RegionId) (g : Node → Node) (nodes : List Node) (i : ℕ) (d : Node) → i < length nodes → has_id r (get_or nodes i d) ≡ true → IsAscending nodes → changed_at r g nodes ≡ set nodes i (g (get_or nodes i d))
@@ -199,13 +193,13 @@ every_sorted : {K : Type 0} (P : K → Type 0) (R : K → K → Ordering) (xs : 
 every_sorted P R [] h = tt
 every_sorted P R (x ∷ xs) h = every_put P R x (sorted_by R xs) h.0 (every_sorted P R xs h.1)
 
-every_filter : {K : Type 0} (P : K → Type 0) (p : K → Bool) (xs : List K) → Every (λ x. p x ≡ true → P x) xs → Every P (filter p xs)
-every_filter P p [] h = tt
-every_filter P p (x ∷ xs) h = elim (p x) as (λ b. p x ≡ b → Every P (cond b (x ∷ filter p xs) (filter p xs))) [ true ↦ λ e. (h.0 e, every_filter P p xs h.1) | false ↦ λ e. every_filter P p xs h.1 ] refl
+every_passing : {K : Type 0} (P : K → Type 0) (p : K → Bool) (xs : List K) → Every (λ x. p x ≡ true → P x) xs → Every P (filter p xs)
+every_passing P p [] h = tt
+every_passing P p (x ∷ xs) h = elim (p x) as (λ b. p x ≡ b → Every P (cond b (x ∷ filter p xs) (filter p xs))) [ true ↦ λ e. (h.0 e, every_passing P p xs h.1) | false ↦ λ e. every_passing P p xs h.1 ] refl
 
 -- what holds of each region in a container holds of its children in order
 pub every_child : (P : Node → Type 0) (r : RegionId) (nodes : List Node) → Every (λ n. is_child_of r n ≡ true → P n) nodes → Every P (children_of nodes r)
-every_child P r nodes h = every_sorted P trial_order _ (every_filter P (is_child_of r) nodes h)
+every_child P r nodes h = every_sorted P trial_order _ (every_passing P (is_child_of r) nodes h)
 
 in_one : (r : RegionId) (p : Option RegionId) (made placings placing : ℕ) → is_in r p ≡ true → IsPlacedBefore made placings p placing → (r.0 < made) × (placing < placings)
 in_one r None made placings placing e h = cc

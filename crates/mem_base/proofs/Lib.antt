@@ -11,9 +11,16 @@ pub mod LeadLaws
 pub mod DelLaws
 pub mod EntryLaws
 pub mod PlaceLaws
+pub mod EventLaws
+pub mod PageLaws
+pub mod PairLaws
+pub mod RegionLaws
+pub mod SoundLaws
+pub mod SoundCallLaws
 pub mod KeptLaws
 pub mod MoveLaws
 pub mod RefusalLaws
 pub mod DropLaws
 pub mod CallLaws
 pub mod ViewLaws
+pub mod FlattenedLaws

@@ -1,5 +1,5 @@
 -- Laws of a child that is moved in its container.
-use Rattle.std.proofs.Common.{◌≡◌, ◌≢◌, ℕ, ◌+◌, ◌<◌, ◌≤◌, Bool, true, false, not, cond, eqb, List, [], ◌∷◌, map, Option, Some, None, refl, sym, ap, subst, ◌∙◌, arith}
+use Rattle.std.proofs.Common.{◌≡◌, ◌≢◌, ℕ, ◌+◌, ◌<◌, ◌≤◌, true, false, not, cond, eqb, List, [], ◌∷◌, Option, Some, None, refl, sym, ap, subst, ◌∙◌, arith}
 use Rattle.std.specs.Prelude.{filter, option_map}
 use Rattle.std.proofs.lemmas.Bool.Decides.{nat_tests}
 use Rattle.std.specs.declared.cmp.Ordering.TheVariants.{Equal}
@@ -12,7 +12,7 @@ use Rattle.mem_base.specs.Kinds.{target_of}
 use Rattle.mem_base.specs.Region.{has_id, node_of, is_in, is_child_of}
 use Rattle.mem_base.specs.Sorting.{put_by, sorted_by}
 use Rattle.mem_base.specs.Order.{trial_order, children_of}
-use Rattle.mem_base.specs.Forest.{IsForest, IsPlacedBefore, IsTargetBefore, IsAscending}
+use Rattle.mem_base.specs.Forest.{IsForest, IsPlacedBefore, IsTargetBefore}
 use Rattle.mem_base.specs.Changes.{changed_at, changed, moved, moves}
 use Rattle.mem_base.specs.Calls.{counted}
 use Rattle.mem_base.proofs.EveryLaws.{weaker}
@@ -24,11 +24,13 @@ use Rattle.mem_base.proofs.LeadLaws.{KeepsSteps, greatest_depth-kept, greatest_w
 -- what holds of each region, and of the changed one, holds after the change
 pub every_changed_one : (P : Node → Type 0) (r : RegionId) (g : Node → Node) (m : Node) → P (g m) → (nodes : List Node) → Every (λ n. has_id r n ≡ true → n ≡ m) nodes → Every P nodes → Every P (changed_at r g nodes)
 every_changed_one P r g m k [] only h = tt
-every_changed_one P r g m k (n ∷ ns) only h =
-    (elim (has_id r n) as (λ b. has_id r n ≡ b → P (cond b (g n) n)) [
-      | true ↦ λ e. subst (λ x. P (g x)) (sym (only.0 e)) k
-      | false ↦ λ e. h.0
-    ] refl, every_changed_one P r g m k ns only.1 h.1)
+every_changed_one P r g m k (n ∷ ns) only h = (
+  elim (has_id r n) as (λ b. has_id r n ≡ b → P (cond b (g n) n)) [
+    | true ↦ λ e. subst (λ x. P (g x)) (sym (only.0 e)) k
+    | false ↦ λ e. h.0
+  ] refl,
+  every_changed_one P r g m k ns only.1 h.1,
+)
 
 -- two changes that agree on the region make one list
 changed_at-agree : (r : RegionId) (g h : Node → Node) (m : Node) → g m ≡ h m → (nodes : List Node) → Every (λ n. has_id r n ≡ true → n ≡ m) nodes → changed_at r g nodes ≡ changed_at r h nodes
@@ -61,7 +63,7 @@ moved_id offset placing n = elim (eqb n.offset offset) as (λ b. (cond b n (reco
 moved_parent : (offset placing : ℕ) (n : Node) → (moved offset placing n).parent ≡ n.parent
 moved_parent offset placing n = elim (eqb n.offset offset) as (λ b. (cond b n (record n { offset = offset; placing = placing })).parent ≡ n.parent) [ true ↦ refl | false ↦ refl ]
 
-moved_kind : (offset placing : ℕ) (n : Node) → (moved offset placing n).kind ≡ n.kind
+pub moved_kind : (offset placing : ℕ) (n : Node) → (moved offset placing n).kind ≡ n.kind
 moved_kind offset placing n = elim (eqb n.offset offset) as (λ b. (cond b n (record n { offset = offset; placing = placing })).kind ≡ n.kind) [ true ↦ refl | false ↦ refl ]
 
 pub moved_keeps : (offset placing : ℕ) → KeepsSteps (moved offset placing)
@@ -82,10 +84,10 @@ moved_before made placings offset n h =
       | true ↦ sooner made placings (placings + 0) n.parent n.placing (omega arith) h
       | false ↦ latest made placings n.parent n.placing h
     ]
-    where
-      latest : (made placings : ℕ) (p : Option RegionId) (placing : ℕ) → IsPlacedBefore made placings p placing → IsPlacedBefore made (placings + 1) p placings
-      latest made placings None placing h = tt
-      latest made placings (Some p) placing h = (h.0, omega arith)
+  where
+    latest : (made placings : ℕ) (p : Option RegionId) (placing : ℕ) → IsPlacedBefore made placings p placing → IsPlacedBefore made (placings + 1) p placings
+    latest made placings None placing h = tt
+    latest made placings (Some p) placing h = (h.0, omega arith)
 
 pub move_forest : (f : Forest) (child : RegionId) (offset : ℕ) (m : Node) → IsForest f → node_of f.nodes child ≡ Some m → IsForest (counted (changed f (calls.Move child offset)))
 move_forest f child offset m h e =

@@ -6,6 +6,7 @@ use Rattle.std.specs.Fmt.{digits}
 use Rattle.std.specs.List.{slice_index_or}
 use Rattle.mem_base.specs.declared.ids.RegionId.{RegionId}
 use Rattle.mem_base.specs.declared.ids.SpaceId.{SpaceId}
+use Rattle.mem_base.specs.declared.ids.PassId.{PassId}
 use Rattle.mem_base.specs.declared.forests.Node.{Node}
 use Rattle.mem_base.specs.declared.forests.Forest.{Forest}
 use Rattle.mem_base.specs.declared.kinds.Kind.{Kind}
@@ -70,6 +71,12 @@ which_text which.Entries = codes "entries"
 which_text which.Events = codes "events"
 which_text which.Calls = codes "calls"
 
+abbrev pub limit_text : Which → ℕ → Text
+limit_text w limit = codes "F17 limit " ++ (which_text w ++ (codes " " ++ decimal limit))
+
+abbrev pub held_text : PassId → ℕ → Text
+held_text pass generation = codes "F19 held v" ++ (decimal pass.0 ++ (codes " " ++ decimal generation))
+
 -- a refusal by its number and words; want of memory is told by no line
 abbrev pub refusal_text : Names → Refusal → Text
 refusal_text names (refusal.Unknown w) = codes "F1 unknown " ++ what_text names w
@@ -88,9 +95,9 @@ refusal_text names refusal.TooNested = codes "F13 too-nested"
 refusal_text names (refusal.InUse u) = codes "F14 in-use " ++ user_text names u
 refusal_text names (refusal.PageOverlap iova) = codes "F15 page-overlap " ++ hex iova
 refusal_text names refusal.BadPage = codes "F16 bad-page"
-refusal_text names (refusal.LimitReached w n) = codes "F17 limit " ++ (which_text w ++ (codes " " ++ decimal n))
+refusal_text names (refusal.LimitReached w limit) = limit_text w limit
 refusal_text names (refusal.NoBacking words) = codes "F18 no-backing " ++ decimal words
-refusal_text names (refusal.Held pass generation) = codes "F19 held v" ++ (decimal pass.0 ++ (codes " " ++ decimal generation))
+refusal_text names (refusal.Held pass generation) = held_text pass generation
 refusal_text names refusal.EventTaken = codes "F20 event-taken"
 refusal_text names refusal.Memory = []
 

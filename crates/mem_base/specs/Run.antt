@@ -1,5 +1,5 @@
 -- What a script means: its commands one after another over a forest that begins empty, and the text that they write.
-use Rattle.std.specs.Prelude.{ℕ, ◌+◌, Bool, if◌then◌else◌, is_some, List, [], ◌∷◌, ◌++◌, length, position, Option, Some, None, option_map, Result, Ok, Err}
+use Rattle.std.specs.Prelude.{ℕ, ◌+◌, if◌then◌else◌, is_some, List, [], ◌∷◌, ◌++◌, length, position, Option, Some, None, option_map, Result, Ok, Err}
 use Rattle.std.specs.Str.{bytes_eq}
 use Rattle.mem_base.specs.declared.ids.RegionId.{RegionId}
 use Rattle.mem_base.specs.declared.ids.SpaceId.{SpaceId}
@@ -81,19 +81,24 @@ make_space state line name root =
     where_new state line name (space_of_name state.names name)
     (called state line (record state.names { spaces = state.names.spaces ++ name ∷ [] }) (calls.Space (record { 0 = length state.names.spaces }) root))
 
+-- what is found at an address of a space
+abbrev pub searched : State → Text → ℕ → SpaceId → Told
+searched state space addr s = (at_line state.names state.forest space addr (look state.forest s addr), state)
+
+-- the view of a space
+abbrev pub shown_space : State → Text → SpaceId → Told
+shown_space state space s =
+    (view_line space state.changes ++ range_lines state.names state.forest (view_of state.forest s), state)
+
 -- one command: names are resolved from left to right, then a new name is tried, then the call
 abbrev pub step : State → ℕ → Command → Told
 step state line (commands.RegionContainer name size) = make_region state line name Container size
 step state line (commands.RegionIo name size device) = make_region state line name (Io device) size
 step state line (commands.Space name root) = with_region state line root (λ r. make_space state line name r)
 step state line (commands.Add parent offset child priority) =
-    with_region state line parent (λ p. with_region state line child (λ c.
-    called state line state.names (calls.Add p offset c priority)))
-step state line (commands.At space addr) =
-    with_space state line space (λ s. (at_line state.names state.forest space addr (look state.forest s addr), state))
-step state line (commands.Show space) =
-    with_space state line space (λ s.
-    (view_line space state.changes ++ range_lines state.names state.forest (view_of state.forest s), state))
+    with_region state line parent (λ p. with_region state line child (λ c. called state line state.names (calls.Add p offset c priority)))
+step state line (commands.At space addr) = with_space state line space (λ s. searched state space addr s)
+step state line (commands.Show space) = with_space state line space (λ s. shown_space state space s)
 
 -- the text of commands one after another
 abbrev pub text_from : State → List Line → Text

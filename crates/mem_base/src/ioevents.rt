@@ -1,7 +1,14 @@
 // The ioeventfds of a region, and those that a view shows.
-ghost use Rattle.std.specs.Prelude.{◌≡◌, []};
+ghost use Rattle.std.specs.Prelude.{◌≡◌, false, not, [], length, filter, IfOk, OnOk, OnErr};
+ghost use Rattle.std.specs.List.{list_any};
+ghost use Rattle.std.specs.List.Sorted.{IsSearchInRange};
+ghost use Rattle.mem_base.specs.Sorting.{put_by, place_of};
+ghost use Rattle.mem_base.specs.Tables.{AreEvents, event_cmp};
+ghost use Rattle.mem_base.specs.TableRefusals.{is_event};
+ghost use Rattle.mem_base.specs.Changes.{event_order};
 
-use std::alloc::Global;
+use std::alloc::{AllocError, Global};
+use std::cmp::Ordering;
 use std::marker::Model;
 
 /// A write that sets a notifier in place of reaching its device.
@@ -21,7 +28,7 @@ pub struct Ioevent {
     pub number: u32,
 }
 
-/// The ioeventfds of a region: by offset, size, matched (false first), value and number.
+/// The ioeventfds of a region: by offset, size, matched (false first) and value, no two of which are one.
 #[derive(Debug, Drop)]
 pub struct Events {
     items: Vec<Ioevent>,
@@ -33,7 +40,11 @@ impl Model for Events {
 
     ghost Value = { List Ioevent };
 
+    ghost use Rattle.mem_base.specs.Tables.{AreEvents};
+
     ghost view = { λ e. e.items.items };
+
+    ghost invariant = { λ e. AreEvents e.items.items };
 }
 
 impl Events {
@@ -48,10 +59,89 @@ impl Events {
 
     /// All of them, in order.
     pub fn as_slice(&self) -> &[Ioevent]
-        ensures { result.now ≡ self.now }
+        ensures value { result.now ≡ self.now }
+        ensures events { AreEvents self.now }
     {
         self.items.as_slice()
     }
+
+    /// Whether there is one with this offset, size, matched and value, whatever its notifier.
+    pub fn has(&self, offset: u64, size: u8, matched: bool, value: u64) -> bool
+        ensures { result ≡ list_any (is_event offset size matched value) self.now }
+    {
+        place_of(self.as_slice(), offset, size, matched, value).is_ok()
+    }
+
+    /// Puts an ioeventfd to its place.
+    ///
+    /// There is none with its offset, size, matched and value, as `has` tells. Where memory is wanting, nothing
+    /// changes.
+    pub fn put(&mut self, event: Ioevent) -> Result<(), AllocError>
+        requires { list_any (is_event event.offset event.size event.matched event.value) self.old ≡ false }
+        ensures ok { OnOk result (self.new ≡ put_by event_order event self.old) }
+        ensures err { OnErr result (self.new ≡ self.old) }
+    {
+        let Ioevent {
+            offset,
+            size,
+            matched,
+            value,
+            ..
+        } = event;
+        let (Ok(place) | Err(place)) = place_of(
+            self.items.as_slice(),
+            offset,
+            size,
+            matched,
+            value,
+        );
+        self.items.insert(place, event)?;
+        Ok(())
+    }
+
+    /// Takes out the one with this offset, size, matched and value, if there is one. It takes no memory.
+    pub fn remove(&mut self, offset: u64, size: u8, matched: bool, value: u64)
+        ensures { self.new ≡ filter (λ e. not (is_event offset size matched value e)) self.old }
+    {
+        if let Ok(place) = place_of(self.items.as_slice(), offset, size, matched, value) {
+            self.items.remove(place);
+        }
+    }
+
+    /// The same ioeventfds once more.
+    pub fn try_copy(&self) -> Result<Events, AllocError>
+        ensures { IfOk result (λ copy. copy ≡ self.now) }
+    {
+        let items = self.items.clone()?;
+        Ok(Events { items })
+    }
+}
+
+// Where the ioeventfd with this offset, size, matched and value stands, or where it would.
+fn place_of(
+    events: &[Ioevent],
+    offset: u64,
+    size: u8,
+    matched: bool,
+    value: u64,
+) -> Result<usize, usize>
+    requires { AreEvents events.now }
+    ensures place { result ≡ place_of (event_cmp offset size matched value) events.now }
+    ensures bound { IsSearchInRange result (length events.now) }
+{
+    events.binary_search_by(|event| compare(event, offset, size, matched, value))
+}
+
+// How an ioeventfd stands to this offset, size, matched and value.
+fn compare(event: &Ioevent, offset: u64, size: u8, matched: bool, value: u64) -> Ordering
+    ensures { result ≡ event_cmp offset size matched value event.now }
+{
+    event
+        .offset
+        .cmp(&offset)
+        .then(event.size.cmp(&size))
+        .then(event.matched.cmp(&matched))
+        .then(event.value.cmp(&value))
 }
 
 /// An ioeventfd as a view shows it, by its address in the space.

@@ -1,8 +1,14 @@
 // The table of an IOMMU region.
-ghost use Rattle.std.specs.Prelude.{◌≡◌, []};
+ghost use Rattle.std.specs.Prelude.{◌≡◌, ◌+◌, ◌<◌, ◌≤◌, ◌^◌, true, false, nat_lt, not, [], length, filter, None, IfOk, OnOk, OnErr};
+ghost use Rattle.std.specs.List.{list_any};
+ghost use Rattle.std.specs.List.Sorted.{IsSearchInRange, IsPartitionPoint};
+ghost use Rattle.mem_base.specs.Sorting.{put_by, place_of};
+ghost use Rattle.mem_base.specs.Tables.{AreEntries, iova_cmp};
+ghost use Rattle.mem_base.specs.TableRefusals.{has_iova, least_met};
+ghost use Rattle.mem_base.specs.Changes.{entry_order};
 
-use crate::SpaceId;
-use std::alloc::Global;
+use crate::{Size, SpaceId};
+use std::alloc::{AllocError, Global};
 use std::marker::Model;
 
 /// Which accesses a translation lets through.
@@ -38,7 +44,11 @@ impl Model for Entries {
 
     ghost Value = { List Entry };
 
+    ghost use Rattle.mem_base.specs.Tables.{AreEntries};
+
     ghost view = { λ e. e.items.items };
+
+    ghost invariant = { λ e. AreEntries e.items.items };
 }
 
 impl Entries {
@@ -53,8 +63,86 @@ impl Entries {
 
     /// All of them, in order.
     pub fn as_slice(&self) -> &[Entry]
-        ensures { result.now ≡ self.now }
+        ensures value { result.now ≡ self.now }
+        ensures entries { AreEntries self.now }
     {
         self.items.as_slice()
     }
+
+    /// Whether a translation has this iova.
+    pub fn has(&self, iova: u64) -> bool
+        ensures { result ≡ list_any (has_iova iova) self.now }
+    {
+        place_of(self.as_slice(), iova).is_ok()
+    }
+
+    /// The least iova of a translation whose page meets the bytes from `iova` on, `size` of them.
+    pub fn least_met(&self, iova: u64, size: Size) -> Option<u64>
+        ensures { result ≡ least_met iova size self.now }
+    {
+        let entries = self.as_slice();
+        let first = passed(entries, iova);
+        let entry = entries.get(first)?;
+        if u128::from(entry.iova) < u128::from(iova) + size.get() {
+            Some(entry.iova)
+        } else {
+            None
+        }
+    }
+
+    /// Puts a translation to its place.
+    ///
+    /// It meets none that is there, as `least_met` tells. Where memory is wanting, nothing changes.
+    pub fn put(&mut self, entry: Entry) -> Result<(), AllocError>
+        requires within { entry.iova + entry.mask < 2 ^ 64 }
+        requires apart { least_met entry.iova (entry.mask + 1) self.old ≡ None }
+        ensures ok { OnOk result (self.new ≡ put_by entry_order entry self.old) }
+        ensures err { OnErr result (self.new ≡ self.old) }
+    {
+        let (Ok(place) | Err(place)) = place_of(self.items.as_slice(), entry.iova);
+        self.items.insert(place, entry)?;
+        Ok(())
+    }
+
+    /// Takes out the translation with this iova, if there is one. It takes no memory.
+    pub fn remove(&mut self, iova: u64)
+        ensures { self.new ≡ filter (λ e. not (has_iova iova e)) self.old }
+    {
+        if let Ok(place) = place_of(self.items.as_slice(), iova) {
+            self.items.remove(place);
+        }
+    }
+
+    /// The same translations once more.
+    pub fn try_copy(&self) -> Result<Entries, AllocError>
+        ensures { IfOk result (λ copy. copy ≡ self.now) }
+    {
+        let items = self.items.clone()?;
+        Ok(Entries { items })
+    }
+}
+
+// Where the translation with this iova stands, or where it would.
+fn place_of(entries: &[Entry], iova: u64) -> Result<usize, usize>
+    requires { AreEntries entries.now }
+    ensures place { result ≡ place_of (iova_cmp iova) entries.now }
+    ensures bound { IsSearchInRange result (length entries.now) }
+{
+    entries.binary_search_by(|entry| entry.iova.cmp(&iova))
+}
+
+// How many translations end before this address.
+fn passed(entries: &[Entry], address: u64) -> usize
+    requires { AreEntries entries.now }
+    ensures bound { result ≤ length entries.now }
+    ensures passed { IsPartitionPoint (λ e. nat_lt (e.iova + e.mask) address ≡ true) (λ e. nat_lt (e.iova + e.mask) address ≡ false) entries.now result }
+{
+    entries.partition_point(|entry| ends_before(entry, address))
+}
+
+// Whether the page of a translation ends before this address.
+fn ends_before(entry: &Entry, address: u64) -> bool
+    ensures { result ≡ nat_lt (entry.now.iova + entry.now.mask) address }
+{
+    entry.iova < address && entry.mask < address - entry.iova
 }

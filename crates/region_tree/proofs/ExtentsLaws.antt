@@ -24,7 +24,7 @@ use Rattle.mem_base.specs.Order.{children_of}
 use Rattle.mem_base.specs.Forest.{IsAscending}
 use Rattle.mem_base.specs.Steps.{steps_at}
 use Rattle.mem_base.specs.Order.{ids_of}
-use Rattle.region_tree.specs.Tree.{HasItsChildren}
+use Rattle.region_tree.specs.Slots.{HasItsChildren}
 
 -- the known extent of a region that is found
 pub extent_found : (slots : List Slot) (join : Join) (round i : ℕ) (r : RegionId) (e : Extent) (d : Slot) → i < length slots → node_of (nodes_of slots) r ≡ Some (get_or slots i d).node → get_or (extents_by (nodes_of slots) join round slots) i e ≡ extent_by (nodes_of slots) join round r

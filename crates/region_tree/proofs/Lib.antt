@@ -1,3 +1,4 @@
+pub mod WholeLaws
 pub mod PlaceLaws
 pub mod SlotsLaws
 pub mod ExtentsLaws

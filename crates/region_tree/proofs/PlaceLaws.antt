@@ -20,13 +20,13 @@ every_unmap : {A B : Type 0} (P : B → Type 0) (f : A → B) (xs : List A) → 
 every_unmap P f [] h = tt
 every_unmap P f (x ∷ xs) h = (h.0, every_unmap P f xs h.1)
 
-ids_rise : (slots : List Slot) (i j : ℕ) (d : Slot) → IsAscending (nodes_of slots) → i < j → j < length slots → (get_or slots i d).node.id.0 < (get_or slots j d).node.id.0
+pub ids_rise : (slots : List Slot) (i j : ℕ) (d : Slot) → IsAscending (nodes_of slots) → i < j → j < length slots → (get_or slots i d).node.id.0 < (get_or slots j d).node.id.0
 ids_rise [] i j d h l m = absurd (omega arith)
 ids_rise (s ∷ ss) i zero d h l m = absurd (omega arith)
 ids_rise (s ∷ ss) zero (suc j) d h l m = every_at (λ t. s.node.id.0 < t.node.id.0) ss j d (omega arith) (every_unmap (λ n. s.node.id.0 < n.id.0) (λ t. t.node) ss h.0)
 ids_rise (s ∷ ss) (suc i) (suc j) d h l m = ids_rise ss i j d h.1 (omega arith) (omega arith)
 
-length_nodes : (slots : List Slot) → length (nodes_of slots) ≡ length slots
+pub length_nodes : (slots : List Slot) → length (nodes_of slots) ≡ length slots
 length_nodes [] = refl
 length_nodes (s ∷ ss) = ap suc (length_nodes ss)
 

@@ -1,89 +1,305 @@
 -- Laws of regions beside the lists of their children.
-use Rattle.std.proofs.Common.{◌≡◌, ◌≢◌, ℕ, zero, suc, ◌+◌, ◌<◌, ◌≤◌, true, false, not, cond, ℤ, List, [], ◌∷◌, ◌++◌, length, get_or, set, map, Option, Some, None, Ok, refl, sym, ap, subst, ◌∙◌, arith, add-one}
+use Rattle.std.proofs.Common.{◌≡◌, ◌≢◌, ℕ, zero, suc, ◌+◌, ◌<◌, ◌≤◌, Bool, true, false, not, cond, eqb, ℤ, List, [], ◌∷◌, ◌++◌, length, get_or, set, map, filter, take, drop, Option, Some, None, refl, sym, ap, subst, ◌∙◌, arith, add-one}
 use Rattle.std.specs.Prelude.{insert, int_lt, is_some}
+use Rattle.std.specs.List.{remove}
 use Rattle.std.specs.declared.cmp.Ordering.{Ordering}
 use Rattle.std.specs.declared.cmp.Ordering.TheVariants.{Less, Equal, Greater}
 use Rattle.std.specs.Ordering.{nat_cmp, int_cmp, ordering_then, ordering_reverse, is_lt}
 use Rattle.std.proofs.lemmas.Cmp.{int_cmp_total}
 use Rattle.std.proofs.lemmas.Bool.Decides.{nat_tests}
-use Rattle.std.proofs.lemmas.List.{map_push, get_or-map}
+use Rattle.std.proofs.lemmas.List.{map_push, map-set, get_or-map, length-set, set-get_or, get_or-set_same, get_or-set_other}
 use Rattle.mem_base.specs.declared.ids.RegionId.{RegionId}
 use Rattle.mem_base.specs.declared.forests.Node.{Node}
 use Rattle.mem_base.specs.declared.forests.Forest.{Forest}
 use Rattle.mem_base.specs.Every.{Every}
 use Rattle.mem_base.specs.Region.{node_of, has_id, is_in, is_child_of}
 use Rattle.mem_base.specs.Sorting.{put_by, sorted_by}
-use Rattle.mem_base.specs.Order.{trial_order, children_of}
-use Rattle.mem_base.specs.Forest.{IsAscending, IsForest, IsTargetBefore}
-use Rattle.mem_base.specs.Steps.{greatest_depth, greatest_weight}
-use Rattle.mem_base.specs.Changes.{placed, changed_at}
-use Rattle.mem_base.specs.Calls.{after}
-use Rattle.mem_base.specs.declared.calls.Call.TheVariants as calls
+use Rattle.mem_base.specs.Order.{trial_order, children_of, ids_of}
+use Rattle.mem_base.specs.Forest.{IsAscending, IsForest}
+use Rattle.mem_base.specs.declared.kinds.Kind.{Kind}
+use Rattle.mem_base.specs.declared.kinds.Kind.TheVariants.{Alias}
+use Rattle.mem_base.specs.Kinds.{target_of}
+use Rattle.mem_base.specs.Changes.{placed, changed_at, moved, retargeted}
 use Rattle.mem_base.proofs.EveryLaws.{weaker, both, every_at, every_push}
-use Rattle.mem_base.proofs.ForestLaws.{trial_apart, changed_at-set, filter-changed_at, children_of-joined, children_of-made, every_node_of, only_node, node_of-itself, every_child, child_before, no_children, pushed_forest, known_below, added_forest}
+use Rattle.mem_base.proofs.ForestLaws.{trial_apart, changed_at-set, filter-changed_at, children_of-joined, children_of-made, every_node_of, only_node, node_of-itself, every_child, child_before, ascending_changed_at, id_of}
+use Rattle.mem_base.proofs.FieldLaws.{IsField, child_ids_field}
+use Rattle.mem_base.proofs.DelLaws.{children_of-left}
+use Rattle.mem_base.proofs.MoveLaws.{unmoved, children_there, children_elsewhere}
+use Rattle.mem_base.proofs.DropLaws.{children_of-without, ascending_without}
 use Rattle.region_tree.specs.declared.slots.Slot.{Slot}
-use Rattle.region_tree.specs.Slots.{nodes_of, has_higher, is_above, rank_in, update_at, enlist_in, place_in}
-use Rattle.mem_base.specs.Order.{ids_of}
-use Rattle.region_tree.specs.Tree.{HasItsChildren}
+use Rattle.region_tree.specs.Slots.{nodes_of, HasItsChildren, AreKept, AreIn, has_higher, is_above, rank_in, others}
+use Rattle.region_tree.proofs.PlaceLaws.{ids_rise, length_nodes}
 
--- a write to one element is a change there
-pub set-update_at : {A : Type 0} (g : A → A) (xs : List A) (i : ℕ) (d : A) → i < length xs → set xs i (g (get_or xs i d)) ≡ update_at i g xs
-set-update_at g [] i d l = absurd (omega arith)
-set-update_at g (y ∷ ys) zero d l = refl
-set-update_at g (y ∷ ys) (suc i) d l = ap (λ v. y ∷ v) (set-update_at g ys i d (omega arith))
+every_set : {A : Type 0} (P : A → Type 0) (xs : List A) (i : ℕ) (v : A) → Every P xs → P v → Every P (set xs i v)
+every_set P [] i v h k = tt
+every_set P (x ∷ xs) zero v h k = (k, h.1)
+every_set P (x ∷ xs) (suc i) v h k = (h.0, every_set P xs i v h.1 k)
 
-every_unmap : {A B : Type 0} (P : B → Type 0) (f : A → B) (xs : List A) → Every P (map f xs) → Every (λ x. P (f x)) xs
-every_unmap P f [] h = tt
-every_unmap P f (x ∷ xs) h = (h.0, every_unmap P f xs h.1)
+every_by_place : {A : Type 0} (P : A → Type 0) (xs : List A) → ((i : ℕ) (d : A) → i < length xs → P (get_or xs i d)) → Every P xs
+every_by_place P [] h = tt
+every_by_place P (x ∷ xs) h = (h zero x (omega arith), every_by_place P xs (λ i d l. h (suc i) d (omega arith)))
 
-every_update_at : {A : Type 0} (P : A → Type 0) (g : A → A) → ((x : A) → P x → P (g x)) → (i : ℕ) (xs : List A) → Every P xs → Every P (update_at i g xs)
-every_update_at P g k i [] h = tt
-every_update_at P g k zero (x ∷ xs) h = (k x h.0, h.1)
-every_update_at P g k (suc i) (x ∷ xs) h = (h.0, every_update_at P g k i xs h.1)
+-- the id that is found is the one that was sought
+found_id : (nodes : List Node) (r : RegionId) (n : Node) → node_of nodes r ≡ Some n → has_id r n ≡ true
+found_id nodes r n e = let q : n.id.0 ≡ r.0 = ap (λ (x : RegionId). x.0) (id_of nodes r n e) in grind (arith, nat_tests)
 
-nodes_of-enlist : (rank : ℕ) (child : RegionId) (i : ℕ) (slots : List Slot) → nodes_of (update_at i (enlist_in rank child) slots) ≡ nodes_of slots
-nodes_of-enlist rank child i [] = refl
-nodes_of-enlist rank child zero (s ∷ ss) = refl
-nodes_of-enlist rank child (suc i) (s ∷ ss) = ap (λ v. s.node ∷ v) (nodes_of-enlist rank child i ss)
+-- what is read at a place does not depend on the default
+pub get_or-default : {A : Type 0} (xs : List A) (i : ℕ) (d e : A) → i < length xs → get_or xs i d ≡ get_or xs i e
+get_or-default [] i d e l = absurd (omega arith)
+get_or-default (x ∷ xs) zero d e l = refl
+get_or-default (x ∷ xs) (suc i) d e l = get_or-default xs i d e (omega arith)
 
-nodes_of-place : (parent : RegionId) (offset : ℕ) (priority : ℤ) (placing : ℕ) (i : ℕ) (slots : List Slot) → nodes_of (update_at i (place_in parent offset priority placing) slots) ≡ update_at i (placed parent offset priority placing) (nodes_of slots)
-nodes_of-place parent offset priority placing i [] = refl
-nodes_of-place parent offset priority placing zero (s ∷ ss) = refl
-nodes_of-place parent offset priority placing (suc i) (s ∷ ss) = ap (λ v. s.node ∷ v) (nodes_of-place parent offset priority placing i ss)
+-- an element of a list with a place in it
+pub some_element : {A : Type 0} (xs : List A) (i : ℕ) → i < length xs → A
+some_element [] i l = absurd (omega arith)
+some_element (x ∷ xs) i l = x
 
-length-nodes_of : (slots : List Slot) → length (nodes_of slots) ≡ length slots
-length-nodes_of [] = refl
-length-nodes_of (s ∷ ss) = ap suc (length-nodes_of ss)
-
-same_id : (r : RegionId) (n : Node) → has_id r n ≡ true → n.id ≡ r
-same_id r n e = let q : n.id.0 ≡ r.0 = grind (arith, nat_tests) in ap (λ (v : ℕ). let r' : RegionId = record { 0 = v } in r') q
-
-abbrev IsAny : Node → Type 0
-IsAny n = Unit {0}
-
-every_any : (xs : List Node) → Every IsAny xs
-every_any [] = tt
-every_any (x ∷ xs) = (tt, every_any xs)
-
--- the region that is found has the id that was sought
-pub id_of : (nodes : List Node) (r : RegionId) (n : Node) → node_of nodes r ≡ Some n → n.id ≡ r
-id_of nodes r n e = same_id r n (every_node_of IsAny nodes r n e (every_any nodes)).1
+pub none_of : {A : Type 0} (o : Option A) → is_some o ≡ false → o ≡ None
+none_of None e = refl
+none_of (Some x) e = cc
 
 -- the children that stand with a region that is found
-pub children_at : (slots : List Slot) (i : ℕ) (d : Slot) (r : RegionId) → i < length slots → node_of (nodes_of slots) r ≡ Some (get_or slots i d).node → Every (HasItsChildren (nodes_of slots)) slots → (get_or slots i d).children ≡ ids_of (children_of (nodes_of slots) r)
+pub children_at : (slots : List Slot) (i : ℕ) (d : Slot) (r : RegionId) → i < length slots → node_of (nodes_of slots) r ≡ Some (get_or slots i d).node → AreKept slots → (get_or slots i d).children ≡ ids_of (children_of (nodes_of slots) r)
 children_at slots i d r l e h =
-    every_at (HasItsChildren (nodes_of slots)) slots i d l h
+    every_at (HasItsChildren (nodes_of slots)) slots i d l h.children
     ∙ ap (λ q. ids_of (children_of (nodes_of slots) q)) (id_of (nodes_of slots) r (get_or slots i d).node e)
 
--- one more region, which has no container and no children
-pub kept_push : (f : Forest) (slots : List Slot) (s : Slot) → f.nodes ≡ nodes_of slots → IsForest f → f.made ≤ s.node.id.0 → s.node.parent ≡ None → s.children ≡ [] → Every (HasItsChildren (nodes_of slots)) slots → Every (HasItsChildren (nodes_of (slots ++ s ∷ []))) (slots ++ s ∷ [])
-kept_push f slots s e h l p k w =
-    let more : nodes_of (slots ++ s ∷ []) ≡ nodes_of slots ++ s.node ∷ [] = map_push (λ x. x.node) slots s in
-    let same : (q : RegionId) → children_of (nodes_of (slots ++ s ∷ [])) q ≡ children_of (nodes_of slots) q = λ q. ap (λ ns. children_of ns q) more ∙ children_of-made (nodes_of slots) s.node q p in
-    let none : children_of (nodes_of slots) s.node.id ≡ [] = subst (λ ns. children_of ns s.node.id ≡ []) e (no_children f s.node.id h l) in
-    every_push (HasItsChildren (nodes_of (slots ++ s ∷ []))) slots s
-    (weaker (HasItsChildren (nodes_of slots)) (HasItsChildren (nodes_of (slots ++ s ∷ []))) (λ t c. c ∙ ap ids_of (sym (same t.node.id))) slots w)
-    (k ∙ sym (ap ids_of (same s.node.id ∙ none)))
+-- two regions that are found by one id are one
+pub found_node : (nodes : List Node) (r : RegionId) (m : Node) (slots : List Slot) (i : ℕ) → ((d : Slot) → node_of nodes r ≡ Some (get_or slots i d).node) → node_of nodes r ≡ Some m → (d : Slot) → (get_or slots i d).node ≡ m
+found_node nodes r m slots i h e d = let a = h d in cc
+
+-- a region written at its place
+module _ (slots : List Slot) (kept : AreKept slots) (i : ℕ) (d : Slot) (r : RegionId) (l : i < length slots) (e : node_of (nodes_of slots) r ≡ Some (get_or slots i d).node) (g : Node → Node) where
+  abbrev written : List Slot
+  written = set slots i (record { node = g (get_or slots i d).node; children = (get_or slots i d).children })
+
+  pub written_nodes : nodes_of written ≡ changed_at r g (nodes_of slots)
+  written_nodes =
+      let there = get_or-map (λ (s : Slot). s.node) slots i d d.node l in
+      let in_nodes : i < length (nodes_of slots) = omega (arith, length_nodes slots) in
+      let id_there : has_id r (get_or (nodes_of slots) i d.node) ≡ true = subst (λ n. has_id r n ≡ true) (sym there) (found_id (nodes_of slots) r (get_or slots i d).node e) in
+      map-set (λ (s : Slot). s.node) slots i _
+      ∙ ap (λ n. set (nodes_of slots) i (g n)) (sym there)
+      ∙ sym (changed_at-set r g (nodes_of slots) i d.node in_nodes id_there kept.ascending)
+
+  -- a field that is no part of its place leaves all children as they are
+  pub written_kept : IsField g → AreKept written
+  written_kept field =
+      let ids = child_ids_field r g field (nodes_of slots) in
+      let same : (s : Slot) → HasItsChildren (nodes_of slots) s → HasItsChildren (changed_at r g (nodes_of slots)) s = λ s h. h ∙ sym (ids s.node.id) in
+      let all = weaker (HasItsChildren (nodes_of slots)) (HasItsChildren (changed_at r g (nodes_of slots))) same slots kept.children in
+      let here : HasItsChildren (changed_at r g (nodes_of slots)) (record { node = g (get_or slots i d).node; children = (get_or slots i d).children }) =
+      every_at (HasItsChildren (changed_at r g (nodes_of slots))) slots i d l all ∙ ap (λ q. ids_of (children_of (changed_at r g (nodes_of slots)) q)) (sym (field.id (get_or slots i d).node)) in
+      record {
+        ascending = subst IsAscending (sym written_nodes) (ascending_changed_at r g field.id (nodes_of slots) kept.ascending);
+        children = subst (λ ns. Every (HasItsChildren ns) written) (sym written_nodes) (every_set (HasItsChildren (changed_at r g (nodes_of slots))) slots i _ all here);
+      }
+
+-- the same for a slot that was read there
+module _ (slots : List Slot) (kept : AreKept slots) (i : ℕ) (s : Slot) (read : s ≡ get_or slots i s) (r : RegionId) (l : i < length slots) (e : node_of (nodes_of slots) r ≡ Some (get_or slots i s).node) (g : Node → Node) where
+  abbrev field_written : List Slot
+  field_written = set slots i (record { node = g s.node; children = s.children })
+
+  same_written : field_written ≡ set slots i (record { node = g (get_or slots i s).node; children = (get_or slots i s).children })
+  same_written = ap (λ (t : Slot). set slots i (let u : Slot = record { node = g t.node; children = t.children } in u)) read
+
+  pub field_nodes : nodes_of field_written ≡ changed_at r g (nodes_of slots)
+  field_nodes = ap nodes_of same_written ∙ written_nodes slots kept i s r l e g
+
+  pub field_kept : IsField g → AreKept field_written
+  field_kept field = subst AreKept (sym same_written) (written_kept slots kept i s r l e g field)
+
+-- a region that is not there is not changed
+pub missing_same : (r : RegionId) (g : Node → Node) (nodes : List Node) → node_of nodes r ≡ None → nodes ≡ changed_at r g nodes
+missing_same r g [] e = refl
+missing_same r g (n ∷ ns) e =
+    elim (has_id r n) as (λ b. cond b (Some n) (node_of ns r) ≡ None → n ∷ ns ≡ cond b (g n) n ∷ changed_at r g ns) [
+      | true ↦ λ h. cc
+      | false ↦ λ h. ap (λ l. n ∷ l) (missing_same r g ns h)
+    ] e
+
+-- a container's list written, and then one of its regions, old or new
+module _ (slots : List Slot) (kept : AreKept slots) (parent child : RegionId) (i j : ℕ) (d : Slot) (i_in : i < length slots) (j_in : j < length slots)
+    (at_i : node_of (nodes_of slots) parent ≡ Some (get_or slots i d).node) (at_j : node_of (nodes_of slots) child ≡ Some (get_or slots j d).node)
+    (g : Node → Node) (keeps : (n : Node) → (g n).id ≡ n.id) (list : List RegionId)
+    (here : list ≡ ids_of (children_of (changed_at child g (nodes_of slots)) parent))
+    (elsewhere : (q : RegionId) → q.0 ≢ parent.0 → children_of (changed_at child g (nodes_of slots)) q ≡ children_of (nodes_of slots) q) where
+  abbrev relisted : List Slot
+  relisted = set slots i (record { node = (get_or slots i d).node; children = list })
+
+  abbrev rewritten : List Slot
+  rewritten = set relisted j (record { node = g (get_or relisted j d).node; children = (get_or relisted j d).children })
+
+  same_nodes : nodes_of relisted ≡ nodes_of slots
+  same_nodes =
+      map-set (λ (s : Slot). s.node) slots i _
+      ∙ ap (set (nodes_of slots) i) (sym (get_or-map (λ (s : Slot). s.node) slots i d d.node i_in))
+      ∙ set-get_or (nodes_of slots) i d.node
+
+  pub rewritten_nodes : nodes_of rewritten ≡ changed_at child g (nodes_of slots)
+  rewritten_nodes =
+      let in_relisted : j < length relisted = omega (arith, length-set {A = Slot}) in
+      let in_nodes : j < length (nodes_of slots) = omega (arith, length_nodes slots) in
+      let there : get_or (nodes_of relisted) j d.node ≡ (get_or relisted j d).node = get_or-map (λ (s : Slot). s.node) relisted j d d.node in_relisted in
+      let before = get_or-map (λ (s : Slot). s.node) slots j d d.node j_in in
+      let id_there : has_id child (get_or (nodes_of slots) j d.node) ≡ true = subst (λ n. has_id child n ≡ true) (sym before) (found_id (nodes_of slots) child (get_or slots j d).node at_j) in
+      map-set (λ (s : Slot). s.node) relisted j _
+      ∙ ap (λ n. set (nodes_of relisted) j (g n)) (sym there)
+      ∙ ap (λ ns. set ns j (g (get_or ns j d.node))) same_nodes
+      ∙ sym (changed_at-set child g (nodes_of slots) j d.node in_nodes id_there kept.ascending)
+
+  abbrev now : List Node
+  now = changed_at child g (nodes_of slots)
+
+  parent_there : (get_or slots i d).node.id ≡ parent
+  parent_there = id_of (nodes_of slots) parent (get_or slots i d).node at_i
+
+  listed_at : (k : ℕ) (e : Slot) → k < length relisted → HasItsChildren now (get_or relisted k e)
+  listed_at k e l =
+      let in_slots : k < length slots = omega (arith, length-set {A = Slot}) in
+      elim (eqb k i) as (λ b. eqb k i ≡ b → HasItsChildren now (get_or relisted k e)) [
+        | true ↦ λ t.
+            let same : k ≡ i = grind (arith, nat_tests) in
+            let it : get_or relisted k e ≡ record { node = (get_or slots i d).node; children = list } = ap (λ m. get_or relisted m e) same ∙ get_or-set_same slots i _ e i_in in
+            subst (HasItsChildren now) (sym it) (here ∙ ap (λ q. ids_of (children_of now q)) (sym parent_there))
+        | false ↦ λ t.
+            let apart : k ≢ i = grind (arith, nat_tests) in
+            let it : get_or relisted k e ≡ get_or slots k e = get_or-set_other slots i k _ e apart in
+            let other : (get_or slots k e).node.id.0 ≢ parent.0 = λ same.
+            let p : (get_or slots i d).node.id.0 ≡ parent.0 = ap (λ (q : RegionId). q.0) parent_there in
+            let x : (get_or slots i e).node.id.0 ≡ (get_or slots i d).node.id.0 = ap (λ (s : Slot). s.node.id.0) (get_or-default slots i e d i_in) in
+            let less : k < i → ⊥ = λ m. let z = ids_rise slots k i e kept.ascending m i_in in omega arith in
+            let more : i < k → ⊥ = λ m. let z = ids_rise slots i k e kept.ascending m in_slots in omega arith in
+            omega arith in
+            subst (HasItsChildren now) (sym it) (every_at (HasItsChildren (nodes_of slots)) slots k e in_slots kept.children ∙ sym (ap ids_of (elsewhere (get_or slots k e).node.id other)))
+      ] refl
+
+  pub rewritten_kept : AreKept rewritten
+  rewritten_kept =
+      let all = every_by_place (HasItsChildren now) relisted listed_at in
+      let in_relisted : j < length relisted = omega (arith, length-set {A = Slot}) in
+      let it : HasItsChildren now (record { node = g (get_or relisted j d).node; children = (get_or relisted j d).children }) =
+      listed_at j d in_relisted ∙ ap (λ q. ids_of (children_of now q)) (sym (keeps (get_or relisted j d).node)) in
+      record {
+        ascending = subst IsAscending (sym rewritten_nodes) (ascending_changed_at child g keeps (nodes_of slots) kept.ascending);
+        children = subst (λ ns. Every (HasItsChildren ns) rewritten) (sym rewritten_nodes) (every_set (HasItsChildren now) relisted j _ all it);
+      }
+
+-- the same for slots that were read there
+module _ (slots : List Slot) (kept : AreKept slots) (parent child : RegionId) (i j : ℕ) (s t : Slot) (list : List RegionId) (i_in : i < length slots) (j_in : j < length slots)
+    (at_i : node_of (nodes_of slots) parent ≡ Some (get_or slots i s).node) (at_j : node_of (nodes_of slots) child ≡ Some (get_or slots j s).node)
+    (g : Node → Node) (keeps : (n : Node) → (g n).id ≡ n.id)
+    (read_i : s ≡ get_or slots i s) (read_j : t ≡ get_or (set slots i (record { node = s.node; children = list })) j t)
+    (here : list ≡ ids_of (children_of (changed_at child g (nodes_of slots)) parent))
+    (elsewhere : (q : RegionId) → q.0 ≢ parent.0 → children_of (changed_at child g (nodes_of slots)) q ≡ children_of (nodes_of slots) q) where
+  abbrev list_read : List Slot
+  list_read = set slots i (record { node = s.node; children = list })
+
+  abbrev pair_written : List Slot
+  pair_written = set list_read j (record { node = g t.node; children = t.children })
+
+  abbrev pair : List Slot
+  pair = rewritten slots kept parent child i j s i_in j_in at_i at_j g keeps list here elsewhere
+
+  same_pair : pair_written ≡ pair
+  same_pair =
+      let listed = relisted slots kept parent child i j s i_in j_in at_i at_j g keeps list here elsewhere in
+      let first : list_read ≡ listed = ap (λ (u : Slot). set slots i (let v : Slot = record { node = u.node; children = list } in v)) read_i in
+      let in_listed : j < length listed = omega (arith, length-set {A = Slot}) in
+      let second : t ≡ get_or listed j s = read_j ∙ ap (λ l. get_or l j t) first ∙ get_or-default listed j t s in_listed in
+      ap (λ l. set l j (let v : Slot = record { node = g t.node; children = t.children } in v)) first
+      ∙ ap (λ (u : Slot). set listed j (let v : Slot = record { node = g u.node; children = u.children } in v)) second
+
+  listed_nodes : nodes_of list_read ≡ nodes_of slots
+  listed_nodes =
+      map-set (λ (u : Slot). u.node) slots i _
+      ∙ ap (λ (u : Slot). set (nodes_of slots) i u.node) read_i
+      ∙ ap (set (nodes_of slots) i) (sym (get_or-map (λ (u : Slot). u.node) slots i s s.node i_in))
+      ∙ set-get_or (nodes_of slots) i s.node
+
+  -- the list of children is no part of the region that is read
+  pub pair_read : t.node ≡ (get_or slots j s).node
+  pair_read =
+      let in_listed : j < length list_read = omega (arith, length-set {A = Slot}) in
+      ap (λ (u : Slot). u.node) read_j
+      ∙ sym (get_or-map (λ (u : Slot). u.node) list_read j t t.node in_listed)
+      ∙ ap (λ ns. get_or ns j t.node) listed_nodes
+      ∙ get_or-map (λ (u : Slot). u.node) slots j t t.node j_in
+      ∙ ap (λ (u : Slot). u.node) (get_or-default slots j t s j_in)
+
+  pub pair_nodes : nodes_of pair_written ≡ changed_at child g (nodes_of slots)
+  pair_nodes = ap nodes_of same_pair ∙ rewritten_nodes slots kept parent child i j s i_in j_in at_i at_j g keeps list here elsewhere
+
+  pub pair_kept : AreKept pair_written
+  pair_kept = subst AreKept (sym same_pair) (rewritten_kept slots kept parent child i j s i_in j_in at_i at_j g keeps list here elsewhere)
+
+-- an alias keeps its target
+pub retargeted_target : (offset : ℕ) (k : Kind) → target_of (retargeted offset k) ≡ target_of k
+retargeted_target offset (Alias target old) = refl
+retargeted_target offset _ = refl
+
+-- one more region, which is in no container and has no children
+push_ascending : (nodes : List Node) (n : Node) → IsAscending nodes → Every (λ m. m.id.0 < n.id.0) nodes → IsAscending (nodes ++ n ∷ [])
+push_ascending [] n h k = (tt, tt)
+push_ascending (m ∷ ms) n h k = (every_push (λ x. m.id.0 < x.id.0) ms n h.0 k.0, push_ascending ms n h.1 k.1)
+
+pub pushed_kept : (slots : List Slot) (s : Slot) → AreKept slots → Every (λ n. n.id.0 < s.node.id.0) (nodes_of slots) → s.node.parent ≡ None → children_of (nodes_of slots) s.node.id ≡ [] → s.children ≡ [] → AreKept (slots ++ s ∷ [])
+pushed_kept slots s h last free none k =
+    let more : nodes_of (slots ++ s ∷ []) ≡ nodes_of slots ++ s.node ∷ [] = map_push (λ (x : Slot). x.node) slots s in
+    let same : (q : RegionId) → children_of (nodes_of (slots ++ s ∷ [])) q ≡ children_of (nodes_of slots) q = λ q. ap (λ ns. children_of ns q) more ∙ children_of-made (nodes_of slots) s.node q free in
+    record {
+      ascending = subst IsAscending (sym more) (push_ascending (nodes_of slots) s.node h.ascending last);
+      children = every_push (HasItsChildren (nodes_of (slots ++ s ∷ []))) slots s
+          (weaker (HasItsChildren (nodes_of slots)) (HasItsChildren (nodes_of (slots ++ s ∷ []))) (λ t c. c ∙ ap ids_of (sym (same t.node.id))) slots h.children)
+          (k ∙ sym (ap ids_of (same s.node.id ∙ none)));
+    }
+
+-- one region less, which is in no container
+every_remove : {A : Type 0} (P : A → Type 0) (xs : List A) (i : ℕ) → Every P xs → Every P (remove xs i)
+every_remove P [] zero h = tt
+every_remove P [] (suc i) h = tt
+every_remove P (x ∷ xs) zero h = h.1
+every_remove P (x ∷ xs) (suc i) h = (h.0, every_remove P xs i h.1)
+
+map-remove : {A B : Type 0} (f : A → B) (xs : List A) (i : ℕ) → map f (remove xs i) ≡ remove (map f xs) i
+map-remove f [] zero = refl
+map-remove f [] (suc i) = refl
+map-remove f (x ∷ xs) zero = refl
+map-remove f (x ∷ xs) (suc i) = ap (λ l. f x ∷ l) (map-remove f xs i)
+
+none_filtered : (r : RegionId) (nodes : List Node) → Every (λ n. has_id r n ≡ false) nodes → filter (λ n. not (has_id r n)) nodes ≡ nodes
+none_filtered r [] h = refl
+none_filtered r (n ∷ ns) h = let t = h.0 in rw t (ap (λ l. n ∷ l) (none_filtered r ns h.1))
+
+remove_there : (r : RegionId) (nodes : List Node) (i : ℕ) (d : Node) → i < length nodes → IsAscending nodes → has_id r (get_or nodes i d) ≡ true → remove nodes i ≡ filter (λ n. not (has_id r n)) nodes
+remove_there r [] i d l h e = absurd (omega arith)
+remove_there r (n ∷ ns) zero d l h e =
+    let rest = weaker (λ (m : Node). n.id.0 < m.id.0) (λ m. has_id r m ≡ false) (λ m w. grind (arith, nat_tests)) ns h.0 in
+    rw e (sym (none_filtered r ns rest))
+remove_there r (n ∷ ns) (suc i) d l h e =
+    let in_rest : i < length ns = omega arith in
+    let less = every_at (λ (m : Node). n.id.0 < m.id.0) ns i d in_rest h.0 in
+    let t : has_id r n ≡ false = grind (arith, nat_tests) in
+    rw t (ap (λ l. n ∷ l) (remove_there r ns i d in_rest h.1 e))
+
+module _ (slots : List Slot) (kept : AreKept slots) (i : ℕ) (d : Slot) (r : RegionId) (l : i < length slots) (e : node_of (nodes_of slots) r ≡ Some (get_or slots i d).node) where
+  pub removed_nodes : nodes_of (remove slots i) ≡ filter (λ n. not (has_id r n)) (nodes_of slots)
+  removed_nodes =
+      let there = get_or-map (λ (s : Slot). s.node) slots i d d.node l in
+      let in_nodes : i < length (nodes_of slots) = omega (arith, length_nodes slots) in
+      let id_there : has_id r (get_or (nodes_of slots) i d.node) ≡ true = subst (λ n. has_id r n ≡ true) (sym there) (found_id (nodes_of slots) r (get_or slots i d).node e) in
+      map-remove (λ (s : Slot). s.node) slots i ∙ remove_there r (nodes_of slots) i d.node in_nodes kept.ascending id_there
+
+  pub removed_kept : (get_or slots i d).node.parent ≡ None → AreKept (remove slots i)
+  removed_kept free =
+      let m = (get_or slots i d).node in
+      let same = children_of-without r m (nodes_of slots) kept.ascending e free in
+      let left = filter (λ n. not (has_id r n)) (nodes_of slots) in
+      let all = weaker (HasItsChildren (nodes_of slots)) (HasItsChildren left) (λ s h. h ∙ ap ids_of (sym (same s.node.id))) slots kept.children in
+      record {
+        ascending = subst IsAscending (sym removed_nodes) (ascending_without r (nodes_of slots) kept.ascending);
+        children = subst (λ ns. Every (HasItsChildren ns) (remove slots i)) (sym removed_nodes) (every_remove (HasItsChildren left) slots i all);
+      }
 
 lt_then_less : (o q : Ordering) → q ≡ Less → is_lt (ordering_then (ordering_reverse o) q) ≡ not (is_lt o)
 lt_then_less Less q e = refl
@@ -125,146 +341,98 @@ insert-rank_in nodes x (c ∷ cs) h =
           simp (t, b)
     ] refl
 
--- the lists of children after one region was put into the list of another
-enlisted : (P Q : RegionId → List RegionId → Type 0) (rank : ℕ) (child : RegionId) (slots : List Slot) (i : ℕ) (d : Slot) → i < length slots → IsAscending (nodes_of slots) →
-    ((id : RegionId) (cs : List RegionId) → id.0 ≢ (get_or slots i d).node.id.0 → P id cs → Q id cs) →
-    ((cs : List RegionId) → P (get_or slots i d).node.id cs → Q (get_or slots i d).node.id (insert cs rank child)) →
-    Every (λ s. P s.node.id s.children) slots → Every (λ s. Q s.node.id s.children) (update_at i (enlist_in rank child) slots)
-enlisted P Q rank child [] i d l h other here k = tt
-enlisted P Q rank child (s ∷ ss) zero d l h other here k = (
-  here s.children k.0,
-  weaker (λ t. P t.node.id t.children × (s.node.id.0 < t.node.id.0)) (λ t. Q t.node.id t.children)
-      (λ t w. let less = w.1 in other t.node.id t.children (λ e. omega arith) w.0) ss
-      (both (λ t. P t.node.id t.children) (λ t. s.node.id.0 < t.node.id.0) ss k.1 (every_unmap (λ n. s.node.id.0 < n.id.0) (λ t. t.node) ss h.0)),
-)
-enlisted P Q rank child (s ∷ ss) (suc i) d l h other here k =
-    let in_rest : i < length ss = omega arith in
-    let less = every_at (λ t. s.node.id.0 < t.node.id.0) ss i d in_rest (every_unmap (λ n. s.node.id.0 < n.id.0) (λ t. t.node) ss h.0) in
-    (other s.node.id s.children (λ e. omega arith) k.0, enlisted P Q rank child ss i d in_rest h.1 other here k.1)
+-- a region placed in a container: what its new container lists, and that others list what they did
+module _ (f : Forest) (nodes : List Node) (parent : RegionId) (offset : ℕ) (child : RegionId) (priority : ℤ) (placing : ℕ) (in_forest : AreIn f nodes placing)
+    (m : Node) (at_child : node_of nodes child ≡ Some m) (free : m.parent ≡ None) where
+  abbrev put : Node → Node
+  put = placed parent offset priority placing
 
--- a region is placed in a container and put into its list
-module _ (f : Forest) (slots : List Slot) (forest : IsForest f) (seen : f.nodes ≡ nodes_of slots) (kept : Every (HasItsChildren (nodes_of slots)) slots)
-    (parent : RegionId) (offset : ℕ) (child : RegionId) (priority : ℤ) (apart : parent.0 ≢ child.0)
-    (i j : ℕ) (d : Slot) (i_in : i < length slots) (j_in : j < length slots)
-    (at_i : node_of (nodes_of slots) parent ≡ Some (get_or slots i d).node) (at_j : node_of (nodes_of slots) child ≡ Some (get_or slots j d).node)
-    (free : (get_or slots j d).node.parent ≡ None) where
-  ascending : IsAscending (nodes_of slots)
-  ascending = subst IsAscending seen forest.ascending
+  last : Every (λ n. is_child_of parent n ≡ true → n.placing < placing) nodes
+  last = subst (λ k. Every (λ n. is_child_of parent n ≡ true → n.placing < k) nodes) in_forest.same_placings
+      (subst (λ ns. Every (λ n. is_child_of parent n ≡ true → n.placing < f.placings) ns) in_forest.same_nodes
+      (weaker (λ n. is_child_of parent n ≡ true → (parent.0 < f.made) × (n.placing < f.placings)) (λ n. is_child_of parent n ≡ true → n.placing < f.placings) (λ n w t. (w t).1) f.nodes (child_before f parent in_forest.forest)))
 
-  at_child : (get_or slots j d).node ≡ get_or (nodes_of slots) j d.node
-  at_child = sym (get_or-map (λ s. s.node) slots j d d.node j_in)
+  ascending : IsAscending nodes
+  ascending = subst IsAscending in_forest.same_nodes in_forest.forest.ascending
 
-  child_id : has_id child (get_or slots j d).node ≡ true
-  child_id = (every_node_of IsAny (nodes_of slots) child (get_or slots j d).node at_j (every_any (nodes_of slots))).1
+  pub placed_elsewhere : (q : RegionId) → q.0 ≢ parent.0 → children_of (changed_at child put nodes) q ≡ children_of nodes q
+  placed_elsewhere q h =
+      let only = only_node nodes child m ascending at_child in
+      let other : is_in q (Some parent) ≡ false = grind (arith, nat_tests) in
+      let unseen = weaker (λ n. has_id child n ≡ true → n ≡ m) (λ n. has_id child n ≡ true → (is_child_of q n ≡ false) × (is_child_of q (put n) ≡ false)) (λ n w e. (ap (is_child_of q) (w e) ∙ ap (is_in q) free, other)) nodes only in
+      ap (sorted_by trial_order) (filter-changed_at (is_child_of q) child put nodes unseen)
 
-  pub added_nodes : (rank : ℕ) → nodes_of (update_at j (place_in parent offset priority f.placings) (update_at i (enlist_in rank child) slots)) ≡ changed_at child (placed parent offset priority f.placings) f.nodes
-  added_nodes rank =
-      let g = placed parent offset priority f.placings in
-      let j_nodes : j < length (nodes_of slots) = omega (arith, length-nodes_of slots) in
-      let id_there : has_id child (get_or (nodes_of slots) j d.node) ≡ true = subst (λ n. has_id child n ≡ true) at_child child_id in
-      nodes_of-place parent offset priority f.placings j (update_at i (enlist_in rank child) slots)
-      ∙ ap (update_at j g) (nodes_of-enlist rank child i slots)
-      ∙ sym (set-update_at g (nodes_of slots) j d.node j_nodes)
-      ∙ sym (changed_at-set child g (nodes_of slots) j d.node j_nodes id_there ascending)
-      ∙ ap (changed_at child g) (sym seen)
-
-  abbrev g : Node → Node
-  g = placed parent offset priority f.placings
-
-  abbrev m : Node
-  m = (get_or slots j d).node
-
-  abbrev after_nodes : List Node
-  after_nodes = changed_at child g f.nodes
-
-  at_child_now : node_of f.nodes child ≡ Some m
-  at_child_now = ap (λ ns. node_of ns child) seen ∙ at_j
-
-  children_other : (id : RegionId) → id.0 ≢ parent.0 → children_of after_nodes id ≡ children_of (nodes_of slots) id
-  children_other id h =
-      let only = only_node f.nodes child m forest.ascending at_child_now in
-      let other : is_in id (Some parent) ≡ false = grind (arith, nat_tests) in
-      let unseen = weaker (λ n. has_id child n ≡ true → n ≡ m) (λ n. has_id child n ≡ true → (is_child_of id n ≡ false) × (is_child_of id (g n) ≡ false)) (λ n w e. (ap (is_child_of id) (w e) ∙ ap (is_in id) free, other)) f.nodes only in
-      ap (sorted_by trial_order) (filter-changed_at (is_child_of id) child g f.nodes unseen) ∙ ap (λ ns. children_of ns id) seen
-
-  children_here : children_of after_nodes parent ≡ put_by trial_order (g m) (children_of (nodes_of slots) parent)
+  children_here : children_of (changed_at child put nodes) parent ≡ put_by trial_order (put m) (children_of nodes parent)
   children_here =
       let itself : is_in parent (Some parent) ≡ true = grind (arith, nat_tests) in
-      let before = weaker (λ n. is_child_of parent n ≡ true → (parent.0 < f.made) × (n.placing < f.placings)) (λ n. is_child_of parent n ≡ true → trial_order n (g m) ≢ Equal) (λ n w e. trial_apart n (g m) (w e).1) f.nodes (child_before f parent forest) in
-      children_of-joined child parent g m f.nodes at_child_now (ap (is_in parent) free) itself forest.ascending before
-      ∙ ap (λ ns. put_by trial_order (g m) (children_of ns parent)) seen
+      let before = weaker (λ n. is_child_of parent n ≡ true → n.placing < placing) (λ n. is_child_of parent n ≡ true → trial_order n (put m) ≢ Equal) (λ n w e. trial_apart n (put m) (w e)) nodes last in
+      children_of-joined child parent put m nodes at_child (ap (is_in parent) free) itself ascending before
 
-  abbrev listed : List RegionId
-  listed = ids_of (children_of (nodes_of slots) parent)
-
-  abbrev rank : ℕ
-  rank = rank_in (nodes_of slots) priority listed
-
-  insert_here : insert listed rank child ≡ ids_of (children_of after_nodes parent)
-  insert_here =
-      let known = node_of-itself (nodes_of slots) ascending in
-      let before = subst (λ ns. Every (λ n. is_child_of parent n ≡ true → (parent.0 < f.made) × (n.placing < f.placings)) ns) seen (child_before f parent forest) in
-      let facts = weaker (λ n. (node_of (nodes_of slots) n.id ≡ Some n) × (is_child_of parent n ≡ true → (parent.0 < f.made) × (n.placing < f.placings))) (λ n. is_child_of parent n ≡ true → (node_of (nodes_of slots) n.id ≡ Some n) × (n.placing < f.placings)) (λ n w e. (w.0, (w.1 e).1)) (nodes_of slots) (both (λ n. node_of (nodes_of slots) n.id ≡ Some n) (λ n. is_child_of parent n ≡ true → (parent.0 < f.made) × (n.placing < f.placings)) (nodes_of slots) known before) in
-      ap (insert listed rank) (sym (id_of (nodes_of slots) child m at_j))
-      ∙ insert-rank_in (nodes_of slots) (g m) (children_of (nodes_of slots) parent) (every_child (λ n. (node_of (nodes_of slots) n.id ≡ Some n) × (n.placing < f.placings)) parent (nodes_of slots) facts)
+  pub placed_here : (list : List RegionId) (rank : ℕ) → list ≡ ids_of (children_of nodes parent) → rank ≡ rank_in nodes priority list → insert list rank child ≡ ids_of (children_of (changed_at child put nodes) parent)
+  placed_here list rank e k =
+      let known = node_of-itself nodes ascending in
+      let facts = weaker (λ n. (node_of nodes n.id ≡ Some n) × (is_child_of parent n ≡ true → n.placing < placing)) (λ n. is_child_of parent n ≡ true → (node_of nodes n.id ≡ Some n) × (n.placing < placing)) (λ n w e. (w.0, w.1 e)) nodes (both (λ n. node_of nodes n.id ≡ Some n) (λ n. is_child_of parent n ≡ true → n.placing < placing) nodes known last) in
+      ap (λ r. insert list r child) k
+      ∙ ap (λ l. insert l (rank_in nodes priority l) child) e
+      ∙ ap (insert (ids_of (children_of nodes parent)) (rank_in nodes priority (ids_of (children_of nodes parent)))) (sym (id_of nodes child m at_child))
+      ∙ insert-rank_in nodes (put m) (children_of nodes parent) (every_child (λ n. (node_of nodes n.id ≡ Some n) × (n.placing < placing)) parent nodes facts)
       ∙ ap ids_of (sym children_here)
 
-  abbrev Listed : RegionId → List RegionId → Type 0
-  Listed id cs = cs ≡ ids_of (children_of (nodes_of slots) id)
+-- a region taken out of its container: what the container lists, and that others list what they did
+others_ids : (c : RegionId) (ns : List Node) → others c (ids_of ns) ≡ ids_of (filter (λ n. not (has_id c n)) ns)
+others_ids c [] = refl
+others_ids c (n ∷ ns) =
+    let ih = others_ids c ns in
+    elim (has_id c n) as (λ b. cond (not b) (n.id ∷ others c (ids_of ns)) (others c (ids_of ns)) ≡ ids_of (cond (not b) (n ∷ filter (λ m. not (has_id c m)) ns) (filter (λ m. not (has_id c m)) ns))) [ true ↦ ih | false ↦ ap (λ l. n.id ∷ l) ih ]
 
-  abbrev ListedAfter : RegionId → List RegionId → Type 0
-  ListedAfter id cs = cs ≡ ids_of (children_of after_nodes id)
+abbrev pub loose : Node → Node
+loose n = record n { parent = None }
 
-  pub added_children : Every (HasItsChildren after_nodes) (update_at j (place_in parent offset priority f.placings) (update_at i (enlist_in rank child) slots))
-  added_children =
-      let is_parent = id_of (nodes_of slots) parent (get_or slots i d).node at_i in
-      let other = subst (λ (q : RegionId). (id : RegionId) (cs : List RegionId) → id.0 ≢ q.0 → Listed id cs → ListedAfter id cs) (sym is_parent) (λ id cs h e. e ∙ ap ids_of (sym (children_other id h))) in
-      let here = subst (λ (q : RegionId). (cs : List RegionId) → Listed q cs → ListedAfter q (insert cs rank child)) (sym is_parent) (λ cs e. ap (λ l. insert l rank child) e ∙ insert_here) in
-      every_update_at (HasItsChildren after_nodes) (place_in parent offset priority f.placings) (λ s w. w) j _
-      (enlisted Listed ListedAfter rank child slots i d i_in ascending other here kept)
+pub out_here : (nodes : List Node) (parent child : RegionId) (list : List RegionId) → list ≡ ids_of (children_of nodes parent) → others child list ≡ ids_of (children_of (changed_at child loose nodes) parent)
+out_here nodes parent child list e =
+    ap (others child) e ∙ others_ids child (children_of nodes parent) ∙ ap ids_of (sym (children_of-left child loose (λ n. refl) nodes parent))
 
-  -- the new slots, from what was found and what was done
-  pub IsAdded : List Slot → Type 0
-  IsAdded new = new ≡ update_at j (place_in parent offset priority f.placings) (update_at i (enlist_in rank child) slots)
+pub out_elsewhere : (nodes : List Node) (parent child : RegionId) (m : Node) → IsAscending nodes → node_of nodes child ≡ Some m → is_child_of parent m ≡ true → (q : RegionId) → q.0 ≢ parent.0 → children_of (changed_at child loose nodes) q ≡ children_of nodes q
+out_elsewhere nodes parent child m ascending at_child inside q apart =
+    let only = only_node nodes child m ascending at_child in
+    let out : is_child_of q m ≡ false = other_container m.parent inside in
+    ap (sorted_by trial_order) (filter-changed_at (is_child_of q) child loose nodes
+    (weaker (λ n. has_id child n ≡ true → n ≡ m) (λ n. has_id child n ≡ true → (is_child_of q n ≡ false) × (is_child_of q (loose n) ≡ false)) (λ n w t. (ap (is_child_of q) (w t) ∙ out, refl)) nodes only))
+  where
+    other_container : (p : Option RegionId) → is_in parent p ≡ true → is_in q p ≡ false
+    other_container None h = refl
+    other_container (Some p) h = grind (arith, nat_tests)
 
-  pub added : (listing : List RegionId) (r : ℕ) (mid mid' new : List Slot) → listing ≡ (get_or slots i d).children → r ≡ rank_in (nodes_of slots) priority listing → mid ≡ update_at i (enlist_in r child) slots → mid' ≡ mid → new ≡ update_at j (place_in parent offset priority f.placings) mid' → IsAdded new
-  unfolding IsAdded
-  added listing r mid mid' new e k t u w =
-      let is_listed : listing ≡ listed = e ∙ children_at slots i d parent i_in at_i kept in
-      let is_rank : r ≡ rank = k ∙ ap (rank_in (nodes_of slots) priority) is_listed in
-      w ∙ ap (update_at j (place_in parent offset priority f.placings)) (u ∙ t ∙ ap (λ q. update_at i (enlist_in q child) slots) is_rank)
+-- a region moved in its container
+every_filter : {A : Type 0} (P : A → Type 0) (p : A → Bool) (xs : List A) → Every P xs → Every P (filter p xs)
+every_filter P p [] h = tt
+every_filter P p (x ∷ xs) h = elim (p x) as (λ b. Every P (cond b (x ∷ filter p xs) (filter p xs))) [ true ↦ (h.0, every_filter P p xs h.1) | false ↦ every_filter P p xs h.1 ]
 
-  pub nodes_added : (new : List Slot) → IsAdded new → nodes_of new ≡ changed_at child g f.nodes
-  unfolding IsAdded
-  nodes_added new e = ap nodes_of e ∙ added_nodes rank
+module _ (f : Forest) (placing : ℕ) (forest : IsForest f) (same : f.placings ≡ placing) (child : RegionId) (offset : ℕ) (m : Node) (at_child : node_of f.nodes child ≡ Some m) where
+  pub moved_nowhere : eqb m.offset offset ≡ true → f.nodes ≡ changed_at child (moved offset placing) f.nodes
+  moved_nowhere e = sym (unmoved f child offset m forest at_child e) ∙ ap (λ k. changed_at child (moved offset k) f.nodes) same
 
-  pub kept_added : (new : List Slot) → greatest_depth after_nodes ≤ 32 → greatest_weight after_nodes ≤ 65536 → IsAdded new → IsForest (record f { nodes = nodes_of new; placings = f.placings + 1; calls = f.calls + 1 }) × Every (HasItsChildren (nodes_of new)) new
-  unfolding IsAdded
-  kept_added new deep wide e =
-      let below = known_below f parent forest (ap is_some (ap (λ ns. node_of ns parent) seen ∙ at_i)) in (
-        subst (λ (ns : List Node). IsForest (record f { nodes = ns; placings = f.placings + 1; calls = f.calls + 1 })) (sym (nodes_added new e)) (added_forest f parent offset child priority forest below deep wide),
-        subst (λ ns. Every (HasItsChildren ns) new) (sym (nodes_added new e)) (subst (λ ss. Every (HasItsChildren after_nodes) ss) (sym e) added_children),
-      )
+  module _ (parent : RegionId) (in_parent : m.parent ≡ Some parent) where
+    pub moved_elsewhere : (q : RegionId) → q.0 ≢ parent.0 → children_of (changed_at child (moved offset placing) f.nodes) q ≡ children_of f.nodes q
+    moved_elsewhere q h = ap (λ k. children_of (changed_at child (moved offset k) f.nodes) q) (sym same) ∙ children_elsewhere f forest child offset m at_child parent in_parent q h
 
--- an element of a list with a place in it
-pub some_element : {A : Type 0} (xs : List A) (i : ℕ) → i < length xs → A
-some_element [] i l = absurd (omega arith)
-some_element (x ∷ xs) i l = x
+    pub moved_here : (list : List RegionId) (rank : ℕ) → eqb m.offset offset ≡ false → list ≡ others child (ids_of (children_of f.nodes parent)) → rank ≡ rank_in f.nodes m.priority list → insert list rank child ≡ ids_of (children_of (changed_at child (moved offset placing) f.nodes) parent)
+    moved_here list rank differs e k =
+        let x : Node = record m { offset = offset; placing = f.placings } in
+        let is_x : moved offset f.placings m ≡ x = ap (λ b. cond b m x) differs in
+        let left = filter (λ n. not (has_id child n)) (children_of f.nodes parent) in
+        let known = node_of-itself f.nodes forest.ascending in
+        let before = child_before f parent forest in
+        let facts = weaker (λ n. (node_of f.nodes n.id ≡ Some n) × (is_child_of parent n ≡ true → (parent.0 < f.made) × (n.placing < f.placings))) (λ n. is_child_of parent n ≡ true → (node_of f.nodes n.id ≡ Some n) × (n.placing < f.placings)) (λ n w t. (w.0, (w.1 t).1)) f.nodes (both (λ n. node_of f.nodes n.id ≡ Some n) (λ n. is_child_of parent n ≡ true → (parent.0 < f.made) × (n.placing < f.placings)) f.nodes known before) in
+        let kept = every_filter (λ n. (node_of f.nodes n.id ≡ Some n) × (n.placing < f.placings)) (λ n. not (has_id child n)) (children_of f.nodes parent) (every_child (λ n. (node_of f.nodes n.id ≡ Some n) × (n.placing < f.placings)) parent f.nodes facts) in
+        let listed : list ≡ ids_of left = e ∙ others_ids child (children_of f.nodes parent) in
+        ap (λ r. insert list r child) k
+        ∙ ap (λ l. insert l (rank_in f.nodes m.priority l) child) listed
+        ∙ ap (insert (ids_of left) (rank_in f.nodes m.priority (ids_of left))) (sym (id_of f.nodes child m at_child))
+        ∙ insert-rank_in f.nodes x left kept
+        ∙ ap (λ n. ids_of (put_by trial_order n left)) (sym is_x)
+        ∙ ap ids_of (sym (children_there f forest child offset m at_child parent in_parent differs))
+        ∙ ap (λ r. ids_of (children_of (changed_at child (moved offset r) f.nodes) parent)) same
 
--- one more region keeps what a tree keeps
-pub kept_made : (f : Forest) (slots new : List Slot) (s : Slot) → new ≡ slots ++ s ∷ [] → f.nodes ≡ nodes_of slots → IsForest f → Every (HasItsChildren (nodes_of slots)) slots → s.node.id.0 ≡ f.made → s.node.parent ≡ None → s.children ≡ [] → IsTargetBefore f.made s.node.kind → greatest_depth (f.nodes ++ s.node ∷ []) ≤ 32 → greatest_weight (f.nodes ++ s.node ∷ []) ≤ 65536 → IsForest (record f { nodes = nodes_of new; made = f.made + 1; calls = f.calls + 1 }) × Every (HasItsChildren (nodes_of new)) new
-kept_made f slots new s e seen h w id p k target deep wide =
-    let nodes : f.nodes ++ s.node ∷ [] ≡ nodes_of new = ap (λ ns. ns ++ s.node ∷ []) seen ∙ sym (map_push (λ x. x.node) slots s) ∙ ap nodes_of (sym e) in (
-      subst (λ (ns : List Node). IsForest (record f { nodes = ns; made = f.made + 1; calls = f.calls + 1 })) nodes (pushed_forest f s.node h id p target deep wide),
-      subst (λ ns. Every (HasItsChildren (nodes_of ns)) ns) (sym e) (kept_push f slots s seen h (omega arith) p k w),
-    )
-
-pub none_of : {A : Type 0} (o : Option A) → is_some o ≡ false → o ≡ None
-none_of None e = refl
-none_of (Some x) e = cc
-
--- what is read at a place does not depend on the default
-pub get_or-default : {A : Type 0} (xs : List A) (i : ℕ) (d e : A) → i < length xs → get_or xs i d ≡ get_or xs i e
-get_or-default [] i d e l = absurd (omega arith)
-get_or-default (x ∷ xs) zero d e l = refl
-get_or-default (x ∷ xs) (suc i) d e l = get_or-default xs i d e (omega arith)
+pub moved_id : (offset placing : ℕ) (n : Node) → (moved offset placing n).id ≡ n.id
+moved_id offset placing n = elim (eqb n.offset offset) as (λ b. (cond b n (record n { offset = offset; placing = placing })).id ≡ n.id) [ true ↦ refl | false ↦ refl ]

@@ -20,7 +20,7 @@ use Rattle.region_tree.specs.declared.slots.Slot.{Slot}
 use Rattle.region_tree.specs.declared.extents.Extent.{Extent}
 use Rattle.region_tree.specs.declared.extents.Join.{Join}
 use Rattle.region_tree.specs.Slots.{nodes_of}
-use Rattle.region_tree.specs.Tree.{HasItsChildren}
+use Rattle.region_tree.specs.Slots.{HasItsChildren}
 use Rattle.region_tree.specs.Extents.{steps_with, extent_by, extents_by, HasItsSteps}
 use Rattle.region_tree.proofs.ExtentsLaws.{steps_alias, steps_listed}
 

@@ -8,7 +8,7 @@ ghost use Rattle.mem_base.specs.Region.{node_of};
 ghost use Rattle.mem_base.specs.Kinds.{target_of as target};
 ghost use Rattle.mem_base.specs.Steps.{greatest, total, steps_of, depth_by, weight_by};
 ghost use Rattle.region_tree.specs.Slots.{nodes_of};
-ghost use Rattle.region_tree.specs.Tree.{HasItsChildren};
+ghost use Rattle.region_tree.specs.Slots.{HasItsChildren};
 ghost use Rattle.region_tree.specs.Extents.{steps_with, extent_by, extents_by, HasItsSteps};
 
 use crate::slots::{Slot, place_of};

@@ -12,6 +12,8 @@ ghost use Rattle.mem_base.specs.Paths.{Finds};
 
 mod answers;
 mod search;
+#[cfg(test)]
+mod tests;
 
 use mem_base::{SpaceId, Spot};
 use region_tree::Tree;

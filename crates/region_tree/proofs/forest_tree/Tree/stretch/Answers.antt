@@ -16,12 +16,12 @@ use Rattle.region_tree.proofs.StretchLaws.{stretched, slots_show_steps}
 use Rattle.region_tree.proofs.forest_tree.Tree.stretch.Goals as goal
 
 pub extents-requires-clause-steps : goal.extents-requires-clause-steps
-extents-requires-clause-steps c = rw c.deref.ensures.value (slots_show_steps c.self.inside.slots.items c.self.invariant.forest.ascending c.self.invariant.children)
+extents-requires-clause-steps c = slots_show_steps c.as_slice.result.now c.as_slice.ensures.kept.ascending c.as_slice.ensures.kept.children
 
 pub extents-requires-clause-few : goal.extents-requires-clause-few
 extents-requires-clause-few c =
     let apart = subst (λ (f : Forest). reaches f.nodes c.args.child c.args.parent ≡ false) (sym c.self.view_is) c.requires.no_loop in
-    rw c.deref.ensures.value (weight_joined_bound (forest_of c.self.inside) c.self.invariant.forest c.args.parent c.args.child apart)
+    rw c.as_slice.ensures.nodes (weight_joined_bound (forest_of c.self.inside) c.self.invariant.forest c.args.parent c.args.child apart)
 
 pub returns-clause-depth : goal.returns-clause-depth
 returns-clause-depth c offset priority =
@@ -30,9 +30,8 @@ returns-clause-depth c offset priority =
     let child = subst (λ (g : Forest). is_some (node_of g.nodes c.args.child) ≡ true) (sym c.self.view_is) c.requires.child in
     let no_alias = subst (λ (g : Forest). alias_parent g c.args.parent ≡ None) (sym c.self.view_is) c.requires.no_alias in
     let free = subst (λ (g : Forest). has_container g c.args.child ≡ None) (sym c.self.view_is) c.requires.free in
-    let found = c.in_ok-found.ensures ∙ ap (λ (ss : List Slot). extents_by (nodes_of ss) (record { parent = c.args.parent; child = c.args.child }) 64 ss) c.deref.ensures.value in
-    let all = stretched f c.self.invariant.forest c.self.inside.slots.items refl c.args.parent c.args.child parent child no_alias free c.in_ok-found.found.items found offset priority in
-    c.widest.ensures.depth ∙ ap (λ (es : List Extent). greatest (map (λ (e : Extent). e.depth) es)) c.as_slice.ensures.value ∙ all.0
+    let all = stretched f c.self.invariant.forest c.as_slice.result.now (sym c.as_slice.ensures.nodes) c.args.parent c.args.child parent child no_alias free c.in_ok-found.found.items c.in_ok-found.ensures offset priority in
+    c.widest.ensures.depth ∙ ap (λ (es : List Extent). greatest (map (λ (e : Extent). e.depth) es)) c.as_slice-2.ensures.value ∙ all.0
     ∙ ap (λ (g : Forest). greatest_depth (changed g (Add c.args.parent offset c.args.child priority)).nodes) c.self.view_is
 
 pub returns-clause-weight : goal.returns-clause-weight
@@ -42,7 +41,6 @@ returns-clause-weight c offset priority =
     let child = subst (λ (g : Forest). is_some (node_of g.nodes c.args.child) ≡ true) (sym c.self.view_is) c.requires.child in
     let no_alias = subst (λ (g : Forest). alias_parent g c.args.parent ≡ None) (sym c.self.view_is) c.requires.no_alias in
     let free = subst (λ (g : Forest). has_container g c.args.child ≡ None) (sym c.self.view_is) c.requires.free in
-    let found = c.in_ok-found.ensures ∙ ap (λ (ss : List Slot). extents_by (nodes_of ss) (record { parent = c.args.parent; child = c.args.child }) 64 ss) c.deref.ensures.value in
-    let all = stretched f c.self.invariant.forest c.self.inside.slots.items refl c.args.parent c.args.child parent child no_alias free c.in_ok-found.found.items found offset priority in
-    c.widest.ensures.weight ∙ ap (λ (es : List Extent). greatest (map (λ (e : Extent). e.weight) es)) c.as_slice.ensures.value ∙ all.1
+    let all = stretched f c.self.invariant.forest c.as_slice.result.now (sym c.as_slice.ensures.nodes) c.args.parent c.args.child parent child no_alias free c.in_ok-found.found.items c.in_ok-found.ensures offset priority in
+    c.widest.ensures.weight ∙ ap (λ (es : List Extent). greatest (map (λ (e : Extent). e.weight) es)) c.as_slice-2.ensures.value ∙ all.1
     ∙ ap (λ (g : Forest). greatest_weight (changed g (Add c.args.parent offset c.args.child priority)).nodes) c.self.view_is

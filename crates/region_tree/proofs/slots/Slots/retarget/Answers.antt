@@ -1,0 +1,31 @@
+use Rattle.std.proofs.Common.{◌≡◌, ◌∙◌, ℕ, refl, sym, ap, subst, set}
+use Rattle.mem_base.specs.declared.kinds.Kind.{Kind}
+use Rattle.mem_base.specs.declared.forests.Node.{Node}
+use Rattle.mem_base.specs.Region.{node_of}
+use Rattle.mem_base.specs.Changes.{changed_at, retargeted, logged}
+use Rattle.region_tree.specs.declared.slots.Slot.{Slot}
+use Rattle.region_tree.specs.Slots.{nodes_of, AreKept}
+use Rattle.region_tree.proofs.SlotsLaws.{field_nodes, field_kept, missing_same, retargeted_target}
+use Rattle.region_tree.proofs.slots.Slots.retarget.Goals as goal
+
+pub invariant_of-self : goal.invariant_of-self
+invariant_of-self c =
+    let slots = c.self.inside.items.items in
+    let found = rw c.deref.ensures.value at c.in-Some.ensures in
+    let s : Slot = c.index_mut.result.now in
+    let kept = field_kept slots c.self.invariant c.in-Some.i s c.index_mut.ensures.value c.args.region found.0 (found.1 s) (λ (n : Node). record n { kind = retargeted c.args.offset n.kind }) (record { id = λ n. refl; parent = λ n. refl; priority = λ n. refl; placing = λ n. refl; target = λ n. retargeted_target c.args.offset n.kind }) in
+    subst (λ (k : Kind). AreKept (set slots c.in-Some.i (let t : Slot = record { node = record s.node { kind = k }; children = s.children } in t))) (sym c.retargeted-node.ensures) kept
+
+pub returns-in-Some : goal.returns-in-Some
+returns-in-Some c =
+    let slots = c.self.inside.items.items in
+    let found = rw c.deref.ensures.value at c.in-Some.ensures in
+    let s : Slot = c.index_mut.result.now in
+    let g = λ (n : Node). record n { kind = retargeted c.args.offset n.kind } in
+    ap (λ (k : Kind). nodes_of (set slots c.in-Some.i (let t : Slot = record { node = record s.node { kind = k }; children = s.children } in t))) c.retargeted-node.ensures
+    ∙ field_nodes slots c.self.invariant c.in-Some.i s c.index_mut.ensures.value c.args.region found.0 (found.1 s) g ∙ ap (changed_at c.args.region g) c.self.view_is
+
+pub returns-in_default : goal.returns-in_default
+returns-in_default c =
+    let none = rw c.deref.ensures.value at c.in_default.ensures in
+    missing_same c.args.region (λ (n : Node). record n { kind = retargeted c.args.offset n.kind }) c.args.self.now (ap (λ ns. node_of ns c.args.region) (sym c.self.view_is) ∙ none)
