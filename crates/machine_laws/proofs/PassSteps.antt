@@ -81,8 +81,12 @@ module _ (w : World) (words : List ℕ) (k : Coupled w words) (v : PassId) (p : 
 
   kept_stands : (n : ℕ) → least_lowest g.current g.passes ≤ n → n ≤ g.current → (o : Option Generation) → slice_get g.kept (g.current - n) ≡ o → carries o p ≡ true → Standing o
   kept_stands n low high None e h = absurd (grind arith)
-  kept_stands n low high (Some x) e h = (x, refl, one_of (Stands (places_of w.writer.desk) w.writer.desk.unfilled x) p x.places
-      (every_get (AllStand (places_of w.writer.desk) w.writer.desk.unfilled) g.kept (g.current - n) (g.current + 1 - least_lowest g.current g.passes) x k.held (omega arith) e) h)
+  kept_stands n low high (Some x) e h = (
+    x,
+    refl,
+    one_of (Stands (places_of w.writer.desk) w.writer.desk.unfilled x) p x.places
+        (every_get (AllStand (places_of w.writer.desk) w.writer.desk.unfilled) g.kept (g.current - n) (g.current + 1 - least_lowest g.current g.passes) x k.held (omega arith) e) h,
+  )
 
   number_stands : (n : ℕ) → least_lowest g.current g.passes ≤ n → (b : Bool) → nat_le n g.current ≡ b → carries (if b then slice_get g.kept (g.current - n) else None) p ≡ true
       → Standing (if b then slice_get g.kept (g.current - n) else None)

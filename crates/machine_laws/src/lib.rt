@@ -11,6 +11,8 @@ mod turns;
 mod walks;
 
 pub use cuts::runs_cover_once;
-pub use histories::{each_event_keeps_order, few_generations_are_kept, legal_histories_are_in_order};
+pub use histories::{
+    each_event_keeps_order, few_generations_are_kept, legal_histories_are_in_order,
+};
 pub use turns::turns_join;
 pub use walks::a_walk_replays;

@@ -7,5 +7,4 @@ ghost use Rattle.mem_base.specs.JoinedHistory.{TurnsJoin};
 /// forest of its n-th Publish is the n-th committed forest.
 pub fn turns_join()
     ensures { TurnsJoin }
-{
-}
+{}
