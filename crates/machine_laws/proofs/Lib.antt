@@ -24,6 +24,8 @@ pub mod Outcomes
 pub mod Rows
 pub mod Turning
 pub mod TurnsLaw
+pub mod LiveLaws
+pub mod LiveRanges
 pub mod AccessRows
 pub mod ListenerRows
 pub mod WorldRows

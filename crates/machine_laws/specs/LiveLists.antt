@@ -1,0 +1,17 @@
+-- Live ioeventfds by addresses, and by the ranges of a view.
+use Rattle.std.specs.Prelude.{◌≡◌, ℕ, ◌<◌, List, [], ◌∷◌, ◌⊎◌}
+use Rattle.mem_base.specs.declared.ids.RegionId.{RegionId}
+use Rattle.mem_base.specs.declared.ids.SpaceId.{SpaceId}
+use Rattle.mem_base.specs.declared.flat.FlatRange.{FlatRange}
+use Rattle.mem_base.specs.declared.forests.Forest.{Forest}
+use Rattle.mem_base.specs.Every.{Every}
+use Rattle.mem_base.specs.View.{Agrees}
+use Rattle.mem_base.specs.LiveEvents.{events_of, lives_of, lives_in}
+
+-- each ioeventfd of each region has bytes
+abbrev pub HaveBytes : Forest → Type 0
+HaveBytes f = (region : RegionId) → Every (λ e. 0 < e.size) (events_of f region)
+
+-- the live ioeventfds of ranges that agree with the forest are those of the forest's addresses
+abbrev pub LivesAgree : Type 0
+LivesAgree = (f : Forest) (s : SpaceId) (rs : List FlatRange) → HaveBytes f → Agrees f s rs → lives_of f s ≡ lives_in f rs
