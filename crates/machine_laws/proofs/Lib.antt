@@ -26,6 +26,7 @@ pub mod Turning
 pub mod TurnsLaw
 pub mod LiveLaws
 pub mod LiveRanges
+pub mod LiveMembers
 pub mod AccessRows
 pub mod ListenerRows
 pub mod WorldRows

@@ -37,16 +37,16 @@ in_either x (y ∷ xs) ys (inl e) = inl (inl e)
 in_either x (y ∷ xs) ys (inr m) = ⊎_elim (λ l. inl (inr l)) (λ r. inr r) (in_either x xs ys m)
 
 -- an ioeventfd that is moved and passes a test
-record Moved (g : Ioevent → Live) (test : Live → Bool) (es : List Ioevent) (l : Live) : Type 0 where
-  event : Ioevent
-  among : In event es
-  moved : l ≡ g event
-  passes : test l ≡ true
+pub record Moved (g : Ioevent → Live) (test : Live → Bool) (es : List Ioevent) (l : Live) : Type 0 where
+  pub event : Ioevent
+  pub among : In event es
+  pub moved : l ≡ g event
+  pub passes : test l ≡ true
 
 moved_later : (g : Ioevent → Live) (test : Live → Bool) (e : Ioevent) (es : List Ioevent) (l : Live) → Moved g test es l → Moved g test (e ∷ es) l
 moved_later g test e es l m = record { event = m.event; among = inr m.among; moved = m.moved; passes = m.passes }
 
-moved_in : (g : Ioevent → Live) (test : Live → Bool) (es : List Ioevent) (l : Live) → In l (filter test (map g es)) → Moved g test es l
+pub moved_in : (g : Ioevent → Live) (test : Live → Bool) (es : List Ioevent) (l : Live) → In l (filter test (map g es)) → Moved g test es l
 moved_in g test [] l m = absurd m
 moved_in g test (e ∷ es) l m = go (test (g e)) refl m (λ k. moved_later g test e es l (moved_in g test es l k))
   where
@@ -55,7 +55,7 @@ moved_in g test (e ∷ es) l m = go (test (g e)) refl m (λ k. moved_later g tes
     go true h (inr k) rest = rest k
     go false h k rest = rest k
 
-moved_out : (g : Ioevent → Live) (test : Live → Bool) (es : List Ioevent) (e : Ioevent) → In e es → test (g e) ≡ true → In (g e) (filter test (map g es))
+pub moved_out : (g : Ioevent → Live) (test : Live → Bool) (es : List Ioevent) (e : Ioevent) → In e es → test (g e) ≡ true → In (g e) (filter test (map g es))
 moved_out g test [] e m h = absurd m
 moved_out g test (x ∷ es) e (inl q) h = subst (λ (z : Ioevent). In (g e) (if test (g z) then g z ∷ filter test (map g es) else filter test (map g es))) q (rw h (inl refl))
 moved_out g test (x ∷ es) e (inr m) h = go (test (g x)) (moved_out g test es e m h)
@@ -66,12 +66,12 @@ moved_out g test (x ∷ es) e (inr m) h = go (test (g x)) (moved_out g test es e
 
 -- live at an address
 
-record LiveAt (f : Forest) (n : ℕ) (spot_at : ℕ → Option Spot) (l : Live) : Type 0 where
-  address : ℕ
-  below : address < n
-  lives : In l (lives_at f address (spot_at address))
+pub record LiveAt (f : Forest) (n : ℕ) (spot_at : ℕ → Option Spot) (l : Live) : Type 0 where
+  pub address : ℕ
+  pub below : address < n
+  pub lives : In l (lives_at f address (spot_at address))
 
-below_in : (f : Forest) (n : ℕ) (find : ℕ → Option Spot) (l : Live) → In l (lives_below f n find) → LiveAt f n find l
+pub below_in : (f : Forest) (n : ℕ) (find : ℕ → Option Spot) (l : Live) → In l (lives_below f n find) → LiveAt f n find l
 unfolding lives_below
 below_in f zero find l m = absurd m
 below_in f (suc a) find l m = ⊎_elim
@@ -79,7 +79,7 @@ below_in f (suc a) find l m = ⊎_elim
     (λ before. let t = below_in f a find l before in let b = t.below in record { address = t.address; below = omega arith; lives = t.lives })
     (in_either l (lives_at f a (find a)) (lives_below f a find) (in_order_in l (lives_at f a (find a) ++ lives_below f a find) m))
 
-below_out : (f : Forest) (n : ℕ) (find : ℕ → Option Spot) (l : Live) (a : ℕ) → a < n → In l (lives_at f a (find a)) → In l (lives_below f n find)
+pub below_out : (f : Forest) (n : ℕ) (find : ℕ → Option Spot) (l : Live) (a : ℕ) → a < n → In l (lives_at f a (find a)) → In l (lives_below f n find)
 unfolding lives_below
 below_out f zero find l a h m = absurd (omega arith)
 below_out f (suc n) find l a h m = in_order_out l (lives_at f n (find n) ++ lives_below f n find) (⊎_elim
@@ -87,7 +87,7 @@ below_out f (suc n) find l a h m = in_order_out l (lives_at f n (find n) ++ live
     (λ more. in_left l (lives_at f n (find n)) (lives_below f n find) (let e : a ≡ n = omega arith in subst (λ (z : ℕ). In l (lives_at f z (find z))) e m))
     (cases_lt a n))
 
-below_rising : (f : Forest) (n : ℕ) (find : ℕ → Option Spot) → IsRising live_order (lives_below f n find)
+pub below_rising : (f : Forest) (n : ℕ) (find : ℕ → Option Spot) → IsRising live_order (lives_below f n find)
 unfolding lives_below
 below_rising f zero find = tt
 below_rising f (suc a) find = in_order_rising (lives_at f a (find a) ++ lives_below f a find)
@@ -157,7 +157,7 @@ wider l start a last m n h = let t = both_of _ _ h in both _ _ (wider_le l.addr 
 
 -- an address of the range at which a byte lies
 record Meeting (l : Live) (start last : ℕ) : Type 0 where
-  address : ℕ
+  pub address : ℕ
   from : start ≤ address
   to : address ≤ last
   meets_it : meets address address l ≡ true

@@ -7,6 +7,7 @@
 
 mod cuts;
 mod histories;
+mod live_events;
 mod turns;
 mod walks;
 
@@ -14,5 +15,6 @@ pub use cuts::runs_cover_once;
 pub use histories::{
     each_event_keeps_order, few_generations_are_kept, legal_histories_are_in_order,
 };
+pub use live_events::{lives_agree, lives_are_live};
 pub use turns::turns_join;
 pub use walks::a_walk_replays;
