@@ -7,7 +7,7 @@ use Rattle.mem_base.specs.declared.calls.Config.TheVariants as configs
 use Rattle.mem_base.specs.declared.refusals.Refusal.{Refusal}
 use Rattle.mem_base.specs.Marks.{pages_from}
 use Rattle.mem_base.specs.Listening.{Told}
-use Rattle.mem_base.specs.Generations.{Generation}
+use Rattle.mem_base.specs.Generations.{Generation, generation_of}
 use Rattle.mem_base.specs.Reaps.{Writer, released}
 use Rattle.mem_base.specs.Configs.{configured}
 use Rattle.mem_base.specs.Orders.{Order, configure, reap, load, harvest, notified, journal, current, load_refusal, harvest_refusal}
@@ -20,7 +20,7 @@ pub data Answer : Type 0 where
   harvested : Result (List ℕ) Refusal → Answer  -- the marked pages
   value : ℕ → Answer  -- of a notifier
   told : List Told → Answer  -- the journal
-  standing : ℕ → List Generation → Answer  -- the current number, and the generations kept
+  standing : ℕ → Option Generation → Answer  -- the current number, and the current generation
 
 -- the number that is about to be published
 abbrev pub number_due : Writer → Option ℕ
@@ -55,4 +55,4 @@ answer_to w next (load region offset bytes) replies = finished (or_refused (load
 answer_to w next (harvest region client) replies = harvested (or_refused (harvest_refusal w.desk.forest region) (pages_from 0 replies))
 answer_to w next (notified number) replies = value (first_or_zero replies)
 answer_to w next journal replies = told w.desk.listening.journal
-answer_to w next current replies = standing w.generations.current w.generations.kept
+answer_to w next current replies = standing w.generations.current (generation_of w.generations w.generations.current)
