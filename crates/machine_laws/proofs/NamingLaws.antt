@@ -10,10 +10,11 @@ use Rattle.mem_base.specs.declared.flat.FlatRange.{FlatRange}
 use Rattle.mem_base.specs.declared.forests.Forest.{Forest}
 use Rattle.mem_base.specs.Limits.{most_depth}
 use Rattle.mem_base.specs.Search.{look, root_of, is_space, spot_in}
-use Rattle.mem_base.specs.Editions.{Names}
+use Rattle.machine_laws.specs.Named.{Names}
 use Rattle.mem_base.specs.Flattened.{lone, goes_on, put_before, ranges_from, view_of}
 use Rattle.mem_base.specs.Naming.{has_leaf, names}
-use Rattle.machine_laws.proofs.Tests.{both_of, or_left, or_right, none_is_not_some, same_some}
+use Rattle.machine_laws.proofs.Tests.{both_of, or_left, or_right, none_is_not_some}
+use Rattle.machine_laws.proofs.Backed.{same_region}
 
 abbrev leaf_is : RegionId → Option Spot → Bool
 leaf_is region None = false
@@ -84,9 +85,6 @@ leaf_ranges found a (suc n) i region l m h = ⊎_elim
     (cases_lt a i)
 
 -- the leaf as the relation says it
-
-same_region : (r s : RegionId) → r.0 ≡ s.0 → r ≡ s
-same_region r s e = ap (λ (n : ℕ). let x : RegionId = record { 0 = n } in x) e
 
 leaf_so : (region : RegionId) (o : Option Spot) → leaf_is region o ≡ true → IsSomeAnd o (λ spot. spot.leaf ≡ region)
 leaf_so region None h = absurd (grind arith)
