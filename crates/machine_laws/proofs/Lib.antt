@@ -27,6 +27,7 @@ pub mod TurnsLaw
 pub mod LiveLaws
 pub mod LiveRanges
 pub mod LiveMembers
+pub mod NamingLaws
 pub mod AccessRows
 pub mod ListenerRows
 pub mod WorldRows

@@ -5,11 +5,9 @@ ghost use Rattle.machine_laws.specs.LiveLists.{LivesAreLive, LivesAgree};
 /// byte, in order, each once.
 pub fn lives_are_live()
     ensures { LivesAreLive }
-{
-}
+{}
 
 /// Where ranges agree with a forest at a space, the live ioeventfds of the ranges are those of the forest.
 pub fn lives_agree()
     ensures { LivesAgree }
-{
-}
+{}

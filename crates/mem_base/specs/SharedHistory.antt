@@ -37,9 +37,9 @@ carries (Some x) p = list_any (is_same_place p) x.places
 abbrev pub is_within : Shared → Place → ℕ → Bool
 is_within s p word = nat_lt word p.words && nat_le (past p) (length s.words)
 
--- a step on a cell of a region with the place that it names, which is that region's. A pass does what the pure
--- machine lets it do, and its generation carries the place; the writer needs only that the word is there, since each
--- cell is named with the place of its region
+-- a step on a cell with the place that it names. The cell is named by its place's region, so the two are one. A pass
+-- does what the pure machine lets it do, and its generation carries the place; the writer needs only that the word is
+-- there
 abbrev pub may_touch : Shared → Event → Place → Bool
 may_touch s (events.Word (hands.Pass pass) c step) p =
     let entered = entered_generation s.generations s.passes pass in
