@@ -15,6 +15,14 @@ pub mod Replaced
 pub mod ReapSteps
 pub mod NewPlace
 pub mod PrivateSteps
+pub mod Openings
+pub mod Joining
+pub mod Readies
+pub mod TurnGoes
+pub mod Idles
+pub mod Outcomes
+pub mod Rows
+pub mod Turning
 pub mod AccessRows
 pub mod ListenerRows
 pub mod WorldRows

@@ -26,9 +26,12 @@ use Rattle.mem_base.specs.Editions.{place_in}
 use Rattle.mem_base.specs.Calls.{after as forest_after, answer_of, is_quiet}
 use Rattle.mem_base.specs.Places.{Extent, extent_of, words_of, place_at, notifiers_place, is_notifiers, mark_words, mark_word, word_of_page, pages_in, first_fit}
 use Rattle.mem_base.specs.Generations.{Generation, Generations, held_generations}
-use Rattle.mem_base.specs.Listening.{Listening}
+use Rattle.mem_base.specs.Refusals.{first_refusal, unknown_space}
+use Rattle.mem_base.specs.Flattened.{view_of}
+use Rattle.mem_base.specs.LiveEvents.{lives_of}
+use Rattle.mem_base.specs.Listening.{Listening, joined, join_refusal, leave_refusal}
 use Rattle.mem_base.specs.Desk.{Desk, places_of, cells_of}
-use Rattle.mem_base.specs.Publishing.{settled, refused, unless_refused, held_up, readied, publishing}
+use Rattle.mem_base.specs.Publishing.{settled, refused, unless_refused, held_up, readied, publishing, current_forest}
 use Rattle.mem_base.specs.Configs.{configured, made, backed, kept_back, called, begun, committed, listened, unlistened, without_listener}
 use Rattle.mem_base.specs.World.{World, possible, after, told, block_for, is_at_rest}
 use Rattle.mem_base.proofs.EveryLaws.{weaker}
@@ -41,9 +44,14 @@ use Rattle.machine_laws.proofs.FitLaws.{fits, clear}
 use Rattle.machine_laws.proofs.NewPlace.{others_rest, between_new, found_new, last_of, first_of, put_in, backs_new}
 
 -- a region that is made has no place yet, and a region that is dropped is not the notifiers'
+abbrev pub IsNew : Desk → Call → Type 0
+IsNew d (calls.Region kind size) = place_in (places_of d) (record { 0 = d.forest.made }) ≡ None
+IsNew d (calls.Drop region) = is_notifiers region ≡ false
+IsNew d call = Unit {0}
+
+-- where the call is accepted
 abbrev pub IsFresh : Desk → Config → Type 0
-IsFresh d (configs.Call (calls.Region kind size)) = place_in (places_of d) (record { 0 = d.forest.made }) ≡ None
-IsFresh d (configs.Call (calls.Drop region)) = is_notifiers region ≡ false
+IsFresh d (configs.Call call) = (f : Forest) → forest_after d.forest call ≡ Ok f → IsNew d call
 IsFresh d k = Unit {0}
 
 -- what a private event leaves as it was
@@ -162,3 +170,74 @@ module _ (w : World) (words : List ℕ) (k : Coupled w words) (rest : is_at_rest
       go : (b : Bool) → (words_of x == 0) ≡ b → Kept w words (if b then settled (record e { forest = f }) (Made r) else backed e f r x (first_fit e.pool_words e.places (words_of x))).desk
       go true h = quietly w words k rest _ (leaves e _ refl refl refl refl)
       go false h = at (first_fit e.pool_words e.places (words_of x)) (let ne : words_of x ≡ 0 → ⊥ = eqb-false _ _ h in omega arith) refl
+
+module _ (w : World) (words : List ℕ) (k : Coupled w words) (rest : is_at_rest w.writer.desk ≡ true) where
+  abbrev a : Desk
+  a = w.writer.desk
+
+  abbrev g : Generations
+  g = w.writer.generations
+
+  kept_back_kept : (call : Call) (f : Forest) → IsNew a call → Kept w words (kept_back a call f).desk
+  kept_back_kept (calls.Region kind size) f fresh = made_kept w words k rest (record { 0 = a.forest.made }) fresh f (extent_of kind size)
+  kept_back_kept (calls.Drop region) f fresh = quietly w words k rest _ (record { places = refl; pool = refl; unfilled = refl; low = λ e. append_low a.dropped region fresh e })
+  kept_back_kept call f fresh = quietly w words k rest _ (leaves a _ refl refl refl refl)
+
+  called_kept : (call : Call) → IsFresh a (configs.Call call) → (x : Result Forest Refusal) → forest_after a.forest call ≡ x → Kept w words (called g a call x).desk
+  called_kept call fresh (Err why) e = same w words k rest
+  called_kept call fresh (Ok f) e = go ((a.depth == 0) && not (is_quiet call))
+    where
+      go : (b : Bool) → Kept w words (if b then publishing g a f (answer_of a.forest call) else kept_back a call f).desk
+      go true = publishing_kept w words k rest f (answer_of a.forest call)
+      go false = kept_back_kept call f (fresh f e)
+
+  begun_kept : Kept w words (begun a).desk
+  begun_kept = go (a.depth == most_nested)
+    where
+      go : (b : Bool) → Kept w words (if b then refused a TooNested else settled (record a { depth = a.depth + 1 }) Done).desk
+      go true = same w words k rest
+      go false = quietly w words k rest _ (leaves a _ refl refl refl refl)
+
+  committed_kept : Kept w words (committed g a).desk
+  committed_kept = go (a.depth == 0) ((a.depth == 1) && a.pending)
+    where
+      go : (b c : Bool) → Kept w words (if b then refused a NoTransaction else if c then publishing g a a.forest Done else settled (record a { depth = a.depth - 1 }) Done).desk
+      go true c = same w words k rest
+      go false true = publishing_kept w words k rest a.forest Done
+      go false false = quietly w words k rest _ (leaves a _ refl refl refl refl)
+
+  abbrev with_listening : Listening → Desk
+  with_listening x = record a { listening = x }
+
+  either_kept : (b : Bool) (x : Listening) (m : Desk) → Kept w words m → Kept w words (if b then with_listening x else m)
+  either_kept true x m s = quietly w words k rest _ (leaves a _ refl refl refl refl)
+  either_kept false x m s = s
+
+  without_kept : (ls : List Listener) (id : ListenerId) → Kept w words (without_listener ls id g a)
+  without_kept [] id = same w words k rest
+  without_kept (l ∷ ls) id = either_kept (l.listener.0 == id.0) _ (without_listener ls id g a) (without_kept ls id)
+
+  listened_kept : (l : Listener) → Kept w words (listened g a l).desk
+  listened_kept l =
+      let m : Desk = with_listening (joined a.listening l (view_of (current_forest g) l.space) (lives_of (current_forest g) l.space)) in
+      unless_kept w words k rest (first_refusal (unknown_space a.forest l.space ∷ join_refusal a.listening l.listener ∷ [])) m Done (quietly w words k rest m (leaves a m refl refl refl refl))
+
+  configured_kept : (c : Config) → IsFresh a c → Kept w words (configured g a c).desk
+  configured_kept configs.Begin fresh = begun_kept
+  configured_kept (configs.Call call) fresh = called_kept call fresh (forest_after a.forest call) refl
+  configured_kept configs.Commit fresh = committed_kept
+  configured_kept (configs.Listen listener space priority) fresh =
+      listened_kept (record { listener = listener; space = space; priority = priority })
+  configured_kept (configs.Unlisten id) fresh = unless_kept w words k rest (leave_refusal a.listening id) (without_listener a.listening.listeners id g a) Done (without_kept a.listening.listeners id)
+
+-- each call, begin, commit, and listener that joins or leaves
+pub configures : (w : World) (words : List ℕ) (c : Config) → Coupled w words → possible w (events.Config c) ≡ true → IsFresh w.writer.desk c → Coupled (after w (events.Config c)) words
+configures w words c k may fresh = let s = configured_kept w words k (both_of _ _ may).0 c fresh in record {
+  backed = s.backed;
+  held = s.held;
+  whole = s.whole;
+  low = s.low;
+  still = s.still;
+  bare = λ r placeless. no_cells w.blocks (places_of (configured w.writer.generations w.writer.desk c).desk) r placeless;
+  order = order_after w k.order (events.Config c) _ may refl;
+}

@@ -1,6 +1,6 @@
 -- Every accepted call keeps the invariant of forests.
 use Rattle.std.specs.Prelude.{filter, not, ◌-◌}
-use Rattle.std.proofs.Common.{◌≡◌, ℕ, ◌+◌, ◌≤◌, Bool, true, false, cond, ℤ, List, [], ◌∷◌, ◌++◌, Option, Some, None, Result, Ok, Err, refl, sym, ap, subst, ◌∙◌, arith}
+use Rattle.std.proofs.Common.{◌≡◌, ℕ, ◌+◌, ◌≤◌, Bool, true, false, cond, ℤ, List, [], ◌∷◌, ◌++◌, Option, Some, None, Ok, Err, refl, sym, ap, subst, arith}
 use Rattle.mem_base.specs.declared.ids.RegionId.{RegionId}
 use Rattle.mem_base.specs.declared.ids.SpaceId.{SpaceId}
 use Rattle.mem_base.specs.declared.forests.Node.{Node}
@@ -12,11 +12,9 @@ use Rattle.mem_base.specs.declared.translations.Perm.{Perm}
 use Rattle.mem_base.specs.declared.refusals.Refusal.{Refusal}
 use Rattle.mem_base.specs.declared.calls.Call.{Call}
 use Rattle.mem_base.specs.declared.calls.Call.TheVariants as calls
-use Rattle.mem_base.specs.Every.{Every}
 use Rattle.mem_base.specs.Kinds.{is_alias, target_of}
-use Rattle.mem_base.specs.Region.{node_of}
 use Rattle.mem_base.specs.Forest.{IsForest}
-use Rattle.mem_base.specs.Refusals.{first_refusal, unknown_region, unknown_target, has_container, too_deep, too_wide}
+use Rattle.mem_base.specs.Refusals.{first_refusal, unknown_region, unknown_target, too_deep, too_wide}
 use Rattle.mem_base.specs.TableRefusals.{no_more_calls, has_iova, is_event}
 use Rattle.mem_base.specs.Sorting.{put_by}
 use Rattle.mem_base.specs.Steps.{greatest_depth, greatest_weight}

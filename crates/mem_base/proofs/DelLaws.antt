@@ -1,5 +1,5 @@
 -- Laws of calls that take a child out of its container.
-use Rattle.std.proofs.Common.{◌≡◌, ◌≢◌, ℕ, ◌+◌, ◌<◌, ◌≤◌, max, Bool, true, false, not, ◌&&◌, cond, eqb, List, [], ◌∷◌, ◌++◌, map, Option, Some, None, refl, sym, ap, subst, ◌∙◌, arith}
+use Rattle.std.proofs.Common.{◌≡◌, ℕ, ◌≤◌, Bool, true, false, not, cond, List, [], ◌∷◌, map, Option, Some, None, refl, sym, ap, subst, ◌∙◌, arith}
 use Rattle.std.specs.Prelude.{filter}
 use Rattle.std.specs.declared.cmp.Ordering.{Ordering}
 use Rattle.std.specs.declared.cmp.Ordering.TheVariants.{Less, Equal, Greater}
@@ -15,9 +15,9 @@ use Rattle.mem_base.specs.Region.{has_id, node_of, is_in, is_child_of}
 use Rattle.mem_base.specs.Sorting.{put_by, sorted_by}
 use Rattle.mem_base.specs.Order.{trial_order, children_of}
 use Rattle.mem_base.specs.Changes.{changed_at}
-use Rattle.mem_base.specs.Steps.{Steps, steps_of, steps_from, steps_at, greatest, total, depth_by, weight_by, depth_of, weight_of, greatest_depth, greatest_weight}
+use Rattle.mem_base.specs.Steps.{steps_of, steps_from, steps_at, greatest, total, depth_of, weight_of, greatest_depth, greatest_weight}
 use Rattle.mem_base.proofs.EveryLaws.{weaker}
-use Rattle.mem_base.proofs.StepLaws.{Alike, Fewer, alike-put_by, map_agree, every_of, depth_by-fewer, weight_by-fewer}
+use Rattle.mem_base.proofs.StepLaws.{Fewer, depth_by-fewer, weight_by-fewer}
 use Rattle.mem_base.proofs.ForestLaws.{trial_total}
 use Rattle.mem_base.proofs.JoinLaws.{node_of-changed_at, steps_seen, map_ids-changed_at}
 

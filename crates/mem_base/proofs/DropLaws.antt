@@ -1,5 +1,5 @@
 -- Laws of a region that is dropped: it was in no container, and nothing else changes.
-use Rattle.std.proofs.Common.{◌≡◌, ◌≢◌, ℕ, ◌+◌, ◌<◌, ◌≤◌, max, Bool, true, false, not, cond, eqb, List, [], ◌∷◌, map, Option, Some, None, refl, sym, ap, subst, ◌∙◌, arith}
+use Rattle.std.proofs.Common.{◌≡◌, ◌≢◌, ℕ, ◌<◌, ◌≤◌, max, Bool, true, false, not, cond, eqb, List, [], ◌∷◌, map, Option, Some, None, refl, sym, ap, subst, ◌∙◌, arith}
 use Rattle.std.specs.Prelude.{filter}
 use Rattle.std.proofs.lemmas.Bool.Decides.{nat_tests}
 use Rattle.mem_base.specs.declared.ids.RegionId.{RegionId}
@@ -15,7 +15,7 @@ use Rattle.mem_base.specs.Steps.{steps_of, steps_from, greatest, total, depth_of
 use Rattle.mem_base.specs.Changes.{changed}
 use Rattle.mem_base.specs.Calls.{counted}
 use Rattle.mem_base.proofs.EveryLaws.{weaker}
-use Rattle.mem_base.proofs.ForestLaws.{only_node, id_of}
+use Rattle.mem_base.proofs.ForestLaws.{only_node}
 use Rattle.mem_base.proofs.StepLaws.{Fewer, depth_by-fewer, weight_by-fewer}
 use Rattle.mem_base.proofs.JoinLaws.{steps_alike}
 use Rattle.mem_base.proofs.RefusalLaws.{IsUnused}

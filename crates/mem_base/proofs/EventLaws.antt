@@ -1,26 +1,21 @@
 -- Laws of the ioeventfds of a region: their order, putting in and taking out.
-use Rattle.std.proofs.Common.{◌≡◌, ◌≢◌, ℕ, zero, suc, ◌+◌, ◌<◌, ◌≤◌, min, Bool, true, false, not, ◌&&◌, ◌||◌, cond, eqb, ltb, List, [], ◌∷◌, map, filter, length, drop, get_or, Option, Some, None, Result, Ok, Err, refl, sym, ap, subst, ◌∙◌, arith, ◌⊎◌, inl, inr, ◌^◌}
-use Rattle.std.specs.Prelude.{unwrap_or, nat_le, nat_lt, insert}
+use Rattle.std.proofs.Common.{◌≡◌, ◌≢◌, ℕ, Bool, true, false, ◌&&◌, ◌||◌, eqb, List, [], ◌∷◌, Result, Ok, Err, refl, sym, ap, ◌∙◌, ◌⊎◌, inl, inr}
+use Rattle.std.specs.Prelude.{insert}
 use Rattle.std.specs.List.{list_any}
-use Rattle.std.proofs.lemmas.Bool.Decides.{nat_tests}
 use Rattle.std.specs.declared.cmp.Ordering.{Ordering}
 use Rattle.std.specs.declared.cmp.Ordering.TheVariants.{Less, Equal, Greater}
 use Rattle.std.specs.Ordering.{nat_cmp, bool_cmp, ordering_then, is_lt, is_eq, ordering_reverse}
 use Rattle.std.specs.Cmp.{IsTotalOrder}
 use Rattle.std.proofs.lemmas.Cmp.{then_total, on_total, nat_cmp_total}
-use Rattle.mem_base.specs.declared.translations.Entry.{Entry}
 use Rattle.mem_base.specs.declared.ioevents.Ioevent.{Ioevent}
 use Rattle.mem_base.specs.Every.{Every}
 use Rattle.mem_base.specs.Sorting.{put_by, IsRising}
-use Rattle.mem_base.specs.Tables.{AreEntries, AreEvents, iova_cmp, event_cmp, match_order}
-use Rattle.mem_base.specs.TableRefusals.{has_iova, is_event, bool_eq, meets_page, least, least_met}
-use Rattle.mem_base.specs.Changes.{entry_order, event_order}
-use Rattle.std.specs.List.Sorted.{IsPartitionPoint, IsPartitionedBy}
-use Rattle.mem_base.specs.declared.translations.Perm.TheVariants.{Nothing}
+use Rattle.mem_base.specs.Tables.{AreEvents, event_cmp, match_order}
+use Rattle.mem_base.specs.TableRefusals.{is_event, bool_eq}
+use Rattle.mem_base.specs.Changes.{event_order}
 use Rattle.mem_base.specs.Sorting.{place_of}
 use Rattle.mem_base.proofs.PlaceLaws.{Rises, Rises-rising, any-present, insert-place_of}
-use Rattle.mem_base.proofs.EveryLaws.{weaker, every_at, every_filter}
-use Rattle.mem_base.proofs.StepLaws.{every_of}
+use Rattle.mem_base.proofs.EveryLaws.{weaker}
 use Rattle.mem_base.proofs.DelLaws.{every_put_by}
 use Rattle.mem_base.proofs.EntryLaws.{nat_is}
 
@@ -37,10 +32,10 @@ then_is Greater q = refl
 
 and_right : (a b c d : Bool) → a && b && c && d ≡ a && (b && (c && d))
 and_right true b c d = and_three b c d
-    where
-      and_three : (b c d : Bool) → b && c && d ≡ b && (c && d)
-      and_three true c d = refl
-      and_three false c d = refl
+  where
+    and_three : (b c d : Bool) → b && c && d ≡ b && (c && d)
+    and_three true c d = refl
+    and_three false c d = refl
 and_right false b c d = refl
 
 and_same : (a b c d a' b' c' d' : Bool) → a ≡ a' → b ≡ b' → c ≡ c' → d ≡ d' → a && (b && (c && d)) ≡ a' && (b' && (c' && d'))

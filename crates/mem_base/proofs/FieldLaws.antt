@@ -1,27 +1,14 @@
 -- Laws of calls that change one region but not its place: the children of each region stay.
-use Rattle.std.proofs.Common.{◌≡◌, ◌≢◌, ℕ, ◌+◌, ◌<◌, ◌≤◌, max, Bool, true, false, cond, eqb, List, [], ◌∷◌, ◌++◌, map, Option, Some, None, refl, sym, ap, subst, ◌∙◌, arith}
+use Rattle.std.proofs.Common.{◌≡◌, true, false, cond, List, [], ◌∷◌, map, refl, ap, ◌∙◌}
 use Rattle.std.specs.Prelude.{filter}
-use Rattle.std.specs.declared.cmp.Ordering.{Ordering}
 use Rattle.std.specs.Ordering.{is_lt}
 use Rattle.mem_base.specs.declared.ids.RegionId.{RegionId}
 use Rattle.mem_base.specs.declared.forests.Node.{Node}
-use Rattle.mem_base.specs.declared.forests.Forest.{Forest}
-use Rattle.mem_base.specs.declared.kinds.Kind.{Kind}
-use Rattle.mem_base.specs.declared.kinds.Kind.TheVariants.{Alias}
-use Rattle.mem_base.specs.Every.{Every}
 use Rattle.mem_base.specs.Kinds.{target_of}
-use Rattle.mem_base.specs.Region.{has_id, node_of, is_in, is_child_of}
+use Rattle.mem_base.specs.Region.{has_id, is_in, is_child_of}
 use Rattle.mem_base.specs.Sorting.{put_by, sorted_by}
 use Rattle.mem_base.specs.Order.{trial_order, children_of}
-use Rattle.mem_base.specs.Forest.{IsForest}
 use Rattle.mem_base.specs.Changes.{changed_at}
-use Rattle.mem_base.specs.Steps.{Steps, steps_of, steps_from, steps_at, greatest, total, depth_by, weight_by, depth_of, weight_of, greatest_depth, greatest_weight}
-use Rattle.mem_base.proofs.StepLaws.{Alike, Fewer, map_agree, every_of, depth_by-alike, weight_by-alike, depth_by-fewer, weight_by-fewer}
-use Rattle.mem_base.proofs.JoinLaws.{node_of-changed_at, map_ids-changed_at, steps_seen, steps_alike}
-
--- the order of two regions, and where they lie
-abbrev pub SeesSame : (Node → Node) → Type 0
-SeesSame g = (x y : Node) → trial_order (g x) (g y) ≡ trial_order x y
 
 -- a change of one region that keeps its id, its place and its target
 pub record IsField (g : Node → Node) : Type 0 where

@@ -11,9 +11,9 @@ use Rattle.mem_base.specs.declared.flat.FlatRange.{FlatRange}
 use Rattle.mem_base.specs.TableRefusals.{bool_eq}
 use Rattle.mem_base.specs.Limits.{most_depth}
 use Rattle.mem_base.specs.Search.{look, root_of, spot_in}
-use Rattle.mem_base.specs.View.{shown, IsRanges, Merges, MergesNot, IsMerged, Agrees, IsView}
+use Rattle.mem_base.specs.View.{shown, IsRanges, Merges, MergesNot, IsMerged, IsView}
 use Rattle.mem_base.specs.Flattened.{lone, same_attrs, goes_on, put_before, ranges_from, view_of}
-use Rattle.mem_base.proofs.ViewLaws.{spot_at, shown-before, shown-first, shown-later, IsRanges-within, IsView-unique}
+use Rattle.mem_base.proofs.ViewLaws.{shown-before, shown-first, shown-later, IsView-unique}
 
 -- what the ranges of the addresses from `a` to `end` are
 record Flattens (found : ℕ → Option Spot) (a end : ℕ) (rs : List FlatRange) : Type 0 where

@@ -1,5 +1,5 @@
 -- Laws of forests and of what a call makes of them.
-use Rattle.std.proofs.Common.{◌≡◌, ◌≢◌, ℕ, zero, suc, ◌+◌, ◌<◌, ◌≤◌, Bool, true, false, cond, ℤ, List, [], ◌∷◌, ◌++◌, length, get_or, set, drop, map, Option, Some, None, Ok, Err, refl, sym, ap, subst, ◌∙◌, arith, add-one}
+use Rattle.std.proofs.Common.{◌≡◌, ◌≢◌, ℕ, zero, suc, ◌+◌, ◌<◌, ◌≤◌, Bool, true, false, cond, ℤ, List, [], ◌∷◌, ◌++◌, length, get_or, set, drop, map, Option, Some, None, refl, sym, ap, subst, ◌∙◌, arith, add-one}
 use Rattle.std.proofs.lemmas.Bool.Decides.{nat_tests}
 use Rattle.std.specs.Prelude.{filter, is_some}
 use Rattle.std.specs.declared.cmp.Ordering.{Ordering}
@@ -10,22 +10,16 @@ use Rattle.std.proofs.lemmas.Cmp.{then_total, on_total, back_total, nat_cmp_tota
 use Rattle.mem_base.specs.declared.ids.RegionId.{RegionId}
 use Rattle.mem_base.specs.declared.forests.Node.{Node}
 use Rattle.mem_base.specs.declared.forests.Forest.{Forest}
-use Rattle.mem_base.specs.declared.calls.Call.{Call}
 use Rattle.mem_base.specs.Every.{Every}
 use Rattle.mem_base.specs.Region.{has_id, node_of, is_in, is_child_of}
 use Rattle.mem_base.specs.Sorting.{put_by, sorted_by}
 use Rattle.mem_base.specs.Order.{trial_order, children_of}
 use Rattle.mem_base.specs.Forest.{IsAscending, IsPlacedBefore, IsTargetBefore, IsForest}
 use Rattle.mem_base.specs.declared.kinds.Kind.TheVariants.{Alias}
-use Rattle.std.specs.Option.{option_or}
 use Rattle.std.specs.Prelude.{if◌then◌else◌}
 use Rattle.mem_base.specs.declared.kinds.Kind.{Kind}
 use Rattle.mem_base.specs.declared.calls.Call.TheVariants as calls
-use Rattle.mem_base.specs.declared.refusals.What.TheVariants as what
-use Rattle.mem_base.specs.declared.refusals.Refusal.{Refusal}
-use Rattle.mem_base.specs.declared.refusals.Refusal.TheVariants.{Unknown, HasContainer}
-use Rattle.mem_base.specs.declared.ids.SpaceId.{SpaceId}
-use Rattle.mem_base.specs.Changes.{changed_at, changed, placed, made_region}
+use Rattle.mem_base.specs.Changes.{changed_at, changed, placed}
 use Rattle.mem_base.specs.Calls.{counted}
 use Rattle.mem_base.specs.Steps.{greatest_depth, greatest_weight}
 use Rattle.mem_base.proofs.EveryLaws.{weaker, both, every_push, every_at}

@@ -1,6 +1,6 @@
 -- Laws of a region that is placed in a container: what its steps and children are then.
-use Rattle.std.proofs.Common.{◌≡◌, ◌≢◌, ℕ, zero, suc, ◌+◌, ◌*◌, ◌<◌, ◌≤◌, Bool, true, false, cond, eqb, ℤ, List, [], ◌∷◌, map, Option, Some, None, refl, sym, ap, subst, ◌∙◌, arith}
-use Rattle.std.specs.Prelude.{is_some, option_map}
+use Rattle.std.proofs.Common.{◌≡◌, ◌≢◌, ℕ, zero, suc, ◌<◌, ◌≤◌, true, false, cond, eqb, ℤ, List, [], ◌∷◌, map, Option, Some, None, refl, sym, ap, subst, ◌∙◌, arith}
+use Rattle.std.specs.Prelude.{option_map}
 use Rattle.std.proofs.lemmas.Bool.Decides.{nat_tests}
 use Rattle.std.specs.declared.cmp.Ordering.TheVariants.{Equal}
 use Rattle.mem_base.specs.declared.ids.RegionId.{RegionId}
@@ -15,7 +15,7 @@ use Rattle.mem_base.specs.Sorting.{put_by, sorted_by}
 use Rattle.mem_base.specs.Order.{trial_order, children_of}
 use Rattle.mem_base.specs.Forest.{IsForest}
 use Rattle.mem_base.specs.Changes.{placed, changed_at}
-use Rattle.mem_base.specs.Steps.{steps_of, steps_from, steps_at, greatest, total, depth_by, weight_by, reaches, greatest_weight, weight_of, depth_of}
+use Rattle.mem_base.specs.Steps.{steps_of, steps_from, steps_at, greatest, total, depth_by, weight_by, reaches, weight_of, depth_of}
 use Rattle.mem_base.proofs.EveryLaws.{weaker}
 use Rattle.mem_base.proofs.ForestLaws.{trial_apart, filter-changed_at, children_of-joined, only_node, child_before, id_of, every_node_of}
 use Rattle.mem_base.proofs.StepLaws.{Alike, joined_steps, alike-put_by, weight_by-bounded, depth_by-longer, IsWithin, IsWithin-depth_by, IsWithin-depth_at_most}

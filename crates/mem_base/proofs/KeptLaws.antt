@@ -1,5 +1,5 @@
 -- What the calls on one region keep of a forest.
-use Rattle.std.proofs.Common.{◌≡◌, ℕ, ◌+◌, ◌<◌, ◌≤◌, Bool, true, false, cond, List, Option, Some, None, refl, sym, ap, subst, ◌∙◌, arith}
+use Rattle.std.proofs.Common.{◌≡◌, ℕ, ◌<◌, Option, Some, None, refl, sym, subst, arith}
 use Rattle.mem_base.specs.declared.ids.RegionId.{RegionId}
 use Rattle.mem_base.specs.declared.forests.Node.{Node}
 use Rattle.mem_base.specs.declared.kinds.Kind.{Kind}
@@ -8,7 +8,7 @@ use Rattle.mem_base.specs.declared.forests.Forest.{Forest}
 use Rattle.mem_base.specs.declared.calls.Call.TheVariants as calls
 use Rattle.mem_base.specs.Kinds.{target_of}
 use Rattle.mem_base.specs.Forest.{IsForest, IsPlacedBefore, IsTargetBefore}
-use Rattle.mem_base.specs.Changes.{changed_at, at_region, changed, retargeted}
+use Rattle.mem_base.specs.Changes.{at_region, changed, retargeted}
 use Rattle.mem_base.specs.Calls.{counted}
 use Rattle.mem_base.proofs.ForestLaws.{every_changed_at, ascending_changed_at}
 use Rattle.mem_base.proofs.FieldLaws.{IsField}

@@ -1,14 +1,12 @@
 -- Laws of changes of one region that keep where each region leads: no depth and no weight changes.
-use Rattle.std.proofs.Common.{◌≡◌, ℕ, ◌≤◌, Bool, true, false, cond, List, [], ◌∷◌, map, Option, Some, None, refl, sym, ap, subst, ◌∙◌, arith}
+use Rattle.std.proofs.Common.{◌≡◌, true, false, cond, List, [], ◌∷◌, map, Option, Some, None, refl, sym, ap, ◌∙◌}
 use Rattle.std.specs.Prelude.{filter}
 use Rattle.mem_base.specs.declared.ids.RegionId.{RegionId}
 use Rattle.mem_base.specs.declared.forests.Node.{Node}
 use Rattle.mem_base.specs.declared.kinds.Kind.{Kind}
 use Rattle.mem_base.specs.declared.kinds.Kind.TheVariants.{Alias}
-use Rattle.mem_base.specs.Every.{Every}
 use Rattle.mem_base.specs.Kinds.{target_of}
 use Rattle.mem_base.specs.Region.{has_id, node_of, is_in, is_child_of}
-use Rattle.mem_base.specs.Sorting.{sorted_by}
 use Rattle.mem_base.specs.Order.{trial_order, children_of}
 use Rattle.mem_base.specs.Changes.{changed_at}
 use Rattle.mem_base.specs.Steps.{steps_of, steps_from, steps_at, greatest, total, depth_of, weight_of, greatest_depth, greatest_weight}

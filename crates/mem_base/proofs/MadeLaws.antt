@@ -1,6 +1,5 @@
 -- Laws of a region that is made: it leads on as it should, and nothing leads to it.
-use Rattle.std.proofs.Common.{◌≡◌, ◌≢◌, ℕ, ◌+◌, ◌<◌, ◌≤◌, max, Bool, true, false, cond, eqb, List, [], ◌∷◌, ◌++◌, map, Option, Some, None, refl, sym, ap, subst, ◌∙◌, arith}
-use Rattle.std.specs.Prelude.{is_some}
+use Rattle.std.proofs.Common.{◌≡◌, ℕ, ◌+◌, ◌<◌, ◌≤◌, max, true, false, cond, List, [], ◌∷◌, ◌++◌, map, Option, Some, None, refl, sym, ap, ◌∙◌, arith}
 use Rattle.std.proofs.lemmas.Bool.Decides.{nat_tests}
 use Rattle.mem_base.specs.declared.ids.RegionId.{RegionId}
 use Rattle.mem_base.specs.declared.forests.Node.{Node}
@@ -12,9 +11,9 @@ use Rattle.mem_base.specs.Kinds.{is_alias}
 use Rattle.mem_base.specs.Region.{has_id, node_of, is_child_of}
 use Rattle.mem_base.specs.Order.{children_of}
 use Rattle.mem_base.specs.Forest.{IsForest, IsTargetBefore}
-use Rattle.mem_base.specs.Steps.{Steps, steps_of, steps_from, steps_at, greatest, depth_by, weight_by, depth_of, weight_of, greatest_depth, greatest_weight}
+use Rattle.mem_base.specs.Steps.{steps_of, steps_from, steps_at, greatest, depth_by, weight_by, depth_of, weight_of, greatest_depth, greatest_weight}
 use Rattle.mem_base.proofs.EveryLaws.{weaker, every_map}
-use Rattle.mem_base.proofs.ForestLaws.{children_of-made, every_node_of, every_child, no_children, id_of}
+use Rattle.mem_base.proofs.ForestLaws.{children_of-made, every_node_of, every_child, no_children}
 use Rattle.mem_base.proofs.StepLaws.{map_agree, depth_by-inside, weight_by-inside, depth_by-end, weight_by-end, depth_by-one, weight_by-one, depth_by-further, weight_by-further, greatest_push}
 use Rattle.mem_base.proofs.JoinLaws.{steps_alike, steps_children, within_forest}
 

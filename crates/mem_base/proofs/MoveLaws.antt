@@ -1,5 +1,5 @@
 -- Laws of a child that is moved in its container.
-use Rattle.std.proofs.Common.{◌≡◌, ◌≢◌, ℕ, ◌+◌, ◌<◌, ◌≤◌, Bool, true, false, not, cond, eqb, List, [], ◌∷◌, map, Option, Some, None, refl, sym, ap, subst, ◌∙◌, arith}
+use Rattle.std.proofs.Common.{◌≡◌, ◌≢◌, ℕ, ◌+◌, ◌<◌, ◌≤◌, true, false, not, cond, eqb, List, [], ◌∷◌, Option, Some, None, refl, sym, ap, subst, ◌∙◌, arith}
 use Rattle.std.specs.Prelude.{filter, option_map}
 use Rattle.std.proofs.lemmas.Bool.Decides.{nat_tests}
 use Rattle.std.specs.declared.cmp.Ordering.TheVariants.{Equal}
@@ -12,7 +12,7 @@ use Rattle.mem_base.specs.Kinds.{target_of}
 use Rattle.mem_base.specs.Region.{has_id, node_of, is_in, is_child_of}
 use Rattle.mem_base.specs.Sorting.{put_by, sorted_by}
 use Rattle.mem_base.specs.Order.{trial_order, children_of}
-use Rattle.mem_base.specs.Forest.{IsForest, IsPlacedBefore, IsTargetBefore, IsAscending}
+use Rattle.mem_base.specs.Forest.{IsForest, IsPlacedBefore, IsTargetBefore}
 use Rattle.mem_base.specs.Changes.{changed_at, changed, moved, moves}
 use Rattle.mem_base.specs.Calls.{counted}
 use Rattle.mem_base.proofs.EveryLaws.{weaker}

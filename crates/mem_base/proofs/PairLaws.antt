@@ -1,6 +1,5 @@
 -- Laws of what holds between each two elements of a list, and of the regions that a change leaves.
-use Rattle.std.proofs.Common.{◌≡◌, ◌≢◌, ℕ, ◌+◌, ◌<◌, ◌≤◌, Bool, true, false, not, cond, List, [], ◌∷◌, ◌++◌, length, map, filter, Option, Some, None, IsSome, is_some, refl, sym, ap, subst, ◌∙◌, arith}
-use Rattle.std.specs.Prelude.{option_map}
+use Rattle.std.proofs.Common.{◌≡◌, ◌+◌, ◌≤◌, Bool, true, false, cond, List, [], ◌∷◌, ◌++◌, length, filter, Some, refl, sym, subst, arith}
 use Rattle.std.specs.declared.cmp.Ordering.{Ordering}
 use Rattle.std.specs.Ordering.{is_lt}
 use Rattle.mem_base.specs.declared.ids.RegionId.{RegionId}
@@ -8,7 +7,7 @@ use Rattle.mem_base.specs.declared.forests.Node.{Node}
 use Rattle.mem_base.specs.Every.{Every, EveryPair}
 use Rattle.mem_base.specs.Region.{has_id, node_of}
 use Rattle.mem_base.specs.Sorting.{put_by}
-use Rattle.mem_base.specs.Forest.{IsAscending, ArePlacedApart}
+use Rattle.mem_base.specs.Forest.{IsAscending}
 use Rattle.mem_base.specs.Changes.{changed_at}
 use Rattle.mem_base.proofs.EveryLaws.{weaker, every_push}
 use Rattle.mem_base.proofs.ForestLaws.{changed_at-absent, absent_after, every_changed_at}

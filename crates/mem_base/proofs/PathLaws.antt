@@ -1,5 +1,5 @@
 -- The search of every forest of accepted calls is the manual's: no path is longer than the search goes down.
-use Rattle.std.proofs.Common.{◌≡◌, ℕ, zero, suc, List, [], ◌∷◌, map, Option, Some, None, ap, subst, sym}
+use Rattle.std.proofs.Common.{◌≡◌, ℕ, zero, suc, List, [], ◌∷◌, map, Some, subst, sym}
 use Rattle.std.specs.Prelude.{option_and_then}
 use Rattle.mem_base.specs.declared.ids.RegionId.{RegionId}
 use Rattle.mem_base.specs.declared.ids.SpaceId.{SpaceId}
@@ -9,7 +9,6 @@ use Rattle.mem_base.specs.declared.kinds.Kind.{Kind}
 use Rattle.mem_base.specs.declared.kinds.Kind.TheVariants.{Alias}
 use Rattle.mem_base.specs.Every.{Every}
 use Rattle.mem_base.specs.Limits.{most_depth}
-use Rattle.mem_base.specs.Region.{node_of}
 use Rattle.mem_base.specs.Order.{children_of}
 use Rattle.mem_base.specs.Search.{spot_in, look, root_of}
 use Rattle.mem_base.specs.Paths.{Finds}

@@ -1,6 +1,6 @@
 -- Laws of refusals: what is known where none stands.
-use Rattle.std.proofs.Common.{◌≡◌, ℕ, ◌≤◌, ◌<◌, Bool, true, false, not, cond, List, [], ◌∷◌, Option, Some, None, refl, ap, ◌∙◌, arith}
-use Rattle.std.specs.Prelude.{is_some, option_map, find, filter, nat_lt, nat_le}
+use Rattle.std.proofs.Common.{◌≡◌, ◌≤◌, Bool, true, false, cond, List, [], ◌∷◌, Option, Some, None, refl, ap, ◌∙◌, arith}
+use Rattle.std.specs.Prelude.{is_some, option_map, find, filter, nat_lt}
 use Rattle.std.specs.Option.{option_or}
 use Rattle.std.proofs.lemmas.Bool.Decides.{nat_tests}
 use Rattle.mem_base.specs.declared.ids.RegionId.{RegionId}
@@ -15,7 +15,7 @@ use Rattle.mem_base.specs.declared.refusals.What.TheVariants as what
 use Rattle.mem_base.specs.Every.{Every}
 use Rattle.mem_base.specs.Region.{node_of, is_child_of}
 use Rattle.mem_base.specs.Forest.{IsForest, IsTargetBefore}
-use Rattle.mem_base.specs.Refusals.{first_refusal, refuse_if, refuse_where, unknown_region, unknown_target, has_container, container_of, in_container, in_use, in_use_by_region, in_use_by_space, first_id, targets, has_root, least_space, lesser_space, too_deep, too_wide}
+use Rattle.mem_base.specs.Refusals.{first_refusal, refuse_if, refuse_where, unknown_region, unknown_target, has_container, container_of, in_container, in_use, in_use_by_region, in_use_by_space, first_id, targets, has_root, least_space, too_deep, too_wide}
 use Rattle.mem_base.specs.Steps.{greatest_depth, greatest_weight}
 use Rattle.mem_base.proofs.ForestLaws.{known_below}
 

@@ -1,5 +1,5 @@
 -- Laws of one region among others: what changes of the others and of itself keep.
-use Rattle.std.proofs.Common.{◌≡◌, ◌≢◌, ℕ, ◌+◌, ◌-◌, ◌<◌, ◌≤◌, ◌^◌, Bool, true, false, not, ◌&&◌, ◌||◌, cond, eqb, ℤ, List, [], ◌∷◌, ◌++◌, length, filter, Option, Some, None, IsSome, is_some, bit_or, bit_and, refl, sym, ap, subst, ◌∙◌, arith}
+use Rattle.std.proofs.Common.{◌≡◌, ◌≢◌, ℕ, ◌+◌, ◌<◌, ◌≤◌, ◌^◌, Bool, true, false, not, ◌&&◌, ◌||◌, cond, eqb, ℤ, List, [], ◌∷◌, ◌++◌, length, filter, Option, Some, None, IsSome, refl, sym, ap, subst, ◌∙◌, arith}
 use Rattle.std.specs.Prelude.{option_map, nat_lt, ◌%◌}
 use Rattle.std.proofs.lemmas.Bool.Decides.{nat_tests}
 use Rattle.std.specs.List.{list_any}
@@ -12,23 +12,19 @@ use Rattle.mem_base.specs.declared.kinds.Client.{Client}
 use Rattle.mem_base.specs.declared.kinds.Client.TheVariants.{Vga, Code, Migration}
 use Rattle.mem_base.specs.declared.translations.Entry.{Entry}
 use Rattle.mem_base.specs.declared.ioevents.Ioevent.{Ioevent}
-use Rattle.mem_base.specs.declared.refusals.Refusal.{Refusal}
 use Rattle.mem_base.specs.declared.refusals.Refusal.TheVariants.{BadSize}
-use Rattle.mem_base.specs.Every.{Every}
 use Rattle.mem_base.specs.Limits.{page_size, most_bytes, most_entries, most_events}
-use Rattle.mem_base.specs.Kinds.{is_alias, has_bytes, is_rom_device, device_of, target_of}
+use Rattle.mem_base.specs.Kinds.{is_alias, has_bytes, is_rom_device, is_iommu, takes_events, device_of, target_of}
 use Rattle.mem_base.specs.Region.{has_id, node_of, is_in, is_child_of}
 use Rattle.mem_base.specs.Sorting.{put_by}
 use Rattle.mem_base.specs.Forest.{IsPlainRegion, HasContainer, HasTarget, IsRegion}
-use Rattle.mem_base.specs.Refusals.{targets, refuse_if, zero_size, bad_size}
-use Rattle.mem_base.specs.Tables.{AreEntries, AreEvents, match_order}
-use Rattle.mem_base.specs.TableRefusals.{bad_device, bad_page, bad_event, least_met, has_iova, is_event}
+use Rattle.mem_base.specs.Refusals.{targets, refuse_if, bad_size}
+use Rattle.mem_base.specs.Tables.{match_order}
+use Rattle.mem_base.specs.TableRefusals.{bad_device, bad_page, bad_event, least_met, is_event}
 use Rattle.mem_base.specs.Changes.{changed_at, moved, retargeted, bit_of, logged, entry_order, event_order}
-use Rattle.mem_base.proofs.ForestLaws.{id_of}
 use Rattle.mem_base.proofs.DelLaws.{every_put_by}
 use Rattle.mem_base.proofs.DropLaws.{without, node_of-without}
 use Rattle.mem_base.proofs.JoinLaws.{node_of-changed_at}
-use Rattle.mem_base.proofs.RefusalLaws.{refuse_if-none}
 use Rattle.mem_base.proofs.EveryLaws.{every_filter}
 use Rattle.mem_base.proofs.EntryLaws.{entries-filter, entries-added}
 use Rattle.mem_base.proofs.EventLaws.{events-put}
@@ -51,6 +47,9 @@ region_among old new n c t h = record {
   events = h.events;
   good_events = h.good_events;
   few_events = h.few_events;
+  untranslated = h.untranslated;
+  uneventful = h.uneventful;
+  unlogged = h.unlogged;
 }
 
 -- one region changed
@@ -125,7 +124,7 @@ module _ (r : RegionId) (nodes : List Node) where
 module _ (nodes : List Node) (n : Node) (h : IsRegion nodes n) where
   -- its place and its flags changed
   pub region_at : (parent : Option RegionId) (offset : ℕ) (priority : ℤ) (placing : ℕ) (enabled readonly nonvolatile : Bool) → HasContainer nodes parent → IsRegion nodes (record n { parent = parent; offset = offset; priority = priority; placing = placing; enabled = enabled; readonly = readonly; nonvolatile = nonvolatile })
-  region_at parent offset priority placing enabled readonly nonvolatile there = record { container = there; target = h.target; size = h.size; sized = h.sized; device = h.device; romd = h.romd; log = h.log; entries = h.entries; pages = h.pages; few_entries = h.few_entries; events = h.events; good_events = h.good_events; few_events = h.few_events }
+  region_at parent offset priority placing enabled readonly nonvolatile there = record { container = there; target = h.target; size = h.size; sized = h.sized; device = h.device; romd = h.romd; log = h.log; entries = h.entries; pages = h.pages; few_entries = h.few_entries; events = h.events; good_events = h.good_events; few_events = h.few_events; untranslated = h.untranslated; uneventful = h.uneventful; unlogged = h.unlogged }
 
   pub region_moved : (offset placing : ℕ) → IsRegion nodes (moved offset placing n)
   region_moved offset placing = elim (eqb n.offset offset) as (λ b. IsRegion nodes (cond b n (record n { offset = offset; placing = placing }))) [
@@ -134,13 +133,13 @@ module _ (nodes : List Node) (n : Node) (h : IsRegion nodes n) where
   ]
 
   pub region_resized : (size : ℕ) → size ≤ 2 ^ 64 → bad_size n.kind size ≡ None → IsRegion nodes (record n { size = size })
-  region_resized size l good = record { container = h.container; target = h.target; size = l; sized = good; device = h.device; romd = h.romd; log = h.log; entries = h.entries; pages = h.pages; few_entries = h.few_entries; events = h.events; good_events = h.good_events; few_events = h.few_events }
+  region_resized size l good = record { container = h.container; target = h.target; size = l; sized = good; device = h.device; romd = h.romd; log = h.log; entries = h.entries; pages = h.pages; few_entries = h.few_entries; events = h.events; good_events = h.good_events; few_events = h.few_events; untranslated = h.untranslated; uneventful = h.uneventful; unlogged = h.unlogged }
 
   pub region_romd : (on : Bool) → is_rom_device n.kind ≡ true → IsRegion nodes (record n { romd = on })
-  region_romd on rom = record { container = h.container; target = h.target; size = h.size; sized = h.sized; device = h.device; romd = λ e. cc; log = h.log; entries = h.entries; pages = h.pages; few_entries = h.few_entries; events = h.events; good_events = h.good_events; few_events = h.few_events }
+  region_romd on rom = record { container = h.container; target = h.target; size = h.size; sized = h.sized; device = h.device; romd = λ e. cc; log = h.log; entries = h.entries; pages = h.pages; few_entries = h.few_entries; events = h.events; good_events = h.good_events; few_events = h.few_events; untranslated = h.untranslated; uneventful = h.uneventful; unlogged = h.unlogged }
 
-  pub region_logged : (client : Client) (on : Bool) → IsRegion nodes (record n { log = logged client on n.log })
-  region_logged client on = record { container = h.container; target = h.target; size = h.size; sized = h.sized; device = h.device; romd = h.romd; log = low_log client on n.log h.log; entries = h.entries; pages = h.pages; few_entries = h.few_entries; events = h.events; good_events = h.good_events; few_events = h.few_events }
+  pub region_logged : (client : Client) (on : Bool) → has_bytes n.kind ≡ true → IsRegion nodes (record n { log = logged client on n.log })
+  region_logged client on bytes = record { container = h.container; target = h.target; size = h.size; sized = h.sized; device = h.device; romd = h.romd; log = low_log client on n.log h.log; entries = h.entries; pages = h.pages; few_entries = h.few_entries; events = h.events; good_events = h.good_events; few_events = h.few_events; untranslated = h.untranslated; uneventful = h.uneventful; unlogged = λ e. cc }
     where
       bit_low : (client : Client) → bit_of client < 2 ^ 3
       bit_low Vga = omega arith
@@ -154,20 +153,20 @@ module _ (nodes : List Node) (n : Node) (h : IsRegion nodes n) where
   pub region_retargeted : (offset : ℕ) → IsRegion nodes (record n { kind = retargeted offset n.kind })
   region_retargeted offset =
       let same = retargeted_same offset n.kind in
-      record { container = h.container; target = subst (HasTarget nodes) (sym same.0) h.target; size = h.size; sized = ap (λ b. refuse_if ((eqb n.size 0) || b && (not (eqb (n.size % page_size) 0) || nat_lt most_bytes n.size)) BadSize) same.1 ∙ h.sized; device = ap bad_device same.2 ∙ h.device; romd = λ e. h.romd (sym same.3 ∙ e); log = h.log; entries = h.entries; pages = h.pages; few_entries = h.few_entries; events = h.events; good_events = h.good_events; few_events = h.few_events }
+      record { container = h.container; target = subst (HasTarget nodes) (sym same.0) h.target; size = h.size; sized = ap (λ b. refuse_if ((eqb n.size 0) || b && (not (eqb (n.size % page_size) 0) || nat_lt most_bytes n.size)) BadSize) same.1 ∙ h.sized; device = ap bad_device same.2 ∙ h.device; romd = λ e. h.romd (sym same.3 ∙ e); log = h.log; entries = h.entries; pages = h.pages; few_entries = h.few_entries; events = h.events; good_events = h.good_events; few_events = h.few_events; untranslated = λ e. h.untranslated (sym same.4 ∙ e); uneventful = λ e. h.uneventful (sym same.5 ∙ e); unlogged = λ e. h.unlogged (sym same.1 ∙ e) }
     where
-      retargeted_same : (offset : ℕ) (k : Kind) → (target_of (retargeted offset k) ≡ target_of k) × (has_bytes (retargeted offset k) ≡ has_bytes k) × (device_of (retargeted offset k) ≡ device_of k) × (is_rom_device (retargeted offset k) ≡ is_rom_device k)
-      retargeted_same offset (Alias target old) = (refl, refl, refl, refl)
-      retargeted_same offset _ = (refl, refl, refl, refl)
+      retargeted_same : (offset : ℕ) (k : Kind) → (target_of (retargeted offset k) ≡ target_of k) × (has_bytes (retargeted offset k) ≡ has_bytes k) × (device_of (retargeted offset k) ≡ device_of k) × (is_rom_device (retargeted offset k) ≡ is_rom_device k) × (is_iommu (retargeted offset k) ≡ is_iommu k) × (takes_events (retargeted offset k) ≡ takes_events k)
+      retargeted_same offset (Alias target old) = (refl, refl, refl, refl, refl, refl)
+      retargeted_same offset _ = (refl, refl, refl, refl, refl, refl)
 
-  pub region_mapped : (e : Entry) → e.iova + e.mask < 2 ^ 64 → bad_page e.iova (e.mask + 1) ≡ None → least_met e.iova (e.mask + 1) n.entries ≡ None → length n.entries < most_entries → IsRegion nodes (record n { entries = put_by entry_order e n.entries })
-  region_mapped e ends page free few = record { container = h.container; target = h.target; size = h.size; sized = h.sized; device = h.device; romd = h.romd; log = h.log; entries = entries-added e n.entries ends free h.entries; pages = every_put_by (λ x. bad_page x.iova (x.mask + 1) ≡ None) entry_order e n.entries page h.pages; few_entries = let l = length-put_by entry_order e n.entries in omega arith; events = h.events; good_events = h.good_events; few_events = h.few_events }
+  pub region_mapped : (e : Entry) → is_iommu n.kind ≡ true → e.iova + e.mask < 2 ^ 64 → bad_page e.iova (e.mask + 1) ≡ None → least_met e.iova (e.mask + 1) n.entries ≡ None → length n.entries < most_entries → IsRegion nodes (record n { entries = put_by entry_order e n.entries })
+  region_mapped e iommu ends page free few = record { container = h.container; target = h.target; size = h.size; sized = h.sized; device = h.device; romd = h.romd; log = h.log; entries = entries-added e n.entries ends free h.entries; pages = every_put_by (λ x. bad_page x.iova (x.mask + 1) ≡ None) entry_order e n.entries page h.pages; few_entries = let l = length-put_by entry_order e n.entries in omega arith; events = h.events; good_events = h.good_events; few_events = h.few_events; untranslated = λ e. cc; uneventful = h.uneventful; unlogged = h.unlogged }
 
   pub region_unmapped : (p : Entry → Bool) → IsRegion nodes (record n { entries = filter p n.entries })
-  region_unmapped p = record { container = h.container; target = h.target; size = h.size; sized = h.sized; device = h.device; romd = h.romd; log = h.log; entries = entries-filter p n.entries h.entries; pages = every_filter (λ x. bad_page x.iova (x.mask + 1) ≡ None) p n.entries h.pages; few_entries = let l = length-filter p n.entries in let few = h.few_entries in omega arith; events = h.events; good_events = h.good_events; few_events = h.few_events }
+  region_unmapped p = record { container = h.container; target = h.target; size = h.size; sized = h.sized; device = h.device; romd = h.romd; log = h.log; entries = entries-filter p n.entries h.entries; pages = every_filter (λ x. bad_page x.iova (x.mask + 1) ≡ None) p n.entries h.pages; few_entries = let l = length-filter p n.entries in let few = h.few_entries in omega arith; events = h.events; good_events = h.good_events; few_events = h.few_events; untranslated = λ e. ap (filter p) (h.untranslated e); uneventful = h.uneventful; unlogged = h.unlogged }
 
-  pub region_with_event : (e : Ioevent) → bad_event e ≡ None → list_any (is_event e.offset e.size e.matched e.value) n.events ≡ false → length n.events < most_events → IsRegion nodes (record n { events = put_by event_order e n.events })
-  region_with_event e good free few = record { container = h.container; target = h.target; size = h.size; sized = h.sized; device = h.device; romd = h.romd; log = h.log; entries = h.entries; pages = h.pages; few_entries = h.few_entries; events = events-put e n.events free h.events; good_events = every_put_by (λ x. bad_event x ≡ None) event_order e n.events good h.good_events; few_events = let l = length-put_by event_order e n.events in omega arith }
+  pub region_with_event : (e : Ioevent) → takes_events n.kind ≡ true → bad_event e ≡ None → list_any (is_event e.offset e.size e.matched e.value) n.events ≡ false → length n.events < most_events → IsRegion nodes (record n { events = put_by event_order e n.events })
+  region_with_event e device good free few = record { container = h.container; target = h.target; size = h.size; sized = h.sized; device = h.device; romd = h.romd; log = h.log; entries = h.entries; pages = h.pages; few_entries = h.few_entries; events = events-put e n.events free h.events; good_events = every_put_by (λ x. bad_event x ≡ None) event_order e n.events good h.good_events; few_events = let l = length-put_by event_order e n.events in omega arith; untranslated = h.untranslated; uneventful = λ e. cc; unlogged = h.unlogged }
 
   pub region_without_event : (p : Ioevent → Bool) → IsRegion nodes (record n { events = filter p n.events })
-  region_without_event p = record { container = h.container; target = h.target; size = h.size; sized = h.sized; device = h.device; romd = h.romd; log = h.log; entries = h.entries; pages = h.pages; few_entries = h.few_entries; events = rising-filter match_order p n.events h.events; good_events = every_filter (λ x. bad_event x ≡ None) p n.events h.good_events; few_events = let l = length-filter p n.events in let few = h.few_events in omega arith }
+  region_without_event p = record { container = h.container; target = h.target; size = h.size; sized = h.sized; device = h.device; romd = h.romd; log = h.log; entries = h.entries; pages = h.pages; few_entries = h.few_entries; events = rising-filter match_order p n.events h.events; good_events = every_filter (λ x. bad_event x ≡ None) p n.events h.good_events; few_events = let l = length-filter p n.events in let few = h.few_events in omega arith; untranslated = h.untranslated; uneventful = λ e. ap (filter p) (h.uneventful e); unlogged = h.unlogged }

@@ -1,8 +1,7 @@
 -- Every accepted call keeps what holds of a forest's regions and spaces: call by call.
-use Rattle.std.proofs.Common.{◌≡◌, ◌≢◌, ℕ, ◌+◌, ◌-◌, ◌<◌, ◌≤◌, ◌^◌, Bool, true, false, not, ◌&&◌, ◌||◌, cond, eqb, ℤ, List, [], ◌∷◌, ◌++◌, length, filter, find, Option, Some, None, IsSome, is_some, Result, Ok, Err, refl, sym, ap, subst, ◌∙◌, arith}
-use Rattle.std.specs.Prelude.{option_map, option_and_then, nat_le, nat_lt, ◌%◌}
+use Rattle.std.proofs.Common.{◌≡◌, ◌≢◌, ℕ, ◌+◌, ◌-◌, ◌<◌, ◌≤◌, ◌^◌, Bool, true, false, not, ◌&&◌, ◌||◌, cond, eqb, ℤ, List, [], ◌∷◌, ◌++◌, length, filter, find, Option, Some, None, IsSome, is_some, Ok, Err, refl, sym, ap, subst, ◌∙◌, arith}
+use Rattle.std.specs.Prelude.{option_map, option_and_then, nat_lt, is_none, ◌%◌}
 use Rattle.std.specs.Option.{option_or}
-use Rattle.std.specs.List.{list_any}
 use Rattle.std.proofs.lemmas.Bool.Decides.{nat_tests}
 use Rattle.mem_base.specs.declared.ids.RegionId.{RegionId}
 use Rattle.mem_base.specs.declared.ids.SpaceId.{SpaceId}
@@ -13,9 +12,8 @@ use Rattle.mem_base.specs.declared.kinds.Kind.TheVariants.{Alias}
 use Rattle.mem_base.specs.declared.translations.Entry.{Entry}
 use Rattle.mem_base.specs.declared.ioevents.Ioevent.{Ioevent}
 use Rattle.mem_base.specs.declared.refusals.Refusal.{Refusal}
-use Rattle.mem_base.specs.declared.refusals.Refusal.TheVariants.{WrongKind, AliasParent, NameTaken, BadSize, PageOverlap, EventTaken, LimitReached}
+use Rattle.mem_base.specs.declared.refusals.Refusal.TheVariants.{Unknown, WrongKind, AliasParent, NameTaken, BadSize, PageOverlap, EventTaken}
 use Rattle.mem_base.specs.declared.refusals.What.TheVariants as what
-use Rattle.mem_base.specs.declared.refusals.Which.{Which}
 use Rattle.mem_base.specs.declared.refusals.Which.TheVariants as which
 use Rattle.mem_base.specs.declared.calls.Call.{Call}
 use Rattle.mem_base.specs.declared.calls.Call.TheVariants as calls
@@ -23,25 +21,25 @@ use Rattle.mem_base.specs.Every.{Every, EveryPair}
 use Rattle.mem_base.specs.declared.kinds.Client.{Client}
 use Rattle.mem_base.specs.declared.translations.Perm.{Perm}
 use Rattle.mem_base.specs.Sorting.{put_by}
-use Rattle.mem_base.specs.Limits.{most_calls, most_made, most_regions, most_spaces, most_entries, most_events, most_bytes, page_size}
-use Rattle.mem_base.specs.Kinds.{is_alias, has_bytes, is_rom_device, target_of}
+use Rattle.mem_base.specs.Limits.{most_made, most_regions, most_spaces, most_entries, most_events, most_bytes, page_size}
+use Rattle.mem_base.specs.Kinds.{is_alias, has_bytes, is_rom_device, is_iommu, takes_events, target_of}
 use Rattle.mem_base.specs.Region.{has_id, node_of, is_child_of}
 use Rattle.mem_base.specs.Search.{is_space, root_of}
-use Rattle.mem_base.specs.Forest.{IsForest, IsSound, IsRegion, IsPlainRegion, HasTarget, ArePlacedApart, AreOtherSpaces, IsPlacedBefore, FitsTypes}
-use Rattle.mem_base.specs.Refusals.{first_refusal, refuse_if, refuse_where, unknown_region, unknown_target, taken_space, targets, has_root, zero_size, bad_size}
-use Rattle.mem_base.specs.TableRefusals.{at_limit, no_more_calls, count_of, page_overlap, least_met, bad_page, has_iova, is_event, has_event}
+use Rattle.mem_base.specs.Forest.{HasSpaces, IsForest, IsSound, IsRegion, IsPlainRegion, HasTarget, ArePlacedApart, AreOtherSpaces, FitsTypes}
+use Rattle.mem_base.specs.Refusals.{refuse_if, unknown_region, unknown_space, unknown_target, taken_space, targets, has_root, zero_size, bad_size}
+use Rattle.mem_base.specs.TableRefusals.{no_more_calls, least_met, bad_page, has_iova, is_event, has_event}
 use Rattle.mem_base.specs.Changes.{changed_at, at_region, changed, made_region, placed, moved, moves, retargeted, logged, entry_order, event_order}
 use Rattle.mem_base.specs.Calls.{refusals, refusal_of, counted, after, left_by, after_all, empty}
-use Rattle.mem_base.proofs.EveryLaws.{weaker, both, every_push}
-use Rattle.mem_base.proofs.ForestLaws.{only_node, every_node_of}
-use Rattle.mem_base.proofs.MoveLaws.{every_changed_one, moved_keeps, moved_kind, unmoved}
+use Rattle.mem_base.proofs.EveryLaws.{weaker, both, every_push, every_filter}
+use Rattle.mem_base.proofs.DelLaws.{every_put_by}
+use Rattle.mem_base.proofs.MoveLaws.{moved_keeps, moved_kind, unmoved}
 use Rattle.mem_base.proofs.DropLaws.{without, every_without}
-use Rattle.mem_base.proofs.RefusalLaws.{each_none, refuse_if-none, refuse_where-none, is_known, known_node, find-none, in_use-none, IsUnused}
+use Rattle.mem_base.proofs.RefusalLaws.{each_none, refuse_if-none, refuse_where-none, is_known, known_node, find-none, in_use-none}
 use Rattle.mem_base.proofs.PageLaws.{bad_page-none}
-use Rattle.mem_base.proofs.PairLaws.{pairs_changed, pairs_fresh, pairs_push, pairs_filter, length-push, length-filter, length-changed_at}
-use Rattle.mem_base.proofs.RegionLaws.{there_changed, container_changed, region_changed, there_more, target_more, region_more, there_without, region_without, region_at, region_moved, region_resized, region_romd, region_logged, region_retargeted, region_mapped, region_unmapped, region_with_event, region_without_event}
-use Rattle.mem_base.proofs.CallLaws.{IsForest-accepted, IsForest-left_by, IsForest-empty, after-accepted}
-use Rattle.mem_base.proofs.SoundLaws.{at_limit-none, few_calls_yet, count-none, with_nodes, here, one_changed, field_changed, fresh_placing}
+use Rattle.mem_base.proofs.PairLaws.{pairs_push, pairs_filter, length-push, length-filter}
+use Rattle.mem_base.proofs.RegionLaws.{container_changed, there_more, target_more, region_more, there_without, region_without, region_at, region_moved, region_resized, region_romd, region_logged, region_retargeted, region_mapped, region_unmapped, region_with_event, region_without_event}
+use Rattle.mem_base.proofs.CallLaws.{IsForest-left_by, IsForest-empty, after-accepted}
+use Rattle.mem_base.proofs.SoundLaws.{at_limit-none, few_calls_yet, count-none, with_nodes, one_changed, field_changed, fresh_placing}
 
 -- what refusals that do not stand say
 
@@ -79,6 +77,30 @@ space_free f space e =
     let none = some_found (find (is_space space) f.spaces) (refuse_if-none (is_some (root_of f space)) (NameTaken (what.Space space)) e) in
     weaker (λ p. is_space space p ≡ false) (λ p. p.0.0 ≢ space.0) (λ p w k. grind (arith, nat_tests)) f.spaces (find-none (is_space space) f.spaces none)
 
+still_there : (space : SpaceId) (p : SpaceId × RegionId) (ps : List (SpaceId × RegionId)) → IsSome (find (is_space space) ps) → IsSome (find (is_space space) (ps ++ p ∷ []))
+still_there space p [] h = cc
+still_there space p (q ∷ qs) h =
+    elim (is_space space q) as (λ b. IsSome (cond b (Some q) (find (is_space space) qs)) → IsSome (cond b (Some q) (find (is_space space) (qs ++ p ∷ [])))) [ true ↦ λ w. refl | false ↦ λ w. still_there space p qs w ] h
+
+some_root : (o : Option (SpaceId × RegionId)) → IsSome (option_map (λ p. p.1) o) → IsSome o
+some_root None h = cc
+some_root (Some p) h = refl
+
+root_some : (o : Option (SpaceId × RegionId)) → IsSome o → IsSome (option_map (λ p. p.1) o)
+root_some None h = cc
+root_some (Some p) h = refl
+
+-- a space is still there with one more
+space_still : (space : SpaceId) (p : SpaceId × RegionId) (ps : List (SpaceId × RegionId)) → IsSome (option_map (λ q. q.1) (find (is_space space) ps)) → IsSome (option_map (λ q. q.1) (find (is_space space) (ps ++ p ∷ [])))
+space_still space p ps h = root_some (find (is_space space) (ps ++ p ∷ [])) (still_there space p ps (some_root (find (is_space space) ps) h))
+
+is_there : (o : Option RegionId) → is_none o ≡ false → IsSome o
+is_there None e = cc
+is_there (Some r) e = refl
+
+space_there : (f : Forest) (space : SpaceId) → unknown_space f space ≡ None → IsSome (root_of f space)
+space_there f space e = is_there (root_of f space) (refuse_if-none (is_none (root_of f space)) (Unknown (what.Space space)) e)
+
 target_there : (f : Forest) (k : Kind) → unknown_target f k ≡ None → HasTarget f.nodes (target_of k)
 target_there f (Alias target offset) e = is_known f target e
 target_there f _ e = tt
@@ -115,11 +137,15 @@ module _ (f : Forest) (h : IsForest f) (s : IsSound f) where
         events = tt;
         good_events = tt;
         few_events = omega arith;
+        untranslated = λ e. refl;
+        uneventful = λ e. refl;
+        unlogged = λ e. refl;
       } in
       record {
         regions = every_push (IsRegion new) f.nodes r (weaker (IsRegion f.nodes) (IsRegion new) (λ n w. region_more f.nodes r n w) f.nodes s.regions) made_one;
         placings = pairs_push ArePlacedApart f.nodes r (weaker (IsRegion f.nodes) (λ n. ArePlacedApart n r) (λ n w a b. cc) f.nodes s.regions) s.placings;
         roots = weaker (λ p. IsSome (node_of f.nodes p.1)) (λ p. IsSome (node_of new p.1)) (λ p w. there_more f.nodes r p.1 w) f.spaces s.roots;
+        translated = every_push (HasSpaces f) f.nodes r s.translated tt;
         spaces = s.spaces;
         few_regions = let l = length-push f.nodes r in omega arith;
         few_made = omega arith;
@@ -134,6 +160,7 @@ module _ (f : Forest) (h : IsForest f) (s : IsSound f) where
         regions = s.regions;
         placings = s.placings;
         roots = every_push (λ p. IsSome (node_of f.nodes p.1)) f.spaces (space, root) s.roots (is_known f root each.0);
+        translated = weaker (HasSpaces f) (HasSpaces (changed f (calls.Space space root))) (λ n w. weaker (λ x. IsSome (root_of f x.space)) (λ x. IsSome (root_of (changed f (calls.Space space root)) x.space)) (λ x v. space_still x.space (space, root) f.spaces v) n.entries w) f.nodes s.translated;
         spaces = pairs_push AreOtherSpaces f.spaces (space, root) (space_free f space each.1.0) s.spaces;
         few_regions = s.few_regions;
         few_made = s.few_made;
@@ -146,6 +173,7 @@ module _ (f : Forest) (h : IsForest f) (s : IsSound f) where
     regions = s.regions;
     placings = s.placings;
     roots = s.roots;
+    translated = s.translated;
     spaces = s.spaces;
     few_regions = s.few_regions;
     few_made = s.few_made;
@@ -164,7 +192,7 @@ module _ (f : Forest) (h : IsForest f) (s : IsSound f) where
       let there : IsPlainRegion (node_of new parent) = container_changed child g (λ n. refl) (λ n. refl) f.nodes (Some parent) (plain_of (node_of f.nodes parent) p.0 p.1 no_alias) in
       one_changed f s (few_calls_yet f (calls.Add parent offset child priority) e) h child m.0 m.1 g (f.placings + 1) (λ n. refl) (λ n. refl)
       (fresh_placing f h child g m.0 m.1 refl s.placings)
-      (λ w. region_at new m.0 w (Some parent) offset priority f.placings m.0.enabled m.0.readonly m.0.nonvolatile there)
+      (λ w. region_at new m.0 w (Some parent) offset priority f.placings m.0.enabled m.0.readonly m.0.nonvolatile there) (λ w. w)
 
   del_sound : (parent child : RegionId) → refusal_of f (calls.Del parent child) ≡ None → IsSound (counted (changed f (calls.Del parent child)))
   del_sound parent child e =
@@ -172,7 +200,7 @@ module _ (f : Forest) (h : IsForest f) (s : IsSound f) where
       let m = known_node f child each.1.0 in
       let g : Node → Node = λ n. record n { parent = None } in
       field_changed f s (few_calls_yet f (calls.Del parent child) e) h child m.0 m.1 g (λ n. refl) (λ n. refl) (λ x y w a b. cc) (λ x y w a b. cc)
-      (λ w. region_at (changed_at child g f.nodes) m.0 w None m.0.offset m.0.priority m.0.placing m.0.enabled m.0.readonly m.0.nonvolatile tt)
+      (λ w. region_at (changed_at child g f.nodes) m.0 w None m.0.offset m.0.priority m.0.placing m.0.enabled m.0.readonly m.0.nonvolatile tt) (λ w. w)
 
   move_sound : (child : RegionId) (offset : ℕ) → refusal_of f (calls.Move child offset) ≡ None → IsSound (counted (changed f (calls.Move child offset)))
   move_sound child offset e =
@@ -187,14 +215,15 @@ module _ (f : Forest) (h : IsForest f) (s : IsSound f) where
       ] refl in
       one_changed f s (few_calls_yet f (calls.Move child offset) e) h child n m.1 g (f.placings + moves offset (node_of f.nodes child)) keeps.id (λ x. ap is_alias (moved_kind offset f.placings x)) apart
       (λ w. region_moved (changed_at child g f.nodes) n w offset f.placings)
+      (λ w. elim (eqb n.offset offset) as (λ b. HasSpaces f (cond b n (record n { offset = offset; placing = f.placings }))) [ true ↦ w | false ↦ w ])
 
   -- one field of one region
-  field_sound : (r : RegionId) (m : Node) → node_of f.nodes r ≡ Some m → (call : Call) → refusal_of f call ≡ None → (g : Node → Node) (ids : (n : Node) → (g n).id ≡ n.id) (plain : (n : Node) → is_alias (g n).kind ≡ is_alias n.kind) → ((n : Node) → ((g n).parent ≡ n.parent) × ((g n).placing ≡ n.placing)) → (IsRegion (changed_at r g f.nodes) m → IsRegion (changed_at r g f.nodes) (g m)) → IsSound (counted (at_region f r g))
-  field_sound r m at call e g ids plain place change =
+  field_sound : (r : RegionId) (m : Node) → node_of f.nodes r ≡ Some m → (call : Call) → refusal_of f call ≡ None → (g : Node → Node) (ids : (n : Node) → (g n).id ≡ n.id) (plain : (n : Node) → is_alias (g n).kind ≡ is_alias n.kind) → ((n : Node) → ((g n).parent ≡ n.parent) × ((g n).placing ≡ n.placing)) → (IsRegion (changed_at r g f.nodes) m → IsRegion (changed_at r g f.nodes) (g m)) → (HasSpaces f m → HasSpaces f (g m)) → IsSound (counted (at_region f r g))
+  field_sound r m at call e g ids plain place change spaces =
       field_changed f s (few_calls_yet f call e) h r m at g ids plain
       (λ x y w a b. subst (λ k. k ≢ y.placing) (sym (place x).1) (w (subst IsSome (place x).0 a) b))
       (λ x y w a b. subst (λ k. x.placing ≢ k) (sym (place y).1) (w a (subst IsSome (place y).0 b)))
-      change
+      change spaces
 
   resize_sound : (region : RegionId) (size : ℕ) → size ≤ 2 ^ 64 → refusal_of f (calls.Resize region size) ≡ None → IsSound (counted (changed f (calls.Resize region size)))
   resize_sound region size small e =
@@ -202,7 +231,7 @@ module _ (f : Forest) (h : IsForest f) (s : IsSound f) where
       let m = known_node f region each.0 in
       let wrong = refuse_where-none (λ n. not (not (has_bytes n.kind))) (WrongKind region) (node_of f.nodes region) m.0 m.1 each.1.0 in
       field_sound region m.0 m.1 (calls.Resize region size) e (λ n. record n { size = size }) (λ n. refl) (λ n. refl) (λ n. (refl, refl))
-      (λ w. region_resized (changed_at region (λ n. record n { size = size }) f.nodes) m.0 w size small (resized m.0.kind size (not_not (has_bytes m.0.kind) wrong) each.1.1.0))
+      (λ w. region_resized (changed_at region (λ n. record n { size = size }) f.nodes) m.0 w size small (resized m.0.kind size (not_not (has_bytes m.0.kind) wrong) each.1.1.0)) (λ w. w)
     where
       not_not : (b : Bool) → not (not b) ≡ false → b ≡ false
       not_not true e = cc
@@ -213,7 +242,7 @@ module _ (f : Forest) (h : IsForest f) (s : IsSound f) where
       let each = each_none (no_calls f (calls.Retarget alias offset)) e in
       let m = known_node f alias each.0 in
       field_sound alias m.0 m.1 (calls.Retarget alias offset) e (λ n. record n { kind = retargeted offset n.kind }) (λ n. refl) (λ n. alias_still offset n.kind) (λ n. (refl, refl))
-      (λ w. region_retargeted (changed_at alias (λ n. record n { kind = retargeted offset n.kind }) f.nodes) m.0 w offset)
+      (λ w. region_retargeted (changed_at alias (λ n. record n { kind = retargeted offset n.kind }) f.nodes) m.0 w offset) (λ w. w)
     where
       alias_still : (offset : ℕ) (k : Kind) → is_alias (retargeted offset k) ≡ is_alias k
       alias_still offset (Alias target old) = refl
@@ -226,7 +255,7 @@ module _ (f : Forest) (h : IsForest f) (s : IsSound f) where
       let n = m.0 in
       let g : Node → Node = λ x. record x { enabled = enabled x; readonly = readonly x; nonvolatile = nonvolatile x } in
       field_sound region n m.1 call e g (λ x. refl) (λ x. refl) (λ x. (refl, refl))
-      (λ w. region_at (changed_at region g f.nodes) n w n.parent n.offset n.priority n.placing (enabled n) (readonly n) (nonvolatile n) w.container)
+      (λ w. region_at (changed_at region g f.nodes) n w n.parent n.offset n.priority n.placing (enabled n) (readonly n) (nonvolatile n) w.container) (λ w. w)
 
   romd_sound : (region : RegionId) (on : Bool) → refusal_of f (calls.Romd region on) ≡ None → IsSound (counted (changed f (calls.Romd region on)))
   romd_sound region on e =
@@ -234,14 +263,15 @@ module _ (f : Forest) (h : IsForest f) (s : IsSound f) where
       let m = known_node f region each.0 in
       let wrong = refuse_where-none (λ n. not (is_rom_device n.kind)) (WrongKind region) (node_of f.nodes region) m.0 m.1 each.1.0 in
       field_sound region m.0 m.1 (calls.Romd region on) e (λ n. record n { romd = on }) (λ n. refl) (λ n. refl) (λ n. (refl, refl))
-      (λ w. region_romd (changed_at region (λ n. record n { romd = on }) f.nodes) m.0 w on (not_false (is_rom_device m.0.kind) wrong))
+      (λ w. region_romd (changed_at region (λ n. record n { romd = on }) f.nodes) m.0 w on (not_false (is_rom_device m.0.kind) wrong)) (λ w. w)
 
   log_sound : (region : RegionId) (client : Client) (on : Bool) → refusal_of f (calls.Log region client on) ≡ None → IsSound (counted (changed f (calls.Log region client on)))
   log_sound region client on e =
       let each = each_none (no_calls f (calls.Log region client on)) e in
       let m = known_node f region each.0 in
+      let wrong = refuse_where-none (λ n. not (has_bytes n.kind)) (WrongKind region) (node_of f.nodes region) m.0 m.1 each.1.0 in
       field_sound region m.0 m.1 (calls.Log region client on) e (λ n. record n { log = logged client on n.log }) (λ n. refl) (λ n. refl) (λ n. (refl, refl))
-      (λ w. region_logged (changed_at region (λ n. record n { log = logged client on n.log }) f.nodes) m.0 w client on)
+      (λ w. region_logged (changed_at region (λ n. record n { log = logged client on n.log }) f.nodes) m.0 w client on (not_false (has_bytes m.0.kind) wrong)) (λ w. w)
 
   map_sound : (region : RegionId) (iova size : ℕ) (space : SpaceId) (translated : ℕ) (perm : Perm) → iova < 2 ^ 64 → size ≤ 2 ^ 64 → refusal_of f (calls.Map region iova size space translated perm) ≡ None → IsSound (counted (changed f (calls.Map region iova size space translated perm)))
   map_sound region iova size space translated perm below small e =
@@ -249,35 +279,38 @@ module _ (f : Forest) (h : IsForest f) (s : IsSound f) where
       let each = each_none (no_calls f call) e in
       let m = known_node f region each.0 in
       let page = bad_page-none iova size each.1.1.1.0 below small in
+      let wrong = refuse_where-none (λ n. not (is_iommu n.kind)) (WrongKind region) (node_of f.nodes region) m.0 m.1 each.1.1.0 in
+      let there = space_there f space each.1.0 in
       let entry : Entry = record { iova = iova; mask = size - 1; space = space; translated = translated; perm = perm } in
       let good : bad_page iova (size - 1 + 1) ≡ None = subst (λ k. bad_page iova k ≡ None) (sym page.mask) each.1.1.1.0 in
       let free : least_met iova (size - 1 + 1) m.0.entries ≡ None = subst (λ k. least_met iova k m.0.entries ≡ None) (sym page.mask) (page_free iova size (node_of f.nodes region) m.0 m.1 each.1.1.1.1.0) in
       let few = count-none (λ n. n.entries) which.Entries most_entries (node_of f.nodes region) m.0 m.1 each.1.1.1.1.1.0 in
       field_sound region m.0 m.1 call e (λ n. record n { entries = put_by entry_order entry n.entries }) (λ n. refl) (λ n. refl) (λ n. (refl, refl))
-      (λ w. region_mapped (changed_at region (λ n. record n { entries = put_by entry_order entry n.entries }) f.nodes) m.0 w entry page.ends good free few)
+      (λ w. region_mapped (changed_at region (λ n. record n { entries = put_by entry_order entry n.entries }) f.nodes) m.0 w entry (not_false (is_iommu m.0.kind) wrong) page.ends good free few) (λ w. every_put_by (λ x. IsSome (root_of f x.space)) entry_order entry m.0.entries there w)
 
   unmap_sound : (region : RegionId) (iova : ℕ) → refusal_of f (calls.Unmap region iova) ≡ None → IsSound (counted (changed f (calls.Unmap region iova)))
   unmap_sound region iova e =
       let each = each_none (no_calls f (calls.Unmap region iova)) e in
       let m = known_node f region each.0 in
       field_sound region m.0 m.1 (calls.Unmap region iova) e (λ n. record n { entries = filter (λ x. not (has_iova iova x)) n.entries }) (λ n. refl) (λ n. refl) (λ n. (refl, refl))
-      (λ w. region_unmapped (changed_at region (λ n. record n { entries = filter (λ x. not (has_iova iova x)) n.entries }) f.nodes) m.0 w (λ x. not (has_iova iova x)))
+      (λ w. region_unmapped (changed_at region (λ n. record n { entries = filter (λ x. not (has_iova iova x)) n.entries }) f.nodes) m.0 w (λ x. not (has_iova iova x))) (λ w. every_filter (λ x. IsSome (root_of f x.space)) (λ x. not (has_iova iova x)) m.0.entries w)
 
   event_sound : (region : RegionId) (event : Ioevent) → refusal_of f (calls.Event region event) ≡ None → IsSound (counted (changed f (calls.Event region event)))
   event_sound region event e =
       let each = each_none (no_calls f (calls.Event region event)) e in
       let m = known_node f region each.0 in
+      let wrong = refuse_where-none (λ n. not (takes_events n.kind)) (WrongKind region) (node_of f.nodes region) m.0 m.1 each.1.0 in
       let free = refuse_where-none (has_event event.offset event.size event.matched event.value) EventTaken (node_of f.nodes region) m.0 m.1 each.1.1.1.0 in
       let few = count-none (λ n. n.events) which.Events most_events (node_of f.nodes region) m.0 m.1 each.1.1.1.1.0 in
       field_sound region m.0 m.1 (calls.Event region event) e (λ n. record n { events = put_by event_order event n.events }) (λ n. refl) (λ n. refl) (λ n. (refl, refl))
-      (λ w. region_with_event (changed_at region (λ n. record n { events = put_by event_order event n.events }) f.nodes) m.0 w event each.1.1.0 free few)
+      (λ w. region_with_event (changed_at region (λ n. record n { events = put_by event_order event n.events }) f.nodes) m.0 w event (not_false (takes_events m.0.kind) wrong) each.1.1.0 free few) (λ w. w)
 
   unevent_sound : (region : RegionId) (offset size : ℕ) (matched : Bool) (value : ℕ) → refusal_of f (calls.Unevent region offset size matched value) ≡ None → IsSound (counted (changed f (calls.Unevent region offset size matched value)))
   unevent_sound region offset size matched value e =
       let each = each_none (no_calls f (calls.Unevent region offset size matched value)) e in
       let m = known_node f region each.0 in
       field_sound region m.0 m.1 (calls.Unevent region offset size matched value) e (λ n. record n { events = filter (λ x. not (is_event offset size matched value x)) n.events }) (λ n. refl) (λ n. refl) (λ n. (refl, refl))
-      (λ w. region_without_event (changed_at region (λ n. record n { events = filter (λ x. not (is_event offset size matched value x)) n.events }) f.nodes) m.0 w (λ x. not (is_event offset size matched value x)))
+      (λ w. region_without_event (changed_at region (λ n. record n { events = filter (λ x. not (is_event offset size matched value x)) n.events }) f.nodes) m.0 w (λ x. not (is_event offset size matched value x))) (λ w. w)
 
   drop_sound : (region : RegionId) → refusal_of f (calls.Drop region) ≡ None → IsSound (counted (changed f (calls.Drop region)))
   drop_sound region e =
@@ -291,6 +324,7 @@ module _ (f : Forest) (h : IsForest f) (s : IsSound f) where
       (every_without (IsRegion left) region f.nodes regions)
       (pairs_filter ArePlacedApart (λ n. not (has_id region n)) f.nodes s.placings)
       (weaker (λ p. IsSome (node_of f.nodes p.1) × (has_root region p ≡ false)) (λ p. IsSome (node_of left p.1)) (λ p w. there_without region f.nodes p.1 (λ k. let t = w.1 in grind (arith, nat_tests)) w.0) f.spaces (both (λ p. IsSome (node_of f.nodes p.1)) (λ p. has_root region p ≡ false) f.spaces s.roots unused.no_spaces))
+      (every_without (HasSpaces f) region f.nodes s.translated)
       (length-filter (λ n. not (has_id region n)) f.nodes)
 
 -- an accepted call whose numbers fit keeps it
@@ -329,7 +363,7 @@ IsSound-after_all f [] h s fits = s
 IsSound-after_all f (call ∷ rest) h s fits = IsSound-after_all (left_by f (after f call)) rest (IsForest-left_by f call h) (IsSound-left_by f call h s fits.0) fits.1
 
 pub IsSound-empty : IsSound empty
-IsSound-empty = record { regions = tt; placings = tt; roots = tt; spaces = tt; few_regions = omega arith; few_made = omega arith; few_spaces = omega arith; few_calls = omega arith }
+IsSound-empty = record { regions = tt; placings = tt; roots = tt; translated = tt; spaces = tt; few_regions = omega arith; few_made = omega arith; few_spaces = omega arith; few_calls = omega arith }
 
 -- it holds of every forest that calls make of the empty one
 pub IsSound-made : (list : List Call) → Every FitsTypes list → IsSound (after_all empty list)

@@ -1,43 +1,30 @@
 -- Every accepted call keeps what holds of a forest's regions and spaces.
-use Rattle.std.proofs.Common.{◌≡◌, ◌≢◌, ℕ, ◌+◌, ◌-◌, ◌<◌, ◌≤◌, ◌^◌, Bool, true, false, not, ◌&&◌, ◌||◌, cond, eqb, ℤ, List, [], ◌∷◌, ◌++◌, length, filter, find, Option, Some, None, IsSome, is_some, Result, Ok, Err, refl, sym, ap, subst, ◌∙◌, arith}
-use Rattle.std.specs.Prelude.{option_map, option_and_then, nat_le, nat_lt, ◌%◌}
-use Rattle.std.specs.Option.{option_or}
-use Rattle.std.specs.List.{list_any}
+use Rattle.std.proofs.Common.{◌≡◌, ℕ, ◌+◌, ◌<◌, ◌≤◌, List, [], ◌∷◌, ◌++◌, length, Option, Some, None, IsSome, ap, ◌∙◌, arith}
+use Rattle.std.specs.Prelude.{nat_le}
 use Rattle.std.proofs.lemmas.Bool.Decides.{nat_tests}
 use Rattle.mem_base.specs.declared.ids.RegionId.{RegionId}
-use Rattle.mem_base.specs.declared.ids.SpaceId.{SpaceId}
 use Rattle.mem_base.specs.declared.forests.Node.{Node}
 use Rattle.mem_base.specs.declared.forests.Forest.{Forest}
-use Rattle.mem_base.specs.declared.kinds.Kind.{Kind}
-use Rattle.mem_base.specs.declared.kinds.Kind.TheVariants.{Alias}
-use Rattle.mem_base.specs.declared.translations.Entry.{Entry}
-use Rattle.mem_base.specs.declared.ioevents.Ioevent.{Ioevent}
 use Rattle.mem_base.specs.declared.refusals.Refusal.{Refusal}
-use Rattle.mem_base.specs.declared.refusals.Refusal.TheVariants.{WrongKind, AliasParent, NameTaken, BadSize, PageOverlap, EventTaken, LimitReached}
-use Rattle.mem_base.specs.declared.refusals.What.TheVariants as what
+use Rattle.mem_base.specs.declared.refusals.Refusal.TheVariants.{LimitReached}
 use Rattle.mem_base.specs.declared.refusals.Which.{Which}
 use Rattle.mem_base.specs.declared.refusals.Which.TheVariants as which
 use Rattle.mem_base.specs.declared.calls.Call.{Call}
-use Rattle.mem_base.specs.declared.calls.Call.TheVariants as calls
 use Rattle.mem_base.specs.Every.{Every, EveryPair}
-use Rattle.mem_base.specs.Limits.{most_calls, most_made, most_regions, most_spaces, most_entries, most_events, most_bytes, page_size}
-use Rattle.mem_base.specs.Kinds.{is_alias, has_bytes, is_rom_device, target_of}
-use Rattle.mem_base.specs.Region.{has_id, node_of, is_child_of}
-use Rattle.mem_base.specs.Search.{is_space, root_of}
-use Rattle.mem_base.specs.Forest.{IsForest, IsSound, IsRegion, IsPlainRegion, HasTarget, ArePlacedApart, AreOtherSpaces, IsPlacedBefore, FitsTypes}
-use Rattle.mem_base.specs.Refusals.{first_refusal, refuse_if, refuse_where, unknown_region, unknown_target, taken_space, targets, has_root, zero_size, bad_size}
-use Rattle.mem_base.specs.TableRefusals.{at_limit, no_more_calls, count_of, page_overlap, least_met, bad_page, has_iova, is_event, has_event}
-use Rattle.mem_base.specs.Changes.{changed_at, at_region, changed, made_region, placed, moved, moves, retargeted}
-use Rattle.mem_base.specs.Calls.{refusals, refusal_of, counted, after, left_by, after_all, empty}
-use Rattle.mem_base.proofs.EveryLaws.{weaker, both, every_push}
+use Rattle.mem_base.specs.Limits.{most_calls}
+use Rattle.mem_base.specs.Kinds.{is_alias}
+use Rattle.mem_base.specs.Region.{node_of}
+use Rattle.mem_base.specs.Forest.{HasSpaces, IsForest, IsSound, IsRegion, ArePlacedApart, IsPlacedBefore}
+use Rattle.mem_base.specs.Refusals.{first_refusal}
+use Rattle.mem_base.specs.TableRefusals.{at_limit, no_more_calls, count_of}
+use Rattle.mem_base.specs.Changes.{changed_at, at_region}
+use Rattle.mem_base.specs.Calls.{refusals, refusal_of, counted}
+use Rattle.mem_base.proofs.EveryLaws.{weaker}
 use Rattle.mem_base.proofs.ForestLaws.{only_node, every_node_of}
-use Rattle.mem_base.proofs.MoveLaws.{every_changed_one, moved_keeps, unmoved}
-use Rattle.mem_base.proofs.DropLaws.{without, every_without}
-use Rattle.mem_base.proofs.RefusalLaws.{each_none, refuse_if-none, refuse_where-none, is_known, known_node, find-none, in_use-none, IsUnused}
-use Rattle.mem_base.proofs.PageLaws.{bad_page-none}
-use Rattle.mem_base.proofs.PairLaws.{pairs_changed, pairs_fresh, pairs_push, pairs_filter, length-push, length-filter, length-changed_at}
-use Rattle.mem_base.proofs.RegionLaws.{there_changed, region_changed, there_more, target_more, region_more, there_without, region_without, region_at, region_moved, region_resized, region_romd, region_logged, region_retargeted, region_mapped, region_unmapped, region_with_event, region_without_event}
-use Rattle.mem_base.proofs.CallLaws.{IsForest-accepted, IsForest-left_by, after-accepted}
+use Rattle.mem_base.proofs.MoveLaws.{every_changed_one}
+use Rattle.mem_base.proofs.RefusalLaws.{each_none, refuse_if-none}
+use Rattle.mem_base.proofs.PairLaws.{pairs_changed, pairs_fresh, length-changed_at}
+use Rattle.mem_base.proofs.RegionLaws.{there_changed, region_changed}
 
 -- counts below their limits
 
@@ -58,11 +45,12 @@ count-none list w most o n e h = at_limit-none w most (length (list n)) (ap (λ 
 -- the regions of a forest changed
 
 module _ (f : Forest) (s : IsSound f) (few : f.calls < most_calls) where
-  pub with_nodes : (nodes : List Node) (placings : ℕ) → Every (IsRegion nodes) nodes → EveryPair ArePlacedApart nodes → Every (λ p. IsSome (node_of nodes p.1)) f.spaces → length nodes ≤ length f.nodes → IsSound (record f { nodes = nodes; placings = placings; calls = f.calls + 1 })
-  with_nodes nodes placings regions apart roots short = record {
+  pub with_nodes : (nodes : List Node) (placings : ℕ) → Every (IsRegion nodes) nodes → EveryPair ArePlacedApart nodes → Every (λ p. IsSome (node_of nodes p.1)) f.spaces → Every (HasSpaces f) nodes → length nodes ≤ length f.nodes → IsSound (record f { nodes = nodes; placings = placings; calls = f.calls + 1 })
+  with_nodes nodes placings regions apart roots translated short = record {
     regions = regions;
     placings = apart;
     roots = roots;
+    translated = translated;
     spaces = s.spaces;
     few_regions = let l = s.few_regions in omega arith;
     few_made = s.few_made;
@@ -75,8 +63,8 @@ module _ (f : Forest) (s : IsSound f) (few : f.calls < most_calls) where
     here = (every_node_of (IsRegion f.nodes) f.nodes r m at s.regions).0
 
     -- one region changed
-    pub one_changed : (g : Node → Node) (placings : ℕ) (ids : (n : Node) → (g n).id ≡ n.id) (plain : (n : Node) → is_alias (g n).kind ≡ is_alias n.kind) → EveryPair ArePlacedApart (changed_at r g f.nodes) → (IsRegion (changed_at r g f.nodes) m → IsRegion (changed_at r g f.nodes) (g m)) → IsSound (record f { nodes = changed_at r g f.nodes; placings = placings; calls = f.calls + 1 })
-    one_changed g placings ids plain apart change =
+    pub one_changed : (g : Node → Node) (placings : ℕ) (ids : (n : Node) → (g n).id ≡ n.id) (plain : (n : Node) → is_alias (g n).kind ≡ is_alias n.kind) → EveryPair ArePlacedApart (changed_at r g f.nodes) → (IsRegion (changed_at r g f.nodes) m → IsRegion (changed_at r g f.nodes) (g m)) → (HasSpaces f m → HasSpaces f (g m)) → IsSound (record f { nodes = changed_at r g f.nodes; placings = placings; calls = f.calls + 1 })
+    one_changed g placings ids plain apart change spaces =
         let new = changed_at r g f.nodes in
         let still = region_changed r g ids plain f.nodes in
         let l = length-changed_at r g f.nodes in
@@ -84,11 +72,12 @@ module _ (f : Forest) (s : IsSound f) (few : f.calls < most_calls) where
         (every_changed_one (IsRegion new) r g m (change (still m here)) f.nodes (only_node f.nodes r m h.ascending at) (weaker (IsRegion f.nodes) (IsRegion new) still f.nodes s.regions))
         apart
         (weaker (λ p. IsSome (node_of f.nodes p.1)) (λ p. IsSome (node_of new p.1)) (λ p w. there_changed r g ids plain f.nodes p.1 w) f.spaces s.roots)
+        (every_changed_one (HasSpaces f) r g m (spaces (every_node_of (HasSpaces f) f.nodes r m at s.translated).0) f.nodes (only_node f.nodes r m h.ascending at) s.translated)
         (omega arith)
 
     -- one region changed where it is
-    pub field_changed : (g : Node → Node) (ids : (n : Node) → (g n).id ≡ n.id) (plain : (n : Node) → is_alias (g n).kind ≡ is_alias n.kind) → ((x y : Node) → ArePlacedApart x y → ArePlacedApart (g x) y) → ((x y : Node) → ArePlacedApart x y → ArePlacedApart x (g y)) → (IsRegion (changed_at r g f.nodes) m → IsRegion (changed_at r g f.nodes) (g m)) → IsSound (counted (at_region f r g))
-    field_changed g ids plain left right change = one_changed g f.placings ids plain (pairs_changed ArePlacedApart r g left right f.nodes s.placings) change
+    pub field_changed : (g : Node → Node) (ids : (n : Node) → (g n).id ≡ n.id) (plain : (n : Node) → is_alias (g n).kind ≡ is_alias n.kind) → ((x y : Node) → ArePlacedApart x y → ArePlacedApart (g x) y) → ((x y : Node) → ArePlacedApart x y → ArePlacedApart x (g y)) → (IsRegion (changed_at r g f.nodes) m → IsRegion (changed_at r g f.nodes) (g m)) → (HasSpaces f m → HasSpaces f (g m)) → IsSound (counted (at_region f r g))
+    field_changed g ids plain left right change spaces = one_changed g f.placings ids plain (pairs_changed ArePlacedApart r g left right f.nodes s.placings) change spaces
 
 placed_less : (made placings : ℕ) (p : Option RegionId) (placing : ℕ) → IsPlacedBefore made placings p placing → IsSome p → placing < placings
 placed_less made placings None placing h e = cc

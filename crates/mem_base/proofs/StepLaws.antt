@@ -1,5 +1,5 @@
 -- Laws of depth and weight over any steps.
-use Rattle.std.proofs.Common.{◌≡◌, ◌≢◌, ℕ, zero, suc, ◌+◌, ◌*◌, ◌<◌, ◌≤◌, Bool, true, false, ◌||◌, eqb, cond, List, [], ◌∷◌, ◌++◌, map, max, refl, sym, ap, subst, ◌∙◌, arith}
+use Rattle.std.proofs.Common.{◌≡◌, ◌≢◌, ℕ, zero, suc, ◌+◌, ◌*◌, ◌<◌, ◌≤◌, Bool, true, false, ◌||◌, eqb, cond, List, [], ◌∷◌, ◌++◌, map, max, refl, ap, ◌∙◌, arith}
 use Rattle.std.specs.List.{list_any}
 use Rattle.std.proofs.lemmas.Bool.Decides.{nat_tests}
 use Rattle.std.specs.declared.cmp.Ordering.{Ordering}
@@ -9,7 +9,7 @@ use Rattle.mem_base.specs.declared.forests.Node.{Node}
 use Rattle.mem_base.specs.Every.{Every}
 use Rattle.mem_base.specs.Sorting.{put_by, sorted_by}
 use Rattle.mem_base.specs.Steps.{Steps, greatest, total, depth_by, weight_by, reaches_by}
-use Rattle.mem_base.proofs.EveryLaws.{weaker, both}
+use Rattle.mem_base.proofs.EveryLaws.{weaker}
 
 pub map_agree : {A : Type 0} (g h : A → ℕ) (xs : List A) → Every (λ x. g x ≡ h x) xs → map g xs ≡ map h xs
 map_agree g h [] e = refl

@@ -1,6 +1,5 @@
-use Rattle.std.proofs.Common.{◌≡◌, ◌≢◌, ℕ, ◌+◌, ◌-◌, ◌^◌, ◌<◌, ◌≤◌, Bool, true, false, ◌&&◌, cond, List, [], ◌∷◌, ◌++◌, Option, Some, None, refl, sym, ap, subst, ◌∙◌, arith, ⊎_elim}
-use Rattle.std.specs.Option.{option_or}
-use Rattle.std.specs.Prelude.{nat_le, nat_lt}
+-- Laws of views: what they show before, within and behind their ranges, and that one list of ranges shows it.
+use Rattle.std.proofs.Common.{◌≡◌, ℕ, ◌+◌, ◌-◌, ◌^◌, ◌<◌, ◌≤◌, true, false, List, [], ◌∷◌, Some, None, refl, sym, ap, subst, ◌∙◌, arith, ⊎_elim}
 use Rattle.std.proofs.lemmas.Bool.{cases_lt}
 use Rattle.std.proofs.lemmas.Bool.Decides.{nat_tests}
 use Rattle.mem_base.specs.declared.forests.Forest.{Forest}
@@ -9,8 +8,8 @@ use Rattle.mem_base.specs.declared.spots.Spot.{Spot}
 use Rattle.mem_base.specs.declared.ids.RegionId.{RegionId}
 use Rattle.mem_base.specs.declared.spots.Attrs.{Attrs}
 use Rattle.mem_base.specs.declared.flat.FlatRange.{FlatRange}
-use Rattle.mem_base.specs.View.{holds, seen, shown, IsRanges, Merges, MergesNot, IsMerged}
-use Rattle.mem_base.specs.View.{Agrees, IsView}
+use Rattle.mem_base.specs.View.{holds, seen, shown, IsRanges, MergesNot, IsMerged}
+use Rattle.mem_base.specs.View.{IsView}
 
 abbrev pub spot_at : FlatRange → ℕ → Spot
 spot_at r a = record { leaf = r.leaf; offset = r.offset + (a - r.start); attrs = r.attrs }

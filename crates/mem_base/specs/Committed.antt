@@ -3,9 +3,8 @@
 -- outermost commit acts. That it acts only where a change is pending, and that a change outside a transaction is one
 -- by itself, are QEMU's core too; that every such change counts, also where it alters no view, is this project's own
 -- rule.
-use Rattle.std.specs.Prelude.{ℕ, ◌+◌, ◌-◌, Bool, true, false, ◌==◌, ◌&&◌, ◌||◌, not, if◌then◌else◌, List, [], ◌∷◌}
+use Rattle.std.specs.Prelude.{ℕ, ◌+◌, ◌-◌, Bool, false, ◌==◌, ◌&&◌, ◌||◌, not, if◌then◌else◌, List, [], ◌∷◌}
 use Rattle.mem_base.specs.declared.forests.Forest.{Forest}
-use Rattle.mem_base.specs.declared.calls.Call.{Call}
 use Rattle.mem_base.specs.declared.calls.Config.{Config}
 use Rattle.mem_base.specs.declared.calls.Config.TheVariants as configs
 use Rattle.mem_base.specs.Calls.{after, left_by, empty, is_quiet}

@@ -1,5 +1,5 @@
 -- The calls of the pure machine, as the events that they make and what they answer.
-use Rattle.std.specs.Prelude.{ℕ, Bool, true, false, if◌then◌else◌, List, [], ◌∷◌, ◌++◌, map, Option, Some, None, is_some, unwrap_or}
+use Rattle.std.specs.Prelude.{ℕ, Bool, false, if◌then◌else◌, List, [], ◌∷◌, ◌++◌, map, Option, Some, None, is_some, unwrap_or}
 use Rattle.mem_base.specs.declared.ids.PassId.{PassId}
 use Rattle.mem_base.specs.declared.ids.SpaceId.{SpaceId}
 use Rattle.mem_base.specs.declared.forests.Forest.{Forest}
@@ -14,7 +14,7 @@ use Rattle.mem_base.specs.Access.{access}
 use Rattle.mem_base.specs.Passes.{pass_of}
 use Rattle.mem_base.specs.Generations.{Generation, entered_generation}
 use Rattle.mem_base.specs.World.{World, number_in}
-use Rattle.mem_base.specs.History.{Ran, Happened, run_events}
+use Rattle.mem_base.specs.History.{Happened, run_events}
 use Rattle.mem_base.specs.Orders.{Order, events_before, private_of, events_behind}
 use Rattle.mem_base.specs.Answers.{Answer, answer_to}
 

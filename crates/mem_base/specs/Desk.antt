@@ -1,6 +1,6 @@
 -- The desk: what the writer keeps in private, and what of it a publish carries.
 -- QEMU's core has this under its big lock: the tree, the depth of transactions, what is pending, and the listeners.
-use Rattle.std.specs.Prelude.{ℕ, Bool, true, false, ◌==◌, ◌&&◌, not, nat_lt, if◌then◌else◌, List, [], ◌∷◌, ◌++◌, map, filter, length, replicate, Option, Some, None, option_and_then}
+use Rattle.std.specs.Prelude.{ℕ, Bool, false, ◌==◌, nat_lt, if◌then◌else◌, List, [], ◌∷◌, ◌++◌, map, filter, length, replicate, Option, Some, None, option_and_then}
 use Rattle.std.specs.List.{list_any, list_all, range_with_len}
 use Rattle.mem_base.specs.declared.ids.RegionId.{RegionId}
 use Rattle.mem_base.specs.declared.forests.Forest.{Forest}

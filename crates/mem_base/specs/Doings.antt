@@ -1,6 +1,6 @@
 -- What an access does, as one list in order. Its events, its result and the bytes that it reads are all read off
 -- this list. The list and the result do not depend on what the events reply; only the bytes read do.
-use Rattle.std.specs.Prelude.{ℕ, ◌||◌, Bool, true, false, nat_lt, List, [], ◌∷◌, ◌++◌, map, take, drop, length, replicate, filter_map, Option, Some, None}
+use Rattle.std.specs.Prelude.{ℕ, ◌||◌, Bool, true, false, nat_lt, List, [], ◌∷◌, ◌++◌, take, drop, length, replicate, filter_map, Option, Some, None}
 use Rattle.std.specs.List.{list_any}
 use Rattle.mem_base.specs.declared.ids.RegionId.{RegionId}
 use Rattle.mem_base.specs.declared.ids.PassId.{PassId}

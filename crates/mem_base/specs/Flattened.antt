@@ -1,6 +1,6 @@
 -- The view of an address space as a function: the longest ranges of addresses that one leaf answers.
 -- It is made address by address, from the last one down, so it is for reasoning and is never computed.
-use Rattle.std.specs.Prelude.{ℕ, zero, suc, ◌+◌, ◌-◌, ◌^◌, Bool, ◌==◌, ◌&&◌, if◌then◌else◌, List, [], ◌∷◌, Option, Some, None}
+use Rattle.std.specs.Prelude.{ℕ, zero, suc, ◌+◌, ◌^◌, Bool, ◌==◌, ◌&&◌, if◌then◌else◌, List, [], ◌∷◌, Option, Some, None}
 use Rattle.mem_base.specs.declared.spots.Attrs.{Attrs}
 use Rattle.mem_base.specs.declared.spots.Spot.{Spot}
 use Rattle.mem_base.specs.declared.forests.Forest.{Forest}

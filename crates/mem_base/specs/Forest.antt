@@ -11,7 +11,8 @@ use Rattle.mem_base.specs.declared.calls.Call.TheVariants as calls
 use Rattle.mem_base.specs.Limits.{most_depth, most_weight, most_regions, most_made, most_spaces, most_entries, most_events, most_calls}
 use Rattle.mem_base.specs.Every.{Every, EveryPair}
 use Rattle.mem_base.specs.Region.{node_of}
-use Rattle.mem_base.specs.Kinds.{is_alias, is_rom_device, device_of, target_of}
+use Rattle.mem_base.specs.Kinds.{is_alias, has_bytes, is_rom_device, is_iommu, takes_events, device_of, target_of}
+use Rattle.mem_base.specs.Search.{root_of}
 use Rattle.mem_base.specs.Tables.{AreEntries, AreEvents}
 use Rattle.mem_base.specs.Refusals.{bad_size}
 use Rattle.mem_base.specs.TableRefusals.{bad_device, bad_page, bad_event}
@@ -81,6 +82,10 @@ pub record IsRegion (nodes : List Node) (n : Node) : Type 0 where
   pub events : AreEvents n.events
   pub good_events : Every (λ e. bad_event e ≡ None) n.events
   pub few_events : length n.events ≤ most_events
+  -- only an IOMMU region translates, only a device has ioeventfds, only what has bytes is logged
+  pub untranslated : is_iommu n.kind ≡ false → n.entries ≡ []
+  pub uneventful : takes_events n.kind ≡ false → n.events ≡ []
+  pub unlogged : has_bytes n.kind ≡ false → n.log ≡ 0
 
 -- two regions in containers were not placed by one placing
 abbrev pub ArePlacedApart : Node → Node → Type 0
@@ -90,12 +95,17 @@ ArePlacedApart n m = IsSome n.parent → IsSome m.parent → n.placing ≢ m.pla
 abbrev pub AreOtherSpaces : SpaceId × RegionId → SpaceId × RegionId → Type 0
 AreOtherSpaces p q = p.0.0 ≢ q.0.0
 
+-- the spaces that translations lead to are there
+abbrev pub HasSpaces : Forest → Node → Type 0
+HasSpaces f n = Every (λ e. IsSome (root_of f e.space)) n.entries
+
 -- what else holds of each forest that accepted calls make: what is named is there, and counts are within limits
 pub record IsSound (f : Forest) : Type 0 where
   pub regions : Every (IsRegion f.nodes) f.nodes
   pub placings : EveryPair ArePlacedApart f.nodes
   -- the root of each space is there
   pub roots : Every (λ p. IsSome (node_of f.nodes p.1)) f.spaces
+  pub translated : Every (HasSpaces f) f.nodes
   pub spaces : EveryPair AreOtherSpaces f.spaces
   pub few_regions : length f.nodes ≤ most_regions
   pub few_made : f.made ≤ most_made

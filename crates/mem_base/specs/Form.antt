@@ -1,16 +1,13 @@
 -- The form of scripts: which texts are scripts, and the commands that they say.
 -- A script is lines, each ended by a line feed. A line is one command, in tokens that are separated by one space. So
 -- no tab, carriage return, comment or blank line stands anywhere: none is part of a name, a number or a word.
-use Rattle.std.specs.Prelude.{ℕ, ◌+◌, ◌==◌, ◌&&◌, ◌||◌, Bool, true, false, not, nat_le, if◌then◌else◌, List, [], ◌∷◌, length, Option, Some, None, option_and_then, option_map, Result, Ok, Err, ℤ, pos, codes}
-use Rattle.std.specs.List.{slice_split, list_any}
+use Rattle.std.specs.Prelude.{ℕ, ◌==◌, false, if◌then◌else◌, List, [], ◌∷◌, Option, Some, None, option_and_then, option_map, ℤ, pos, codes}
+use Rattle.std.specs.List.{slice_split}
 use Rattle.std.specs.Str.{bytes_eq}
 use Rattle.mem_base.specs.declared.kinds.Device.{Device}
 use Rattle.mem_base.specs.declared.kinds.DeviceKind.TheVariants.{Latch}
-use Rattle.mem_base.specs.declared.kinds.Ops.{Ops}
 use Rattle.mem_base.specs.declared.commands.Command.{Command}
 use Rattle.mem_base.specs.declared.commands.Command.TheVariants as commands
-use Rattle.mem_base.specs.declared.refusals.BadScript.{BadScript}
-use Rattle.mem_base.specs.declared.refusals.Cause.TheVariants.{Later}
 use Rattle.mem_base.specs.Spelling.{Text, is_name, number_of, priority_of, most_address, most_size}
 
 -- Operands: each is read from the first of the tokens that are left

@@ -1,5 +1,5 @@
 -- Histories of the pure machine: which are legal, and four facts of each pass that hold in every legal one.
-use Rattle.std.specs.Prelude.{◌≡◌, ℕ, ◌+◌, ◌<◌, ◌≤◌, min, Bool, true, false, List, [], ◌∷◌, length, slice_index_or, Option, Some, None, Result}
+use Rattle.std.specs.Prelude.{◌≡◌, ℕ, ◌+◌, ◌<◌, ◌≤◌, min, Bool, true, false, List, [], ◌∷◌, length, slice_index_or, Some, None, Result}
 use Rattle.mem_base.specs.declared.ids.PassId.{PassId}
 use Rattle.mem_base.specs.declared.refusals.Refusal.{Refusal}
 use Rattle.mem_base.specs.declared.machine.Event.{Event}

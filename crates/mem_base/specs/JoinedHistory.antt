@@ -3,7 +3,7 @@
 --   it stands directly behind the last Sweep of its call;
 --   where its call has no Sweep, it stands directly before the call's first Fill;
 --   where its call has no shared event, it stands directly behind the writer's last entry before it.
-use Rattle.std.specs.Prelude.{◌≡◌, ℕ, ◌+◌, Bool, true, false, ◌==◌, ◌&&◌, not, if◌then◌else◌, List, [], ◌∷◌, ◌++◌, map, length, flat_map, Result, Ok, Err}
+use Rattle.std.specs.Prelude.{◌≡◌, ℕ, ◌+◌, Bool, ◌==◌, ◌&&◌, not, if◌then◌else◌, List, [], ◌∷◌, ◌++◌, map, length, flat_map, Result, Ok}
 use Rattle.mem_base.specs.declared.forests.Forest.{Forest}
 use Rattle.mem_base.specs.declared.calls.Config.{Config}
 use Rattle.mem_base.specs.declared.refusals.Refusal.{Refusal}

@@ -55,3 +55,4 @@ pub mod Composites
 pub mod SharedHistory
 pub mod Turns
 pub mod JoinedHistory
+pub mod EditionPlaces

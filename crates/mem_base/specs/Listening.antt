@@ -1,7 +1,7 @@
 -- Who listens, and what they are told: when they join and leave, and when a generation is published.
 -- QEMU's core, `memory_listener_register`, `memory_listener_unregister`, `memory_region_transaction_commit` and
 -- `MEMORY_LISTENER_CALL` with its two directions. The order of ioeventfd calls and of log calls is this project's own.
-use Rattle.std.specs.Prelude.{ℕ, Bool, true, false, ◌==◌, nat_le, not, if◌then◌else◌, List, [], ◌∷◌, ◌++◌, map, filter, flat_map, reverse, length, Option}
+use Rattle.std.specs.Prelude.{Bool, true, false, ◌==◌, nat_le, not, if◌then◌else◌, List, [], ◌∷◌, ◌++◌, map, filter, flat_map, reverse, length, Option}
 use Rattle.std.specs.List.{list_any, fold}
 use Rattle.std.specs.declared.cmp.Ordering.{Ordering}
 use Rattle.std.specs.Ordering.{int_cmp}
@@ -12,8 +12,7 @@ use Rattle.mem_base.specs.declared.ioevents.Live.{Live}
 use Rattle.mem_base.specs.declared.forests.Forest.{Forest}
 use Rattle.mem_base.specs.declared.listening.Listener.{Listener}
 use Rattle.mem_base.specs.declared.listening.Change.{Change}
-use Rattle.mem_base.specs.declared.listening.RangeEvent.{RangeEvent}
-use Rattle.mem_base.specs.declared.listening.RangeEvent.TheVariants.{Delete, Add, Keep, LogStart, LogStop}
+use Rattle.mem_base.specs.declared.listening.RangeEvent.TheVariants.{Delete, Add, LogStop}
 use Rattle.mem_base.specs.declared.listening.ListenerEvent.{ListenerEvent}
 use Rattle.mem_base.specs.declared.listening.ListenerEvent.TheVariants.{Begin, Range, EventAdd, EventDel, Commit}
 use Rattle.mem_base.specs.declared.refusals.Refusal.{Refusal}

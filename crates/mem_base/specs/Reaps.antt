@@ -1,7 +1,7 @@
 -- The writer's part, and which dropped regions a reap releases.
 -- This project's own rule, in place of the reference counts of QEMU's core: a dropped region keeps its place while a
 -- generation that is held names it.
-use Rattle.std.specs.Prelude.{ℕ, Bool, ◌==◌, not, List, map, filter}
+use Rattle.std.specs.Prelude.{ℕ, Bool, ◌==◌, not, List, filter}
 use Rattle.std.specs.List.{list_any}
 use Rattle.std.specs.declared.cmp.Ordering.{Ordering}
 use Rattle.std.specs.Ordering.{nat_cmp}

@@ -1,6 +1,6 @@
 -- Numbers in a row, cut into runs where two neighbours do not belong together. An access is cut into chunks by it,
 -- a chunk of memory into words and pages, a pool into holes and taken parts, and an address space into ranges.
-use Rattle.std.specs.Prelude.{ℕ, zero, suc, ◌+◌, ◌%◌, ◌==◌, not, Bool, true, false, List, [], ◌∷◌}
+use Rattle.std.specs.Prelude.{ℕ, zero, suc, ◌+◌, ◌%◌, ◌==◌, not, Bool, true, List, [], ◌∷◌}
 
 -- the numbers from a start on, so many
 pub record Run : Type 0 where

@@ -5,7 +5,6 @@
 use Rattle.std.specs.Prelude.{◌≡◌, ℕ, ◌+◌, Bool, true, false, ◌==◌, ◌&&◌, nat_lt, nat_le, if◌then◌else◌, List, [], ◌∷◌, length, replicate, slice_index, Option, Some, None, option_map}
 use Rattle.std.specs.List.{list_any}
 use Rattle.mem_base.specs.declared.machine.Place.{Place}
-use Rattle.mem_base.specs.declared.machine.Cell.{Cell}
 use Rattle.mem_base.specs.declared.machine.Hand.TheVariants as hands
 use Rattle.mem_base.specs.declared.machine.Event.{Event}
 use Rattle.mem_base.specs.declared.machine.Event.TheVariants as events

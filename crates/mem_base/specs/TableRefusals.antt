@@ -1,6 +1,6 @@
 -- Why a call is refused for a region's translations, its device and its ioeventfds, and for a count that stands at
 -- its limit. A condition on a region that is not there does not stand.
-use Rattle.std.specs.Prelude.{ℕ, ◌+◌, ◌%◌, ◌==◌, ◌&&◌, ◌||◌, not, Bool, true, false, nat_lt, nat_le, if◌then◌else◌, List, [], ◌∷◌, length, min, map, unwrap_or, Option, Some, None, option_map, option_and_then, find, filter, count_ones}
+use Rattle.std.specs.Prelude.{ℕ, ◌+◌, ◌%◌, ◌==◌, ◌&&◌, ◌||◌, not, Bool, true, false, nat_lt, nat_le, List, [], ◌∷◌, length, min, map, unwrap_or, Option, Some, None, option_map, option_and_then, filter, count_ones}
 use Rattle.std.specs.List.{list_any}
 use Rattle.std.specs.Option.{option_or}
 use Rattle.mem_base.specs.declared.ids.RegionId.{RegionId}

@@ -1,6 +1,6 @@
 -- One call of the writer on the running machine, by the replies that its shared events got: those events, where its
 -- private one stands, the writer's part after it, and its answer.
-use Rattle.std.specs.Prelude.{ℕ, Bool, true, false, ◌==◌, ◌&&◌, not, if◌then◌else◌, List, [], ◌∷◌, ◌++◌, map, filter, drop, length, flat_map}
+use Rattle.std.specs.Prelude.{ℕ, Bool, true, false, List, [], ◌∷◌, ◌++◌, map, filter, drop}
 use Rattle.mem_base.specs.declared.machine.Hand.TheVariants as hands
 use Rattle.mem_base.specs.declared.machine.Event.{Event}
 use Rattle.mem_base.specs.declared.machine.Event.TheVariants as events

@@ -1,7 +1,7 @@
 -- The walk from an old view to a new one, by which listeners are told.
 -- QEMU's core, `address_space_update_topology_pass`: first the deletes, then all else. Two ranges are the same where
 -- all but the logging mask agrees.
-use Rattle.std.specs.Prelude.{ℕ, Bool, true, ◌==◌, ◌&&◌, not, if◌then◌else◌, bit_or, List, [], ◌∷◌, ◌++◌, map, filter, flat_map, find, Option, Some, None}
+use Rattle.std.specs.Prelude.{ℕ, Bool, ◌==◌, ◌&&◌, not, if◌then◌else◌, bit_or, List, [], ◌∷◌, ◌++◌, map, filter, flat_map, find, Option, Some, None}
 use Rattle.mem_base.specs.TableRefusals.{bool_eq}
 use Rattle.std.specs.List.{list_any}
 use Rattle.mem_base.specs.declared.flat.FlatRange.{FlatRange}

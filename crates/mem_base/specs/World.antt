@@ -1,11 +1,10 @@
 -- The pure machine: which events are possible, what each answers, and what it leaves.
 -- It is the machine of QEMU's core with one lock round everything: the desk, the generations that are kept, the
 -- passes, and the cells of all regions that have a place.
-use Rattle.std.specs.Prelude.{ℕ, ◌+◌, Bool, true, false, ◌==◌, ◌&&◌, ◌||◌, not, nat_lt, if◌then◌else◌, List, [], map, replicate, slice_index, Option, Some, None, option_and_then, Result, Ok}
+use Rattle.std.specs.Prelude.{ℕ, Bool, false, ◌&&◌, ◌||◌, not, nat_lt, if◌then◌else◌, List, [], map, replicate, slice_index, Option, Some, None, option_and_then, Result, Ok}
 use Rattle.mem_base.specs.declared.ids.RegionId.{RegionId}
 use Rattle.mem_base.specs.declared.refusals.Refusal.{Refusal}
 use Rattle.mem_base.specs.declared.machine.Place.{Place}
-use Rattle.mem_base.specs.declared.machine.Cell.{Cell}
 use Rattle.mem_base.specs.declared.machine.Hand.TheVariants as hands
 use Rattle.mem_base.specs.declared.machine.Event.{Event}
 use Rattle.mem_base.specs.declared.machine.Event.TheVariants as events

@@ -2,7 +2,8 @@
 ghost use Rattle.std.specs.Prelude.{◌≡◌, ℕ, List};
 ghost use Rattle.mem_base.specs.declared.forests.Forest.{Forest};
 ghost use Rattle.mem_base.specs.declared.machine.Place.{Place};
-ghost use Rattle.mem_base.specs.Editions.{place_in, HasNamedPlaces};
+ghost use Rattle.mem_base.specs.Editions.{place_in};
+ghost use Rattle.mem_base.specs.EditionPlaces.{ArePlacesOf};
 
 use crate::{Place, RegionId};
 
@@ -24,5 +25,5 @@ pub trait Edition {
     fn place_of(&self, region: RegionId) -> Option<Place>
         ensures { result ≡ place_in (places self.now) region };
 
-    ghost named: { (e : Self) → HasNamedPlaces (forest e) (places e) };
+    ghost shown: { (e : Self) → ArePlacesOf (forest e) (places e) };
 }

@@ -18,13 +18,11 @@ ghost use Rattle.mem_base.specs.Calls.{after_all, empty};
 pub fn forests_are_sound()
     ensures forest { (list : List Call) → IsForest (after_all empty list) }
     ensures sound { (list : List Call) → Every FitsTypes list → IsSound (after_all empty list) }
-{
-}
+{}
 
 /// What the search finds in every such forest: exactly what the rules of QEMU's manual find ("The memory API",
 /// "Visibility"), which have no bound on depth.
 pub fn search_is_the_manuals()
     ensures finds { (list : List Call) (s : SpaceId) (r : RegionId) (a : ℕ) → root_of (after_all empty list) s ≡ Some r → Finds (after_all empty list) r a (look (after_all empty list) s a) }
     ensures one { (f : Forest) (r : RegionId) (a : ℕ) (x y : Option Spot) → Finds f r a x → Finds f r a y → x ≡ y }
-{
-}
+{}

@@ -37,6 +37,14 @@ or_three (Some x) b d = refl
 or_three None (Some x) d = refl
 or_three None None d = sym (or_none d)
 
+or_assoc : (a b d : Option Refusal) → option_or (option_or a b) d ≡ option_or a (option_or b d)
+or_assoc (Some x) b d = refl
+or_assoc None b d = refl
+
+-- seven of them
+pub or_seven : (a b d e g h i : Option Refusal) → option_or (option_or (option_or (option_or (option_or (option_or a b) d) e) g) h) i ≡ option_or a (option_or b (option_or d (option_or e (option_or g (option_or h (option_or i None))))))
+or_seven a b d e g h i = simp (or_assoc, or_none)
+
 pub stands : (a b : Option Refusal) → is_some a ≡ true → option_or a b ≡ a
 stands None b e = cc
 stands (Some x) b e = refl

@@ -1,5 +1,5 @@
 -- Laws of what a tree keeps.
-use Rattle.std.proofs.Common.{◌≡◌, ◌≢◌, ℕ, ◌+◌, ◌<◌, ◌≤◌, ◌^◌, Bool, true, false, cond, leb, List, [], ◌∷◌, ◌++◌, Option, Some, None, refl, sym, ap, subst, ◌∙◌, arith}
+use Rattle.std.proofs.Common.{◌≡◌, ◌≢◌, ℕ, ◌+◌, ◌<◌, ◌≤◌, ◌^◌, ◌-◌, Bool, true, false, cond, leb, List, [], ◌∷◌, ◌++◌, Option, Some, None, refl, sym, ap, subst, ◌∙◌, arith}
 use Rattle.std.proofs.lemmas.Bool.Decides.{nat_tests}
 use Rattle.mem_base.specs.declared.forests.Forest.{Forest}
 use Rattle.mem_base.specs.declared.calls.Call.{Call}
@@ -19,6 +19,12 @@ use Rattle.mem_base.specs.Forest.{IsRegion, IsPlainRegion, HasContainer}
 use Rattle.mem_base.specs.declared.refusals.Refusal.TheVariants.{NotChild}
 use Rattle.mem_base.proofs.RefusalLaws.{each_none, known_node, refuse_where-none}
 use Rattle.mem_base.proofs.ForestLaws.{every_node_of, id_of}
+use Rattle.std.specs.Prelude.{option_map, option_and_then}
+use Rattle.mem_base.specs.declared.ids.SpaceId.{SpaceId}
+use Rattle.mem_base.specs.declared.translations.Perm.{Perm}
+use Rattle.mem_base.specs.declared.refusals.Refusal.TheVariants.{PageOverlap}
+use Rattle.mem_base.specs.TableRefusals.{least_met}
+use Rattle.mem_base.proofs.PageLaws.{bad_page-none}
 use Rattle.region_tree.specs.Tree.{IsWhole}
 
 pub whole_accepted : (f : Forest) (call : Call) → IsWhole f → FitsTypes call → refusal_of f call ≡ None → IsWhole (counted (changed f call))
@@ -45,3 +51,25 @@ moves_child f child offset h e =
     let region = (every_node_of (IsRegion f.nodes) f.nodes child m.0 m.1 h.sound.regions).0 in
     let p = container_there f.nodes m.0.parent inside region.container in
     (m.0, p.0, m.1, p.1, p.2)
+
+-- a translation that may be put into a table
+pub record IsMappable (f : Forest) (region : RegionId) (iova size : ℕ) : Type 0 where
+  pub within : iova + (size - 1) < 2 ^ 64
+  pub apart : (n : Node) → node_of f.nodes region ≡ Some n → least_met iova (size - 1 + 1) n.entries ≡ None
+
+none_met : (o : Option ℕ) → option_map (λ met. PageOverlap met) o ≡ None → o ≡ None
+none_met None e = refl
+none_met (Some k) e = cc
+
+page_apart : (iova size : ℕ) (o : Option Node) (n : Node) → o ≡ Some n → option_and_then (λ (m : Node). option_map (λ met. PageOverlap met) (least_met iova size m.entries)) o ≡ None → least_met iova size n.entries ≡ None
+page_apart iova size None n e h = cc
+page_apart iova size (Some m) n e h = let same : m ≡ n = cc in subst (λ (x : Node). least_met iova size x.entries ≡ None) same (none_met (least_met iova size m.entries) h)
+
+pub mappable : (f : Forest) (region : RegionId) (iova size : ℕ) (space : SpaceId) (translated : ℕ) (perm : Perm) → iova < 2 ^ 64 → size ≤ 2 ^ 64 → refusal_of f (calls.Map region iova size space translated perm) ≡ None → IsMappable f region iova size
+mappable f region iova size space translated perm below small e =
+    let each = each_none (refusals f (calls.Map region iova size space translated perm) ++ no_more_calls f ∷ []) e in
+    let page = bad_page-none iova size each.1.1.1.0 below small in
+    record {
+      within = page.ends;
+      apart = λ n there. subst (λ k. least_met iova k n.entries ≡ None) (sym page.mask) (page_apart iova size (node_of f.nodes region) n there each.1.1.1.1.0);
+    }

@@ -16,7 +16,7 @@ use crate::extents::Extent;
 use crate::forest_tree::Tree;
 use crate::paths::reaches_within;
 use crate::slots::Slot;
-use mem_base::{Device, Kind, Refusal, RegionId, Size, SpaceId, User, What, Which};
+use mem_base::{Device, Ioevent, Kind, Refusal, RegionId, Size, SpaceId, User, What, Which};
 
 fn refuse_if(test: bool, why: Refusal) -> Option<Refusal>
     ensures { result ≡ conditions.refuse_if test why }
@@ -363,6 +363,146 @@ pub(crate) fn in_use(tree: &Tree, region: RegionId) -> Option<Refusal>
     used_by_region(first_child(tree.slots(), region))
         .or(used_by_region(first_alias(tree.slots(), region)))
         .or(used_by_space(first_space(tree.spaces(), region)))
+}
+
+/// A space that is not there.
+pub(crate) fn unknown_space(tree: &Tree, space: SpaceId) -> Option<Refusal>
+    ensures { result ≡ conditions.unknown_space tree.now space }
+{
+    match tree.root(space) {
+        Some(_) => None,
+        None => Some(Refusal::Unknown(What::Space(space))),
+    }
+}
+
+/// A region that does not translate.
+pub(crate) fn not_iommu(tree: &Tree, region: RegionId) -> Option<Refusal>
+    ensures { result ≡ conditions.wrong_kind kinds.is_iommu tree.now region }
+{
+    match tree.node(region) {
+        Some(node) => refuse_if(
+            !matches!(node.kind, Kind::Iommu),
+            Refusal::WrongKind(region),
+        ),
+        None => None,
+    }
+}
+
+/// A region whose writes set no notifier.
+pub(crate) fn takes_no_events(tree: &Tree, region: RegionId) -> Option<Refusal>
+    ensures { result ≡ conditions.wrong_kind kinds.takes_events tree.now region }
+{
+    match tree.node(region) {
+        Some(node) => refuse_if(
+            !matches!(node.kind, Kind::RomDevice(_) | Kind::Io(_)),
+            Refusal::WrongKind(region),
+        ),
+        None => None,
+    }
+}
+
+/// A page whose size is no power of two, or that begins at no multiple of it.
+pub(crate) fn bad_page(iova: u64, size: Size) -> Option<Refusal>
+    ensures { result ≡ tables.bad_page iova size }
+{
+    let bytes = size.get();
+    if bytes == 0 {
+        return Some(Refusal::BadPage);
+    }
+    refuse_if(
+        !(bytes.count_ones() == 1) || !(u128::from(iova) % bytes == 0),
+        Refusal::BadPage,
+    )
+}
+
+/// A page that meets a translation.
+pub(crate) fn page_overlap(tree: &Tree, region: RegionId, iova: u64, size: Size) -> Option<Refusal>
+    ensures { result ≡ tables.page_overlap tree.now region iova size }
+{
+    match tree.node(region)?.entries.least_met(iova, size) {
+        Some(met) => Some(Refusal::PageOverlap(met)),
+        None => None,
+    }
+}
+
+/// A translation that is not there.
+pub(crate) fn unknown_entry(tree: &Tree, region: RegionId, iova: u64) -> Option<Refusal>
+    ensures { result ≡ tables.unknown_entry tree.now region iova }
+{
+    match tree.node(region) {
+        Some(node) => refuse_if(!node.entries.has(iova), Refusal::Unknown(What::Entry(iova))),
+        None => None,
+    }
+}
+
+/// An ioeventfd that no device has.
+pub(crate) fn bad_event(event: &Ioevent) -> Option<Refusal>
+    ensures { result ≡ tables.bad_event event.now }
+{
+    refuse_if(
+        !(is_access_size(event.size) && event.number <= 63 && (event.matched || event.value == 0)),
+        Refusal::BadOps,
+    )
+}
+
+/// An ioeventfd that the region has, whatever its notifier.
+pub(crate) fn event_taken(tree: &Tree, region: RegionId, event: &Ioevent) -> Option<Refusal>
+    ensures { result ≡ tables.event_taken tree.now region event.now }
+{
+    match tree.node(region) {
+        Some(node) => refuse_if(
+            node.events
+                .has(event.offset, event.size, event.matched, event.value),
+            Refusal::EventTaken,
+        ),
+        None => None,
+    }
+}
+
+/// An ioeventfd that the region does not have.
+pub(crate) fn unknown_event(
+    tree: &Tree,
+    region: RegionId,
+    offset: u64,
+    size: u8,
+    matched: bool,
+    value: u64,
+) -> Option<Refusal>
+    ensures { result ≡ tables.unknown_event tree.now region offset size matched value }
+{
+    match tree.node(region) {
+        Some(node) => refuse_if(
+            !node.events.has(offset, size, matched, value),
+            Refusal::Unknown(What::Event(offset)),
+        ),
+        None => None,
+    }
+}
+
+/// No more translations in a region.
+pub(crate) fn no_more_entries(tree: &Tree, region: RegionId) -> Option<Refusal>
+    ensures { result ≡ tables.no_more_entries tree.now region }
+{
+    match tree.node(region) {
+        Some(node) => refuse_if(
+            node.entries.as_slice().len() >= 4096,
+            Refusal::LimitReached(Which::Entries, 4096),
+        ),
+        None => None,
+    }
+}
+
+/// No more ioeventfds in a region.
+pub(crate) fn no_more_events(tree: &Tree, region: RegionId) -> Option<Refusal>
+    ensures { result ≡ tables.no_more_events tree.now region }
+{
+    match tree.node(region) {
+        Some(node) => refuse_if(
+            node.events.as_slice().len() >= 256,
+            Refusal::LimitReached(Which::Events, 256),
+        ),
+        None => None,
+    }
 }
 
 /// No more regions.

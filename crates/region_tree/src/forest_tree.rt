@@ -10,18 +10,20 @@ ghost use Rattle.mem_base.specs.Calls.{after, answer_of, counted, empty, refusal
 ghost use Rattle.mem_base.specs.Refusals.{alias_parent, has_container};
 ghost use Rattle.mem_base.specs.Steps.{reaches, depth_of, weight_of, greatest_depth, greatest_weight};
 ghost use Rattle.region_tree.specs.Slots.{nodes_of};
-ghost use Rattle.region_tree.specs.Served.{IsServed};
 
 use crate::conditions::{
-    alias_too_long, bad_device, bad_size, has_container, in_use, no_add, no_bytes, no_more_calls,
-    no_more_regions, no_more_spaces, not_alias, not_child_of, not_in_container, not_rom_device,
-    resizes_bytes, taken_space, too_long, unknown_region, unknown_target, zero_size,
+    alias_too_long, bad_device, bad_event, bad_page, bad_size, event_taken, has_container, in_use,
+    no_add, no_bytes, no_more_calls, no_more_entries, no_more_events, no_more_regions,
+    no_more_spaces, not_alias, not_child_of, not_in_container, not_iommu, not_rom_device,
+    page_overlap, resizes_bytes, taken_space, takes_no_events, too_long, unknown_entry,
+    unknown_event, unknown_region, unknown_space, unknown_target, zero_size,
 };
 use crate::extents::{Extent, Join, extents, widest};
 use crate::paths::{depth_within, weight_within};
-use crate::slots::{Slot, Slots};
+use crate::slots::{Slot, Slots, copied};
 use mem_base::{
-    Applied, Call, Client, Entries, Events, Kind, Node, Refusal, RegionId, Size, SpaceId,
+    Applied, Call, Client, Entries, Entry, Events, Forest, Ioevent, Kind, Node, Nodes, Perm,
+    Refusal, RegionId, Size, SpaceId, Spaces,
 };
 use std::alloc::{AllocError, Global};
 use std::marker::Model;
@@ -333,6 +335,64 @@ impl Tree {
             .or(no_more_calls(self))
     }
 
+    /// Why an `Unmap` is refused, where it is.
+    fn refusal_of_unmap(&self, region: RegionId, iova: u64) -> Option<Refusal>
+        ensures { result ≡ refusal_of self.now (Call.Unmap region iova) }
+    {
+        unknown_region(self, region)
+            .or(unknown_entry(self, region, iova))
+            .or(no_more_calls(self))
+    }
+
+    /// Why a `Map` is refused, where it is.
+    fn refusal_of_map(
+        &self,
+        region: RegionId,
+        iova: u64,
+        size: Size,
+        space: SpaceId,
+        translated: u64,
+        perm: Perm,
+    ) -> Option<Refusal>
+        ensures { result ≡ refusal_of self.now (Call.Map region iova size space translated perm) }
+    {
+        unknown_region(self, region)
+            .or(unknown_space(self, space))
+            .or(not_iommu(self, region))
+            .or(bad_page(iova, size))
+            .or(page_overlap(self, region, iova, size))
+            .or(no_more_entries(self, region))
+            .or(no_more_calls(self))
+    }
+
+    /// Why an `Event` is refused, where it is.
+    fn refusal_of_event(&self, region: RegionId, event: Ioevent) -> Option<Refusal>
+        ensures { result ≡ refusal_of self.now (Call.Event region event) }
+    {
+        unknown_region(self, region)
+            .or(takes_no_events(self, region))
+            .or(bad_event(&event))
+            .or(event_taken(self, region, &event))
+            .or(no_more_events(self, region))
+            .or(no_more_calls(self))
+    }
+
+    /// Why an `Unevent` is refused, where it is.
+    fn refusal_of_unevent(
+        &self,
+        region: RegionId,
+        offset: u64,
+        size: u8,
+        matched: bool,
+        value: u64,
+    ) -> Option<Refusal>
+        ensures { result ≡ refusal_of self.now (Call.Unevent region offset size matched value) }
+    {
+        unknown_region(self, region)
+            .or(unknown_event(self, region, offset, size, matched, value))
+            .or(no_more_calls(self))
+    }
+
     /// Makes a region.
     fn make(&mut self, kind: Kind, size: Size) -> Result<RegionId, AllocError>
         requires { refusal_of self.old (Call.Region kind size) ≡ None }
@@ -475,6 +535,63 @@ impl Tree {
         self.calls += 1;
     }
 
+    /// Puts a translation into the table of a region.
+    fn map(
+        &mut self,
+        region: RegionId,
+        iova: u64,
+        size: Size,
+        space: SpaceId,
+        translated: u64,
+        perm: Perm,
+    ) -> Result<(), AllocError>
+        requires { refusal_of self.old (Call.Map region iova size space translated perm) ≡ None }
+        ensures ok { OnOk result (self.new ≡ counted (changed self.old (Call.Map region iova size space translated perm))) }
+        ensures err { OnErr result (self.new ≡ self.old) }
+    {
+        let mask = (size.get() - 1) as u64;
+        let entry = Entry {
+            iova,
+            mask,
+            space,
+            translated,
+            perm,
+        };
+        self.slots.map(region, entry)?;
+        self.calls += 1;
+        Ok(())
+    }
+
+    /// Takes a translation out.
+    fn unmap(&mut self, region: RegionId, iova: u64)
+        requires { refusal_of self.old (Call.Unmap region iova) ≡ None }
+        ensures { self.new ≡ counted (changed self.old (Call.Unmap region iova)) }
+    {
+        self.slots.unmap(region, iova);
+        self.calls += 1;
+    }
+
+    /// Gives a device an ioeventfd.
+    fn add_event(&mut self, region: RegionId, event: Ioevent) -> Result<(), AllocError>
+        requires { refusal_of self.old (Call.Event region event) ≡ None }
+        ensures ok { OnOk result (self.new ≡ counted (changed self.old (Call.Event region event))) }
+        ensures err { OnErr result (self.new ≡ self.old) }
+    {
+        self.slots.add_event(region, event)?;
+        self.calls += 1;
+        Ok(())
+    }
+
+    /// Takes an ioeventfd away.
+    fn remove_event(&mut self, region: RegionId, offset: u64, size: u8, matched: bool, value: u64)
+        requires { refusal_of self.old (Call.Unevent region offset size matched value) ≡ None }
+        ensures { self.new ≡ counted (changed self.old (Call.Unevent region offset size matched value)) }
+    {
+        self.slots
+            .remove_event(region, offset, size, matched, value);
+        self.calls += 1;
+    }
+
     /// Drops a region.
     fn discard(&mut self, region: RegionId)
         requires { refusal_of self.old (Call.Drop region) ≡ None }
@@ -489,7 +606,6 @@ impl Tree {
     ///
     /// It fails only for want of memory.
     pub fn refusal_of(&self, call: &Call) -> Result<Option<Refusal>, AllocError>
-        requires served { IsServed self.now call.now }
         ensures { IfOk result (λ o. o ≡ refusal_of self.now call.now) }
     {
         match *call {
@@ -511,15 +627,30 @@ impl Tree {
             Call::Romd { region, on } => Ok(self.refusal_of_romd(region, on)),
             Call::Log { region, client, on } => Ok(self.refusal_of_log(region, client, on)),
             Call::Global { on: _ } => Ok(no_more_calls(self)),
+            Call::Map {
+                region,
+                iova,
+                size,
+                space,
+                translated,
+                perm,
+            } => Ok(self.refusal_of_map(region, iova, size, space, translated, perm)),
+            Call::Unmap { region, iova } => Ok(self.refusal_of_unmap(region, iova)),
+            Call::Event { region, event } => Ok(self.refusal_of_event(region, event)),
+            Call::Unevent {
+                region,
+                offset,
+                size,
+                matched,
+                value,
+            } => Ok(self.refusal_of_unevent(region, offset, size, matched, value)),
             Call::Drop { region } => Ok(self.refusal_of_drop(region)),
-            _ => unreachable!(),
         }
     }
 
     /// Does a call that is not refused.
     fn accept(&mut self, call: &Call) -> Result<Applied, AllocError>
-        requires served { IsServed self.old call.now }
-        requires accepted { refusal_of self.old call.now ≡ None }
+        requires { refusal_of self.old call.now ≡ None }
         ensures ok { IfOk result (λ x. (self.new ≡ counted (changed self.old call.now)) × (x ≡ answer_of self.old call.now)) }
         ensures err { OnErr result (self.new ≡ self.old) }
     {
@@ -542,8 +673,24 @@ impl Tree {
             Call::Romd { region, on } => self.set_romd(region, on),
             Call::Log { region, client, on } => self.set_log(region, client, on),
             Call::Global { on } => self.set_global(on),
+            Call::Map {
+                region,
+                iova,
+                size,
+                space,
+                translated,
+                perm,
+            } => self.map(region, iova, size, space, translated, perm)?,
+            Call::Unmap { region, iova } => self.unmap(region, iova),
+            Call::Event { region, event } => self.add_event(region, event)?,
+            Call::Unevent {
+                region,
+                offset,
+                size,
+                matched,
+                value,
+            } => self.remove_event(region, offset, size, matched, value),
             Call::Drop { region } => self.discard(region),
-            _ => unreachable!(),
         }
         Ok(Applied::Done)
     }
@@ -554,7 +701,6 @@ impl Tree {
     /// A call that is refused changes nothing. It is refused for the first reason that stands, in the order
     /// that is this project's own, or for want of memory.
     pub fn apply(&mut self, call: &Call) -> Result<Applied, Refusal>
-        requires served { IsServed self.old call.now }
         ensures applied { IfOk result (λ x. (after self.old call.now ≡ Ok self.new) × (x ≡ answer_of self.old call.now)) }
         ensures refused { IfErr result (λ why. why ≢ Refusal.Memory → after self.old call.now ≡ Err why) }
         ensures unchanged { OnErr result (self.new ≡ self.old) }
@@ -563,5 +709,38 @@ impl Tree {
             return Err(why);
         }
         Ok(self.accept(call)?)
+    }
+
+    /// A tree of the same forest, which shares nothing with this one.
+    pub fn try_copy(&self) -> Result<Tree, AllocError>
+        ensures { IfOk result (λ copy. copy ≡ self.now) }
+    {
+        Ok(Tree {
+            alloc: self.alloc,
+            slots: self.slots.try_copy(self.alloc)?,
+            spaces: self.spaces.clone()?,
+            made: self.made,
+            placings: self.placings,
+            calls: self.calls,
+            global: self.global,
+        })
+    }
+
+    /// The forest that the tree is seen as.
+    pub fn forest(&self) -> Result<Forest, AllocError>
+        ensures { IfOk result (λ forest. forest ≡ self.now) }
+    {
+        let mut nodes = Vec::new(self.alloc);
+        for slot in self.slots.as_slice() {
+            nodes.push(copied(&slot.node)?)?;
+        }
+        Ok(Forest {
+            nodes: Nodes::new(nodes),
+            spaces: Spaces::new(self.spaces.clone()?),
+            made: self.made,
+            placings: self.placings,
+            calls: self.calls,
+            global: self.global,
+        })
     }
 }

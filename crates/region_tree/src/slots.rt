@@ -1,16 +1,19 @@
 // Regions beside the lists of their children.
 
-ghost use Rattle.std.specs.Prelude.{◌≡◌, ◌≢◌, ◌+◌, ◌++◌, ◌∷◌, ◌<◌, ◌≤◌, ℕ, List, [], true, length, filter, not, insert, slice_index_or, Some, None, ℤ, IsSome, OnOk, OnErr, IfOk, MatchOption, option_copied};
+ghost use Rattle.std.specs.Prelude.{◌≡◌, ◌≢◌, ◌+◌, ◌++◌, ◌∷◌, ◌<◌, ◌≤◌, ◌^◌, ℕ, List, [], true, false, length, filter, not, insert, slice_index_or, Some, None, ℤ, IsSome, OnOk, OnErr, IfOk, MatchOption, option_copied};
 ghost use Rattle.mem_base.specs.declared.forests.Node.{Node as N};
 ghost use Rattle.mem_base.specs.declared.forests.Forest.{Forest};
 ghost use Rattle.mem_base.specs.Every.{Every};
 ghost use Rattle.mem_base.specs.Region.{node_of, has_id, is_child_of};
 ghost use Rattle.mem_base.specs.Order.{children_of, ids_of};
 ghost use Rattle.mem_base.specs.Forest.{IsAscending};
-ghost use Rattle.mem_base.specs.Changes.{changed_at, placed, moved, moves, retargeted, bit_of, logged};
+ghost use Rattle.std.specs.List.{list_any};
+ghost use Rattle.mem_base.specs.Sorting.{put_by};
+ghost use Rattle.mem_base.specs.TableRefusals.{has_iova, is_event, least_met};
+ghost use Rattle.mem_base.specs.Changes.{changed_at, entry_order, event_order, placed, moved, moves, retargeted, bit_of, logged};
 ghost use Rattle.region_tree.specs.Slots.{nodes_of, rank_in, has_higher, others, AreKept, AreIn};
 
-use mem_base::{Client, Kind, Node, RegionId, Size};
+use mem_base::{Client, Entry, Ioevent, Kind, Node, RegionId, Size};
 use std::alloc::{AllocError, Global};
 use std::marker::Model;
 
@@ -60,6 +63,14 @@ impl Children {
         self.ids.retain(|child| child.0 != id.0);
     }
 
+    /// The same children once more.
+    fn try_copy(&self) -> Result<Children, AllocError>
+        ensures { IfOk result (λ copy. copy ≡ self.now) }
+    {
+        let ids = self.ids.clone()?;
+        Ok(Children { ids })
+    }
+
     /// The other regions than this one.
     fn without(&self, alloc: Global, id: RegionId) -> Result<Children, AllocError>
         ensures { IfOk result (λ rest. rest ≡ others id self.now) }
@@ -79,6 +90,40 @@ impl Children {
 pub(crate) struct Slot {
     pub(crate) node: Node,
     pub(crate) children: Children,
+}
+
+impl Slot {
+    /// The same region with the same children once more.
+    fn try_copy(&self) -> Result<Slot, AllocError>
+        ensures { IfOk result (λ copy. copy ≡ self.now) }
+    {
+        Ok(Slot {
+            node: copied(&self.node)?,
+            children: self.children.try_copy()?,
+        })
+    }
+}
+
+/// The same region once more.
+pub(crate) fn copied(node: &Node) -> Result<Node, AllocError>
+    ensures { IfOk result (λ copy. copy ≡ node.now) }
+{
+    Ok(Node {
+        id: node.id,
+        kind: node.kind,
+        size: node.size,
+        parent: node.parent,
+        offset: node.offset,
+        priority: node.priority,
+        placing: node.placing,
+        enabled: node.enabled,
+        readonly: node.readonly,
+        nonvolatile: node.nonvolatile,
+        romd: node.romd,
+        log: node.log,
+        entries: node.entries.try_copy()?,
+        events: node.events.try_copy()?,
+    })
 }
 
 /// The index of a region.
@@ -376,6 +421,65 @@ impl Slots {
         }
     }
 
+    /// Puts a translation into the table of a region.
+    pub(crate) fn map(&mut self, region: RegionId, entry: Entry) -> Result<(), AllocError>
+        requires within { entry.iova + entry.mask < 2 ^ 64 }
+        requires apart { (n : N) → node_of self.old region ≡ Some n → least_met entry.iova (entry.mask + 1) n.entries ≡ None }
+        ensures ok { OnOk result (self.new ≡ changed_at region (λ n. record n { entries = put_by entry_order entry n.entries }) self.old) }
+        ensures err { OnErr result (self.new ≡ self.old) }
+    {
+        match place_of(&self.items, region) {
+            Some(i) => {
+                self.items[i].node.entries.put(entry)?;
+                Ok(())
+            }
+            None => Ok(()),
+        }
+    }
+
+    /// Takes the translation with this iova out of the table of a region.
+    pub(crate) fn unmap(&mut self, region: RegionId, iova: u64)
+        ensures { self.new ≡ changed_at region (λ n. record n { entries = filter (λ e. not (has_iova iova e)) n.entries }) self.old }
+    {
+        if let Some(i) = place_of(&self.items, region) {
+            self.items[i].node.entries.remove(iova);
+        }
+    }
+
+    /// Gives a region an ioeventfd.
+    pub(crate) fn add_event(&mut self, region: RegionId, event: Ioevent) -> Result<(), AllocError>
+        requires { (n : N) → node_of self.old region ≡ Some n → list_any (is_event event.offset event.size event.matched event.value) n.events ≡ false }
+        ensures ok { OnOk result (self.new ≡ changed_at region (λ n. record n { events = put_by event_order event n.events }) self.old) }
+        ensures err { OnErr result (self.new ≡ self.old) }
+    {
+        match place_of(&self.items, region) {
+            Some(i) => {
+                self.items[i].node.events.put(event)?;
+                Ok(())
+            }
+            None => Ok(()),
+        }
+    }
+
+    /// Takes an ioeventfd away from a region.
+    pub(crate) fn remove_event(
+        &mut self,
+        region: RegionId,
+        offset: u64,
+        size: u8,
+        matched: bool,
+        value: u64,
+    )
+        ensures { self.new ≡ changed_at region (λ n. record n { events = filter (λ e. not (is_event offset size matched value e)) n.events }) self.old }
+    {
+        if let Some(i) = place_of(&self.items, region) {
+            self.items[i]
+                .node
+                .events
+                .remove(offset, size, matched, value);
+        }
+    }
+
     /// Removes a region, which is in no container.
     pub(crate) fn remove(&mut self, region: RegionId)
         requires free { (m : N) × (node_of self.old region ≡ Some m) × (m.parent ≡ None) }
@@ -384,5 +488,16 @@ impl Slots {
         if let Some(i) = place_of(&self.items, region) {
             let _ = self.items.remove(i);
         }
+    }
+
+    /// The same regions once more.
+    pub(crate) fn try_copy(&self, alloc: Global) -> Result<Slots, AllocError>
+        ensures { IfOk result (λ copy. copy ≡ self.now) }
+    {
+        let mut items = Vec::new(alloc);
+        for slot in self.items.as_slice() {
+            items.push(slot.try_copy()?)?;
+        }
+        Ok(Slots { items })
     }
 }

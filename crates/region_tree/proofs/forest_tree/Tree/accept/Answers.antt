@@ -13,7 +13,7 @@ pub add-requires : goal.add-requires
 add-requires c =
     let fits : SFits w32 c.in-Add.priority = search rules in
     let same = to_z-of_z w32 c.in-Add.priority fits in
-    let none = subst (λ (k : Call). refusal_of c.args.self.now k ≡ None) c.in-Add.is c.requires.accepted in
+    let none = subst (λ (k : Call). refusal_of c.args.self.now k ≡ None) c.in-Add.is c.requires in
     subst (λ (p : ℤ). refusal_of c.args.self.now (Add c.in-Add.parent c.in-Add.offset c.in-Add.child p) ≡ None) (sym same) none
 
 pub returns-in_ok-add-in-Add-clause-ok : goal.returns-in_ok-add-in-Add-clause-ok
