@@ -97,7 +97,13 @@ fn write_reply<K: Sink>(
         }
         Reply::Shown(line, view) => {
             write_all(sink, line.as_bytes())?;
-            write_ranges(alloc, session.names(), session.tree(), view.as_slice(), sink)?;
+            write_ranges(
+                alloc,
+                session.names(),
+                session.tree(),
+                view.as_slice(),
+                sink,
+            )?;
             Ok(())
         }
     }

@@ -5,7 +5,6 @@ ghost use Rattle.mem_base.specs.Calls.{after, is_quiet};
 ghost use Rattle.mem_base.specs.Output.{refusal_text, taken_text, unknown_text};
 ghost use Rattle.mem_base.specs.Search.{look};
 ghost use Rattle.mem_base.specs.Run.{called, make_region, make_space, refused, searched, shown_space, start, step};
-ghost use Rattle.region_tree.specs.Served.{IsServed};
 ghost use Rattle.mtree.specs.Replies.{Accepts, Refuses, Replies};
 
 use crate::answers::{add_found, add_refusal};
@@ -47,7 +46,10 @@ impl Model for Session {
 fn is_quiet(call: &Call) -> bool
     ensures { result ≡ is_quiet call.now }
 {
-    matches!(call, Call::Region { kind: _, size: _ } | Call::Drop { region: _ })
+    matches!(
+        call,
+        Call::Region { kind: _, size: _ } | Call::Drop { region: _ }
+    )
 }
 
 impl Session {
@@ -118,7 +120,6 @@ impl Session {
 
     // Does the call, where it is not refused. There is no room to count more than 2^64 - 1 changes.
     fn apply(&mut self, call: &Call) -> Result<(), Refusal>
-        requires { IsServed self.old.forest call.now }
         ensures accepted { OnOk result (Accepts self.old self.new call.now) }
         ensures refused { IfErr result (λ why. why ≢ Refusal.Memory → after self.old.forest call.now ≡ Err why) }
         ensures unchanged { OnErr result (self.new ≡ self.old) }
@@ -153,12 +154,7 @@ impl Session {
         }
     }
 
-    fn make_space(
-        &mut self,
-        number: u32,
-        name: &Name,
-        root: RegionId,
-    ) -> Result<Reply, AllocError>
+    fn make_space(&mut self, number: u32, name: &Name, root: RegionId) -> Result<Reply, AllocError>
         ensures { Replies result self.new (make_space self.old number name.now root) }
     {
         if self.names.space(name.as_bytes()).is_some() {
@@ -185,7 +181,6 @@ impl Session {
 
     // Does a call that makes no name.
     fn call(&mut self, number: u32, call: &Call) -> Result<Reply, AllocError>
-        requires { IsServed self.old.forest call.now }
         ensures { Replies result self.new (called self.old number self.old.names call.now) }
     {
         match self.apply(call) {
@@ -227,7 +222,12 @@ impl Session {
         line.named("at ", name.as_bytes())?;
         line.placed(" ", addr)?;
         line.text(" ")?;
-        add_found(&mut line, &self.names, &self.tree, find(&self.tree, space, addr))?;
+        add_found(
+            &mut line,
+            &self.names,
+            &self.tree,
+            find(&self.tree, space, addr),
+        )?;
         line.end()?;
         Ok(Reply::Written(line))
     }

@@ -10,4 +10,4 @@ returns-in-Ok c =
 pub returns-in-Err : goal.returns-in-Err
 returns-in-Err c =
     replies_refused c.refuse.result c.apply.new.self c.args.self.now c.args.number c.args.self.now.names c.args.call.now c.in-Err.why
-        c.in-Err.ensures.refused c.in-Err.ensures.unchanged c.refuse.ensures
+    c.in-Err.ensures.refused c.in-Err.ensures.unchanged c.refuse.ensures

@@ -16,4 +16,4 @@ returns-in-Err c =
     let names : Names = record c.args.self.now.names { regions = c.args.self.now.names.regions ++ c.args.name.now ∷ [] } in
     let call = Region c.args.kind c.args.size in
     replies_free c.refuse.result c.apply.new.self c.args.self.now c.args.number c.args.name.now _ (called c.args.self.now c.args.number names call) there
-        (replies_refused c.refuse.result c.apply.new.self c.args.self.now c.args.number names call c.in-Err.why c.in-Err.ensures.refused c.in-Err.ensures.unchanged c.refuse.ensures)
+    (replies_refused c.refuse.result c.apply.new.self c.args.self.now c.args.number names call c.in-Err.why c.in-Err.ensures.refused c.in-Err.ensures.unchanged c.refuse.ensures)

@@ -14,4 +14,4 @@ returns-in-Err c =
     let names : Names = record c.args.self.now.names { spaces = c.args.self.now.names.spaces ++ c.args.name.now ∷ [] } in
     let call = Space next c.args.root in
     replies_free c.refuse.result c.apply.new.self c.args.self.now c.args.number c.args.name.now _ (called c.args.self.now c.args.number names call) there
-        (replies_refused c.refuse.result c.apply.new.self c.args.self.now c.args.number names call c.in-Err.why (rw is_next at c.in-Err.ensures.refused) c.in-Err.ensures.unchanged c.refuse.ensures)
+    (replies_refused c.refuse.result c.apply.new.self c.args.self.now c.args.number names call c.in-Err.why (rw is_next at c.in-Err.ensures.refused) c.in-Err.ensures.unchanged c.refuse.ensures)
