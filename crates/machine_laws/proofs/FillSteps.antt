@@ -15,7 +15,7 @@ use Rattle.mem_base.specs.Editions.{place_in}
 use Rattle.mem_base.specs.Cells.{cell, is_same_cell, cells_in, blocks_after, words_after}
 use Rattle.mem_base.specs.Generations.{Generation, held_generations}
 use Rattle.mem_base.specs.Desk.{Desk, places_of}
-use Rattle.mem_base.specs.World.{World, possible, touched, touch_at}
+use Rattle.mem_base.specs.World.{World, possible, touched_blocks, touch_at}
 use Rattle.mem_base.proofs.EveryLaws.{weaker}
 use Rattle.machine_laws.proofs.Tests.{both_of}
 use Rattle.machine_laws.proofs.OrderLaws.{order_after}
@@ -72,7 +72,7 @@ fills w words k c p waiting here near = let d = w.writer.desk in let old = steps
       tells = refl;
       leads = refl;
       coupled = record {
-        backed = subst (λ o. IsBacked (places_of d) (less_cell c d.unfilled) (touched w.blocks (Some c.region) o) (words_after words (p.start + c.word) Take)) (sym (touch_there w (events.Fill c) c.region p _ here refl)) new;
+        backed = subst (λ o. IsBacked (places_of d) (less_cell c d.unfilled) (touched_blocks w.blocks (Some c.region) o) (words_after words (p.start + c.word) Take)) (sym (touch_there w (events.Fill c) c.region p _ here refl)) new;
         held = weaker (AllStand (places_of d) d.unfilled) (AllStand (places_of d) (less_cell c d.unfilled))
             (λ e t. weaker (Stands (places_of d) d.unfilled e) (Stands (places_of d) (less_cell c d.unfilled) e)
             (λ q s. record { whole = s.whole; named = s.named; filled = λ i. fewer_wait c q.region i d.unfilled (s.filled i) }) e.places t) (held_generations w.writer.generations) k.held;

@@ -42,7 +42,7 @@ pub keeps_held : (w : World) → IsOrderly w → KeepsHeld w.writer.generations
 keeps_held w k = let g = w.writer.generations in
     let near : (n : ℕ) → is_held g n ≡ true → (n ≤ g.current) × (g.current ≤ n + 7) =
     λ n h. near_held g n (λ v l. let p : PassId = record { 0 = v } in (k.each p (subst (λ (m : ℕ). v < m) k.all_known l)).near) h in record {
-  near = near;
-  kept = λ n h. let p = near n h in there_when_near g n k.kept p.0 p.1;
-  few = let m = g.current + 1 - least_lowest g.current g.passes in let a = length-take m g.kept in let b = k.kept in omega arith;
-}
+      near = near;
+      kept = λ n h. let p = near n h in there_when_near g n k.kept p.0 p.1;
+      few = let m = g.current + 1 - least_lowest g.current g.passes in let a = length-take m g.kept in let b = k.kept in omega arith;
+    }

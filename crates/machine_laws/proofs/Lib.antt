@@ -23,6 +23,11 @@ pub mod Idles
 pub mod Outcomes
 pub mod Rows
 pub mod Turning
+pub mod TurnsLaw
+pub mod LiveLaws
+pub mod LiveRanges
+pub mod LiveMembers
+pub mod NamingLaws
 pub mod AccessRows
 pub mod ListenerRows
 pub mod WorldRows

@@ -30,7 +30,7 @@ use Rattle.mem_base.specs.Desk.{Desk}
 use Rattle.mem_base.specs.Listening.{Listening}
 use Rattle.mem_base.specs.Publishing.{settled, refused, unless_refused, would_publish, is_behind, held_at, held_from, held_up, readied, publishing, current_forest}
 use Rattle.mem_base.specs.Configs.{configured, made, backed, kept_back, called, begun, committed, listened, unlistened, without_listener}
-use Rattle.mem_base.specs.World.{World, possible, reply, told, number_in, opening}
+use Rattle.mem_base.specs.World.{World, possible, reply, after_telling, number_in, opening}
 use Rattle.mem_base.specs.History.{Happened, after_entry, after_entries, IsLegalFrom, IsLegal, IsInOrder, is_swept, AllInOrder, IsOrderly}
 use Rattle.machine_laws.proofs.Tests.{none_is_no_number, same_number, none_is_not_some, both_of, not_true, holds_where, none_of, all_at, none_set, length_map}
 
@@ -371,7 +371,7 @@ privates_all due sw bs g ps k same ready = record {
         (λ q e. none_behind g.current 0 g.passes all.1 v.0 q e)
 
 -- each event keeps the facts
-pub order_after : (w : World) → IsOrderly w → (e : Event) (n : ℕ) → possible w e ≡ true → number_in (reply w e) ≡ n → IsOrderly (told w e n)
+pub order_after : (w : World) → IsOrderly w → (e : Event) (n : ℕ) → possible w e ≡ true → number_in (reply w e) ≡ n → IsOrderly (after_telling w e n)
 order_after w k (events.Look v) n may is = let d = w.writer.desk in let g = w.writer.generations in let near = ltb-true _ _ (both_of _ _ may).0 in
     subst (λ (z : ℕ). AllInOrder d.due d.swept g (with_pass w.passes v (record (pass_of w.passes v) { looked = Some z }))) is
     (moves d.due d.swept g w.passes k v _ near (looks g.current d.due (is_swept d.swept v) (known_of g v) (pass_of w.passes v) (k.each v near)))

@@ -28,7 +28,7 @@ use Rattle.mem_base.specs.Passes.{PassState, pass_of, is_pass}
 use Rattle.mem_base.specs.Generations.{Generation, Generations, Known, nothing_known, least_lowest, held_generations, generation_of, generation_at, entered_generation}
 use Rattle.mem_base.specs.Guards.{is_notifier, may_reach, may_mark}
 use Rattle.mem_base.specs.Desk.{places_of}
-use Rattle.mem_base.specs.World.{World, possible, reply, after, number_in, if_placed, touch_at, old_at, touched}
+use Rattle.mem_base.specs.World.{World, possible, reply, after, number_in, if_placed, touch_at, old_at, touched_blocks}
 use Rattle.mem_base.specs.SharedHistory.{is_same_place, carries}
 use Rattle.mem_base.specs.SharedHistory as running
 use Rattle.mem_base.specs.Turns.{is_writers}
@@ -81,8 +81,12 @@ module _ (w : World) (words : List ℕ) (k : Coupled w words) (v : PassId) (p : 
 
   kept_stands : (n : ℕ) → least_lowest g.current g.passes ≤ n → n ≤ g.current → (o : Option Generation) → slice_get g.kept (g.current - n) ≡ o → carries o p ≡ true → Standing o
   kept_stands n low high None e h = absurd (grind arith)
-  kept_stands n low high (Some x) e h = (x, refl, one_of (Stands (places_of w.writer.desk) w.writer.desk.unfilled x) p x.places
-      (every_get (AllStand (places_of w.writer.desk) w.writer.desk.unfilled) g.kept (g.current - n) (g.current + 1 - least_lowest g.current g.passes) x k.held (omega arith) e) h)
+  kept_stands n low high (Some x) e h = (
+    x,
+    refl,
+    one_of (Stands (places_of w.writer.desk) w.writer.desk.unfilled x) p x.places
+        (every_get (AllStand (places_of w.writer.desk) w.writer.desk.unfilled) g.kept (g.current - n) (g.current + 1 - least_lowest g.current g.passes) x k.held (omega arith) e) h,
+  )
 
   number_stands : (n : ℕ) → least_lowest g.current g.passes ≤ n → (b : Bool) → nat_le n g.current ≡ b → carries (if b then slice_get g.kept (g.current - n) else None) p ≡ true
       → Standing (if b then slice_get g.kept (g.current - n) else None)
@@ -127,15 +131,15 @@ pub touch_there : (w : World) (e : Event) (r : RegionId) (p : Place) (t : Touch)
 touch_there w e r p t here is = ap (option_and_then (λ q. touch_of q e)) here ∙ is
 
 pub backed_touch : (w : World) (words : List ℕ) → Coupled w words → (e : Event) (r : RegionId) (p : Place) (t : Touch) → place_in (places_of w.writer.desk) r ≡ Some p → touch_of p e ≡ Some t → t.word < p.words
-    → IsBacked (places_of w.writer.desk) w.writer.desk.unfilled (touched w.blocks (Some r) (touch_at w e (Some r))) (words_after words (p.start + t.word) t.step)
+    → IsBacked (places_of w.writer.desk) w.writer.desk.unfilled (touched_blocks w.blocks (Some r) (touch_at w e (Some r))) (words_after words (p.start + t.word) t.step)
 backed_touch w words k e r p t here is near =
-    subst (λ (o : Option Touch). IsBacked (places_of w.writer.desk) w.writer.desk.unfilled (touched w.blocks (Some r) o) (words_after words (p.start + t.word) t.step)) (sym (touch_there w e r p t here is))
+    subst (λ (o : Option Touch). IsBacked (places_of w.writer.desk) w.writer.desk.unfilled (touched_blocks w.blocks (Some r) o) (words_after words (p.start + t.word) t.step)) (sym (touch_there w e r p t here is))
     (steps_both (places_of w.writer.desk) w.writer.desk.unfilled w.blocks words k.backed r p t.word t.step here near)
 
 pub bare_touch : (w : World) (words : List ℕ) → Coupled w words → (e : Event) (r : RegionId) (p : Place) (t : Touch) → place_in (places_of w.writer.desk) r ≡ Some p → touch_of p e ≡ Some t
-    → (s : RegionId) → place_in (places_of w.writer.desk) s ≡ None → has_block (touched w.blocks (Some r) (touch_at w e (Some r))) s ≡ false
+    → (s : RegionId) → place_in (places_of w.writer.desk) s ≡ None → has_block (touched_blocks w.blocks (Some r) (touch_at w e (Some r))) s ≡ false
 bare_touch w words k e r p t here is s none =
-    ap (λ (o : Option Touch). has_block (touched w.blocks (Some r) o) s) (touch_there w e r p t here is) ∙ same_blocks w.blocks r s t.word t.step ∙ k.bare s none
+    ap (λ (o : Option Touch). has_block (touched_blocks w.blocks (Some r) o) s) (touch_there w e r p t here is) ∙ same_blocks w.blocks r s t.word t.step ∙ k.bare s none
 
 pub old_touch : (w : World) (words : List ℕ) → Coupled w words → (e : Event) (r : RegionId) (p : Place) (t : Touch) → place_in (places_of w.writer.desk) r ≡ Some p → touch_of p e ≡ Some t → t.word < p.words → waits w.writer.desk.unfilled r t.word ≡ false
     → slice_index words (p.start + t.word) ≡ old_at w (Some r) (touch_at w e (Some r))

@@ -33,7 +33,7 @@ use Rattle.mem_base.specs.Listening.{Listening, joined, join_refusal, leave_refu
 use Rattle.mem_base.specs.Desk.{Desk, places_of, cells_of}
 use Rattle.mem_base.specs.Publishing.{settled, refused, unless_refused, held_up, readied, publishing, current_forest}
 use Rattle.mem_base.specs.Configs.{configured, made, backed, kept_back, called, begun, committed, listened, unlistened, without_listener}
-use Rattle.mem_base.specs.World.{World, possible, after, told, block_for, is_at_rest}
+use Rattle.mem_base.specs.World.{World, possible, after, block_for, is_at_rest}
 use Rattle.mem_base.proofs.EveryLaws.{weaker}
 use Rattle.machine_laws.proofs.Tests.{both_of, not_true, true_is_not_false, none_is_not_some}
 use Rattle.machine_laws.proofs.OrderLaws.{order_after}

@@ -20,7 +20,7 @@ use Rattle.mem_base.specs.Desk.{Desk, places_of, at_place, carried_by, is_all_sw
 use Rattle.mem_base.specs.Reaps.{Writer}
 use Rattle.mem_base.specs.Publishing.{would_publish}
 use Rattle.mem_base.specs.Configs.{private_reply, writer_after}
-use Rattle.mem_base.specs.World.{World, possible, reply, after, told, number_in, is_at_rest}
+use Rattle.mem_base.specs.World.{World, possible, reply, after, number_in, is_at_rest}
 use Rattle.mem_base.specs.History.{Happened, happened, after_entry}
 use Rattle.mem_base.specs.SharedHistory as running
 use Rattle.mem_base.specs.JoinedHistory.{read}

@@ -1,7 +1,7 @@
 -- Each turn of the writer, from an idle part of the machine: it goes, it ends idle, and it publishes what its private
 -- event commits.
 use Rattle.std.proofs.Common.{◌≡◌, ℕ, zero, suc, ◌+◌, ◌-◌, ◌<◌, ◌≤◌, Bool, true, false, ◌&&◌, ◌||◌, List, [], ◌∷◌, ◌++◌, length, map, drop, append_assoc, sym, refl, ap, ◌∙◌, subst, arith, if◌then◌else◌, Option, Some, None}
-use Rattle.std.specs.Prelude.{flat_map, filter, not, ◌==◌, Ok, Err, Result}
+use Rattle.std.specs.Prelude.{flat_map, filter, not, ◌==◌, ◌/◌, Ok, Err, Result}
 use Rattle.std.specs.List.{list_all, range_with_len}
 use Rattle.mem_base.specs.declared.ids.PassId.{PassId}
 use Rattle.mem_base.specs.declared.ids.RegionId.{RegionId}
@@ -220,3 +220,65 @@ module _ (end : Writer) where
       append_nil : {A : Type 0} (xs : List A) → xs ++ [] ≡ xs
       append_nil [] = refl
       append_nil (x ∷ xs) = ap (λ zs. x ∷ zs) (append_nil xs)
+
+  -- events that leave the writer's part as it is
+  steady_commits : (es : List Event) (h : Writer) (ns : List ℕ) → Every (IsSteady h) es → (ks : List Config) → committed_from (stands h.desk) ks ≡ forests_in h es ns ++ committed_from (stands (behind h es ns).desk) ks
+  steady_commits es h ns k ks = λ i. sym (steady_forests es h ns k) i ++ committed_from (stands (sym (steady_behind es h ns k) i).desk) ks
+
+  writes_steady : (h : Writer) → Idle h → (ws : List Run) (f : Run → ℕ) (region : RegionId) (s : Run → WordStep) → Every (IsSteady h) (map (λ w. events.Word hands.Writer (cell region (f w)) (s w)) ws)
+  writes_steady h i [] f region s = tt
+  writes_steady h i (w ∷ ws) f region s = (record { ready = i.filled; stays = λ x n. refl; carries = no_forest_at _ }, writes_steady h i ws f region s)
+
+  unless_steady : (h : Writer) (o : Option Refusal) (es : List Event) → Every (IsSteady h) es → Every (IsSteady h) (unless o es)
+  unless_steady h None es k = k
+  unless_steady h (Some why) es k = tt
+
+  below : (a n end : ℕ) → a + n ≤ end → Every (λ i. i < end) (range_with_len a n)
+  below a zero end l = tt
+  below a (suc n) end l = (omega arith, below (a + 1) n end (omega arith))
+
+  harvests_steady : (h : Writer) → Idle h → (region : RegionId) (client : Client) → Every (IsSteady h) (harvests h.desk region client)
+  harvests_steady h i region client =
+      every_map (IsSteady h) (λ index. events.Harvest region client index) (range_with_len 0 n)
+      (weaker (λ index. index < n) (λ index. IsSteady h (events.Harvest region client index))
+      (λ index l. record { ready = (i.filled, λ p is. subst (λ (o : Option Place). index < mark_words_at o) is l); stays = λ x m. refl; carries = no_forest_at _ }) (range_with_len 0 n) (below 0 n n (omega arith)))
+    where
+      n : ℕ
+      n = mark_words_at (place_in (places_of h.desk) region)
+
+  load_turn : (h : Writer) (region : RegionId) (offset : ℕ) (bytes : List ℕ) (ns : List ℕ) → Idle h → TurnFacts h (load region offset bytes) ns
+  load_turn h region offset bytes ns i =
+      let es = events_behind h (load region offset bytes) in
+      let k : Every (IsSteady h) es = unless_steady h (load_refusal h.desk.forest region offset (length bytes)) (loads region offset bytes) (writes_steady h i (touched word_size offset (length bytes)) (λ w. w.start / word_size) region (replaces offset bytes)) in record {
+        ready = record { before = tt; private = tt; behind = steady_ready end es h ns k };
+        idle = subst Idle (sym (steady_behind es h ns k)) i;
+        forests = steady_commits es h ns k;
+      }
+
+  harvest_turn : (h : Writer) (region : RegionId) (client : Client) (ns : List ℕ) → Idle h → TurnFacts h (harvest region client) ns
+  harvest_turn h region client ns i =
+      let es = events_behind h (harvest region client) in
+      let k : Every (IsSteady h) es = unless_steady h (harvest_refusal h.desk.forest region) (harvests h.desk region client) (harvests_steady h i region client) in record {
+        ready = record { before = tt; private = tt; behind = steady_ready end es h ns k };
+        idle = subst Idle (sym (steady_behind es h ns k)) i;
+        forests = steady_commits es h ns k;
+      }
+
+  notified_turn : (h : Writer) (number : ℕ) (ns : List ℕ) → Idle h → TurnFacts h (notified number) ns
+  notified_turn h number ns i =
+      let es = events_behind h (notified number) in
+      let k : Every (IsSteady h) es = (record { ready = i.filled; stays = λ x n. refl; carries = no_forest_at _ }, tt) in record {
+        ready = record { before = tt; private = tt; behind = steady_ready end es h ns k };
+        idle = subst Idle (sym (steady_behind es h ns k)) i;
+        forests = steady_commits es h ns k;
+      }
+
+  -- every call of the writer
+  pub turn_facts : (h : Writer) (k : Order) (ns : List ℕ) → Idle h → TurnFacts h k ns
+  turn_facts h (configure c) ns i = config_turn h c ns i
+  turn_facts h reap ns i = reap_turn h ns i
+  turn_facts h (load region offset bytes) ns i = load_turn h region offset bytes ns i
+  turn_facts h (harvest region client) ns i = harvest_turn h region client ns i
+  turn_facts h (notified number) ns i = notified_turn h number ns i
+  turn_facts h journal ns i = record { ready = record { before = tt; private = tt; behind = tt }; idle = i; forests = λ ks. refl }
+  turn_facts h current ns i = record { ready = record { before = tt; private = tt; behind = tt }; idle = i; forests = λ ks. refl }

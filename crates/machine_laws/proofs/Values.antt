@@ -1,4 +1,4 @@
--- Values that the worked rows are made of.
+-- Values that the worked examples are made of.
 use Rattle.std.specs.Prelude.{ℕ, Bool, true, false, List, [], ◌∷◌}
 use Rattle.mem_base.specs.declared.ids.RegionId.{RegionId}
 use Rattle.mem_base.specs.declared.ids.SpaceId.{SpaceId}

@@ -24,7 +24,7 @@ use Rattle.mem_base.specs.World.{World, opening}
 use Rattle.mem_base.specs.History.{run_events}
 use Rattle.mem_base.specs.Composites.{completed, accessed, Accessed, enters, leaves}
 use Rattle.mem_base.specs.Orders.{Order, configure, reap, load, harvest, notified}
-use Rattle.mem_base.specs.Answers.{Answer, called, committed, finished, reaped, harvested, value}
+use Rattle.mem_base.specs.Answers.{Answer, call_answer, commit_answer, plain_answer, notifier_answer}
 use Rattle.mem_base.specs.Reaps.{first_writer}
 use Rattle.mem_base.specs.Turns.{turn, turns, entries_of}
 use Rattle.mem_base.specs.JoinedHistory.{accepted_in}
@@ -60,13 +60,13 @@ latch : ℕ → Kind
 latch regs = kinds.Io (device Latch regs (ops 1 4 1 4 false))
 
 made : ℕ → Outcome
-made n = answered (called (Ok (applied.Made (region n), None)))
+made n = answered (call_answer (Ok (applied.Made (region n), None)))
 
 published : ℕ → Outcome
-published n = answered (called (Ok (applied.Done, Some n)))
+published n = answered (call_answer (Ok (applied.Done, Some n)))
 
 pending : Outcome
-pending = answered (called (Ok (applied.Done, None)))
+pending = answered (call_answer (Ok (applied.Done, None)))
 
 -- a pass that stays in generation 1 holds the ninth generation up
 
@@ -75,7 +75,7 @@ enabling = call (calls.Enable (region 0) true)
 
 eight-generations : outcomes (opening 16 1) (call (calls.Region kinds.Container 4096) ∷ call (calls.Space (space 0) (region 0)) ∷ enter ∷ replicate 8 enabling ++ (leave ∷ enabling ∷ []))
     ≡ made 0 ∷ published 1 ∷ entered ∷ published 2 ∷ published 3 ∷ published 4 ∷ published 5 ∷ published 6 ∷ published 7 ∷ published 8
-    ∷ answered (called (Err (refusals.Held (pass 0) 1))) ∷ left ∷ published 9 ∷ []
+    ∷ answered (call_answer (Err (refusals.Held (pass 0) 1))) ∷ left ∷ published 9 ∷ []
 unfolding outcomes call made published enabling outcome_of
 eight-generations = refl
 
@@ -83,7 +83,7 @@ eight-generations = refl
 
 an-old-generation : outcomes (opening 16 1) (call (calls.Region kinds.Container 4096) ∷ call (calls.Region (latch 1) 8) ∷ order (configure configs.Begin) ∷ call (calls.Space (space 0) (region 0)) ∷ call (calls.Add (region 0) 0 (region 1) (pos 0)) ∷ order (configure configs.Commit)
     ∷ access (writing (0x2a ∷ [])) ∷ enter ∷ call (calls.Del (region 0) (region 1)) ∷ access (reading 1) ∷ leave ∷ access (reading 1) ∷ [])
-    ≡ made 0 ∷ made 1 ∷ answered (finished (Ok tt)) ∷ pending ∷ pending ∷ answered (committed (Ok (Some 1)))
+    ≡ made 0 ∷ made 1 ∷ answered (plain_answer (Ok tt)) ∷ pending ∷ pending ∷ answered (commit_answer (Ok (Some 1)))
     ∷ accessed_to 1 false [] ∷ entered ∷ published 2 ∷ accessed_to 1 false (0x2a ∷ []) ∷ left ∷ accessed_to 2 true (0 ∷ []) ∷ []
 unfolding outcomes call made published pending latch outcome_of spot_in holes depth_by weight_by reaches_by
 an-old-generation = refl
@@ -93,13 +93,13 @@ an-old-generation = refl
 refusals-of-the-machine : outcomes (opening 8 1) (order (configure configs.Commit) ∷ call (calls.Region (latch 5) 8) ∷ call (calls.Region (latch 4) 8) ∷ call (calls.Region (latch 3) 8)
     ∷ order (configure (configs.Listen (listener 2) (space 0) (pos 0))) ∷ order (configure (configs.Unlisten (listener 2)))
     ∷ order (load (region 0) 0 (1 ∷ [])) ∷ order (load (region 9) 0 (1 ∷ [])) ∷ order (notified 3) ∷ order (configure configs.Begin) ∷ order (configure configs.Commit) ∷ [])
-    ≡ answered (committed (Err refusals.NoTransaction)) ∷ made 0 ∷ answered (called (Err (refusals.NoBacking 4))) ∷ made 1
-    ∷ answered (finished (Err (refusals.Unknown (what.Space (space 0))))) ∷ answered (finished (Err (refusals.Unknown (what.Listener (listener 2)))))
-    ∷ answered (finished (Err (refusals.WrongKind (region 0)))) ∷ answered (finished (Err (refusals.Unknown (what.Region (region 9))))) ∷ answered (value 0) ∷ answered (finished (Ok tt)) ∷ answered (committed (Ok None)) ∷ []
+    ≡ answered (commit_answer (Err refusals.NoTransaction)) ∷ made 0 ∷ answered (call_answer (Err (refusals.NoBacking 4))) ∷ made 1
+    ∷ answered (plain_answer (Err (refusals.Unknown (what.Space (space 0))))) ∷ answered (plain_answer (Err (refusals.Unknown (what.Listener (listener 2)))))
+    ∷ answered (plain_answer (Err (refusals.WrongKind (region 0)))) ∷ answered (plain_answer (Err (refusals.Unknown (what.Region (region 9))))) ∷ answered (notifier_answer 0) ∷ answered (plain_answer (Ok tt)) ∷ answered (commit_answer (Ok None)) ∷ []
 unfolding outcomes call made latch holes
 refusals-of-the-machine = refl
 
-too-nested : outcomes (opening 8 1) (replicate 65 (order (configure configs.Begin))) ≡ replicate 64 (answered (finished (Ok tt))) ++ answered (finished (Err refusals.TooNested)) ∷ []
+too-nested : outcomes (opening 8 1) (replicate 65 (order (configure configs.Begin))) ≡ replicate 64 (answered (plain_answer (Ok tt))) ++ answered (plain_answer (Err refusals.TooNested)) ∷ []
 unfolding outcomes
 too-nested = refl
 
@@ -125,7 +125,7 @@ a-publish = refl
 
 -- eight publishes while the first pass stays announced at 0: the eighth is refused, and is none of the accepted
 eight-turns : map (λ t. t.answer) (turns (first_writer 16 2) (map (λ n. (global, 1 ∷ 0 ∷ 0 ∷ 0 ∷ n ∷ [])) (1 ∷ 2 ∷ 3 ∷ 4 ∷ 5 ∷ 6 ∷ 7 ∷ 8 ∷ [])))
-    ≡ map (λ n. called (Ok (applied.Done, Some n))) (1 ∷ 2 ∷ 3 ∷ 4 ∷ 5 ∷ 6 ∷ 7 ∷ []) ++ called (Err (refusals.Held (pass 0) 0)) ∷ []
+    ≡ map (λ n. call_answer (Ok (applied.Done, Some n))) (1 ∷ 2 ∷ 3 ∷ 4 ∷ 5 ∷ 6 ∷ 7 ∷ []) ++ call_answer (Err (refusals.Held (pass 0) 0)) ∷ []
 unfolding global
 eight-turns = refl
 
@@ -141,7 +141,7 @@ unfolding latch holes
 a-fill = refl
 
 -- a notifier is taken
-a-notifier : (turn (first_writer 4 1) (notified 7) (5 ∷ [])).answer ≡ value 5
+a-notifier : (turn (first_writer 4 1) (notified 7) (5 ∷ [])).answer ≡ notifier_answer 5
 a-notifier = refl
 
 its-event : map (λ x. x.event) (entries_of (turn (first_writer 4 1) (notified 7) (5 ∷ []))) ≡ events.Word hands.Writer (notifier_cell 7) word_steps.Take ∷ []

@@ -1,3 +1,5 @@
 pub mod Cuts
 pub mod Walks
+pub mod LiveLists
+pub mod Named
 pub mod Histories

@@ -5,5 +5,4 @@ ghost use Rattle.machine_laws.specs.Cuts.{RunsCut};
 /// together. So do the words and the pages that it touches.
 pub fn runs_cover_once()
     ensures { RunsCut }
-{
-}
+{}

@@ -5,17 +5,14 @@ ghost use Rattle.machine_laws.specs.Histories.{EachEventKeepsOrder, LegalHistori
 /// a sweep found, which numbers it may know, and how near the lowest number is while a publish is due.
 pub fn each_event_keeps_order()
     ensures { EachEventKeepsOrder }
-{
-}
+{}
 
 /// The four facts hold of every pass after every legal history.
 pub fn legal_histories_are_in_order()
     ensures { LegalHistoriesAreInOrder }
-{
-}
+{}
 
 /// After every legal history at most eight generations are held, and each is kept.
 pub fn few_generations_are_kept()
     ensures { FewGenerationsAreKept }
-{
-}
+{}

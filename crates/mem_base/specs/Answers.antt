@@ -7,20 +7,20 @@ use Rattle.mem_base.specs.declared.calls.Config.TheVariants as configs
 use Rattle.mem_base.specs.declared.refusals.Refusal.{Refusal}
 use Rattle.mem_base.specs.Marks.{pages_from}
 use Rattle.mem_base.specs.Listening.{Told}
-use Rattle.mem_base.specs.Generations.{Generation}
+use Rattle.mem_base.specs.Generations.{Generation, generation_of}
 use Rattle.mem_base.specs.Reaps.{Writer, released}
 use Rattle.mem_base.specs.Configs.{configured}
 use Rattle.mem_base.specs.Orders.{Order, configure, reap, load, harvest, notified, journal, current, load_refusal, harvest_refusal}
 
 pub data Answer : Type 0 where
-  called : Result (Applied × Option ℕ) Refusal → Answer  -- of a call, with the number that it published, if any
-  committed : Result (Option ℕ) Refusal → Answer  -- of a commit, likewise
-  finished : Result (Unit {0}) Refusal → Answer  -- of a begin, a load, a listener that joins or leaves
-  reaped : Result (List RegionId) Refusal → Answer  -- the released regions
-  harvested : Result (List ℕ) Refusal → Answer  -- the marked pages
-  value : ℕ → Answer  -- of a notifier
-  told : List Told → Answer  -- the journal
-  standing : ℕ → List Generation → Answer  -- the current number, and the generations kept
+  call_answer : Result (Applied × Option ℕ) Refusal → Answer  -- of a call, with the number that it published, if any
+  commit_answer : Result (Option ℕ) Refusal → Answer  -- of a commit, likewise
+  plain_answer : Result (Unit {0}) Refusal → Answer  -- of a begin, a load, a listener that joins or leaves
+  reap_answer : Result (List RegionId) Refusal → Answer  -- the released regions
+  harvest_answer : Result (List ℕ) Refusal → Answer  -- the marked pages
+  notifier_answer : ℕ → Answer  -- of a notifier
+  journal_answer : List Told → Answer  -- the journal
+  current_answer : ℕ → Option Generation → Answer  -- the current number and generation
 
 -- the number that is about to be published
 abbrev pub number_due : Writer → Option ℕ
@@ -35,9 +35,9 @@ with_number f (Ok x) = Ok (f x)
 with_number f (Err why) = Err why
 
 abbrev pub answer_of_config : Config → Result Applied Refusal → Option ℕ → Answer
-answer_of_config (configs.Call call) answer number = called (with_number (λ applied. (applied, number)) answer)
-answer_of_config configs.Commit answer number = committed (with_number (λ applied. number) answer)
-answer_of_config _ answer number = finished (finishes answer)
+answer_of_config (configs.Call call) answer number = call_answer (with_number (λ applied. (applied, number)) answer)
+answer_of_config configs.Commit answer number = commit_answer (with_number (λ applied. number) answer)
+answer_of_config _ answer number = plain_answer (finishes answer)
 
 abbrev pub or_refused : {A : Type 0} → Option Refusal → A → Result A Refusal
 or_refused None x = Ok x
@@ -50,9 +50,9 @@ first_or_zero (n ∷ ns) = n
 -- the answer, by the writer's part before the private event, that behind it, and the replies to the events behind it
 abbrev pub answer_to : Writer → Writer → Order → List ℕ → Answer
 answer_to w next (configure k) replies = answer_of_config k (configured w.generations w.desk k).answer (number_due next)
-answer_to w next reap replies = reaped (Ok (released w))
-answer_to w next (load region offset bytes) replies = finished (or_refused (load_refusal w.desk.forest region offset (length bytes)) tt)
-answer_to w next (harvest region client) replies = harvested (or_refused (harvest_refusal w.desk.forest region) (pages_from 0 replies))
-answer_to w next (notified number) replies = value (first_or_zero replies)
-answer_to w next journal replies = told w.desk.listening.journal
-answer_to w next current replies = standing w.generations.current w.generations.kept
+answer_to w next reap replies = reap_answer (Ok (released w))
+answer_to w next (load region offset bytes) replies = plain_answer (or_refused (load_refusal w.desk.forest region offset (length bytes)) tt)
+answer_to w next (harvest region client) replies = harvest_answer (or_refused (harvest_refusal w.desk.forest region) (pages_from 0 replies))
+answer_to w next (notified number) replies = notifier_answer (first_or_zero replies)
+answer_to w next journal replies = journal_answer w.desk.listening.journal
+answer_to w next current replies = current_answer w.generations.current (generation_of w.generations w.generations.current)

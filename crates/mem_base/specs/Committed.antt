@@ -1,4 +1,5 @@
--- The forests that a list of accepted calls, begins and commits commits.
+-- The forests that a list of calls, begins and commits commits, of which each was accepted: whoever cites this leaves
+-- the refused ones out first.
 -- QEMU's manual, "The memory API", `memory_region_transaction_begin` and `_commit`: transactions nest, and only the
 -- outermost commit acts. That it acts only where a change is pending, and that a change outside a transaction is one
 -- by itself, are QEMU's core too; that every such change counts, also where it alters no view, is this project's own

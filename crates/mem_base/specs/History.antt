@@ -7,7 +7,7 @@ use Rattle.mem_base.specs.declared.machine.Reply.{Reply}
 use Rattle.mem_base.specs.MachineLimits.{most_generations}
 use Rattle.mem_base.specs.Passes.{PassState, pass_of}
 use Rattle.mem_base.specs.Generations.{Generations, Known, known_of}
-use Rattle.mem_base.specs.World.{World, opening, possible, reply, after, told, number_in}
+use Rattle.mem_base.specs.World.{World, opening, possible, reply, after, after_telling, number_in}
 
 -- an event with its reply
 pub record Happened : Type 0 where
@@ -19,7 +19,7 @@ happened event reply = record { event = event; reply = reply }
 
 -- the world after an entry, by the reply that stands there
 abbrev pub after_entry : World → Happened → World
-after_entry w x = told w x.event (number_in x.reply)
+after_entry w x = after_telling w x.event (number_in x.reply)
 
 abbrev pub after_entries : World → List Happened → World
 after_entries w [] = w

@@ -45,8 +45,8 @@ is_listener id l = l.listener.0 == id.0
 abbrev pub listens : Listening → ListenerId → Bool
 listens x id = list_any (is_listener id) x.listeners
 
-abbrev pub told : ListenerId → List ListenerEvent → List Told
-told id events = map (λ e. (id, e)) events
+abbrev pub told_to : ListenerId → List ListenerEvent → List Told
+told_to id events = map (λ e. (id, e)) events
 
 -- one listener joins a space: it is told what the space shows
 
@@ -56,7 +56,7 @@ joining ranges lives = Begin ∷ map (λ r. Range (Add r)) ranges ++ map (λ l. 
 abbrev pub joined : Listening → Listener → List FlatRange → List Live → Listening
 joined x l ranges lives = record {
   listeners = x.listeners ++ l ∷ [];
-  journal = x.journal ++ told l.listener (joining ranges lives);
+  journal = x.journal ++ told_to l.listener (joining ranges lives);
 }
 
 -- why it may not: it listens already, or too many do
@@ -73,7 +73,7 @@ leaving ranges lives = Begin ∷ map (λ l. EventDel l) lives ++ map (λ r. Rang
 abbrev pub left : Listening → ListenerId → List FlatRange → List Live → Listening
 left x id ranges lives = record {
   listeners = filter (λ l. not (is_listener id l)) x.listeners;
-  journal = x.journal ++ told id (leaving ranges lives);
+  journal = x.journal ++ told_to id (leaving ranges lives);
 }
 
 abbrev pub leave_refusal : Listening → ListenerId → Option Refusal

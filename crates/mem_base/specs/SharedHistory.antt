@@ -4,6 +4,7 @@
 -- This project's own rule: every entry is one atomic step on one word, so the history is one list.
 use Rattle.std.specs.Prelude.{◌≡◌, ℕ, ◌+◌, Bool, true, false, ◌==◌, ◌&&◌, nat_lt, nat_le, if◌then◌else◌, List, [], ◌∷◌, length, replicate, slice_index, Option, Some, None, option_map}
 use Rattle.std.specs.List.{list_any}
+use Rattle.mem_base.specs.declared.ids.PassId.{PassId}
 use Rattle.mem_base.specs.declared.machine.Place.{Place}
 use Rattle.mem_base.specs.declared.machine.Hand.TheVariants as hands
 use Rattle.mem_base.specs.declared.machine.Event.{Event}
@@ -37,8 +38,9 @@ carries (Some x) p = list_any (is_same_place p) x.places
 abbrev pub is_within : Shared → Place → ℕ → Bool
 is_within s p word = nat_lt word p.words && nat_le (past p) (length s.words)
 
--- a step on a cell of a region with the place that it names, which is that region's. A pass does what the pure
--- machine lets it do, and its generation carries the place; the writer needs only that the word is there
+-- a step on a cell with the place that it names. The cell is named by its place's region, so the two are one. A pass
+-- does what the pure machine lets it do, and its generation carries the place; the writer needs only that the word is
+-- there
 abbrev pub may_touch : Shared → Event → Place → Bool
 may_touch s (events.Word (hands.Pass pass) c step) p =
     let entered = entered_generation s.generations s.passes pass in
@@ -52,9 +54,8 @@ may_touch s (events.Fill c) p = (p.region.0 == c.region.0) && is_within s p c.wo
 may_touch s _ p = false
 
 -- the pass can't be in a generation whose slot the next one takes
-abbrev pub is_near : Shared → Event → Bool
-is_near s (events.Place pass) = nat_le s.generations.current ((known_of s.generations pass).lowest + 6)
-is_near s _ = true
+abbrev pub is_near : Shared → PassId → Bool
+is_near s pass = nat_le s.generations.current ((known_of s.generations pass).lowest + 6)
 
 -- the event is possible where it stands, with what it carries: a Publish carries an edition, a step on a cell its
 -- place, and any other event nothing. Private events are not shared
@@ -64,7 +65,7 @@ possible s (events.Announce pass) Nothing = may s.generations s.passes (events.A
 possible s (events.Enter pass) Nothing = may s.generations s.passes (events.Enter pass)
 possible s (events.Leave pass) Nothing = may s.generations s.passes (events.Leave pass)
 possible s (events.Sweep pass) Nothing = may s.generations s.passes (events.Sweep pass)
-possible s (events.Place pass) Nothing = is_near s (events.Place pass) && may s.generations s.passes (events.Place pass)
+possible s (events.Place pass) Nothing = is_near s pass && may s.generations s.passes (events.Place pass)
 possible s events.Publish (Edition forest places) = may s.generations s.passes events.Publish
 possible s e (At p) = may_touch s e p
 possible s e _ = false

@@ -99,25 +99,25 @@ block_for blocks p = record { region = p.region; words = if has_block blocks p.r
 abbrev pub blocks_for : List Block → Desk → List Block
 blocks_for blocks d = map (block_for blocks) (places_of d)
 
-abbrev pub touched : List Block → Option RegionId → Option Touch → List Block
-touched blocks (Some region) (Some t) = blocks_after blocks region t.word t.step
-touched blocks _ _ = blocks
+abbrev pub touched_blocks : List Block → Option RegionId → Option Touch → List Block
+touched_blocks blocks (Some region) (Some t) = blocks_after blocks region t.word t.step
+touched_blocks blocks _ _ = blocks
 
 -- the cells after an event: a private one makes and removes cells with their places, any other steps on one
 abbrev pub cells_after : World → Event → Desk → List Block
 cells_after w (events.Config k) d = blocks_for w.blocks d
 cells_after w events.Reap d = blocks_for w.blocks d
-cells_after w e d = touched w.blocks (region_of e) (touch_at w e (region_of e))
+cells_after w e d = touched_blocks w.blocks (region_of e) (touch_at w e (region_of e))
 
 -- the world after an event that told a number
-abbrev pub told : World → Event → ℕ → World
-told w e number =
+abbrev pub after_telling : World → Event → ℕ → World
+after_telling w e number =
     let next = writer_after w.writer e (carried_by w.writer.desk e) number in
     world next (passes_after w.passes e number) (cells_after w e next.desk)
 
 -- the world after an event, with the world's own reply
 abbrev pub after : World → Event → World
-after w e = told w e (number_in (reply w e))
+after w e = after_telling w e (number_in (reply w e))
 
 -- the world at first, with a pool of so many words and so many passes
 abbrev pub opening : ℕ → ℕ → World

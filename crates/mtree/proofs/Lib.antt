@@ -1,1 +1,4 @@
 pub mod LineLaws
+pub mod StepLaws
+pub mod EndLaws
+pub mod RunLaws

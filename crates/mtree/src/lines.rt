@@ -1,6 +1,6 @@
 // The parts of a line that is to be written.
 ghost use Rattle.std.specs.Prelude.{◌≡◌, ◌++◌, [], List, ℕ, OnOk, decimal};
-ghost use Rattle.mem_base.specs.Output.{hex};
+ghost use Rattle.mem_base.specs.Output.{hex, line_feed};
 
 use std::alloc::{AllocError, Global};
 use std::marker::Model;
@@ -8,6 +8,7 @@ use std::marker::Model;
 /// A line, as far as it is made.
 #[derive(Drop)]
 pub struct Line {
+    alloc: Global,
     bytes: Vec<u8>,
 }
 
@@ -23,6 +24,7 @@ impl Line {
         ensures { result ≡ [] }
     {
         Line {
+            alloc,
             bytes: Vec::new(alloc),
         }
     }
@@ -50,18 +52,18 @@ impl Line {
     }
 
     /// A number in decimal behind it.
-    pub fn decimal(&mut self, alloc: Global, number: u64) -> Result<(), AllocError>
+    pub fn decimal(&mut self, number: u64) -> Result<(), AllocError>
         ensures { OnOk result (self.new ≡ self.old ++ decimal number) }
     {
-        let digits = number.to_string(alloc)?;
+        let digits = number.to_string(self.alloc)?;
         self.bytes(digits.as_bytes())
     }
 
     /// A number in hexadecimal behind it.
-    pub fn hex(&mut self, alloc: Global, number: u64) -> Result<(), AllocError>
+    pub fn hex(&mut self, number: u64) -> Result<(), AllocError>
         ensures { OnOk result (self.new ≡ self.old ++ hex number) }
     {
-        let digits = format!(in alloc; "{number:x}")?;
+        let digits = format!(in self.alloc; "{number:x}")?;
         self.bytes(digits.as_bytes())
     }
 
@@ -74,18 +76,26 @@ impl Line {
     }
 
     /// A text and then a number in decimal behind it.
-    pub fn counted(&mut self, alloc: Global, text: &str, number: u64) -> Result<(), AllocError>
+    pub fn counted(&mut self, text: &str, number: u64) -> Result<(), AllocError>
         ensures { OnOk result (self.new ≡ self.old ++ (text.now ++ decimal number)) }
     {
         self.text(text)?;
-        self.decimal(alloc, number)
+        self.decimal(number)
     }
 
     /// A text and then a number in hexadecimal behind it.
-    pub fn placed(&mut self, alloc: Global, text: &str, number: u64) -> Result<(), AllocError>
+    pub fn placed(&mut self, text: &str, number: u64) -> Result<(), AllocError>
         ensures { OnOk result (self.new ≡ self.old ++ (text.now ++ hex number)) }
     {
         self.text(text)?;
-        self.hex(alloc, number)
+        self.hex(number)
+    }
+
+    /// The line feed that ends it.
+    pub fn end(&mut self) -> Result<(), AllocError>
+        ensures { OnOk result (self.new ≡ self.old ++ line_feed) }
+    {
+        self.bytes.push(b'\n')?;
+        Ok(())
     }
 }

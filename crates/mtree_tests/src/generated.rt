@@ -10,7 +10,7 @@ use std::alloc::{AllocError, Global};
 use std::test::Fail;
 
 /// How many maps are drawn, and of how many calls each.
-const MAPS: u64 = 2000;
+const MAPS: u64 = 10_000;
 
 const CALLS: u32 = 60;
 
@@ -54,7 +54,7 @@ fn drawn_maps_show_what_the_plain_program_finds(rt: HostRuntime) -> Result<(), F
             ranges = ranges.saturating_add(view.as_slice().len());
         }
     }
-    assert!(rt; ranges > 5000);
+    assert!(rt; ranges > 25_000);
     Ok(())
 }
 

@@ -1,0 +1,34 @@
+// How the program ends.
+
+use mem_base::BadScript;
+
+/// How a run of the program ended.
+#[derive(Clone, Copy, Debug, PartialEq, Eq)]
+pub enum Ending {
+    /// The whole text was written.
+    Done,
+    /// The words are none that the program knows.
+    Usage,
+    /// The bytes that were read are no script.
+    BadScript(BadScript),
+    /// A read failed.
+    ReadFault,
+    /// A write failed.
+    WriteFault,
+    /// Want of memory.
+    Memory,
+}
+
+impl Ending {
+    /// The exit status of the process.
+    pub fn status(self) -> u8 {
+        match self {
+            Ending::Done => 0,
+            Ending::Usage => 2,
+            Ending::BadScript(_) => 3,
+            Ending::ReadFault => 4,
+            Ending::WriteFault => 5,
+            Ending::Memory => 6,
+        }
+    }
+}

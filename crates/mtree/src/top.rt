@@ -1,0 +1,145 @@
+// The top call: all that the program does, over the words, the source and the sink that it is handed.
+ghost use Rattle.std.specs.Prelude.{◌≡◌, ◌≤◌, ◌⊎◌, [], List, ℕ, map, length, string_bytes, OnOk, OnErr, IfOk, IsTrue, Ok, Err, Some};
+ghost use Rattle.outside.specs.Causes.{Rose};
+ghost use Rattle.outside.specs.Source.{AllCame};
+ghost use Rattle.outside.specs.Sink.{Takes, TakesFront};
+ghost use Rattle.mem_base.specs.Scripts.{Line, script_of};
+ghost use Rattle.mem_base.specs.Output.{bad_line, cause_text};
+ghost use Rattle.mem_base.specs.Run.{text_of};
+ghost use Rattle.mtree.specs.Ends.{Ends};
+ghost use Rattle.mtree.specs.Program.{Came, Had, IfBad, ending_of, is_run, text_of_script};
+
+use crate::endings::Ending;
+use crate::runs::{RunFault, run};
+use crate::scripts::{MOST_TEXT, ParseFault, faulty, parse};
+use mem_base::{BadScript, Cause};
+use outside::{Failed, Gate, ReadStop, Sink, Source, read_all, write_all};
+use std::alloc::{AllocError, Global};
+use std::sync::Wait;
+use std::thread::Threads;
+
+fn is_run(words: &[String]) -> bool
+    ensures { result ≡ is_run (map string_bytes words.now) }
+{
+    match words {
+        [word] => word.as_str() == "run",
+        _ => false,
+    }
+}
+
+fn cause_text(cause: Cause) -> &'static str
+    ensures { result.now ≡ cause_text cause }
+{
+    match cause {
+        Cause::Byte => "byte",
+        Cause::Word => "word",
+        Cause::Name => "name",
+        Cause::Number => "number",
+        Cause::Count => "count",
+        Cause::Place => "place",
+        Cause::Long => "long",
+        Cause::Later => "later",
+    }
+}
+
+fn bad_line(alloc: Global, bad: BadScript) -> Result<String, AllocError>
+    ensures { IfOk result (λ s. string_bytes s ≡ bad_line bad) }
+{
+    let line = bad.line;
+    let cause = cause_text(bad.cause);
+    format!(in alloc; "bad script line {line} {cause}\n")
+}
+
+// Writes the line of a text that is no script.
+fn refuse<K: Sink>(alloc: Global, bad: BadScript, sink: &mut K) -> Ending
+    ensures bad { result ≡ Ending.BadScript bad → Takes K.written K.holds sink.old sink.new (bad_line bad) }
+    ensures which { (result ≡ Ending.BadScript bad) ⊎ (result ≡ Ending.WriteFault) ⊎ (result ≡ Ending.Memory) }
+    ensures write { result ≡ Ending.WriteFault → Rose (K.faults sink.old) (K.faults sink.new) }
+    ensures front { TakesFront K.written K.holds sink.old sink.new (bad_line bad) }
+    ensures later { K.faults sink.old ≤ K.faults sink.new }
+{
+    let line = match bad_line(alloc, bad) {
+        Ok(line) => line,
+        Err(_) => return Ending::Memory,
+    };
+    match write_all(sink, line.as_bytes()) {
+        Ok(()) => Ending::BadScript(bad),
+        Err(Failed) => Ending::WriteFault,
+    }
+}
+
+// Runs the script that the bytes are.
+fn run_text<K: Sink>(alloc: Global, text: &[u8], sink: &mut K) -> Ending
+    ensures done { result ≡ Ending.Done → (lines : List Line) × (script_of text.now ≡ Ok lines) × Takes K.written K.holds sink.old sink.new (text_of lines) }
+    ensures bad { IfBad result (λ bad. (script_of text.now ≡ Err bad) × Takes K.written K.holds sink.old sink.new (bad_line bad)) }
+    ensures write { result ≡ Ending.WriteFault → Rose (K.faults sink.old) (K.faults sink.new) }
+    ensures never { (result ≡ Ending.Usage → ⊥) × (result ≡ Ending.ReadFault → ⊥) }
+    ensures front { TakesFront K.written K.holds sink.old sink.new (text_of_script (script_of text.now)) }
+    ensures complete { (Rose (K.faults sink.old) (K.faults sink.new) → ⊥) → (result ≡ ending_of (script_of text.now)) ⊎ (result ≡ Ending.Memory) }
+    ensures later { K.faults sink.old ≤ K.faults sink.new }
+{
+    match parse(alloc, text) {
+        Ok(lines) => match run(alloc, &lines, sink) {
+            Ok(()) => Ending::Done,
+            Err(RunFault::Write) => Ending::WriteFault,
+            Err(RunFault::Memory) => Ending::Memory,
+        },
+        Err(ParseFault::Bad(bad)) => refuse(alloc, bad, sink),
+        Err(ParseFault::Memory) => Ending::Memory,
+    }
+}
+
+// Runs the script that the source gives.
+fn run_source<S: Source, K: Sink>(alloc: Global, source: &mut S, sink: &mut K) -> Ending
+    ensures done { result ≡ Ending.Done → (bytes : List ℕ) × (lines : List Line) × AllCame (S.left source.old) (S.left source.new) bytes × (script_of bytes ≡ Ok lines)
+        × Takes K.written K.holds sink.old sink.new (text_of lines) }
+    ensures bad { IfBad result (λ bad. (bytes : List ℕ) × Came (S.left source.old) (S.left source.new) bytes × (script_of bytes ≡ Err bad)
+        × Takes K.written K.holds sink.old sink.new (bad_line bad)) }
+    ensures read { result ≡ Ending.ReadFault → Rose (S.faults source.old) (S.faults source.new) × Takes K.written K.holds sink.old sink.new [] }
+    ensures write { result ≡ Ending.WriteFault → Rose (K.faults sink.old) (K.faults sink.new) }
+    ensures never { result ≡ Ending.Usage → ⊥ }
+    ensures front { (bytes : List ℕ) × Had (S.left source.old) bytes × TakesFront K.written K.holds sink.old sink.new (text_of_script (script_of bytes)) }
+    ensures complete { (bytes : List ℕ) → S.left source.old ≡ Some bytes → (Rose (S.faults source.old) (S.faults source.new) → ⊥)
+        → (Rose (K.faults sink.old) (K.faults sink.new) → ⊥) → (result ≡ ending_of (script_of bytes)) ⊎ (result ≡ Ending.Memory) }
+{
+    match read_all(alloc, source, MOST_TEXT) {
+        Ok(bytes) => run_text(alloc, &bytes, sink),
+        Err(ReadStop::Failed) => Ending::ReadFault,
+        Err(ReadStop::Long) => refuse(alloc, faulty(), sink),
+        Err(ReadStop::Memory) => Ending::Memory,
+    }
+}
+
+/// Does what the words ask: `run` reads the source to its end, and writes the text of the script that it is.
+///
+/// It never waits. Any other words are answered with the usage line.
+pub fn alone<S: Source, K: Sink>(
+    alloc: Global,
+    words: &[String],
+    source: &mut S,
+    sink: &mut K,
+) -> Ending
+    ensures { Ends S.left S.faults K.written K.holds K.faults (map string_bytes words.now) source.old source.new sink.old sink.new result }
+{
+    if is_run(words) {
+        return run_source(alloc, source, sink);
+    }
+    match write_all(sink, b"usage: mtree run | race | make SEED | demo SEED\n") {
+        Ok(()) => Ending::Usage,
+        Err(Failed) => Ending::WriteFault,
+    }
+}
+
+/// Does what the words ask. No form of words that is built needs other threads or the gate.
+pub fn mtree<R: Threads + Wait + Sync, S: Source, K: Sink, G: Gate>(
+    _rt: &R,
+    alloc: Global,
+    words: &[String],
+    source: &mut S,
+    sink: &mut K,
+    _gate: &G,
+) -> Ending
+    ensures { Ends S.left S.faults K.written K.holds K.faults (map string_bytes words.now) source.old source.new sink.old sink.new result }
+{
+    alone(alloc, words, source, sink)
+}
