@@ -15,7 +15,7 @@ const MAPS: u64 = 10_000;
 const CALLS: u32 = 60;
 
 /// The map that a seed gives: a space over a container of 16 pages, and then drawn calls.
-fn drawn(alloc: Global, seed: u64) -> Result<Case, Refusal> {
+pub(crate) fn drawn(alloc: Global, seed: u64) -> Result<Case, Refusal> {
     let mut rng = Lcg64Xsh32::new(seed, 54);
     let mut case = Case::new(alloc);
     case.call(&region(Kind::Container, 0x1_0000))?;

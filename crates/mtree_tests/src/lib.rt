@@ -16,4 +16,6 @@ mod grid;
 #[cfg(test)]
 mod maps;
 #[cfg(test)]
+mod paths;
+#[cfg(test)]
 mod plain;

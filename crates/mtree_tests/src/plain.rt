@@ -6,6 +6,7 @@ use std::alloc::{AllocError, Global};
 /// A region as it stands.
 #[derive(Clone, Copy, Debug)]
 struct Region {
+    id: RegionId,
     kind: Kind,
     size: u128,
     container: Option<RegionId>,
@@ -22,8 +23,9 @@ struct Region {
 
 impl Region {
     /// A region as it is made.
-    fn new(kind: Kind, size: Size) -> Region {
+    fn new(id: RegionId, kind: Kind, size: Size) -> Region {
         Region {
+            id,
             kind,
             size: size.get(),
             container: None,
@@ -112,7 +114,7 @@ impl Plain {
     /// Does a call that was accepted.
     pub(crate) fn accept(&mut self, call: &Call) -> Result<(), AllocError> {
         match *call {
-            Call::Region { kind, size } => self.regions.push(Region::new(kind, size))?,
+            Call::Region { kind, size } => self.make(kind, size)?,
             Call::Space { space, root } => self.spaces.push((space, root))?,
             Call::Add {
                 parent,
@@ -124,6 +126,12 @@ impl Plain {
             Call::Global { on } => self.global = on,
             _ => self.change(call),
         }
+        Ok(())
+    }
+
+    fn make(&mut self, kind: Kind, size: Size) -> Result<(), AllocError> {
+        let id = RegionId(u32::try_from(self.regions.len()).unwrap_or(u32::MAX));
+        self.regions.push(Region::new(id, kind, size))?;
         Ok(())
     }
 
@@ -175,6 +183,86 @@ impl Plain {
         }
         None
     }
+
+    /// The regions on the longest path from a region.
+    pub(crate) fn depth(&self, id: RegionId) -> u32 {
+        depth_in(self.regions.as_slice(), 64, id)
+    }
+
+    /// One for the region, and all that it leads to.
+    pub(crate) fn weight(&self, id: RegionId) -> u64 {
+        weight_in(self.regions.as_slice(), 64, id)
+    }
+
+    /// Whether the second region may become a child of the first but for what it leads to.
+    pub(crate) fn may_hold(&self, parent: RegionId, child: RegionId) -> bool {
+        let regions = self.regions.as_slice();
+        match (
+            regions.get(parent.0 as usize),
+            regions.get(child.0 as usize),
+        ) {
+            (Some(parent), Some(child)) => !matches!(parent.kind, Kind::Alias { .. })
+                && child.container.is_none(),
+            _ => false,
+        }
+    }
+
+    /// Whether steps lead from one region to another, or the two are one.
+    pub(crate) fn reaches(&self, from: RegionId, to: RegionId) -> bool {
+        reaches_in(self.regions.as_slice(), 64, from, to)
+    }
+}
+
+/// Whether one step leads from a region to another: from an alias to its target, from any other to its children.
+fn leads_to(regions: &[Region], from: RegionId, to: &Region) -> bool {
+    match regions.get(from.0 as usize) {
+        Some(region) => match region.kind {
+            Kind::Alias { target, .. } => target == to.id,
+            _ => to.container == Some(from),
+        },
+        None => false,
+    }
+}
+
+fn depth_in(regions: &[Region], most: u32, id: RegionId) -> u32 {
+    if most == 0 {
+        return 0;
+    }
+    let mut deepest = 0;
+    for region in regions {
+        if leads_to(regions, id, region) {
+            deepest = deepest.max(depth_in(regions, most - 1, region.id));
+        }
+    }
+    deepest.saturating_add(1)
+}
+
+fn weight_in(regions: &[Region], most: u32, id: RegionId) -> u64 {
+    if most == 0 {
+        return 0;
+    }
+    let mut weight: u64 = 1;
+    for region in regions {
+        if leads_to(regions, id, region) {
+            weight = weight.saturating_add(weight_in(regions, most - 1, region.id));
+        }
+    }
+    weight
+}
+
+fn reaches_in(regions: &[Region], most: u32, from: RegionId, to: RegionId) -> bool {
+    if most == 0 {
+        return false;
+    }
+    if from == to {
+        return true;
+    }
+    for region in regions {
+        if leads_to(regions, from, region) && reaches_in(regions, most - 1, region.id, to) {
+            return true;
+        }
+    }
+    false
 }
 
 /// What is found from a region at an offset in it.
