@@ -1,0 +1,102 @@
+// Small maps by drawn calls, accepted and refused ones of every kind.
+use crate::cases::{Case, differs, viewed};
+use crate::draws::any_call;
+use crate::grid::plain_view;
+use crate::maps::{region, space};
+use mem_base::{Call, Kind, Refusal, SpaceId};
+use rand_pcg::Lcg64Xsh32;
+use region_tree::Tree;
+use std::alloc::{AllocError, Global};
+use std::test::Fail;
+
+/// How many maps are drawn, and of how many calls each.
+const MAPS: u64 = 2000;
+
+const CALLS: u32 = 60;
+
+/// The map that a seed gives: a space over a container of 16 pages, and then drawn calls.
+fn drawn(alloc: Global, seed: u64) -> Result<Case, Refusal> {
+    let mut rng = Lcg64Xsh32::new(seed, 54);
+    let mut case = Case::new(alloc);
+    case.call(&region(Kind::Container, 0x1_0000))?;
+    case.call(&space(0))?;
+    for _ in 0..CALLS {
+        let call = next_call(&mut rng, &case);
+        case.call(&call)?;
+    }
+    Ok(case)
+}
+
+/// The next call.
+fn next_call(rng: &mut Lcg64Xsh32, case: &Case) -> Call {
+    let made = u32::try_from(case.plain.made()).unwrap_or(u32::MAX);
+    any_call(rng, made)
+}
+
+#[test]
+fn drawn_maps_show_what_the_plain_program_finds(rt: HostRuntime) -> Result<(), Fail> {
+    let mut ranges: usize = 0;
+    for seed in 0..MAPS {
+        let case = drawn(rt.alloc(), seed)?;
+        for at in [SpaceId(0), SpaceId(1), SpaceId(2)] {
+            assert_eq!(rt;
+                differs(rt.alloc(), &case, at)?,
+                None,
+                "seed {seed} space {at:?}"
+            );
+            let view = viewed(rt.alloc(), &case.tree, at)?;
+            let want = plain_view(rt.alloc(), &case.plain, at)?;
+            assert_eq!(rt;
+                view.as_slice(),
+                want.as_slice(),
+                "seed {seed} space {at:?}"
+            );
+            ranges = ranges.saturating_add(view.as_slice().len());
+        }
+    }
+    assert!(rt; ranges > 5000);
+    Ok(())
+}
+
+/// All that is known of a forest, as text.
+fn text(alloc: Global, tree: &Tree) -> Result<String, AllocError> {
+    format!(in alloc; "{:?}", tree.forest()?)
+}
+
+/// Whether a call that is to be refused for this reason is refused for it and leaves the forest as it was.
+fn is_refused(
+    alloc: Global,
+    tree: &mut Tree,
+    call: &Call,
+    why: Refusal,
+) -> Result<bool, AllocError> {
+    let before = text(alloc, tree)?;
+    let refused = match tree.apply(call) {
+        Ok(_) => false,
+        Err(other) => other == why,
+    };
+    Ok(refused && text(alloc, tree)? == before)
+}
+
+#[test]
+fn refused_calls_leave_the_forest_as_it_was(rt: HostRuntime) -> Result<(), Fail> {
+    let mut refused: u64 = 0;
+    for seed in 0..100 {
+        let mut rng = Lcg64Xsh32::new(seed, 54);
+        let mut case = Case::new(rt.alloc());
+        for _ in 0..CALLS {
+            let call = next_call(&mut rng, &case);
+            if let Some(why) = case.tree.refusal_of(&call)? {
+                assert!(rt;
+                    is_refused(rt.alloc(), &mut case.tree, &call, why)?,
+                    "seed {seed} {call:?}"
+                );
+                refused = refused.saturating_add(1);
+            } else {
+                case.call(&call)?;
+            }
+        }
+    }
+    assert!(rt; refused > 500);
+    Ok(())
+}

@@ -1,0 +1,73 @@
+// The addresses at which drawn maps may change: the first pages of a space and the last.
+use crate::plain::Plain;
+use mem_base::{FlatRange, SpaceId};
+use std::alloc::{AllocError, Global};
+
+/// How many pages at each end.
+const PAGES: u64 = 40;
+
+/// The stretches between these addresses.
+pub(crate) const STRETCHES: u64 = 2 * PAGES;
+
+/// The first address of a stretch.
+pub(crate) fn start_of(stretch: u64) -> u64 {
+    if stretch <= PAGES {
+        stretch.wrapping_mul(0x1000)
+    } else {
+        0u64.wrapping_sub(STRETCHES.wrapping_sub(stretch).wrapping_mul(0x1000))
+    }
+}
+
+/// The last address of a stretch.
+pub(crate) fn last_of(stretch: u64) -> u64 {
+    start_of(stretch.wrapping_add(1)).wrapping_sub(1)
+}
+
+/// What a space shows on a stretch, by the plain search at its first address.
+fn range_on(plain: &Plain, space: SpaceId, stretch: u64) -> Option<FlatRange> {
+    let start = start_of(stretch);
+    let spot = plain.look(space, start)?;
+    Some(FlatRange {
+        start,
+        last: last_of(stretch),
+        leaf: spot.leaf,
+        offset: spot.offset,
+        attrs: spot.attrs,
+    })
+}
+
+/// Whether a range goes on where another ends.
+fn goes_on(range: &FlatRange, next: &FlatRange) -> bool {
+    range.last.wrapping_add(1) == next.start
+        && range.leaf == next.leaf
+        && range.attrs == next.attrs
+        && range
+            .offset
+            .wrapping_add(next.start.wrapping_sub(range.start))
+            == next.offset
+}
+
+fn join(view: &mut Vec<FlatRange>, next: FlatRange) -> Result<(), AllocError> {
+    let count = view.len();
+    if count > 0 && goes_on(&view[count - 1], &next) {
+        view[count - 1].last = next.last;
+        return Ok(());
+    }
+    view.push(next)?;
+    Ok(())
+}
+
+/// The view of a space, by the plain search on each stretch.
+pub(crate) fn plain_view(
+    alloc: Global,
+    plain: &Plain,
+    space: SpaceId,
+) -> Result<Vec<FlatRange>, AllocError> {
+    let mut view = Vec::new(alloc);
+    for stretch in 0..STRETCHES {
+        if let Some(range) = range_on(plain, space, stretch) {
+            join(&mut view, range)?;
+        }
+    }
+    Ok(view)
+}
