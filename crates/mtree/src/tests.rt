@@ -924,3 +924,41 @@ fn the_top_call_runs_a_script_and_does_not_know_race_yet(rt: HostRuntime) -> Res
     }
     Ok(())
 }
+
+#[test]
+fn a_text_has_at_most_1048576_bytes(rt: HostRuntime) -> Result<(), Fail> {
+    let mut script = Vec::new(rt.alloc());
+    for _ in 0..131_072 {
+        script.extend_from_slice(b"show ab\n")?;
+    }
+    let mut source = CalmSource::new(script.as_slice().to_vec(rt.alloc())?);
+    let (ending, written) = run_over(rt.alloc(), &mut source, 4_000_000, &[])?;
+    assert_eq!(rt; ending, Ending::Done);
+    let first = b"refused 1 F1 unknown ab\nrefused 2 F1 unknown ab\n";
+    let last = b"\nrefused 131072 F1 unknown ab\n";
+    assert!(rt; written.as_slice().starts_with(first.as_slice()));
+    assert!(rt; written.as_slice().ends_with(last.as_slice()));
+
+    script.extend_from_slice(b"show ab\n")?;
+    let (_, written) = run_of(rt.alloc(), script.as_slice())?;
+    assert_eq!(rt; written.as_slice(), FAULTY.as_bytes());
+    Ok(())
+}
+
+#[test]
+fn each_ending_has_its_status(rt: HostRuntime) {
+    let later = BadScript {
+        line: 0,
+        cause: Cause::Later,
+    };
+    for (ending, status) in [
+        (Ending::Done, 0),
+        (Ending::Usage, 2),
+        (Ending::BadScript(later), 3),
+        (Ending::ReadFault, 4),
+        (Ending::WriteFault, 5),
+        (Ending::Memory, 6),
+    ] {
+        assert_eq!(rt; ending.status(), status);
+    }
+}
