@@ -226,17 +226,51 @@ fn one_more(extent: Extent) -> Option<Extent>
     })
 }
 
-/// Tells of each region what its steps give, the last region first: right after one pass where each region was
-/// made before those that it leads to.
-fn sweep(slots: &[Slot], join: Join, known: &mut [Extent])
+/// Tells of one region what its steps give.
+fn tell(slots: &[Slot], join: Join, known: &mut [Extent], at: usize)
+    requires ascending { IsAscending (nodes_of slots.now) }
+    requires all { length known.old ≡ length slots.now }
+    requires steps { Every (HasItsSteps (nodes_of slots.now)) slots.now }
+    requires at { at < length slots.now }
+{
+    if let Some(extent) = stepped_at(slots, join, known, &slots[at]) {
+        known[at] = extent;
+    }
+}
+
+/// Tells of each region what its steps give, the last first: right after one sweep where each region was made
+/// before those that it leads to.
+fn sweep_down(slots: &[Slot], join: Join, known: &mut [Extent])
     requires ascending { IsAscending (nodes_of slots.now) }
     requires all { length known.old ≡ length slots.now }
     requires steps { Every (HasItsSteps (nodes_of slots.now)) slots.now }
 {
-    for i in (0..slots.len()).rev() {
-        if let Some(extent) = stepped_at(slots, join, known, &slots[i]) {
-            known[i] = extent;
-        }
+    for at in (0..slots.len()).rev() {
+        tell(slots, join, known, at);
+    }
+}
+
+/// The same, the first region first: right after one sweep where each was made after those that it leads to.
+fn sweep_up(slots: &[Slot], join: Join, known: &mut [Extent])
+    requires ascending { IsAscending (nodes_of slots.now) }
+    requires all { length known.old ≡ length slots.now }
+    requires steps { Every (HasItsSteps (nodes_of slots.now)) slots.now }
+{
+    for at in 0..slots.len() {
+        tell(slots, join, known, at);
+    }
+}
+
+/// One sweep, down or up.
+fn sweep(slots: &[Slot], join: Join, known: &mut [Extent], down: bool)
+    requires ascending { IsAscending (nodes_of slots.now) }
+    requires all { length known.old ≡ length slots.now }
+    requires steps { Every (HasItsSteps (nodes_of slots.now)) slots.now }
+{
+    if down {
+        sweep_down(slots, join, known);
+    } else {
+        sweep_up(slots, join, known);
     }
 }
 
@@ -295,8 +329,9 @@ fn lengthened(alloc: Global, slots: &[Slot], join: Join) -> Result<Vec<Extent>, 
 
 /// How deep and how wide each region is.
 ///
-/// It is told by a sweep or two, each one walk over the regions, and settled by one walk more. Where that is
-/// not enough, as where regions were made before those that lead to them, paths are lengthened round by round.
+/// It is told by sweeps, each one walk over the regions, and one walk more finds it settled: after one sweep
+/// where containers were made before what they hold, after two where they were made later. In other orders it
+/// may take some sweeps more, and at last paths are lengthened round by round.
 pub(crate) fn extents(alloc: Global, slots: &[Slot], join: Join) -> Result<Vec<Extent>, AllocError>
     requires parent { IsSome (node_of (nodes_of slots.now) join.parent) }
     requires ascending { IsAscending (nodes_of slots.now) }
@@ -308,8 +343,8 @@ pub(crate) fn extents(alloc: Global, slots: &[Slot], join: Join) -> Result<Vec<E
         depth: 1,
         weight: 1
     }; slots.len()]?;
-    for _ in 0..4 {
-        sweep(slots, join, &mut known);
+    for round in 0..8_u32 {
+        sweep(slots, join, &mut known, round % 2 == 0);
         if are_settled(slots, join, &known) {
             return Ok(known);
         }
