@@ -33,6 +33,15 @@ abbrev pub ending_of : Result (List Line) BadScript → Ending
 ending_of (Ok lines) = endings.Done
 ending_of (Err bad) = endings.BadScript bad
 
+-- the exit status of the process
+abbrev pub status_of : Ending → ℕ
+status_of endings.Done = 0
+status_of endings.Usage = 2
+status_of (endings.BadScript bad) = 3
+status_of endings.ReadFault = 4
+status_of endings.WriteFault = 5
+status_of endings.Memory = 6
+
 -- a fact of the line at fault, where the ending has one
 abbrev pub IfBad : Ending → (BadScript → Type 0) → Type 0
 IfBad (endings.BadScript bad) fact = fact bad

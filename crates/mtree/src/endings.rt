@@ -1,4 +1,5 @@
 // How the program ends.
+ghost use Rattle.std.specs.Prelude.{◌≡◌};
 
 use mem_base::BadScript;
 
@@ -20,8 +21,12 @@ pub enum Ending {
 }
 
 impl Ending {
+    ghost use Rattle.mtree.specs.Program.{status_of};
+
     /// The exit status of the process.
-    pub fn status(self) -> u8 {
+    pub fn status(self) -> u8
+        ensures { result ≡ status_of self }
+    {
         match self {
             Ending::Done => 0,
             Ending::Usage => 2,

@@ -9,6 +9,8 @@
 #![tactic(auto)]
 
 mod answers;
+#[cfg(test)]
+mod end_tests;
 mod endings;
 mod forms;
 mod lines;

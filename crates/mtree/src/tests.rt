@@ -1,26 +1,26 @@
-// Runs of the program over sources and sinks in memory. The texts are worked out by hand from QEMU's manual and this
-// project's rules on lines; an independent program in another language gives the same.
+// Runs of the program on scripts in memory. The texts are worked out by hand from QEMU's manual and this project's rules
+// on lines; an independent program in another language gives the same.
 
 use crate::endings::Ending;
-use crate::top::{alone, mtree};
+use crate::top::alone;
 use mem_base::{BadScript, Cause};
-use outside::{CalmSource, MemSink, MemSource, OpenGate, Sink, Source, StdSource};
+use outside::{CalmSource, MemSink, Source};
 use std::alloc::Global;
 use std::io::{self, Read};
 use std::test::Fail;
 
 /// The usage line.
-const USAGE: &str = "usage: mtree run | race | make SEED | demo SEED\n";
+pub(crate) const USAGE: &str = "usage: mtree run | race | make SEED | demo SEED\n";
 
 /// What is written for each text that is no script.
-const FAULTY: &str = "bad script line 0 later\n";
+pub(crate) const FAULTY: &str = "bad script line 0 later\n";
 
 /// Room for every text here.
-const ROOM: usize = 4096;
+pub(crate) const ROOM: usize = 4096;
 
 /// A reader that gives one byte a call.
 #[derive(Drop)]
-struct Drip<'a>(&'a [u8]);
+pub(crate) struct Drip<'a>(pub(crate) &'a [u8]);
 
 impl Read for Drip<'_> {
     fn read(&mut self, buf: &mut [u8]) -> io::Result<usize> {
@@ -30,7 +30,7 @@ impl Read for Drip<'_> {
 }
 
 /// The words between single spaces, and none of an empty text.
-fn words_of(alloc: Global, text: &str) -> Result<Vec<String>, Fail> {
+pub(crate) fn words_of(alloc: Global, text: &str) -> Result<Vec<String>, Fail> {
     let mut words = Vec::new(alloc);
     if !text.is_empty() {
         for word in text.split(' ') {
@@ -41,7 +41,7 @@ fn words_of(alloc: Global, text: &str) -> Result<Vec<String>, Fail> {
 }
 
 /// How `run` ended over this source and a sink with so much room that fails at these calls, and what it wrote.
-fn run_over<S: Source>(
+pub(crate) fn run_over<S: Source>(
     alloc: Global,
     source: &mut S,
     room: usize,
@@ -54,7 +54,7 @@ fn run_over<S: Source>(
 }
 
 /// How the script ended over ends that don't fail, and what it wrote.
-fn run_of(alloc: Global, script: &[u8]) -> Result<(Ending, Vec<u8>), Fail> {
+pub(crate) fn run_of(alloc: Global, script: &[u8]) -> Result<(Ending, Vec<u8>), Fail> {
     let mut source = CalmSource::new(script.to_vec(alloc)?);
     run_over(alloc, &mut source, ROOM, &[])
 }
@@ -63,7 +63,7 @@ fn run_of(alloc: Global, script: &[u8]) -> Result<(Ending, Vec<u8>), Fail> {
 fn the_region_on_top_answers(rt: HostRuntime) -> Result<(), Fail> {
     for (name, script, text) in [
         (
-            "the row of five regions",
+            "the manual's five regions",
             "region A container 0x8000\n\
              region B container 0x4000\n\
              region C io 0x6000 latch\n\
@@ -753,174 +753,6 @@ fn there_are_at_most_32_regions_and_16_spaces(rt: HostRuntime) -> Result<(), Fai
             text.as_bytes(),
             "{regions} regions, {spaces} spaces"
         );
-    }
-    Ok(())
-}
-
-const ROW: &str = "region A container 0x8000\n\
-                  region B container 0x4000\n\
-                  region C io 0x6000 latch\n\
-                  region D io 0x1000 latch\n\
-                  region E io 0x1000 latch\n\
-                  space S A\n\
-                  add A 0x2000 B prio 2\n\
-                  add A 0 C prio 1\n\
-                  add B 0 D\n\
-                  add B 0x2000 E\n\
-                  add A 0 D\n\
-                  add A 0 Q\n\
-                  at S 0x1fff\n\
-                  at S 0x2000\n\
-                  at S 0x3000\n\
-                  at S 0x4abc\n\
-                  at S 0x6000\n";
-
-/// The lines that the row writes.
-const LINES: [&str; 7] = [
-    "refused 11 F3 has-container B\n",
-    "refused 12 F1 unknown Q\n",
-    "at S 1fff C @1fff io\n",
-    "at S 2000 D @0 io\n",
-    "at S 3000 C @3000 io\n",
-    "at S 4abc E @abc io\n",
-    "at S 6000 hole\n",
-];
-
-/// The first lines that the row writes, so many.
-fn first_lines(alloc: Global, count: usize) -> Result<Vec<u8>, Fail> {
-    let mut text = Vec::new(alloc);
-    for line in LINES.iter().take(count) {
-        text.extend_from_slice(line.as_bytes())?;
-    }
-    Ok(text)
-}
-
-#[test]
-fn a_byte_a_call_gives_the_same_text(rt: HostRuntime) -> Result<(), Fail> {
-    let mut source = StdSource::new(Drip(ROW.as_bytes()));
-    let (ending, written) = run_over(rt.alloc(), &mut source, ROOM, &[])?;
-    assert_eq!(rt; ending, Ending::Done);
-    assert_eq!(rt; written.as_slice(), first_lines(rt.alloc(), 7)?.as_slice());
-    Ok(())
-}
-
-#[test]
-fn with_a_read_that_fails_nothing_is_written(rt: HostRuntime) -> Result<(), Fail> {
-    // The first call gives the whole script, the second the end of input.
-    for (call, want, lines) in [
-        (1, Ending::ReadFault, 0),
-        (2, Ending::ReadFault, 0),
-        (3, Ending::Done, 7),
-    ] {
-        let fails = [call].to_vec(rt.alloc())?;
-        let mut source = MemSource::new(ROW.as_bytes().to_vec(rt.alloc())?, fails);
-        let (ending, written) = run_over(rt.alloc(), &mut source, ROOM, &[])?;
-        assert_eq!(rt; ending, want, "call {call}");
-        assert_eq!(rt;
-            written.as_slice(),
-            first_lines(rt.alloc(), lines)?.as_slice(),
-            "call {call}"
-        );
-    }
-    Ok(())
-}
-
-#[test]
-fn a_write_that_fails_leaves_the_lines_before_it(rt: HostRuntime) -> Result<(), Fail> {
-    for (call, want, lines) in [
-        (1, Ending::WriteFault, 0),
-        (2, Ending::WriteFault, 1),
-        (3, Ending::WriteFault, 2),
-        (4, Ending::WriteFault, 3),
-        (5, Ending::WriteFault, 4),
-        (6, Ending::WriteFault, 5),
-        (7, Ending::WriteFault, 6),
-        (8, Ending::Done, 7),
-    ] {
-        let mut source = CalmSource::new(ROW.as_bytes().to_vec(rt.alloc())?);
-        let (ending, written) = run_over(rt.alloc(), &mut source, ROOM, &[call])?;
-        assert_eq!(rt; ending, want, "call {call}");
-        assert_eq!(rt;
-            written.as_slice(),
-            first_lines(rt.alloc(), lines)?.as_slice(),
-            "call {call}"
-        );
-    }
-    Ok(())
-}
-
-#[test]
-fn a_line_beyond_the_room_is_not_written(rt: HostRuntime) -> Result<(), Fail> {
-    // The first two lines have 30 and 24 bytes, all have 149.
-    for (room, want, lines) in [
-        (0, Ending::WriteFault, 0),
-        (29, Ending::WriteFault, 0),
-        (30, Ending::WriteFault, 1),
-        (53, Ending::WriteFault, 1),
-        (148, Ending::WriteFault, 6),
-        (149, Ending::Done, 7),
-    ] {
-        let mut source = CalmSource::new(ROW.as_bytes().to_vec(rt.alloc())?);
-        let (ending, written) = run_over(rt.alloc(), &mut source, room, &[])?;
-        assert_eq!(rt; ending, want, "room {room}");
-        assert_eq!(rt;
-            written.as_slice(),
-            first_lines(rt.alloc(), lines)?.as_slice(),
-            "room {room}"
-        );
-    }
-    Ok(())
-}
-
-#[test]
-fn a_faulty_script_is_told_unless_the_write_fails(rt: HostRuntime) -> Result<(), Fail> {
-    let mut source = CalmSource::new(b"frob\n".to_vec(rt.alloc())?);
-    let (ending, written) = run_over(rt.alloc(), &mut source, ROOM, &[1])?;
-    assert_eq!(rt; ending, Ending::WriteFault);
-    assert!(rt; written.is_empty());
-    Ok(())
-}
-
-#[test]
-fn other_words_are_told_the_usage(rt: HostRuntime) -> Result<(), Fail> {
-    for words in [
-        "", "run run", "Run", "runs", "-h", "--help", "make", "make 1", "demo", "demo 1", "run -",
-        "-- run",
-    ] {
-        let words = words_of(rt.alloc(), words)?;
-        let mut source = CalmSource::new(ROW.as_bytes().to_vec(rt.alloc())?);
-        let mut sink = MemSink::new(rt.alloc(), ROOM, Vec::new(rt.alloc()))?;
-        let ending = alone(rt.alloc(), words.as_slice(), &mut source, &mut sink);
-        assert_eq!(rt; ending, Ending::Usage);
-        assert_eq!(rt; sink.written(), USAGE.as_bytes());
-
-        let mut full = MemSink::new(rt.alloc(), 0, Vec::new(rt.alloc()))?;
-        let ending = alone(rt.alloc(), words.as_slice(), &mut source, &mut full);
-        assert_eq!(rt; ending, Ending::WriteFault);
-    }
-    Ok(())
-}
-
-#[test]
-fn the_top_call_runs_a_script_and_does_not_know_race_yet(rt: HostRuntime) -> Result<(), Fail> {
-    for (word, want, text) in [
-        ("run", Ending::Done, "at S 0 X @0 io\n"),
-        ("race", Ending::Usage, USAGE),
-    ] {
-        let words = words_of(rt.alloc(), word)?;
-        let script = b"region X io 1 latch\nspace S X\nat S 0\n";
-        let mut source = CalmSource::new(script.to_vec(rt.alloc())?);
-        let mut sink = MemSink::new(rt.alloc(), ROOM, Vec::new(rt.alloc()))?;
-        let ending = mtree(
-            &rt,
-            rt.alloc(),
-            words.as_slice(),
-            &mut source,
-            &mut sink,
-            &OpenGate,
-        );
-        assert_eq!(rt; ending, want, "{word}");
-        assert_eq!(rt; sink.written(), text.as_bytes(), "{word}");
     }
     Ok(())
 }

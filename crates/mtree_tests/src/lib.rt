@@ -14,6 +14,8 @@ mod generated;
 #[cfg(test)]
 mod grid;
 #[cfg(test)]
+mod limits;
+#[cfg(test)]
 mod maps;
 #[cfg(test)]
 mod paths;

@@ -32,7 +32,7 @@ extent_found slots join round i r e d l h =
     get_or-map (λ (s : Slot). extent_by (nodes_of slots) join round s.node.id) slots i d e l
     ∙ ap (extent_by (nodes_of slots) join round) (id_of (nodes_of slots) r (get_or slots i d).node h)
 
-other_parent : (nodes : List Node) (p r : RegionId) → is_some (node_of nodes p) ≡ true → node_of nodes r ≡ None → eqb r.0 p.0 ≡ false
+pub other_parent : (nodes : List Node) (p r : RegionId) → is_some (node_of nodes p) ≡ true → node_of nodes r ≡ None → eqb r.0 p.0 ≡ false
 other_parent nodes p r k h =
     elim (eqb r.0 p.0) as (λ b. eqb r.0 p.0 ≡ b → b ≡ false) [
       | true ↦ λ t.

@@ -2,6 +2,7 @@ pub mod WholeLaws
 pub mod PlaceLaws
 pub mod SlotsLaws
 pub mod ExtentsLaws
+pub mod SettledLaws
 pub mod SlotsBasics
 pub mod StretchLaws
 pub mod ReachLaws

@@ -36,7 +36,7 @@ known_there slots i d l ascending =
     let e = get_or-map (λ (s : Slot). s.node) slots i d d.node l in
     subst (λ n. node_of (nodes_of slots) n.id ≡ Some n) e (every_at (λ n. node_of (nodes_of slots) n.id ≡ Some n) (nodes_of slots) i d.node (omega (arith, length_nodes slots)) (node_of-itself (nodes_of slots) ascending))
 
-found_there : (slots : List Slot) (i : ℕ) (d : Slot) (r : RegionId) → i < length slots → IsAscending (nodes_of slots) → (get_or slots i d).node.id.0 ≡ r.0 → node_of (nodes_of slots) r ≡ Some (get_or slots i d).node
+pub found_there : (slots : List Slot) (i : ℕ) (d : Slot) (r : RegionId) → i < length slots → IsAscending (nodes_of slots) → (get_or slots i d).node.id.0 ≡ r.0 → node_of (nodes_of slots) r ≡ Some (get_or slots i d).node
 found_there slots i d r l ascending e =
     let same : (get_or slots i d).node.id ≡ r = ap (λ (v : ℕ). let q : RegionId = record { 0 = v } in q) e in
     ap (node_of (nodes_of slots)) (sym same) ∙ known_there slots i d l ascending

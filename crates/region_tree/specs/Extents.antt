@@ -1,8 +1,10 @@
 -- How deep and how wide the regions of slots are, with one more step.
-use Rattle.std.specs.Prelude.{ℕ, ◌≡◌, Some, None, ◌==◌, if◌then◌else◌, List, [], ◌∷◌, map}
+use Rattle.std.specs.Prelude.{ℕ, ◌≡◌, Some, None, ◌+◌, ◌==◌, if◌then◌else◌, List, [], ◌∷◌, map}
 use Rattle.mem_base.specs.declared.ids.RegionId.{RegionId}
 use Rattle.mem_base.specs.declared.forests.Node.{Node}
-use Rattle.mem_base.specs.Steps.{Steps, steps_of, depth_by, weight_by}
+use Rattle.mem_base.specs.Every.{Every}
+use Rattle.mem_base.specs.Region.{has_id}
+use Rattle.mem_base.specs.Steps.{Steps, steps_of, depth_by, weight_by, greatest, total}
 use Rattle.region_tree.specs.declared.slots.Slot.{Slot}
 use Rattle.region_tree.specs.declared.extents.Extent.{Extent}
 use Rattle.region_tree.specs.declared.extents.Join.{Join}
@@ -23,3 +25,21 @@ extents_by nodes join round slots = map (λ s. extent_by nodes join round s.node
 pub record HasItsSteps (nodes : List Node) (s : Slot) : Type 0 where
   pub alias : (t : RegionId) → target_of s.node.kind ≡ Some t → steps_of nodes s.node.id ≡ t ∷ []
   pub listed : target_of s.node.kind ≡ None → steps_of nodes s.node.id ≡ s.children
+
+-- a region that leads nowhere
+abbrev pub alone : Extent
+alone = record { depth = 1; weight = 1 }
+
+-- what a list of extents, one a slot, says of a region; of one that is not there, that it leads nowhere
+abbrev pub told_of : List Slot → List Extent → RegionId → Extent
+told_of [] es r = alone
+told_of (s ∷ ss) [] r = alone
+told_of (s ∷ ss) (e ∷ es) r = if has_id r s.node then e else told_of ss es r
+
+-- the extent of a region, from what is told of those that it leads to
+abbrev pub stepped : (RegionId → Extent) → List RegionId → Extent
+stepped told steps = record { depth = greatest (map (λ q. (told q).depth) steps) + 1; weight = total (map (λ q. (told q).weight) steps) + 1 }
+
+-- what is told of a region is what its steps give
+abbrev pub IsSettled : List Node → Join → List Slot → List Extent → RegionId → Type 0
+IsSettled nodes join slots es r = told_of slots es r ≡ stepped (told_of slots es) (steps_with nodes join r)

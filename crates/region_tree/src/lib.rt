@@ -12,7 +12,5 @@ mod extents;
 mod forest_tree;
 mod paths;
 mod slots;
-#[cfg(test)]
-mod tests;
 
 pub use forest_tree::Tree;

@@ -126,12 +126,16 @@ pub(crate) fn copied(node: &Node) -> Result<Node, AllocError>
     })
 }
 
-/// The index of a region.
+/// The index of a region. As long as none was dropped, a region stands at the index that is its id.
 pub(crate) fn place_of(slots: &[Slot], region: RegionId) -> Option<usize>
     requires { IsAscending (nodes_of slots.now) }
     ensures { MatchOption result (node_of (nodes_of slots.now) region ≡ None) (λ i.
         (i < length slots.now) × ((d : _) → node_of (nodes_of slots.now) region ≡ Some (slice_index_or slots.now i d).node)) }
 {
+    let guess = region.0 as usize;
+    if guess < slots.len() && slots[guess].node.id.0 == region.0 {
+        return Some(guess);
+    }
     match slots.binary_search_by_key(&region.0, |slot| slot.node.id.0) {
         Ok(i) => Some(i),
         Err(_) => None,

@@ -1,8 +1,16 @@
-use Rattle.std.proofs.Common.{rules}
+use Rattle.std.proofs.Common.{◌∙◌, rules, sym, ap}
 use Rattle.std.proofs.lemmas.List.Sorted.{answers_always}
 use Rattle.region_tree.specs.declared.slots.Slot.{Slot}
-use Rattle.region_tree.proofs.PlaceLaws.{search_found, search_missing}
+use Rattle.region_tree.proofs.PlaceLaws.{found_there, search_found, search_missing}
+use Rattle.region_tree.proofs.SlotsLaws.{get_or-default}
 use Rattle.region_tree.proofs.slots.place_of.Goals as goal
+
+pub returns-then-slots-guess : goal.returns-then-slots-guess
+returns-then-slots-guess c =
+    let slots = c.args.slots.now in
+    let l = c.if-guess-slots.true in
+    let read : Slot = c.index-slots-guess.result in
+    (l, λ d. found_there slots c.args.region.0 d c.args.region l c.requires (ap (λ (s : Slot). s.node.id.0) (get_or-default slots c.args.region.0 d read l) ∙ c.if-slots-guess.true))
 
 pub returns-in-Ok : goal.returns-in-Ok
 returns-in-Ok c =
