@@ -1,3 +1,6 @@
+pub mod Cuts
+pub mod Notes
 pub mod Windows
 pub mod Ids
 pub mod Edges
+pub mod Rendered

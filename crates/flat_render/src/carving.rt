@@ -1,149 +1,163 @@
-// Laying one list of ranges over another.
-ghost use Rattle.std.specs.Prelude.{◌≡◌, ℕ, ◌+◌, ◌-◌, ◌<◌, ◌≤◌, ◌^◌, ◌||◌, Bool, true, length, drop, List, [], IfOk, OnOk};
+// Laying one list of cuts over another.
+ghost use Rattle.std.specs.Prelude.{◌≡◌, ℕ, ◌+◌, ◌-◌, ◌<◌, ◌≤◌, ◌^◌, ◌||◌, ◌∷◌, Bool, true, min, max, length, drop, take, get_or, List, [], IfOk, OnOk};
 ghost use Rattle.std.specs.Option.{option_or};
-ghost use Rattle.mem_base.specs.View.{shown, seen, IsRanges};
+ghost use Rattle.flat_render.specs.declared.cuts.Cut.{Cut};
+ghost use Rattle.flat_render.specs.Cuts.{shown, seen, AreCuts};
 ghost use Rattle.flat_render.specs.Windows.{between};
-ghost use Rattle.flat_render.specs.Edges.{is_edge, OnlyEdges, edge_count, over_cost};
+ghost use Rattle.flat_render.specs.Edges.{is_edge, OnlyEdges, edge_count, over_cost, Carves};
 
-use crate::spares::Spares;
-use mem_base::FlatRange;
+use crate::cuts::Cut;
+use crate::scratch::Scratch;
 use std::alloc::AllocError;
+use std::mem;
 use std::sync::ledger::Ledger;
 use step_counter::Steps;
 
-/// The first number that is no address.
-const END: u128 = 0x1_0000_0000_0000_0000;
-
-/// The part of a range from one address to another, both inclusive.
-fn part(range: &FlatRange, start: u64, last: u64) -> FlatRange
-    requires within { range.now.start ≤ start }
-    requires ascending { start ≤ last }
-    requires fits { range.now.offset + (last - range.now.start) < 2 ^ 64 }
-    ensures { result ≡ record range.now { start = start; last = last; offset = range.now.offset + (start - range.now.start) } }
-{
-    FlatRange {
-        start,
-        last,
-        leaf: range.leaf,
-        offset: range.offset + (start - range.start),
-        attrs: range.attrs,
-    }
-}
-
-/// Puts the part of a range from one address to before another behind the ranges: one step, where there is any.
+/// Puts what a cut shows from one address to another, both inclusive, after the cuts: one step, where it shows any.
+#[inline(always)]
 fn push_part<L: Ledger>(
-    new: &mut Vec<FlatRange>,
-    range: &FlatRange,
-    from: u128,
-    before: u128,
+    new: &mut Vec<Cut>,
+    cut: &Cut,
+    from: u64,
+    last: u64,
     steps: &mut Steps<L>,
 ) -> Result<(), AllocError>
-    requires ranges { IsRanges 0 from new.old.items }
-    requires ascending { from ≤ before }
-    requires end { before ≤ 2 ^ 64 }
-    requires fits { range.now.offset + (range.now.last - range.now.start) < 2 ^ 64 }
-    ensures ranges { IsRanges 0 before new.new.items }
-    ensures shown { OnOk result ((a : ℕ) → shown new.new.items a ≡ option_or (shown new.old.items a) (between (seen range.now) from before a)) }
-    ensures edges { (p : ℕ → Bool) → OnlyEdges p new.old.items → p range.now.start ≡ true → p (range.now.last + 1) ≡ true → (0 < from → from < 2 ^ 64 → p from ≡ true) → (before < 2 ^ 64 → p before ≡ true) → OnlyEdges p new.new.items }
+    requires nonempty { cut.now.range.start ≤ cut.now.range.last }
+    requires below { cut.now.range.last < 2 ^ 64 }
+    requires fits { cut.now.range.offset + (cut.now.range.last - cut.now.range.start) < 2 ^ 64 }
+    requires ranges { AreCuts 0 (min (last + 1) (max from cut.now.range.start)) new.old.items }
+    ensures ranges { AreCuts 0 (min (last + 1) (max from (cut.now.range.last + 1))) new.new.items }
+    ensures shown { OnOk result ((a : ℕ) → shown new.new.items a ≡ option_or (shown new.old.items a) (between (seen cut.now) from (last + 1) a)) }
+    ensures edges { (p : ℕ → Bool) → OnlyEdges p new.old.items → p cut.now.range.start ≡ true → p (cut.now.range.last + 1) ≡ true → (0 < from → p from ≡ true) → (last + 1 < 2 ^ 64 → p (last + 1) ≡ true) → OnlyEdges p new.new.items }
     ensures steps { steps.new + length new.old.items ≡ steps.old + length new.new.items }
 {
-    let start = from.max(u128::from(range.start));
-    let end = before.min(u128::from(range.last) + 1);
-    if start < end {
-        new.push(part(range, start as u64, (end - 1) as u64))?;
-        steps.tick();
-    }
+    let Some(part) = cut.part(from, last) else {
+        return Ok(());
+    };
+    new.push(part)?;
+    steps.tick();
     Ok(())
 }
 
-/// Puts what the back ranges show from one address to before another behind the ranges, and answers which of
+/// Puts what the back cuts show from one address to another, both inclusive, after the cuts, and answers which of
 /// them may show something further on.
+#[inline(always)]
 fn push_between<L: Ledger>(
-    new: &mut Vec<FlatRange>,
-    back: &[FlatRange],
+    new: &mut Vec<Cut>,
+    back: &[Cut],
     at: usize,
-    from: u128,
-    before: u128,
+    from: u64,
+    last: u64,
     steps: &mut Steps<L>,
 ) -> Result<usize, AllocError>
-    requires back { IsRanges 0 (2 ^ 64) back.now }
+    requires back { AreCuts 0 (2 ^ 64) back.now }
     requires at { at ≤ length back.now }
     requires left { (a : ℕ) → from ≤ a → shown (drop at back.now) a ≡ shown back.now a }
-    requires ranges { IsRanges 0 from new.old.items }
-    requires ascending { from ≤ before }
-    requires end { before ≤ 2 ^ 64 }
-    ensures ranges { IsRanges 0 before new.new.items }
-    ensures shown { OnOk result ((a : ℕ) → shown new.new.items a ≡ option_or (shown new.old.items a) (between (shown back.now) from before a)) }
-    ensures edges { (p : ℕ → Bool) → OnlyEdges p new.old.items → OnlyEdges p back.now → (0 < from → from < 2 ^ 64 → p from ≡ true) → (before < 2 ^ 64 → p before ≡ true) → OnlyEdges p new.new.items }
+    requires ranges { AreCuts 0 from new.old.items }
+    requires ascending { from ≤ last }
+    ensures ranges { AreCuts 0 (last + 1) new.new.items }
+    ensures shown { OnOk result ((a : ℕ) → shown new.new.items a ≡ option_or (shown new.old.items a) (between (shown back.now) from (last + 1) a)) }
+    ensures edges { (p : ℕ → Bool) → OnlyEdges p new.old.items → OnlyEdges p back.now → (0 < from → p from ≡ true) → (last + 1 < 2 ^ 64 → p (last + 1) ≡ true) → OnlyEdges p new.new.items }
     ensures steps { steps.new + length new.old.items ≡ steps.old + length new.new.items }
     ensures at { IfOk result (λ next. next ≤ length back.now) }
-    ensures left { IfOk result (λ next. (a : ℕ) → before ≤ a → shown (drop next back.now) a ≡ shown back.now a) }
+    ensures left { IfOk result (λ next. (a : ℕ) → last < a → shown (drop next back.now) a ≡ shown back.now a) }
 {
-    let mut edge = from;
     for i in at..back.len() {
-        let range = &back[i];
-        let end = before.min(edge.max(u128::from(range.last) + 1));
-        push_part(new, range, edge, end, steps)?;
-        edge = end;
-        if u128::from(range.last) >= before {
+        let cut = &back[i];
+        push_part(new, cut, from, last, steps)?;
+        if cut.range.last > last {
             return Ok(i);
         }
     }
     Ok(back.len())
 }
 
-/// Puts the front ranges, and between them what the back ranges show there, into an empty list.
+/// The same from one address to before another, where there may be no address between them.
+#[inline(always)]
+fn fill<L: Ledger>(
+    new: &mut Vec<Cut>,
+    back: &[Cut],
+    at: usize,
+    from: u64,
+    before: u64,
+    steps: &mut Steps<L>,
+) -> Result<usize, AllocError>
+    requires back { AreCuts 0 (2 ^ 64) back.now }
+    requires at { at ≤ length back.now }
+    requires left { (a : ℕ) → from ≤ a → shown (drop at back.now) a ≡ shown back.now a }
+    requires ranges { AreCuts 0 from new.old.items }
+    requires ascending { from ≤ before }
+    ensures ranges { AreCuts 0 before new.new.items }
+    ensures shown { OnOk result ((a : ℕ) → shown new.new.items a ≡ option_or (shown new.old.items a) (between (shown back.now) from before a)) }
+    ensures edges { (p : ℕ → Bool) → OnlyEdges p new.old.items → OnlyEdges p back.now → (0 < from → p from ≡ true) → p before ≡ true → OnlyEdges p new.new.items }
+    ensures steps { steps.new + length new.old.items ≡ steps.old + length new.new.items }
+    ensures at { IfOk result (λ next. next ≤ length back.now) }
+    ensures left { IfOk result (λ next. (a : ℕ) → before ≤ a → shown (drop next back.now) a ≡ shown back.now a) }
+{
+    if from == before {
+        return Ok(at);
+    }
+    let next = push_between(new, back, at, from, before - 1, steps)?;
+    Ok(next)
+}
+
+/// Puts the front cuts, and between them what the back cuts show there, into an empty list.
 fn lay<L: Ledger>(
-    new: &mut Vec<FlatRange>,
-    front: &[FlatRange],
-    back: &[FlatRange],
+    new: &mut Vec<Cut>,
+    front: &[Cut],
+    back: &[Cut],
     steps: &mut Steps<L>,
 ) -> Result<(), AllocError>
     requires empty { new.old.items ≡ [] }
-    requires front { IsRanges 0 (2 ^ 64) front.now }
-    requires back { IsRanges 0 (2 ^ 64) back.now }
-    ensures ranges { IsRanges 0 (2 ^ 64) new.new.items }
+    requires front { AreCuts 0 (2 ^ 64) front.now }
+    requires back { AreCuts 0 (2 ^ 64) back.now }
+    ensures ranges { AreCuts 0 (2 ^ 64) new.new.items }
     ensures shown { OnOk result ((a : ℕ) → shown new.new.items a ≡ option_or (shown front.now a) (shown back.now a)) }
     ensures edges { OnlyEdges (λ a. is_edge front.now a || is_edge back.now a) new.new.items }
     ensures steps { steps.new ≡ steps.old + length new.new.items }
 {
-    let mut edge: u128 = 0;
+    let mut from: u64 = 0;
     let mut next = 0;
-    for range in front {
-        next = push_between(new, back, next, edge, u128::from(range.start), steps)?;
-        new.push(*range)?;
+    for cut in front {
+        next = fill(new, back, next, from, cut.range.start, steps)?;
+        new.push(*cut)?;
         steps.tick();
-        edge = u128::from(range.last) + 1;
+        if cut.range.last == u64::MAX {
+            return Ok(());
+        }
+        from = cut.range.last + 1;
     }
-    push_between(new, back, next, edge, END, steps)?;
+    push_between(new, back, next, from, u64::MAX, steps)?;
     Ok(())
 }
 
-/// The front ranges laid over the back ones. Where one list is empty it is the other, and nothing is carved.
+/// Puts the back cuts under those of a list. Where one of the two is empty, nothing is carved.
 pub(crate) fn over<L: Ledger>(
-    front: Vec<FlatRange>,
-    back: Vec<FlatRange>,
-    spares: &mut Spares,
+    cuts: &mut Vec<Cut>,
+    back: Vec<Cut>,
+    scratch: &mut Scratch,
     steps: &mut Steps<L>,
-) -> Result<Vec<FlatRange>, AllocError>
-    requires front { IsRanges 0 (2 ^ 64) front.items }
-    requires back { IsRanges 0 (2 ^ 64) back.items }
-    ensures ranges { IfOk result (λ v. IsRanges 0 (2 ^ 64) v.items) }
-    ensures shown { IfOk result (λ v. (a : ℕ) → shown v.items a ≡ option_or (shown front.items a) (shown back.items a)) }
-    ensures edges { IfOk result (λ v. edge_count v.items ≤ edge_count front.items + edge_count back.items) }
-    ensures steps { steps.new ≤ steps.old + over_cost (edge_count front.items) (edge_count back.items) }
+) -> Result<(), AllocError>
+    requires front { AreCuts 0 (2 ^ 64) cuts.old.items }
+    requires back { AreCuts 0 (2 ^ 64) back.items }
+    ensures ranges { OnOk result (AreCuts 0 (2 ^ 64) cuts.new.items) }
+    ensures shown { OnOk result ((a : ℕ) → shown cuts.new.items a ≡ option_or (shown cuts.old.items a) (shown back.items a)) }
+    ensures edges { OnOk result (edge_count cuts.new.items ≤ edge_count cuts.old.items + edge_count back.items) }
+    ensures least { steps.old ≤ steps.new }
+    ensures most { steps.new ≤ steps.old + over_cost (edge_count cuts.old.items) (edge_count back.items) }
+    ensures notes { scratch.new.notes ≡ scratch.old.notes }
 {
-    if front.is_empty() {
-        spares.give(front);
-        return Ok(back);
-    }
     if back.is_empty() {
-        spares.give(back);
-        return Ok(front);
+        scratch.give(back);
+        return Ok(());
     }
-    let mut ranges = spares.take();
-    lay(&mut ranges, front.as_slice(), back.as_slice(), steps)?;
-    spares.give(front);
-    spares.give(back);
-    Ok(ranges)
+    if cuts.is_empty() {
+        scratch.give(mem::replace(cuts, back));
+        return Ok(());
+    }
+    let mut both = scratch.take();
+    lay(&mut both, cuts.as_slice(), back.as_slice(), steps)?;
+    scratch.give(mem::replace(cuts, both));
+    scratch.give(back);
+    Ok(())
 }

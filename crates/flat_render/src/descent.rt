@@ -1,192 +1,303 @@
-// The walk down the tree, from a region to all that it leads to.
-ghost use Rattle.std.specs.Prelude.{◌≡◌, ℕ, ◌+◌, ◌-◌, ◌*◌, ◌<◌, ◌≤◌, ◌^◌, Some, IsSome, IfOk};
-ghost use Rattle.mem_base.specs.Region.{node_of};
-ghost use Rattle.mem_base.specs.Forest.{IsForest};
-ghost use Rattle.mem_base.specs.Search.{spot_in, at_node, inside};
-ghost use Rattle.mem_base.specs.Steps.{steps_of, steps_at, weight_by};
-ghost use Rattle.mem_base.specs.View.{shown, IsRanges};
-ghost use Rattle.flat_render.specs.Windows.{through};
-ghost use Rattle.flat_render.specs.Edges.{edge_count, allowed};
+// The walk down the tree, from a region to all that it leads to. Each step puts what a window shows of regions under
+// the cuts that stand in a list; the window is changed on the way.
+ghost use Rattle.std.specs.Prelude.{◌≡◌, ◌+◌, ◌-◌, ◌<◌, ◌≤◌, ◌^◌, ℕ, List, Some, None, IsSome, IfSome, IfNone, OnOk, length};
+ghost use Rattle.mem_base.specs.map.Region.{node_of};
+ghost use Rattle.mem_base.specs.map.Forest.{IsOrderedForest, IsClosedForest};
+ghost use Rattle.mem_base.specs.map.Search.{found_in, at_node, inside, itself};
+ghost use Rattle.mem_base.specs.map.Steps.{steps_of, steps_at, weight_by};
+ghost use Rattle.mem_base.specs.declared.map.ids.RegionId.{RegionId};
+ghost use Rattle.mem_base.specs.declared.views.notes.Note.{Note};
+ghost use Rattle.flat_render.specs.Cuts.{AreCuts, seen};
+ghost use Rattle.flat_render.specs.Notes.{IsPath, Matches};
+ghost use Rattle.flat_render.specs.Windows.{in_alias, through};
+ghost use Rattle.flat_render.specs.Rendered.{Renders};
+ghost use Rattle.flat_render.specs.Edges.{Carves};
 ghost use Rattle.flat_render.specs.Ids.{in_child, first_of_ids, weight_of_ids};
 
 use crate::carving::over;
-use crate::leaves::over_own;
-use crate::spares::Spares;
-use crate::windows::{Window, cut, on_child, on_target, passing};
-use mem_base::{FlatRange, Kind, Node, RegionId};
+use crate::cuts::Cut;
+use crate::notes::noted;
+use crate::placing::put;
+use crate::scratch::Scratch;
+use crate::windows::Window;
+use mem_base::{Attrs, FlatRange, Kind, Node, RegionId};
 use region_tree::Tree;
 use std::alloc::AllocError;
 use std::sync::ledger::Ledger;
 use step_counter::Steps;
 
-/// The ranges of what is found from a region through a window, down to this depth.
-#[cycle(render)]
+/// So many children at most are put under one list one after another.
+const FEW: usize = 16;
+
+/// A longer list of cuts is not put under in place: it is laid over a list of its own.
+const SHORT: usize = 64;
+
+/// From a region, down to this depth.
 pub(crate) fn render_from<L: Ledger>(
     tree: &Tree,
     depth: u32,
     region: RegionId,
-    window: &Window,
-    spares: &mut Spares,
+    window: &mut Window,
+    cuts: &mut Vec<Cut>,
+    scratch: &mut Scratch,
     steps: &mut Steps<L>,
-) -> Result<Vec<FlatRange>, AllocError>
-    requires up { window.now.up + depth * 2 ^ 64 < 2 ^ 99 }
-    requires down { window.now.down + depth * 2 ^ 64 < 2 ^ 99 }
-    ensures forest { IsForest tree.now }
-    ensures ranges { IfOk result (λ v. IsRanges 0 (2 ^ 64) v.items) }
-    ensures shown { IfOk result (λ v. (a : ℕ) → shown v.items a ≡ through window.now (spot_in tree.now depth region) a) }
-    ensures edges { IfOk result (λ v. edge_count v.items ≤ 2 * weight_by (steps_of tree.now.nodes) depth region) }
-    ensures steps { steps.new ≤ steps.old + allowed (weight_by (steps_of tree.now.nodes) depth region) }
+) -> Result<(), AllocError>
+    requires ordered { window.old.first ≤ window.old.last }
+    requires cuts { AreCuts 0 (2 ^ 64) cuts.old.items }
+    ensures forest { IsOrderedForest tree.now }
+    ensures renders { OnOk result (Renders window.old (found_in tree.now depth region) (weight_by (steps_of tree.now.nodes) depth region) scratch.old.notes.items scratch.new.notes.items cuts.old.items cuts.new.items) }
+    ensures carves { Carves cuts.old.items (weight_by (steps_of tree.now.nodes) depth region) steps.old steps.new }
 {
     let Some(node) = tree.node(region) else {
-        return Ok(spares.take());
+        return Ok(());
     };
-    let ranges = render_in(tree, depth, node, window, spares, steps)?;
-    Ok(ranges)
+    render_at(tree, depth, node, window, cuts, scratch, steps)?;
+    Ok(())
 }
 
-/// The same from a node.
-#[cycle(render)]
-fn render_in<L: Ledger>(
-    tree: &Tree,
-    depth: u32,
-    node: &Node,
-    window: &Window,
-    spares: &mut Spares,
-    steps: &mut Steps<L>,
-) -> Result<Vec<FlatRange>, AllocError>
-    requires known { node_of tree.now.nodes node.now.id ≡ Some node.now }
-    requires forest { IsForest tree.now }
-    requires up { window.now.up + depth * 2 ^ 64 < 2 ^ 99 }
-    requires down { window.now.down + depth * 2 ^ 64 < 2 ^ 99 }
-    ensures ranges { IfOk result (λ v. IsRanges 0 (2 ^ 64) v.items) }
-    ensures shown { IfOk result (λ v. (a : ℕ) → shown v.items a ≡ through window.now (spot_in tree.now depth node.now.id) a) }
-    ensures edges { IfOk result (λ v. edge_count v.items ≤ 2 * weight_by (steps_of tree.now.nodes) depth node.now.id) }
-    ensures steps { steps.new ≤ steps.old + allowed (weight_by (steps_of tree.now.nodes) depth node.now.id) }
-{
-    if depth == 0 {
-        return Ok(spares.take());
-    }
-    let ranges = render_at(tree, depth - 1, node, window, spares, steps)?;
-    Ok(ranges)
-}
-
-/// One step of the walk: a region that is disabled, or that the window does not meet, is left out.
+/// From a node. A region that is disabled, or that the window does not meet, is left out.
 #[cycle(render)]
 fn render_at<L: Ledger>(
     tree: &Tree,
     depth: u32,
     node: &Node,
-    window: &Window,
-    spares: &mut Spares,
+    window: &mut Window,
+    cuts: &mut Vec<Cut>,
+    scratch: &mut Scratch,
     steps: &mut Steps<L>,
-) -> Result<Vec<FlatRange>, AllocError>
-    requires known { IsSome (node_of tree.now.nodes node.now.id) }
-    requires forest { IsForest tree.now }
-    requires up { window.now.up + (depth + 1) * 2 ^ 64 < 2 ^ 99 }
-    requires down { window.now.down + (depth + 1) * 2 ^ 64 < 2 ^ 99 }
-    ensures ranges { IfOk result (λ v. IsRanges 0 (2 ^ 64) v.items) }
-    ensures shown { IfOk result (λ v. (a : ℕ) → shown v.items a ≡ through window.now (at_node tree.now (spot_in tree.now depth) node.now) a) }
-    ensures edges { IfOk result (λ v. edge_count v.items ≤ 2 * (weight_of_ids tree.now.nodes depth (steps_at tree.now.nodes node.now.kind node.now) + 1)) }
-    ensures steps { steps.new ≤ steps.old + allowed (weight_of_ids tree.now.nodes depth (steps_at tree.now.nodes node.now.kind node.now) + 1) }
+) -> Result<(), AllocError>
+    requires known { node_of tree.now.nodes node.now.id ≡ Some node.now }
+    requires forest { IsOrderedForest tree.now }
+    requires sound { IsClosedForest tree.now }
+    requires ordered { window.old.first ≤ window.old.last }
+    requires cuts { AreCuts 0 (2 ^ 64) cuts.old.items }
+    ensures renders { OnOk result (Renders window.old (found_in tree.now depth node.now.id) (weight_by (steps_of tree.now.nodes) depth node.now.id) scratch.old.notes.items scratch.new.notes.items cuts.old.items cuts.new.items) }
+    ensures carves { Carves cuts.old.items (weight_by (steps_of tree.now.nodes) depth node.now.id) steps.old steps.new }
 {
-    if !node.enabled {
-        return Ok(spares.take());
+    if depth == 0 {
+        return Ok(());
     }
-    let Some(part) = cut(window, node.size.get()) else {
-        return Ok(spares.take());
-    };
-    let through = passing(&part, node);
-    let ranges = render_inside(tree, depth, node, &through, spares, steps)?;
-    Ok(ranges)
+    if !node.enabled {
+        return Ok(());
+    }
+    if !window.cut(node.size.get()) {
+        return Ok(());
+    }
+    window.pass(node, noted(&mut scratch.notes, node.id, window.note)?);
+    render_inside(tree, depth - 1, node, window, cuts, scratch, steps)?;
+    Ok(())
 }
 
-/// The ranges of an alias's target, or of a region's children over the region's own.
+/// The target of an alias, or the children of a region and then the region itself.
 #[cycle(render)]
+#[inline(always)]
 fn render_inside<L: Ledger>(
     tree: &Tree,
     depth: u32,
     node: &Node,
-    window: &Window,
-    spares: &mut Spares,
+    window: &mut Window,
+    cuts: &mut Vec<Cut>,
+    scratch: &mut Scratch,
     steps: &mut Steps<L>,
-) -> Result<Vec<FlatRange>, AllocError>
+) -> Result<(), AllocError>
     requires known { IsSome (node_of tree.now.nodes node.now.id) }
-    requires forest { IsForest tree.now }
-    requires up { window.now.up + (depth + 1) * 2 ^ 64 < 2 ^ 99 }
-    requires down { window.now.down + (depth + 1) * 2 ^ 64 < 2 ^ 99 }
-    requires at { window.now.down ≤ window.now.first + window.now.up }
-    requires fits { window.now.last + window.now.up - window.now.down < 2 ^ 64 }
-    requires nonempty { window.now.first ≤ window.now.last }
-    ensures ranges { IfOk result (λ v. IsRanges 0 (2 ^ 64) v.items) }
-    ensures shown { IfOk result (λ v. (a : ℕ) → shown v.items a ≡ through window.now (inside tree.now (spot_in tree.now depth) node.now.kind node.now) a) }
-    ensures edges { IfOk result (λ v. edge_count v.items ≤ 2 * (weight_of_ids tree.now.nodes depth (steps_at tree.now.nodes node.now.kind node.now) + 1)) }
-    ensures steps { steps.new ≤ steps.old + allowed (weight_of_ids tree.now.nodes depth (steps_at tree.now.nodes node.now.kind node.now) + 1) }
+    requires forest { IsOrderedForest tree.now }
+    requires sound { IsClosedForest tree.now }
+    requires fits { window.old.at + (window.old.last - window.old.first) < 2 ^ 64 }
+    requires ordered { window.old.first ≤ window.old.last }
+    requires cuts { AreCuts 0 (2 ^ 64) cuts.old.items }
+    ensures renders { OnOk result (Renders window.old (inside tree.now (found_in tree.now depth) node.now.kind node.now) (weight_of_ids tree.now.nodes depth (steps_at tree.now.nodes node.now.kind node.now) + 1) scratch.old.notes.items scratch.new.notes.items cuts.old.items cuts.new.items) }
+    ensures carves { Carves cuts.old.items (weight_of_ids tree.now.nodes depth (steps_at tree.now.nodes node.now.kind node.now) + 1) steps.old steps.new }
 {
     if let Kind::Alias { target, offset } = node.kind {
-        let beyond = on_target(window, offset);
-        let ranges = render_from(tree, depth, target, &beyond, spares, steps)?;
-        return Ok(ranges);
+        render_target(tree, depth, target, offset, window, cuts, scratch, steps)?;
+        return Ok(());
     }
     let ids = tree.children(node.id);
-    let front = render_below(tree, depth, ids, window, spares, steps)?;
-    let ranges = over_own(tree.is_global(), node, window, front, spares, steps)?;
-    Ok(ranges)
+    if node.kind.is_container() {
+        render_below(tree, depth, ids, window, cuts, scratch, steps)?;
+        return Ok(());
+    }
+    let mut part = *window;
+    render_below(tree, depth, ids, &mut part, cuts, scratch, steps)?;
+    put_own(tree.is_global(), node, window, cuts, scratch, steps)?;
+    Ok(())
 }
 
-/// The ranges of these children of a region, the first half laid over the second.
+/// The target of an alias that begins at an offset in it.
 #[cycle(render)]
+#[inline(always)]
+fn render_target<L: Ledger>(
+    tree: &Tree,
+    depth: u32,
+    target: RegionId,
+    offset: u64,
+    window: &mut Window,
+    cuts: &mut Vec<Cut>,
+    scratch: &mut Scratch,
+    steps: &mut Steps<L>,
+) -> Result<(), AllocError>
+    requires sound { IsClosedForest tree.now }
+    requires ordered { window.old.first ≤ window.old.last }
+    requires cuts { AreCuts 0 (2 ^ 64) cuts.old.items }
+    ensures renders { OnOk result (Renders window.old (in_alias offset (found_in tree.now depth target)) (weight_by (steps_of tree.now.nodes) depth target) scratch.old.notes.items scratch.new.notes.items cuts.old.items cuts.new.items) }
+    ensures carves { Carves cuts.old.items (weight_by (steps_of tree.now.nodes) depth target) steps.old steps.new }
+{
+    let Some(node) = tree.node(target) else {
+        return Ok(());
+    };
+    if !window.follow(offset) {
+        return Ok(());
+    }
+    render_at(tree, depth, node, window, cuts, scratch, steps)?;
+    Ok(())
+}
+
+/// These children of a region, under a list that may be long.
+#[cycle(render)]
+#[inline(always)]
 fn render_below<L: Ledger>(
     tree: &Tree,
     depth: u32,
     ids: &[RegionId],
-    window: &Window,
-    spares: &mut Spares,
+    window: &mut Window,
+    cuts: &mut Vec<Cut>,
+    scratch: &mut Scratch,
     steps: &mut Steps<L>,
-) -> Result<Vec<FlatRange>, AllocError>
-    requires up { window.now.up + (depth + 1) * 2 ^ 64 < 2 ^ 99 }
-    requires down { window.now.down + (depth + 1) * 2 ^ 64 < 2 ^ 99 }
-    ensures ranges { IfOk result (λ v. IsRanges 0 (2 ^ 64) v.items) }
-    ensures shown { IfOk result (λ v. (a : ℕ) → shown v.items a ≡ through window.now (first_of_ids tree.now.nodes (spot_in tree.now depth) ids.now) a) }
-    ensures edges { IfOk result (λ v. edge_count v.items ≤ 2 * weight_of_ids tree.now.nodes depth ids.now) }
-    ensures steps { steps.new ≤ steps.old + allowed (weight_of_ids tree.now.nodes depth ids.now) }
+) -> Result<(), AllocError>
+    requires ordered { window.old.first ≤ window.old.last }
+    requires cuts { AreCuts 0 (2 ^ 64) cuts.old.items }
+    ensures renders { OnOk result (Renders window.old (first_of_ids tree.now.nodes (found_in tree.now depth) ids.now) (weight_of_ids tree.now.nodes depth ids.now) scratch.old.notes.items scratch.new.notes.items cuts.old.items cuts.new.items) }
+    ensures carves { Carves cuts.old.items (weight_of_ids tree.now.nodes depth ids.now) steps.old steps.new }
 {
     if ids.is_empty() {
-        return Ok(spares.take());
+        return Ok(());
     }
-    if ids.len() == 1 {
-        let ranges = render_child(tree, depth, ids[0], window, spares, steps)?;
-        return Ok(ranges);
+    if cuts.len() <= SHORT {
+        render_ids(tree, depth, ids, window, cuts, scratch, steps)?;
+        return Ok(());
     }
-    let middle = ids.len() / 2;
-    let first = &ids[..middle];
-    let second = &ids[middle..];
-    let front = render_below(tree, depth, first, window, spares, steps)?;
-    let back = render_below(tree, depth, second, window, spares, steps)?;
-    let ranges = over(front, back, spares, steps)?;
-    Ok(ranges)
+    let mut back = scratch.take();
+    render_ids(tree, depth, ids, window, &mut back, scratch, steps)?;
+    over(cuts, back, scratch, steps)?;
+    Ok(())
 }
 
-/// The ranges of one child of a region.
+/// These children of a region: a few one after another, many by halves, the first half over the second.
 #[cycle(render)]
+fn render_ids<L: Ledger>(
+    tree: &Tree,
+    depth: u32,
+    ids: &[RegionId],
+    window: &mut Window,
+    cuts: &mut Vec<Cut>,
+    scratch: &mut Scratch,
+    steps: &mut Steps<L>,
+) -> Result<(), AllocError>
+    requires some { 1 ≤ length ids.now }
+    requires ordered { window.old.first ≤ window.old.last }
+    requires cuts { AreCuts 0 (2 ^ 64) cuts.old.items }
+    ensures renders { OnOk result (Renders window.old (first_of_ids tree.now.nodes (found_in tree.now depth) ids.now) (weight_of_ids tree.now.nodes depth ids.now) scratch.old.notes.items scratch.new.notes.items cuts.old.items cuts.new.items) }
+    ensures carves { Carves cuts.old.items (weight_of_ids tree.now.nodes depth ids.now) steps.old steps.new }
+{
+    if ids.len() == 1 {
+        render_child(tree, depth, ids[0], window, cuts, scratch, steps)?;
+        return Ok(());
+    }
+    let middle = ids.len() / 2;
+    let mut part = *window;
+    render_ids(tree, depth, &ids[..middle], &mut part, cuts, scratch, steps)?;
+    if ids.len() <= FEW {
+        render_ids(tree, depth, &ids[middle..], window, cuts, scratch, steps)?;
+        return Ok(());
+    }
+    let mut back = scratch.take();
+    render_ids(
+        tree,
+        depth,
+        &ids[middle..],
+        window,
+        &mut back,
+        scratch,
+        steps,
+    )?;
+    over(cuts, back, scratch, steps)?;
+    Ok(())
+}
+
+/// One child of a region.
+#[cycle(render)]
+#[inline(always)]
 fn render_child<L: Ledger>(
     tree: &Tree,
     depth: u32,
     id: RegionId,
-    window: &Window,
-    spares: &mut Spares,
+    window: &mut Window,
+    cuts: &mut Vec<Cut>,
+    scratch: &mut Scratch,
     steps: &mut Steps<L>,
-) -> Result<Vec<FlatRange>, AllocError>
-    requires up { window.now.up + (depth + 1) * 2 ^ 64 < 2 ^ 99 }
-    requires down { window.now.down + (depth + 1) * 2 ^ 64 < 2 ^ 99 }
-    ensures ranges { IfOk result (λ v. IsRanges 0 (2 ^ 64) v.items) }
-    ensures shown { IfOk result (λ v. (a : ℕ) → shown v.items a ≡ through window.now (in_child (spot_in tree.now depth) id (node_of tree.now.nodes id)) a) }
-    ensures edges { IfOk result (λ v. edge_count v.items ≤ 2 * weight_by (steps_of tree.now.nodes) depth id) }
-    ensures steps { steps.new ≤ steps.old + allowed (weight_by (steps_of tree.now.nodes) depth id) }
+) -> Result<(), AllocError>
+    requires ordered { window.old.first ≤ window.old.last }
+    requires cuts { AreCuts 0 (2 ^ 64) cuts.old.items }
+    ensures renders { OnOk result (Renders window.old (in_child (found_in tree.now depth) id (node_of tree.now.nodes id)) (weight_by (steps_of tree.now.nodes) depth id) scratch.old.notes.items scratch.new.notes.items cuts.old.items cuts.new.items) }
+    ensures carves { Carves cuts.old.items (weight_by (steps_of tree.now.nodes) depth id) steps.old steps.new }
 {
     let Some(child) = tree.node(id) else {
-        return Ok(spares.take());
+        return Ok(());
     };
-    let part = on_child(window, child);
-    let ranges = render_in(tree, depth, child, &part, spares, steps)?;
-    Ok(ranges)
+    if !window.enter(child.offset) {
+        return Ok(());
+    }
+    render_at(tree, depth, child, window, cuts, scratch, steps)?;
+    Ok(())
+}
+
+/// The range that a region answers itself through a window that lies in it, if it does.
+#[inline(always)]
+fn own_cut(global: bool, node: &Node, window: &Window) -> Option<Cut>
+    requires fits { window.now.at + (window.now.last - window.now.first) < 2 ^ 64 }
+    requires ordered { window.now.first ≤ window.now.last }
+    ensures some { IfSome result (λ c. (c.range.start ≤ c.range.last) × (c.range.offset + (c.range.last - c.range.start) < 2 ^ 64)) }
+    ensures shown { IfSome result (λ c. (notes : List Note) (path : List RegionId) (a : ℕ) → IsPath notes window.now.note path → Matches notes (seen c a) (through path window.now (itself global node.now.kind node.now) a)) }
+    ensures none { IfNone result ((path : List RegionId) (a : ℕ) → through path window.now (itself global node.now.kind node.now) a ≡ None) }
+{
+    let spot = node.own_spot(global, window.at)?;
+    Some(Cut {
+        range: FlatRange {
+            start: window.first,
+            last: window.last,
+            leaf: spot.leaf,
+            offset: spot.offset,
+            attrs: Attrs {
+                readonly: window.readonly || spot.attrs.readonly,
+                nonvolatile: window.nonvolatile || spot.attrs.nonvolatile,
+                romd: spot.attrs.romd,
+                unmergeable: window.unmergeable || spot.attrs.unmergeable,
+                log: spot.attrs.log,
+            },
+        },
+        note: window.note,
+    })
+}
+
+/// Puts what a region answers itself under the cuts.
+fn put_own<L: Ledger>(
+    global: bool,
+    node: &Node,
+    window: &Window,
+    cuts: &mut Vec<Cut>,
+    scratch: &mut Scratch,
+    steps: &mut Steps<L>,
+) -> Result<(), AllocError>
+    requires fits { window.now.at + (window.now.last - window.now.first) < 2 ^ 64 }
+    requires ordered { window.now.first ≤ window.now.last }
+    requires cuts { AreCuts 0 (2 ^ 64) cuts.old.items }
+    ensures renders { OnOk result (Renders window.now (itself global node.now.kind node.now) 1 scratch.old.notes.items scratch.new.notes.items cuts.old.items cuts.new.items) }
+    ensures carves { Carves cuts.old.items 1 steps.old steps.new }
+{
+    let Some(cut) = own_cut(global, node, window) else {
+        return Ok(());
+    };
+    put(cuts, cut, scratch, steps)?;
+    Ok(())
 }

@@ -1,110 +1,117 @@
 // Windows of addresses on regions.
-ghost use Rattle.std.specs.Prelude.{◌≡◌, ℕ, ◌+◌, ◌-◌, ◌<◌, ◌≤◌, ◌^◌, ◌&&◌, ◌||◌, false, nat_lt, IfSome, IfNone};
-ghost use Rattle.flat_render.specs.Windows.{is_through, child_window, alias_window, narrowed};
+ghost use Rattle.std.specs.Prelude.{◌≡◌, ℕ, ◌+◌, ◌-◌, ◌<◌, ◌≤◌, ◌^◌, ◌∷◌, ◌++◌, [], true, false, List, None, option_map};
+ghost use Rattle.mem_base.specs.declared.map.ids.RegionId.{RegionId};
+ghost use Rattle.mem_base.specs.map.Search.{passed};
+ghost use Rattle.flat_render.specs.Windows.{Offsets, through, below_size, in_container, in_alias, Sees, SeesNothing};
 
 use mem_base::Node;
 
-/// A window of addresses through which a region is seen. An address plus `up` less `down` is an offset in the
-/// region: an alias moves it up and a child's place in its container moves it down, and the difference may be
-/// negative on the way.
+/// A window of addresses, `first` to `last` inclusive, through which a region is seen from the offset `at` on.
 #[derive(Clone, Copy, Debug, PartialEq, Eq)]
 pub(crate) struct Window {
     pub first: u64,
     pub last: u64,
-    pub up: u128,
-    pub down: u128,
+    pub at: u64,
     /// Whether a region that was passed is read-only.
     pub readonly: bool,
     /// Whether a region that was passed is non-volatile.
     pub nonvolatile: bool,
+    /// Whether a region that was passed is unmergeable.
+    pub unmergeable: bool,
+    /// The number of the note of the region that was passed last, or 0.
+    pub note: usize,
 }
 
-/// The window on all addresses from address 0 of a region on.
-pub(crate) fn whole() -> Window
-    ensures first { result.first ≡ 0 }
-    ensures last { result.last + 1 ≡ 2 ^ 64 }
-    ensures up { result.up ≡ 0 }
-    ensures down { result.down ≡ 0 }
-    ensures readonly { result.readonly ≡ false }
-    ensures nonvolatile { result.nonvolatile ≡ false }
-{
-    Window {
-        first: 0,
-        last: u64::MAX,
-        up: 0,
-        down: 0,
-        readonly: false,
-        nonvolatile: false,
+impl Window {
+    /// The window on all addresses from address 0 of a region on.
+    pub(crate) fn whole() -> Window
+        ensures whole { (found : Offsets) (a : ℕ) → a < 2 ^ 64 → through [] result found a ≡ found a }
+        ensures ordered { result.first ≤ result.last }
+        ensures note { result.note ≡ 0 }
+    {
+        Window {
+            first: 0,
+            last: u64::MAX,
+            at: 0,
+            readonly: false,
+            nonvolatile: false,
+            unmergeable: false,
+            note: 0,
+        }
     }
-}
 
-/// The part of the window that lies in a region of this size, if there is any.
-pub(crate) fn cut(window: &Window, size: u128) -> Option<Window>
-    requires size { size ≤ 2 ^ 64 }
-    requires up { window.now.up < 2 ^ 100 }
-    requires down { window.now.down < 2 ^ 100 }
-    ensures some { IfSome result (λ w. (w.down ≤ w.first + w.up) × (w.last + w.up - w.down < size) × (w.first ≤ w.last) × (w.up ≡ window.now.up) × (w.down ≡ window.now.down) × (w.readonly ≡ window.now.readonly) × (w.nonvolatile ≡ window.now.nonvolatile)) }
-    ensures same { IfSome result (λ w. (a : ℕ) → (is_through w a ≡ (is_through window.now a && nat_lt (a + window.now.up - window.now.down) size))) }
-    ensures none { IfNone result ((a : ℕ) → (is_through window.now a && nat_lt (a + window.now.up - window.now.down) size) ≡ false) }
-{
-    let first = u128::from(window.first).max(window.down.saturating_sub(window.up));
-    let end = (u128::from(window.last) + 1).min((window.down + size).saturating_sub(window.up));
-    if first < end {
-        Some(Window {
-            first: first as u64,
-            last: (end - 1) as u64,
-            up: window.up,
-            down: window.down,
-            readonly: window.readonly,
-            nonvolatile: window.nonvolatile,
-        })
-    } else {
-        None
+    /// Keeps the part that lies in a region of this size, and says whether there is any.
+    #[inline(always)]
+    pub(crate) fn cut(&mut self, size: u128) -> bool
+        requires ordered { self.old.first ≤ self.old.last }
+        ensures some { result ≡ true → Sees self.new self.old (below_size size) }
+        ensures none { result ≡ false → SeesNothing self.old (below_size size) }
+        ensures ordered { self.new.first ≤ self.new.last }
+        ensures fits { result ≡ true → self.new.at + (self.new.last - self.new.first) < size }
+        ensures note { self.new.note ≡ self.old.note }
+    {
+        let at = u128::from(self.at);
+        if size <= at {
+            return false;
+        }
+        let left = size - at;
+        if u128::from(self.last - self.first) >= left {
+            self.last = self.first + (left - 1) as u64;
+        }
+        true
     }
-}
 
-/// The window with the flags of a region that is passed.
-pub(crate) fn passing(window: &Window, node: &Node) -> Window
-    ensures { result ≡ narrowed window.now node.now }
-{
-    Window {
-        first: window.first,
-        last: window.last,
-        up: window.up,
-        down: window.down,
-        readonly: window.readonly || node.readonly,
-        nonvolatile: window.nonvolatile || node.nonvolatile,
+    /// Passes a region, of which a note is taken: what is seen has the region's flags.
+    #[inline(always)]
+    pub(crate) fn pass(&mut self, node: &Node, note: usize)
+        ensures through { (path : List RegionId) (found : Offsets) (a : ℕ) → through (path ++ node.now.id ∷ []) self.new found a ≡ through path self.old (λ b. option_map (passed node.now) (found b)) a }
+        ensures first { self.new.first ≡ self.old.first }
+        ensures last { self.new.last ≡ self.old.last }
+        ensures at { self.new.at ≡ self.old.at }
+        ensures note { self.new.note ≡ note }
+    {
+        self.readonly = self.readonly || node.readonly;
+        self.nonvolatile = self.nonvolatile || node.nonvolatile;
+        self.unmergeable = self.unmergeable || node.unmergeable;
+        self.note = note;
     }
-}
 
-/// The window on a child of the region that is seen.
-pub(crate) fn on_child(window: &Window, child: &Node) -> Window
-    requires { window.now.down < 2 ^ 100 }
-    ensures value { result ≡ child_window window.now child.now }
-    ensures bound { child.now.offset < 2 ^ 64 }
-{
-    let offset = child.offset;
-    Window {
-        first: window.first,
-        last: window.last,
-        up: window.up,
-        down: window.down + u128::from(offset),
-        readonly: window.readonly,
-        nonvolatile: window.nonvolatile,
+    /// Goes on to a child at this offset in the region, and says whether any of the child is seen.
+    #[inline(always)]
+    pub(crate) fn enter(&mut self, offset: u64) -> bool
+        requires ordered { self.old.first ≤ self.old.last }
+        ensures some { result ≡ true → Sees self.new self.old (in_container offset) }
+        ensures none { result ≡ false → SeesNothing self.old (in_container offset) }
+        ensures ordered { self.new.first ≤ self.new.last }
+        ensures note { self.new.note ≡ self.old.note }
+    {
+        if offset <= self.at {
+            self.at -= offset;
+            return true;
+        }
+        let skipped = offset - self.at;
+        if self.last - self.first < skipped {
+            return false;
+        }
+        self.first += skipped;
+        self.at = 0;
+        true
     }
-}
 
-/// The window on the target of an alias that begins at this offset in it.
-pub(crate) fn on_target(window: &Window, offset: u64) -> Window
-    requires { window.now.up < 2 ^ 100 }
-    ensures { result ≡ alias_window window.now offset }
-{
-    Window {
-        first: window.first,
-        last: window.last,
-        up: window.up + u128::from(offset),
-        down: window.down,
-        readonly: window.readonly,
-        nonvolatile: window.nonvolatile,
+    /// Goes on to the target of an alias that begins at this offset in it, and says whether any of the target is
+    /// seen: no region has an offset of 2^64 or more.
+    #[inline(always)]
+    pub(crate) fn follow(&mut self, offset: u64) -> bool
+        ensures some { result ≡ true → Sees self.new self.old (in_alias offset) }
+        ensures none { result ≡ false → (path : List RegionId) (found : Offsets) (a : ℕ) → ((b : ℕ) → 2 ^ 64 ≤ b → found b ≡ None) → through path self.old (in_alias offset found) a ≡ None }
+        ensures first { self.new.first ≡ self.old.first }
+        ensures last { self.new.last ≡ self.old.last }
+        ensures note { self.new.note ≡ self.old.note }
+    {
+        let Some(at) = self.at.checked_add(offset) else {
+            return false;
+        };
+        self.at = at;
+        true
     }
 }

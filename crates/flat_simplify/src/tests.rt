@@ -1,12 +1,12 @@
 ghost use Rattle.std.specs.Prelude.{◌≡◌, ◌+◌, ◌<◌, ◌^◌};
 
 use crate::simplify;
-use mem_base::{Attrs, FlatRange, Pieces, RegionId};
-use std::alloc::Global;
+use mem_base::{Attrs, FlatRange, Note, Paths, Pieces, RegionId};
+use std::alloc::{AllocError, Global};
 use std::test::Fail;
 
 /// A page of a leaf.
-fn page(start: u64, leaf: u32, offset: u64, log: u8) -> FlatRange
+fn page(start: u64, leaf: u32, offset: u64, log: u8, unmergeable: bool) -> FlatRange
     requires { start < 2 ^ 32 }
     ensures start { result.start ≡ start }
     ensures last { result.last ≡ start + 4095 }
@@ -21,24 +21,55 @@ fn page(start: u64, leaf: u32, offset: u64, log: u8) -> FlatRange
             readonly: false,
             nonvolatile: false,
             romd: false,
+            unmergeable,
             log,
         },
     }
 }
 
-/// Two pages that go on, then one each with another logging mask, with another leaf, behind a hole and at another
-/// offset, and one that goes on there.
+/// Notes of paths through one container each to a leaf: the path at index i has the number 2 i + 2.
+fn notes(alloc: Global, paths: &[(u32, u32)]) -> Result<Vec<Note>, AllocError> {
+    let mut notes = Vec::new(alloc);
+    for (container, leaf) in paths {
+        notes.push(Note {
+            region: RegionId(*container),
+            before: 0,
+        })?;
+        let before = notes.len();
+        notes.push(Note {
+            region: RegionId(*leaf),
+            before,
+        })?;
+    }
+    Ok(notes)
+}
+
+/// Two pages that go on, then one each with another logging mask, with another leaf, after a hole and at another
+/// offset, and one that goes on there: each on a path of its own, which mergeable pages do not mind.
 fn seven_pages(alloc: Global) -> Result<Pieces, Fail> {
     let ranges = vec![in alloc;
-        page(0x0000, 1, 0x0000, 0),
-        page(0x1000, 1, 0x1000, 0),
-        page(0x2000, 1, 0x2000, 1),
-        page(0x3000, 2, 0x3000, 1),
-        page(0x5000, 2, 0x5000, 1),
-        page(0x6000, 2, 0x5000, 1),
-        page(0x7000, 2, 0x6000, 1),
+        page(0x0000, 1, 0x0000, 0, false),
+        page(0x1000, 1, 0x1000, 0, false),
+        page(0x2000, 1, 0x2000, 1, false),
+        page(0x3000, 2, 0x3000, 1, false),
+        page(0x5000, 2, 0x5000, 1, false),
+        page(0x6000, 2, 0x5000, 1, false),
+        page(0x7000, 2, 0x6000, 1, false),
     ]?;
-    Ok(Pieces::new(ranges))
+    let notes = notes(
+        alloc,
+        &[
+            (10, 1),
+            (11, 1),
+            (12, 1),
+            (13, 2),
+            (14, 2),
+            (15, 2),
+            (16, 2),
+        ],
+    )?;
+    let numbers = vec![in alloc; 2, 4, 6, 8, 10, 12, 14]?;
+    Ok(Pieces::new(ranges, Paths::new(notes, numbers)))
 }
 
 #[test]
@@ -58,5 +89,20 @@ fn only_neighbours_that_go_on_merge(rt: HostRuntime) -> Result<(), Fail> {
             (start, last, leaf, offset)
         );
     }
+    Ok(())
+}
+
+#[test]
+fn unmergeable_neighbours_merge_on_one_path(rt: HostRuntime) -> Result<(), Fail> {
+    let ranges = vec![in rt.alloc();
+        page(0x0000, 1, 0x0000, 0, true),
+        page(0x1000, 1, 0x1000, 0, true),
+        page(0x2000, 1, 0x2000, 0, true),
+    ]?;
+    let notes = notes(rt.alloc(), &[(10, 1), (10, 1), (11, 1)])?;
+    let numbers = vec![in rt.alloc(); 2, 4, 6]?;
+    let view = simplify(Pieces::new(ranges, Paths::new(notes, numbers)));
+    let lasts = view.as_slice().iter().map(|range| range.last);
+    assert!(rt; lasts.eq([0x1fff, 0x2fff]));
     Ok(())
 }

@@ -7,13 +7,11 @@ use Rattle.std.specs.declared.cmp.Ordering.TheVariants.{Less, Equal, Greater}
 use Rattle.std.specs.Ordering.{nat_cmp, bool_cmp, ordering_then, is_lt, is_eq, ordering_reverse}
 use Rattle.std.specs.Cmp.{IsTotalOrder}
 use Rattle.std.proofs.lemmas.Cmp.{then_total, on_total, nat_cmp_total}
-use Rattle.mem_base.specs.declared.ioevents.Ioevent.{Ioevent}
-use Rattle.mem_base.specs.Every.{Every}
-use Rattle.mem_base.specs.Sorting.{put_by, IsRising}
-use Rattle.mem_base.specs.Tables.{AreEvents, event_cmp, match_order}
-use Rattle.mem_base.specs.TableRefusals.{is_event, bool_eq}
-use Rattle.mem_base.specs.Changes.{event_order}
-use Rattle.mem_base.specs.Sorting.{place_of}
+use Rattle.mem_base.specs.declared.map.ioevents.Ioevent.{Ioevent}
+use Rattle.mem_base.specs.lists.Every.{Every}
+use Rattle.mem_base.specs.lists.Sorting.{put_by, IsRising, place_of}
+use Rattle.mem_base.specs.map.Events.{AreEvents, event_cmp, match_order, is_event, event_order}
+use Rattle.mem_base.specs.lists.Booleans.{bool_eq}
 use Rattle.mem_base.proofs.PlaceLaws.{Rises, Rises-rising, any-present, insert-place_of}
 use Rattle.mem_base.proofs.EveryLaws.{weaker}
 use Rattle.mem_base.proofs.DelLaws.{every_put_by}
@@ -41,7 +39,8 @@ and_right false b c d = refl
 and_same : (a b c d a' b' c' d' : Bool) → a ≡ a' → b ≡ b' → c ≡ c' → d ≡ d' → a && (b && (c && d)) ≡ a' && (b' && (c' && d'))
 and_same a b c d a' b' c' d' p q r s = cc
 
-pub is_event-is : (offset size : ℕ) (matched : Bool) (value : ℕ) (e : Ioevent) → is_event offset size matched value e ≡ is_eq (event_cmp offset size matched value e)
+pub is_event-is : (offset size : ℕ) (matched : Bool) (value : ℕ) (e : Ioevent) →
+    is_event offset size matched value e ≡ is_eq (event_cmp offset size matched value e)
 is_event-is offset size matched value e =
     let all = event_cmp offset size matched value e in
     let last = ordering_then (bool_cmp e.matched matched) (nat_cmp e.value value) in
@@ -74,7 +73,9 @@ bool_total : IsTotalOrder bool_cmp
 bool_total = record { antisymm = bool_antisymm; trans = bool_trans; congr = bool_congr }
 
 pub match_total : IsTotalOrder match_order
-match_total = then_total (on_total (λ (e : Ioevent). e.offset) nat_cmp_total) (then_total (on_total (λ (e : Ioevent). e.size) nat_cmp_total) (then_total (on_total (λ (e : Ioevent). e.matched) bool_total) (on_total (λ (e : Ioevent). e.value) nat_cmp_total)))
+match_total = then_total (on_total (λ (e : Ioevent). e.offset) nat_cmp_total)
+    (then_total (on_total (λ (e : Ioevent). e.size) nat_cmp_total)
+    (then_total (on_total (λ (e : Ioevent). e.matched) bool_total) (on_total (λ (e : Ioevent). e.value) nat_cmp_total)))
 
 then_assoc : (o p q : Ordering) → ordering_then (ordering_then o p) q ≡ ordering_then o (ordering_then p q)
 then_assoc Less p q = refl
@@ -103,7 +104,8 @@ event_order-lt x y k =
     ] refl
 
 -- one that differs from each may be put in
-rising-put : {K : Type 0} (R O : K → K → Ordering) (o : IsTotalOrder R) (e : K) → ((y : K) → R e y ≢ Equal → is_lt (O e y) ≡ is_lt (R e y)) → (l : List K) → Every (λ y. R e y ≢ Equal) l → IsRising R l → IsRising R (put_by O e l)
+rising-put : {K : Type 0} (R O : K → K → Ordering) (o : IsTotalOrder R) (e : K) → ((y : K) → R e y ≢ Equal → is_lt (O e y) ≡ is_lt (R e y)) → (l : List K) →
+    Every (λ y. R e y ≢ Equal) l → IsRising R l → IsRising R (put_by O e l)
 rising-put R O o e agrees [] off h = (tt, tt)
 rising-put R O o e agrees (y ∷ ys) off h =
     elim (R e y) as (λ q. R e y ≡ q → IsRising R (put_by O e (y ∷ ys))) [
@@ -117,17 +119,24 @@ rising-put R O o e agrees (y ∷ ys) off h =
           rw later (every_put_by (λ z. R y z ≡ Less) O e ys back h.0, rising-put R O o e agrees ys off.1 h.1)
     ] refl
 
-none_equal : (p : Ioevent → Bool) (e : Ioevent) → ((y : Ioevent) → p y ≡ is_eq (match_order y e)) → (l : List Ioevent) → list_any p l ≡ false → Every (λ y. match_order e y ≢ Equal) l
+none_equal : (p : Ioevent → Bool) (e : Ioevent) → ((y : Ioevent) → p y ≡ is_eq (match_order y e)) → (l : List Ioevent) → list_any p l ≡ false →
+    Every (λ y. match_order e y ≢ Equal) l
 none_equal p e says [] h = tt
 none_equal p e says (y ∷ ys) h =
     elim (p y) as (λ b. p y ≡ b → b || list_any p ys ≡ false → (match_order e y ≢ Equal) × Every (λ z. match_order e z ≢ Equal) ys) [
       | true ↦ λ t w. cc
-      | false ↦ λ t w. (λ q. let back : match_order y e ≡ Equal = match_total.antisymm y e ∙ ap ordering_reverse q in let yes : p y ≡ true = says y ∙ ap is_eq back in cc, none_equal p e says ys w)
+      | false ↦ λ t w. (
+        λ q. let back : match_order y e ≡ Equal = match_total.antisymm y e ∙ ap ordering_reverse q in let yes : p y ≡ true = says y
+            ∙ ap is_eq back in cc,
+        none_equal p e says ys w,
+      )
     ] refl h
 
-pub events-put : (e : Ioevent) (l : List Ioevent) → list_any (is_event e.offset e.size e.matched e.value) l ≡ false → AreEvents l → AreEvents (put_by event_order e l)
+pub events-put : (e : Ioevent) (l : List Ioevent) → list_any (is_event e.offset e.size e.matched e.value) l ≡ false → AreEvents l →
+    AreEvents (put_by event_order e l)
 events-put e l free h =
-    rising-put match_order event_order match_total e (λ y k. event_order-lt e y k) l (none_equal (is_event e.offset e.size e.matched e.value) e (λ y. is_event-is e.offset e.size e.matched e.value y) l free) h
+    rising-put match_order event_order match_total e (λ y k. event_order-lt e y k) l
+    (none_equal (is_event e.offset e.size e.matched e.value) e (λ y. is_event-is e.offset e.size e.matched e.value y) l free) h
 
 -- an ioeventfd with these four, which the search compares with
 abbrev event_at : ℕ → ℕ → Bool → ℕ → Ioevent
@@ -145,7 +154,8 @@ abbrev pub is_same : Ioevent → Ioevent → Bool
 is_same e = is_event e.offset e.size e.matched e.value
 
 -- one that is not there has a place where it would stand
-pub event_gap : (e : Ioevent) (l : List Ioevent) (r : Result ℕ ℕ) (p q : ℕ) → list_any (is_same e) l ≡ false → r ≡ place_of (stands_to e) l → (r ≡ Ok p) ⊎ (r ≡ Err p) → q ≡ p → place_of (stands_to e) l ≡ Err q
+pub event_gap : (e : Ioevent) (l : List Ioevent) (r : Result ℕ ℕ) (p q : ℕ) → list_any (is_same e) l ≡ false → r ≡ place_of (stands_to e) l → (r ≡ Ok p)
+    ⊎ (r ≡ Err p) → q ≡ p → place_of (stands_to e) l ≡ Err q
 event_gap e l r p q free is (inl at) same =
     let there = any-present (stands_to e) (is_same e) (is_event-is e.offset e.size e.matched e.value) l p (sym is ∙ at) in
     cc

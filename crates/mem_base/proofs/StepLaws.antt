@@ -4,11 +4,11 @@ use Rattle.std.specs.List.{list_any}
 use Rattle.std.proofs.lemmas.Bool.Decides.{nat_tests}
 use Rattle.std.specs.declared.cmp.Ordering.{Ordering}
 use Rattle.std.specs.Ordering.{is_lt}
-use Rattle.mem_base.specs.declared.ids.RegionId.{RegionId}
-use Rattle.mem_base.specs.declared.forests.Node.{Node}
-use Rattle.mem_base.specs.Every.{Every}
-use Rattle.mem_base.specs.Sorting.{put_by, sorted_by}
-use Rattle.mem_base.specs.Steps.{Steps, greatest, total, depth_by, weight_by, reaches_by}
+use Rattle.mem_base.specs.declared.map.ids.RegionId.{RegionId}
+use Rattle.mem_base.specs.declared.map.forests.Node.{Node}
+use Rattle.mem_base.specs.lists.Every.{Every}
+use Rattle.mem_base.specs.lists.Sorting.{put_by, sorted_by}
+use Rattle.mem_base.specs.map.Steps.{Steps, greatest, total, depth_by, weight_by, reaches_by}
 use Rattle.mem_base.proofs.EveryLaws.{weaker}
 
 pub map_agree : {A : Type 0} (g h : A → ℕ) (xs : List A) → Every (λ x. g x ≡ h x) xs → map g xs ≡ map h xs
@@ -27,25 +27,28 @@ pub depth_by-alike : (s t : Steps) → ((q : RegionId) → Alike (s q) (t q)) �
 unfolding depth_by
 depth_by-alike s t h zero r = refl
 depth_by-alike s t h (suc most) r =
-    ap (λ k. k + 1) ((h r (depth_by s most)).0 ∙ ap greatest (map_agree (depth_by s most) (depth_by t most) (t r) (every_of _ (depth_by-alike s t h most) (t r))))
+    ap (λ k. k + 1) ((h r (depth_by s most)).0
+    ∙ ap greatest (map_agree (depth_by s most) (depth_by t most) (t r) (every_of _ (depth_by-alike s t h most) (t r))))
 
 pub weight_by-alike : (s t : Steps) → ((q : RegionId) → Alike (s q) (t q)) → (most : ℕ) (r : RegionId) → weight_by s most r ≡ weight_by t most r
 unfolding weight_by
 weight_by-alike s t h zero r = refl
 weight_by-alike s t h (suc most) r =
-    ap (λ k. k + 1) ((h r (weight_by s most)).1 ∙ ap total (map_agree (weight_by s most) (weight_by t most) (t r) (every_of _ (weight_by-alike s t h most) (t r))))
+    ap (λ k. k + 1) ((h r (weight_by s most)).1
+    ∙ ap total (map_agree (weight_by s most) (weight_by t most) (t r) (every_of _ (weight_by-alike s t h most) (t r))))
 
 abbrev ids : List Node → List RegionId
 ids nodes = map (λ n. n.id) nodes
 
--- an element that is put in order adds what it would add in front
+-- an element that is put in order adds what it would add as the first
 pub alike-put_by : (R : Node → Node → Ordering) (x : Node) (l : List Node) → Alike (ids (put_by R x l)) (x.id ∷ ids l)
 alike-put_by R x [] g = (refl, refl)
 alike-put_by R x (y ∷ ys) g =
     let ih = alike-put_by R x ys g in
     let d = ih.0 in
     let w = ih.1 in
-    elim (is_lt (R x y)) as (λ b. (greatest (map g (ids (cond b (x ∷ y ∷ ys) (y ∷ put_by R x ys)))) ≡ greatest (map g (x.id ∷ y.id ∷ ids ys))) × (total (map g (ids (cond b (x ∷ y ∷ ys) (y ∷ put_by R x ys)))) ≡ total (map g (x.id ∷ y.id ∷ ids ys)))) [
+    elim (is_lt (R x y)) as (λ b. (greatest (map g (ids (cond b (x ∷ y ∷ ys) (y ∷ put_by R x ys)))) ≡ greatest (map g (x.id ∷ y.id ∷ ids ys)))
+    × (total (map g (ids (cond b (x ∷ y ∷ ys) (y ∷ put_by R x ys)))) ≡ total (map g (x.id ∷ y.id ∷ ids ys)))) [
       | true ↦ (refl, refl)
       | false ↦ (ap (max (g y.id)) d ∙ omega arith, ap (λ k. g y.id + k) w ∙ omega arith)
     ]
@@ -63,7 +66,7 @@ each_below : (g : RegionId → ℕ) (k : ℕ) (xs : List RegionId) → greatest 
 each_below g k [] h = tt
 each_below g k (x ∷ xs) h = (omega arith, each_below g k xs (omega arith))
 
--- each path from a region has at most so many regions
+-- each path from a region has at most n regions
 unfoldable pub IsWithin : Steps → ℕ → RegionId → Type 0
 IsWithin steps zero r = ⊥
 IsWithin steps (suc most) r = Every (IsWithin steps most) (steps r)
@@ -78,7 +81,8 @@ unfolding depth_by IsWithin
 IsWithin-depth_at_most s zero r h = absurd (omega arith)
 IsWithin-depth_at_most s (suc most) r h =
     let below : greatest (map (depth_by s (suc most)) (s r)) ≤ most = omega arith in
-    weaker (λ q. depth_by s (suc most) q ≤ most) (IsWithin s most) (λ q l. IsWithin-depth_at_most s most q l) (s r) (each_at_most (depth_by s (suc most)) most (s r) below)
+    weaker (λ q. depth_by s (suc most) q ≤ most) (IsWithin s most) (λ q l. IsWithin-depth_at_most s most q l) (s r)
+    (each_at_most (depth_by s (suc most)) most (s r) below)
 
 -- a depth that is less than what was looked at is the whole depth
 pub IsWithin-depth_by : (s : Steps) (most : ℕ) (r : RegionId) → depth_by s most r < most → IsWithin s most r
@@ -93,14 +97,16 @@ unfolding depth_by IsWithin
 depth_by-further s zero more r l h = absurd h
 depth_by-further s (suc most) zero r l h = absurd (omega arith)
 depth_by-further s (suc most) (suc more) r l h =
-    ap (λ xs. greatest xs + 1) (map_agree (depth_by s more) (depth_by s most) (s r) (weaker (IsWithin s most) (λ q. depth_by s more q ≡ depth_by s most q) (λ q w. depth_by-further s most more q (omega arith) w) (s r) h))
+    ap (λ xs. greatest xs + 1) (map_agree (depth_by s more) (depth_by s most) (s r)
+    (weaker (IsWithin s most) (λ q. depth_by s more q ≡ depth_by s most q) (λ q w. depth_by-further s most more q (omega arith) w) (s r) h))
 
 pub weight_by-further : (s : Steps) (most more : ℕ) (r : RegionId) → most ≤ more → IsWithin s most r → weight_by s more r ≡ weight_by s most r
 unfolding weight_by IsWithin
 weight_by-further s zero more r l h = absurd h
 weight_by-further s (suc most) zero r l h = absurd (omega arith)
 weight_by-further s (suc most) (suc more) r l h =
-    ap (λ xs. total xs + 1) (map_agree (weight_by s more) (weight_by s most) (s r) (weaker (IsWithin s most) (λ q. weight_by s more q ≡ weight_by s most q) (λ q w. weight_by-further s most more q (omega arith) w) (s r) h))
+    ap (λ xs. total xs + 1) (map_agree (weight_by s more) (weight_by s most) (s r)
+    (weaker (IsWithin s most) (λ q. weight_by s more q ≡ weight_by s most q) (λ q w. weight_by-further s most more q (omega arith) w) (s r) h))
 
 -- with fewer steps no region is deeper or wider
 abbrev pub Fewer : List RegionId → List RegionId → Type 0
@@ -151,7 +157,9 @@ module _ (s : Steps) (parent child : RegionId) where
   weight_by-apart (suc most) q e =
       let no = or_false (eqb q.0 parent.0) (list_any (λ x. reaches_by s most x parent) (s q)) e in
       let t = no.0 in
-      let below = map_agree (weight_by (joined_steps s parent child) most) (weight_by s most) (s q) (weaker (λ x. reaches_by s most x parent ≡ false) _ (λ x w. weight_by-apart most x w) (s q) (none_reaches (λ x. reaches_by s most x parent) (s q) no.1)) in
+      let below = map_agree (weight_by (joined_steps s parent child) most) (weight_by s most) (s q)
+      (weaker (λ x. reaches_by s most x parent ≡ false) _ (λ x w. weight_by-apart most x w) (s q)
+      (none_reaches (λ x. reaches_by s most x parent) (s q) no.1)) in
       rw t (ap (λ xs. total xs + 1) below)
 
   -- no weight grows by more than the child's weight times
@@ -159,13 +167,16 @@ module _ (s : Steps) (parent child : RegionId) where
   sum_scaled g h w [] e = omega arith
   sum_scaled g h w (x ∷ xs) e = let t = sum_scaled g h w xs e.1 in let u = e.0 in grind arith
 
-  pub weight_by-joined-to : (w top : ℕ) → ((k : ℕ) → k ≤ top → weight_by (joined_steps s parent child) k child ≤ w) → (most : ℕ) (q : RegionId) → most ≤ top → weight_by (joined_steps s parent child) most q ≤ weight_by s most q * (w + 1)
+  pub weight_by-joined-to : (w top : ℕ) → ((k : ℕ) → k ≤ top → weight_by (joined_steps s parent child) k child ≤ w) → (most : ℕ) (q : RegionId) →
+      most ≤ top → weight_by (joined_steps s parent child) most q ≤ weight_by s most q * (w + 1)
   unfolding weight_by
   weight_by-joined-to w top h zero q l = omega arith
   weight_by-joined-to w top h (suc most) q l =
-      let below = sum_scaled (weight_by (joined_steps s parent child) most) (weight_by s most) (w + 1) (s q) (every_of _ (λ r. weight_by-joined-to w top h most r (omega arith)) (s q)) in
+      let below = sum_scaled (weight_by (joined_steps s parent child) most) (weight_by s most) (w + 1) (s q)
+      (every_of _ (λ r. weight_by-joined-to w top h most r (omega arith)) (s q)) in
       let c = h most (omega arith) in
-      elim (eqb q.0 parent.0) as (λ b. total (map (weight_by (joined_steps s parent child) most) (cond b (child ∷ s q) (s q))) + 1 ≤ (total (map (weight_by s most) (s q)) + 1) * (w + 1)) [
+      elim (eqb q.0 parent.0) as (λ b. total (map (weight_by (joined_steps s parent child) most) (cond b (child ∷ s q) (s q))) + 1 ≤
+      (total (map (weight_by s most) (s q)) + 1) * (w + 1)) [
         | true ↦ grind arith
         | false ↦ grind arith
       ]
@@ -197,7 +208,9 @@ reaches_by-shorter s (suc few) zero r to l e = absurd (omega arith)
 reaches_by-shorter s (suc few) (suc most) r to l e =
     let no = or_false (eqb r.0 to.0) (list_any (λ x. reaches_by s most x to) (s r)) e in
     let a = no.0 in
-    let b = no_any (λ x. reaches_by s few x to) (s r) (weaker (λ x. reaches_by s most x to ≡ false) _ (λ x w. reaches_by-shorter s few most x to (omega arith) w) (s r) (none_reaches (λ x. reaches_by s most x to) (s r) no.1)) in
+    let b = no_any (λ x. reaches_by s few x to) (s r)
+    (weaker (λ x. reaches_by s most x to ≡ false) _ (λ x w. reaches_by-shorter s few most x to (omega arith) w) (s r)
+    (none_reaches (λ x. reaches_by s most x to) (s r) no.1)) in
     rw a b
 
 -- a region reaches itself
@@ -207,7 +220,8 @@ reaches_by-apart s zero r to l e = absurd (omega arith)
 reaches_by-apart s (suc most) r to l e = let t = (or_false (eqb r.0 to.0) _ e).0 in λ k. grind (arith, nat_tests)
 
 -- with one more step that makes no loop, no weight passes this
-pub weight_by-bounded : (s : Steps) (parent child : RegionId) (w most : ℕ) → ((r : RegionId) → weight_by s most r ≤ w) → reaches_by s most child parent ≡ false → (k : ℕ) (q : RegionId) → k ≤ most → weight_by (joined_steps s parent child) k q ≤ w * (w + 1)
+pub weight_by-bounded : (s : Steps) (parent child : RegionId) (w most : ℕ) → ((r : RegionId) → weight_by s most r ≤ w) →
+    reaches_by s most child parent ≡ false → (k : ℕ) (q : RegionId) → k ≤ most → weight_by (joined_steps s parent child) k q ≤ w * (w + 1)
 weight_by-bounded s parent child w most h e k q l =
     let low : (j : ℕ) → j ≤ most → weight_by (joined_steps s parent child) j child ≤ w = λ j m.
     let same = weight_by-apart s parent child j child (reaches_by-shorter s j most child parent m e) in

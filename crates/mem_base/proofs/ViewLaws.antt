@@ -1,15 +1,16 @@
--- Laws of views: what they show before, within and behind their ranges, and that one list of ranges shows it.
+-- Laws of views: what they show before, within and after their ranges, and that one list of ranges shows it.
 use Rattle.std.proofs.Common.{◌≡◌, ℕ, ◌+◌, ◌-◌, ◌^◌, ◌<◌, ◌≤◌, true, false, List, [], ◌∷◌, Some, None, refl, sym, ap, subst, ◌∙◌, arith, ⊎_elim}
 use Rattle.std.proofs.lemmas.Bool.{cases_lt}
 use Rattle.std.proofs.lemmas.Bool.Decides.{nat_tests}
-use Rattle.mem_base.specs.declared.forests.Forest.{Forest}
-use Rattle.mem_base.specs.declared.ids.SpaceId.{SpaceId}
-use Rattle.mem_base.specs.declared.spots.Spot.{Spot}
-use Rattle.mem_base.specs.declared.ids.RegionId.{RegionId}
-use Rattle.mem_base.specs.declared.spots.Attrs.{Attrs}
-use Rattle.mem_base.specs.declared.flat.FlatRange.{FlatRange}
-use Rattle.mem_base.specs.View.{holds, seen, shown, IsRanges, MergesNot, IsMerged}
-use Rattle.mem_base.specs.View.{IsView}
+use Rattle.mem_base.specs.declared.map.forests.Forest.{Forest}
+use Rattle.mem_base.specs.declared.map.ids.SpaceId.{SpaceId}
+use Rattle.mem_base.specs.declared.map.spots.Spot.{Spot}
+use Rattle.mem_base.specs.declared.map.ids.RegionId.{RegionId}
+use Rattle.mem_base.specs.declared.map.spots.Attrs.{Attrs}
+use Rattle.mem_base.specs.declared.views.flat.FlatRange.{FlatRange}
+use Rattle.mem_base.specs.lists.Every.{Every}
+use Rattle.mem_base.specs.map.Search.{path_at}
+use Rattle.mem_base.specs.views.View.{holds, seen, shown, IsRanges, PathAt, IsOnOnePath, Merges, MergesNot, IsMerged, IsView}
 
 abbrev pub spot_at : FlatRange → ℕ → Spot
 spot_at r a = record { leaf = r.leaf; offset = r.offset + (a - r.start); attrs = r.attrs }
@@ -56,7 +57,8 @@ pub shown-later : (r : FlatRange) (rs : List FlatRange) (a : ℕ) → r.last < a
 shown-later r rs a l = let t = seen-after r a l in simp t
 
 -- what is shown at the first address of all is shown by a range that starts there
-starts_at : (from end : ℕ) (rs : List FlatRange) (s : Spot) → IsRanges from end rs → shown rs from ≡ Some s → (q : FlatRange) × (qs : List FlatRange) × (rs ≡ q ∷ qs) × (q.start ≡ from) × (spot_at q from ≡ s)
+starts_at : (from end : ℕ) (rs : List FlatRange) (s : Spot) → IsRanges from end rs → shown rs from ≡ Some s → (q : FlatRange) × (qs : List FlatRange)
+    × (rs ≡ q ∷ qs) × (q.start ≡ from) × (spot_at q from ≡ s)
 starts_at from end [] s h e = cc
 starts_at from end (q ∷ qs) s h e =
     let k = h.0 in let m = h.1 in
@@ -76,8 +78,10 @@ some_same : (x y : Spot) → Some x ≡ Some y → x ≡ y
 some_same x y e = cc
 
 -- one list cannot stop short in a range of the other
-stops : (end : ℕ) (r : FlatRange) (rs : List FlatRange) (q : FlatRange) (qs : List FlatRange) → IsRanges (r.last + 1) end rs → IsMerged (r ∷ rs) → r.start ≡ q.start → r.start ≤ r.last → spot_at r r.start ≡ spot_at q r.start → r.last < q.last → shown (r ∷ rs) (r.last + 1) ≡ shown (q ∷ qs) (r.last + 1) → ⊥
-stops end r rs q qs h m st ne sp l e =
+stops : (path : PathAt) (end : ℕ) (r : FlatRange) (rs : List FlatRange) (q : FlatRange) (qs : List FlatRange) → IsRanges (r.last + 1) end rs →
+    IsMerged path (r ∷ rs) → IsOnOnePath path q → r.start ≡ q.start → r.start ≤ r.last → spot_at r r.start ≡ spot_at q r.start → r.last < q.last →
+    shown (r ∷ rs) (r.last + 1) ≡ shown (q ∷ qs) (r.last + 1) → ⊥
+stops path end r rs q qs h m one st ne sp l e =
     let here : shown (q ∷ qs) (r.last + 1) ≡ Some (spot_at q (r.last + 1)) = shown-first q qs (r.last + 1) (omega arith) (omega arith) in
     let there : shown rs (r.last + 1) ≡ Some (spot_at q (r.last + 1)) = sym (shown-later r rs (r.last + 1) (omega arith)) ∙ e ∙ here in
     let next = starts_at (r.last + 1) end rs (spot_at q (r.last + 1)) h there in
@@ -89,8 +93,11 @@ stops end r rs q qs h m st ne sp l e =
     let o2 : x.offset ≡ r.offset + (x.start - r.start) = let o = second.1 in omega arith in
     let lf : x.leaf ≡ r.leaf = second.0 ∙ sym first.0 in
     let at' : x.attrs ≡ r.attrs = second.2 ∙ sym first.2 in
-    let apart : MergesNot r (x ∷ next.1) = subst (MergesNot r) next.2 m.0 in
-    apart (at, lf, o2, at')
+    let apart : MergesNot path r (x ∷ next.1) = subst (MergesNot path r) next.2 m.0 in
+    let same : r.attrs.unmergeable ≡ true → path x.start ≡ path r.last = λ u.
+    let v : q.attrs.unmergeable ≡ true = ap (λ (t : Attrs). t.unmergeable) (sym first.2) ∙ u in
+    one v x.start (omega arith) (omega arith) ∙ sym (one v r.last (omega arith) (omega arith)) in
+    apart ((at, lf, o2, at'), same)
 
 abbrev range_of : ℕ → ℕ → RegionId → ℕ → Attrs → FlatRange
 range_of start last leaf offset attrs = record { start = start; last = last; leaf = leaf; offset = offset; attrs = attrs }
@@ -108,7 +115,8 @@ shows_something from end q qs k e =
     let both : None ≡ Some (spot_at q q.start) = there ∙ here in cc
 
 -- one list cannot begin before the other
-begins : (from end : ℕ) (r : FlatRange) (rs : List FlatRange) (q : FlatRange) (qs : List FlatRange) → IsRanges from end (r ∷ rs) → IsRanges from end (q ∷ qs) → ((a : ℕ) → a < end → shown (r ∷ rs) a ≡ shown (q ∷ qs) a) → q.start ≤ r.start
+begins : (from end : ℕ) (r : FlatRange) (rs : List FlatRange) (q : FlatRange) (qs : List FlatRange) → IsRanges from end (r ∷ rs) →
+    IsRanges from end (q ∷ qs) → ((a : ℕ) → a < end → shown (r ∷ rs) a ≡ shown (q ∷ qs) a) → q.start ≤ r.start
 begins from end r rs q qs h k e =
     ⊎_elim
     (λ low.
@@ -120,11 +128,12 @@ begins from end r rs q qs h k e =
     (cases_lt r.start q.start)
 
 -- two lists that show the same, of which no neighbours merge, are the same
-pub shown-injective : (from end : ℕ) (rs qs : List FlatRange) → IsRanges from end rs → IsRanges from end qs → IsMerged rs → IsMerged qs → ((a : ℕ) → a < end → shown rs a ≡ shown qs a) → rs ≡ qs
-shown-injective from end [] [] h k m n e = refl
-shown-injective from end [] (q ∷ qs) h k m n e = absurd (shows_something from end q qs k e)
-shown-injective from end (r ∷ rs) [] h k m n e = absurd (shows_something from end r rs h (λ a l. sym (e a l)))
-shown-injective from end (r ∷ rs) (q ∷ qs) h k m n e =
+pub shown-injective : (path : PathAt) (from end : ℕ) (rs qs : List FlatRange) → IsRanges from end rs → IsRanges from end qs → IsMerged path rs →
+    IsMerged path qs → Every (IsOnOnePath path) rs → Every (IsOnOnePath path) qs → ((a : ℕ) → a < end → shown rs a ≡ shown qs a) → rs ≡ qs
+shown-injective path from end [] [] h k m n i j e = refl
+shown-injective path from end [] (q ∷ qs) h k m n i j e = absurd (shows_something from end q qs k e)
+shown-injective path from end (r ∷ rs) [] h k m n i j e = absurd (shows_something from end r rs h (λ a l. sym (e a l)))
+shown-injective path from end (r ∷ rs) (q ∷ qs) h k m n i j e =
     let back : (a : ℕ) → a < end → shown (q ∷ qs) a ≡ shown (r ∷ rs) a = λ a l. sym (e a l) in
     let low = begins from end r rs q qs h k e in
     let high = begins from end q qs r rs k h back in
@@ -132,15 +141,17 @@ shown-injective from end (r ∷ rs) (q ∷ qs) h k m n e =
     let w = IsRanges-within (r.last + 1) end rs h.3 in
     let v = IsRanges-within (q.last + 1) end qs k.3 in
     let hl = h.1 in let kl = k.1 in
-    let sp : spot_at r r.start ≡ spot_at q r.start = some_same _ _ (sym (shown-first r rs r.start (omega arith) (omega arith)) ∙ e r.start (omega arith) ∙ shown-first q qs r.start (omega arith) (omega arith)) in
+    let sp : spot_at r r.start ≡ spot_at q r.start =
+    some_same _ _ (sym (shown-first r rs r.start (omega arith) (omega arith)) ∙ e r.start (omega arith)
+    ∙ shown-first q qs r.start (omega arith) (omega arith)) in
     let sp' : spot_at q q.start ≡ spot_at r q.start = subst (λ x. spot_at q x ≡ spot_at r x) st (sym sp) in
     let parts = spot_leaf _ _ sp in
     let of : r.offset ≡ q.offset = let o = parts.1 in omega arith in
     let la : r.last ≡ q.last =
     ⊎_elim
-    (λ less. absurd (stops end r rs q qs h.3 m st hl sp less (e (r.last + 1) (omega arith))))
+    (λ less. absurd (stops path end r rs q qs h.3 m j.0 st hl sp less (e (r.last + 1) (omega arith))))
     (λ more. ⊎_elim
-    (λ less. absurd (stops end q qs r rs k.3 n (sym st) kl sp' less (back (q.last + 1) (omega arith))))
+    (λ less. absurd (stops path end q qs r rs k.3 n i.0 (sym st) kl sp' less (back (q.last + 1) (omega arith))))
     (λ also. omega arith)
     (cases_lt q.last r.last))
     (cases_lt r.last q.last) in
@@ -151,10 +162,34 @@ shown-injective from end (r ∷ rs) (q ∷ qs) h k m n e =
     (λ low. shown-before (r.last + 1) end rs a h.3 low ∙ sym (shown-before (r.last + 1) end qs a k' low))
     (λ past. sym (shown-later r rs a (omega arith)) ∙ e a l ∙ shown-later q qs a (omega arith))
     (cases_lt a (r.last + 1)) in
-    let others = shown-injective (r.last + 1) end rs qs h.3 k' m.1 n.1 rest in
+    let others = shown-injective path (r.last + 1) end rs qs h.3 k' m.1 n.1 i.1 j.1 rest in
     cc
 
 -- there is at most one view
 pub IsView-unique : (f : Forest) (s : SpaceId) (rs qs : List FlatRange) → IsView f s rs → IsView f s qs → rs ≡ qs
 IsView-unique f s rs qs v w =
-    shown-injective 0 (2 ^ 64) rs qs v.agrees.ranges w.agrees.ranges v.merged w.merged (λ a l. v.agrees.shows a l ∙ sym (w.agrees.shows a l))
+    shown-injective (path_at f s) 0 (2 ^ 64) rs qs v.agrees.ranges w.agrees.ranges v.merged w.merged v.agrees.paths w.agrees.paths
+    (λ a l. v.agrees.shows a l ∙ sym (w.agrees.shows a l))
+
+-- two ranges merge on paths that are the same at the end of the one and at the start of the other
+pub Merges-same : (path other : PathAt) (r q : FlatRange) → path q.start ≡ other q.start → path r.last ≡ other r.last → Merges path r q → Merges other r q
+Merges-same path other r q e f m = (m.0, λ u. sym e ∙ m.1 u ∙ f)
+
+-- ranges are merged on paths that are the same at each address
+pub IsMerged-same : (path other : PathAt) (from end : ℕ) (rs : List FlatRange) → IsRanges from end rs → ((a : ℕ) → a < end → path a ≡ other a) →
+    IsMerged path rs → IsMerged other rs
+IsMerged-same path other from end [] h e m = tt
+IsMerged-same path other from end (r ∷ []) h e m = (tt, tt)
+IsMerged-same path other from end (r ∷ q ∷ qs) h e m =
+    let w = IsRanges-within (q.last + 1) end qs h.3.3 in
+    let k = h.3.0 in let l = h.3.1 in (
+      λ n. m.0 (Merges-same other path r q (sym (e q.start (omega arith))) (sym (e r.last (omega arith))) n),
+      IsMerged-same path other (r.last + 1) end (q ∷ qs) h.3 e m.1,
+    )
+
+pub IsOnOnePath-same : (path other : PathAt) (from end : ℕ) (rs : List FlatRange) → IsRanges from end rs → ((a : ℕ) → a < end → path a ≡ other a) →
+    Every (IsOnOnePath path) rs → Every (IsOnOnePath other) rs
+IsOnOnePath-same path other from end [] h e m = tt
+IsOnOnePath-same path other from end (r ∷ rs) h e m =
+    let w = IsRanges-within (r.last + 1) end rs h.3 in
+    (λ u a k l. sym (e a (omega arith)) ∙ m.0 u a k l ∙ e r.start (omega arith), IsOnOnePath-same path other (r.last + 1) end rs h.3 e m.1)

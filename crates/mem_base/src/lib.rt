@@ -6,36 +6,40 @@
 //! other crate's contracts cite those and nothing else.
 #![tactic(auto)]
 
-mod accesses;
-mod calls;
-mod commands;
-mod editions;
-mod flat;
-mod forests;
-mod ids;
-mod ioevents;
-mod kinds;
-mod laws;
-mod listening;
+mod access;
 mod machine;
-mod refusals;
-mod sizes;
-mod spots;
-mod translations;
+mod map;
+mod script;
+mod views;
 
-pub use accesses::{Access, DeviceStep, Piece, Target};
-pub use calls::{Applied, Call, Config};
-pub use commands::{Command, Name};
-pub use editions::Edition;
-pub use flat::{FlatRange, Pieces, View};
-pub use forests::{Forest, Node, Nodes, Spaces};
-pub use ids::{ListenerId, PassId, RegionId, SpaceId};
-pub use ioevents::{Events, Ioevent, Live, Lives};
-pub use kinds::{Client, Device, DeviceKind, Kind, Ops};
-pub use laws::{forests_are_sound, search_is_the_manuals};
-pub use listening::{Change, Changes, Listener, ListenerEvent, RangeEvent, Walk};
-pub use machine::{Carried, Cell, Event, Hand, HistoryEntry, Place, Reply, TxResult, WordStep};
-pub use refusals::{BadScript, Cause, Refusal, User, What, Which};
-pub use sizes::Size;
-pub use spots::{Attrs, Spot};
-pub use translations::{Entries, Entry, Perm};
+pub use access::accesses::{Access, DeviceStep, Piece, Target, TxResult};
+pub use access::cells::{Cell, Place, WordStep};
+pub use access::notices::{Notice, Part};
+pub use machine::editions::Edition;
+pub use machine::events::{Carried, Event, Hand, HistoryEntry, Reply};
+pub use map::calls::{Applied, Call, Config};
+pub use map::forests::{Forest, Node, Nodes, Spaces};
+pub use map::ids::{ListenerId, NotifierId, PassId, RegionId, SpaceId};
+pub use map::ioevents::{Events, Ioevent, Live, Lives};
+pub use map::kinds::{Client, Device, DeviceKind, Kind, Ops};
+pub use map::limits::{
+    MOST_BYTES, MOST_CALLS, MOST_DEPTH, MOST_ENTRIES, MOST_EVENTS, MOST_GENERATIONS,
+    MOST_LISTENERS, MOST_MADE, MOST_NESTED, MOST_PASSES, MOST_REGIONS, MOST_REGISTERS, MOST_SPACES,
+    MOST_TRANSLATIONS, MOST_WATCHERS, MOST_WEIGHT, NOTIFIER_COUNT, PAGE_SIZE, PAGES_PER_WORD,
+    WORD_SIZE,
+};
+pub use map::refusals::{Refusal, User, What, Which};
+pub use map::sizes::Size;
+pub use map::spots::{Attrs, Spot};
+pub use map::translations::{Entries, Entry, Perm};
+pub use script::changes::MapChange;
+pub use script::commands::Command;
+pub use script::faults::{BadScript, Cause};
+pub use script::first::FirstCommand;
+pub use script::places::{PlaceRule, Section};
+pub use script::tasks::Task;
+pub use script::words::{Bytes, Name};
+pub use views::flat::{FlatRange, Pieces, Slice, View};
+pub use views::listening::{Change, Changes, Differ, Listener, ListenerEvent, RangeEvent, Walk};
+pub use views::notes::{Note, Paths};
+pub use views::paths::Path;

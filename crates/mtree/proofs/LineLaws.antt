@@ -7,9 +7,9 @@ use Rattle.std.proofs.lemmas.List.Elements.{All-from_get_or}
 use Rattle.std.proofs.lemmas.List.Sums.{fails_before_first}
 use Rattle.std.proofs.lemmas.List.Splits.{slice_split_first, slice_split_none, length-slice_split}
 use Rattle.std.proofs.Math.Dec.{ltb}
-use Rattle.mem_base.specs.Form.{command_of}
-use Rattle.mem_base.specs.Scripts.{Line, line_then, lines_from, with_line}
-use Rattle.mem_base.specs.declared.commands.Command.{Command}
+use Rattle.mem_base.specs.script.FirstForm.{command_of}
+use Rattle.mem_base.specs.script.FirstScripts.{Line, line_then, lines_from, with_line}
+use Rattle.mem_base.specs.declared.script.first.FirstCommand.{FirstCommand}
 use Rattle.mtree.specs.declared.tokens.LineStop.{LineStop}
 use Rattle.mtree.specs.declared.tokens.LineStop.TheVariants.{NoForm, Memory}
 use Rattle.mtree.specs.Reads.{Stops}
@@ -64,16 +64,18 @@ pub stops_at : (stop : LineStop) (front : List Line) (number k : ℕ) (text : Li
     → prepend front (lines_from number (slice_split (λ b. b == 10) text)) ≡ whole → Stops stop whole
 stops_at Memory front number k text whole e stops h = tt
 stops_at NoForm front number k text whole e none h =
-    sym h ∙ ap (prepend front) (first_line number k text e ∙ ap (λ o. line_then number o (lines_from (number + 1) (slice_split (λ b. b == 10) (drop (k + 1) text)))) none)
+    sym h ∙ ap (prepend front) (first_line number k text e
+    ∙ ap (λ o. line_then number o (lines_from (number + 1) (slice_split (λ b. b == 10) (drop (k + 1) text)))) none)
 
 -- a line that has one
-pub next_line : (front : List Line) (command : Command) (number k : ℕ) (text : List ℕ) (whole : Option (List Line))
+pub next_line : (front : List Line) (command : FirstCommand) (number k : ℕ) (text : List ℕ) (whole : Option (List Line))
     → position (λ b. b == 10) text ≡ Some k → command_of (take k text) ≡ Some command
     → prepend front (lines_from number (slice_split (λ b. b == 10) text)) ≡ whole
     → prepend (front ++ (number, command) ∷ []) (lines_from (number + 1) (slice_split (λ b. b == 10) (drop (k + 1) text))) ≡ whole
 next_line front command number k text whole e some h =
     prepend-more front (number, command) (lines_from (number + 1) (slice_split (λ b. b == 10) (drop (k + 1) text)))
-    ∙ ap (prepend front) (sym (first_line number k text e ∙ ap (λ o. line_then number o (lines_from (number + 1) (slice_split (λ b. b == 10) (drop (k + 1) text)))) some))
+    ∙ ap (prepend front) (sym (first_line number k text e
+    ∙ ap (λ o. line_then number o (lines_from (number + 1) (slice_split (λ b. b == 10) (drop (k + 1) text)))) some))
     ∙ h
 
 -- something stands behind the last line feed

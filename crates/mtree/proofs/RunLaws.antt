@@ -1,14 +1,14 @@
 -- The text of a run, line after line, and what a sink took of it.
-use Rattle.std.proofs.Common.{◌≡◌, ◌<◌, ◌+◌, ℕ, List, [], ◌∷◌, ◌++◌, refl, sym, ap, ◌∙◌, length, drop, get_or, add-one, suc, Option, Result, Ok, Err, OnErr}
+use Rattle.std.proofs.Common.{◌≡◌, ◌<◌, ◌+◌, ℕ, List, [], ◌∷◌, ◌++◌, sym, ap, ◌∙◌, length, drop, get_or, add-one, suc, Option, Result, Ok, Err, OnErr}
 use Rattle.std.proofs.Math.Seq.{drop-cons}
 use Rattle.std.proofs.lemmas.List.{append-nil}
-use Rattle.mem_base.specs.declared.flat.FlatRange.{FlatRange}
-use Rattle.mem_base.specs.declared.forests.Forest.{Forest}
-use Rattle.mem_base.specs.Scripts.{Line}
-use Rattle.mem_base.specs.Output.{Names, range_line, range_lines}
-use Rattle.mem_base.specs.Run.{State, step, text_from}
-use Rattle.outside.specs.Sink.{Takes, TakesFront}
-use Rattle.outside.proofs.Took.{Takes-nil, TakesFront-after}
+use Rattle.mem_base.specs.declared.views.flat.FlatRange.{FlatRange}
+use Rattle.mem_base.specs.declared.map.forests.Forest.{Forest}
+use Rattle.mem_base.specs.script.FirstScripts.{Line}
+use Rattle.mem_base.specs.script.FirstOutput.{Names, range_line, range_lines}
+use Rattle.mem_base.specs.script.FirstRun.{State, step, text_from}
+use Rattle.outside.specs.Sink.{Takes, TakesPrefix}
+use Rattle.outside.proofs.Took.{Takes-nil, TakesPrefix-after}
 
 pub on_err : {T E : Type 0} (r : Result T E) (P : Type 0) → P → OnErr r P
 on_err (Ok x) P p = tt
@@ -32,12 +32,13 @@ next_range names f whole done rs i d within e =
     drop-cons rs i d within ∙ ap (λ n. get_or rs i d ∷ drop n rs) (sym (add-one i)) in
     e ∙ ap (λ ls. done ++ range_lines names f ls) cut
 
--- a front of the first part of a text
-pub front_first : {K : Type 0} (written : K → Option (List ℕ)) (holds : K → List ℕ → Type 0) (a b : K) (part more text : List ℕ)
-    → text ≡ part ++ more → TakesFront written holds a b part → TakesFront written holds a b text
-front_first written holds a b part more text e p = TakesFront-after written holds a a b text [] part more (Takes-nil written holds a) p e
+-- a prefix of the first part of a text
+pub prefix_first : {K : Type 0} (written : K → Option (List ℕ)) (holds : K → List ℕ → Type 0) (a b : K) (part more text : List ℕ)
+    → text ≡ part ++ more → TakesPrefix written holds a b part → TakesPrefix written holds a b text
+prefix_first written holds a b part more text e p = TakesPrefix-after written holds a a b text [] part more (Takes-nil written holds a) p e
 
--- the first part of a text, and a front of the second
-pub front_second : {K : Type 0} (written : K → Option (List ℕ)) (holds : K → List ℕ → Type 0) (a b c : K) (part rest text : List ℕ)
-    → text ≡ part ++ rest → Takes written holds a b part → TakesFront written holds b c rest → TakesFront written holds a c text
-front_second written holds a b c part rest text e t p = TakesFront-after written holds a b c text part rest [] t p (e ∙ ap (λ r. part ++ r) (sym (append-nil rest)))
+-- the first part of a text, and a prefix of the second
+pub prefix_second : {K : Type 0} (written : K → Option (List ℕ)) (holds : K → List ℕ → Type 0) (a b c : K) (part rest text : List ℕ)
+    → text ≡ part ++ rest → Takes written holds a b part → TakesPrefix written holds b c rest → TakesPrefix written holds a c text
+prefix_second written holds a b c part rest text e t p =
+    TakesPrefix-after written holds a b c text part rest [] t p (e ∙ ap (λ r. part ++ r) (sym (append-nil rest)))

@@ -1,13 +1,13 @@
 -- What a command replies, step by step.
-use Rattle.std.proofs.Common.{◌≡◌, ◌≢◌, ℕ, List, [], ◌+◌, Bool, true, false, cond, Option, Some, None, Result, Ok, Err, IfOk, refl, sym, ap, subst, ◌∙◌, is_some}
+use Rattle.std.proofs.Common.{◌≡◌, ◌≢◌, ℕ, List, [], ◌+◌, true, false, cond, Option, Some, None, Result, Ok, Err, sym, ap, subst, ◌∙◌, is_some}
 use Rattle.std.specs.declared.alloc.AllocError.{AllocError}
-use Rattle.mem_base.specs.declared.forests.Forest.{Forest}
-use Rattle.mem_base.specs.declared.calls.Call.{Call}
-use Rattle.mem_base.specs.declared.refusals.Refusal.{Refusal}
-use Rattle.mem_base.specs.declared.refusals.Refusal.TheVariants.{Memory}
-use Rattle.mem_base.specs.Calls.{after, is_quiet}
-use Rattle.mem_base.specs.Output.{Names, refusal_text, unknown_text, taken_text}
-use Rattle.mem_base.specs.Run.{State, Told, refused, told, called, where_known, where_new}
+use Rattle.mem_base.specs.declared.map.forests.Forest.{Forest}
+use Rattle.mem_base.specs.declared.map.calls.Call.{Call}
+use Rattle.mem_base.specs.declared.map.refusals.Refusal.{Refusal}
+use Rattle.mem_base.specs.declared.map.refusals.Refusal.TheVariants.{Memory}
+use Rattle.mem_base.specs.map.Calls.{after, is_quiet}
+use Rattle.mem_base.specs.script.FirstOutput.{Names, refusal_text, unknown_text, taken_text}
+use Rattle.mem_base.specs.script.FirstRun.{State, Told, refused, told, called, where_known, where_new}
 use Rattle.mtree.specs.declared.sessions.Reply.{Reply}
 use Rattle.mtree.specs.declared.sessions.Reply.TheVariants.{Nothing}
 use Rattle.mtree.specs.Replies.{Accepts, Refuses, Replies}
@@ -50,5 +50,6 @@ pub replies_accepted : (new behind old : State) (line : ℕ) (names : Names) (ca
     → Accepts old new call → behind.names ≡ names → behind.forest ≡ new.forest → behind.changes ≡ new.changes
     → Replies (Ok Nothing) behind (called old line names call)
 replies_accepted new behind old line names call accepts n f c =
-    ap (λ s. ([], s)) (let same : state_of behind.names behind.forest behind.changes ≡ state_of names new.forest (cond (is_quiet call) old.changes (old.changes + 1)) = let e = accepts.changes in cc in same)
+    ap (λ s. ([], s)) (let same : state_of behind.names behind.forest behind.changes ≡ state_of names new.forest
+    (cond (is_quiet call) old.changes (old.changes + 1)) = let e = accepts.changes in cc in same)
     ∙ sym (ap (told old line names call) accepts.forest)

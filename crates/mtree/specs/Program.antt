@@ -1,32 +1,19 @@
 -- What the program writes, by its words and the bytes of its source.
-use Rattle.std.specs.Prelude.{ℕ, ◌≡◌, ◌<◌, ◌⊎◌, List, [], ◌∷◌, ◌++◌, length, Bool, false, None, Some, Ok, Err, Result, if◌then◌else◌, codes, ⊤}
-use Rattle.std.specs.Str.{bytes_eq}
+use Rattle.std.specs.Prelude.{ℕ, ◌≡◌, ◌<◌, ◌⊎◌, List, length, None, Some, Ok, Err, Result, ⊤}
 use Rattle.std.specs.Io.KnownBytes.{Consumes, IsAtEnd}
 use Rattle.std.specs.declared.option.Option.{Option}
-use Rattle.mem_base.specs.declared.refusals.BadScript.{BadScript}
-use Rattle.mem_base.specs.Spelling.{Text}
-use Rattle.mem_base.specs.Scripts.{Line, most_text, script_of}
-use Rattle.mem_base.specs.Output.{bad_line, line_feed}
-use Rattle.mem_base.specs.Run.{text_of}
+use Rattle.mem_base.specs.declared.script.faults.BadScript.{BadScript}
+use Rattle.mem_base.specs.script.FirstSpelling.{Text}
+use Rattle.mem_base.specs.script.FirstScripts.{Line, most_text}
+use Rattle.mem_base.specs.script.FirstOutput.{bad_line}
+use Rattle.mem_base.specs.script.FirstRun.{text_of}
 use Rattle.mtree.specs.declared.endings.Ending.{Ending}
 use Rattle.mtree.specs.declared.endings.Ending.TheVariants as endings
-
--- the words are exactly the one word `run`
-abbrev pub is_run : List Text → Bool
-is_run (word ∷ []) = bytes_eq word (codes "run")
-is_run _ = false
-
-abbrev pub usage_line : Text
-usage_line = codes "usage: mtree run | race | make SEED | demo SEED" ++ line_feed
 
 -- the text of a script, or the line of a text that is none
 abbrev pub text_of_script : Result (List Line) BadScript → Text
 text_of_script (Ok lines) = text_of lines
 text_of_script (Err bad) = bad_line bad
-
--- the text that words and bytes have
-abbrev pub text_for : List Text → Text → Text
-text_for words bytes = if is_run words then text_of_script (script_of bytes) else usage_line
 
 -- how a run ends where nothing fails
 abbrev pub ending_of : Result (List Line) BadScript → Ending

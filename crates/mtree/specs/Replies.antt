@@ -1,12 +1,12 @@
 -- What a command's reply writes.
 use Rattle.std.specs.Prelude.{◌≡◌, ◌≢◌, ◌+◌, ◌++◌, List, ℕ, [], Result, Ok, if◌then◌else◌, IfOk}
 use Rattle.std.specs.declared.alloc.AllocError.{AllocError}
-use Rattle.mem_base.specs.declared.calls.Call.{Call}
-use Rattle.mem_base.specs.declared.refusals.Refusal.{Refusal}
-use Rattle.mem_base.specs.declared.refusals.Refusal.TheVariants.{Memory}
-use Rattle.mem_base.specs.Calls.{after, is_quiet}
-use Rattle.mem_base.specs.Output.{range_lines, refusal_text}
-use Rattle.mem_base.specs.Run.{State, Told, refused}
+use Rattle.mem_base.specs.declared.map.calls.Call.{Call}
+use Rattle.mem_base.specs.declared.map.refusals.Refusal.{Refusal}
+use Rattle.mem_base.specs.declared.map.refusals.Refusal.TheVariants.{Memory}
+use Rattle.mem_base.specs.map.Calls.{after, is_quiet}
+use Rattle.mem_base.specs.script.FirstOutput.{range_lines, refusal_text}
+use Rattle.mem_base.specs.script.FirstRun.{State, Told, refused}
 use Rattle.mtree.specs.declared.sessions.Reply.{Reply}
 use Rattle.mtree.specs.declared.sessions.Reply.TheVariants.{Nothing, Written, Shown}
 

@@ -1,7 +1,7 @@
 // How refusals, spots and ranges are written.
 ghost use Rattle.std.specs.Prelude.{◌≡◌, ◌++◌, [], OnOk, if◌then◌else◌};
-ghost use Rattle.mem_base.specs.Region.{node_of};
-ghost use Rattle.mem_base.specs.Output.{attrs_text, found_text, held_text, kind_text, kind_word, limit_text, log_text, range_line, refusal_text, spot_text, user_text, what_text, which_text};
+ghost use Rattle.mem_base.specs.map.Region.{node_of};
+ghost use Rattle.mem_base.specs.script.FirstOutput.{attrs_text, found_text, held_text, kind_text, kind_word, limit_text, log_text, range_line, refusal_text, spot_text, user_text, what_text, which_text};
 
 use crate::lines::Line;
 use crate::names::Names;
@@ -15,7 +15,7 @@ fn add_what(line: &mut Line, text: &str, names: &Names, what: What) -> Result<()
     match what {
         What::Region(region) => line.named(text, names.region_name(region)),
         What::Space(space) => line.named(text, names.space_name(space)),
-        What::Listener(_) => line.named(text, &[]),
+        What::Listener(_) | What::Notifier(_) => line.named(text, &[]),
         What::Entry(iova) => line.placed(text, iova),
         What::Event(offset) => line.placed(text, offset),
     }
@@ -41,6 +41,7 @@ fn which_text(which: Which) -> &'static str
         Which::Entries => "entries",
         Which::Events => "events",
         Which::Calls => "calls",
+        Which::Notifiers => "notifiers",
     }
 }
 
@@ -59,7 +60,7 @@ fn add_held(line: &mut Line, pass: PassId, generation: u64) -> Result<(), AllocE
     line.counted(" ", generation)
 }
 
-/// The refusal behind the line, by its number and words.
+/// Adds the refusal to the line, by its number and words.
 pub fn add_refusal(line: &mut Line, names: &Names, why: Refusal) -> Result<(), AllocError>
     ensures { OnOk result (line.new ≡ line.old ++ refusal_text names.now why) }
 {
@@ -139,7 +140,7 @@ fn add_attrs(line: &mut Line, attrs: Attrs) -> Result<(), AllocError>
     add_log(line, attrs.log)
 }
 
-/// The spot behind the line: its region, its offset there, its kind and its flags.
+/// Adds a spot to the line: its region, its offset there, its kind and its flags.
 pub fn add_spot(line: &mut Line, names: &Names, tree: &Tree, spot: Spot) -> Result<(), AllocError>
     ensures { OnOk result (line.new ≡ line.old ++ spot_text names.now tree.now spot) }
 {
@@ -150,7 +151,7 @@ pub fn add_spot(line: &mut Line, names: &Names, tree: &Tree, spot: Spot) -> Resu
     add_attrs(line, spot.attrs)
 }
 
-/// What a search found behind the line: a spot, or a hole.
+/// Adds what a search found to the line: a spot, or a hole.
 pub fn add_found(
     line: &mut Line,
     names: &Names,
@@ -165,7 +166,7 @@ pub fn add_found(
     }
 }
 
-/// The range behind the line: its addresses, and the spot that it begins with.
+/// Adds a range to the line: its addresses, and the spot that it begins with.
 pub fn add_range(
     line: &mut Line,
     names: &Names,

@@ -2,10 +2,10 @@
 
 use crate::endings::Ending;
 use crate::tests::{Drip, FAULTY, ROOM, USAGE, run_of, run_over, words_of};
-use crate::top::{alone, mtree};
-use mem_base::{BadScript, Cause};
+use crate::top::{alone, exit_code, mtree};
 use outside::{CalmSource, MemSink, MemSource, OpenGate, StdSource};
 use std::alloc::Global;
+use std::process::ExitCode;
 use std::test::Fail;
 
 const SCRIPT: &str = "region A container 0x8000\n\
@@ -37,7 +37,7 @@ const LINES: [&str; 7] = [
     "at S 6000 hole\n",
 ];
 
-/// The first lines that the script writes, so many.
+/// The first `count` lines that the script writes.
 fn first_lines(alloc: Global, count: usize) -> Result<Vec<u8>, Fail> {
     let mut text = Vec::new(alloc);
     for line in LINES.iter().take(count) {
@@ -135,8 +135,8 @@ fn a_faulty_script_is_told_unless_the_write_fails(rt: HostRuntime) -> Result<(),
 #[test]
 fn other_words_are_told_the_usage(rt: HostRuntime) -> Result<(), Fail> {
     for words in [
-        "", "run run", "Run", "runs", "-h", "--help", "make", "make 1", "demo", "demo 1", "run -",
-        "-- run",
+        "", "run run", "Run", "runs", "-h", "--help", "help", "make", "make x", "make -1", "demo",
+        "demo 1", "run -", "-- run",
     ] {
         let words = words_of(rt.alloc(), words)?;
         let mut source = CalmSource::new(SCRIPT.as_bytes().to_vec(rt.alloc())?);
@@ -197,19 +197,22 @@ fn a_text_has_at_most_1048576_bytes(rt: HostRuntime) -> Result<(), Fail> {
 }
 
 #[test]
-fn each_ending_has_its_status(rt: HostRuntime) {
-    let later = BadScript {
-        line: 0,
-        cause: Cause::Later,
-    };
-    for (ending, status) in [
-        (Ending::Done, 0),
-        (Ending::Usage, 2),
-        (Ending::BadScript(later), 3),
-        (Ending::ReadFault, 4),
-        (Ending::WriteFault, 5),
-        (Ending::Memory, 6),
+fn the_exit_code_is_that_of_the_ending(rt: HostRuntime) -> Result<(), Fail> {
+    // Calls are counted from 1, so call 0 never fails.
+    for (word, script, failing_read, failing_write, status) in [
+        ("run", SCRIPT, 0, 0, 0),
+        ("runs", SCRIPT, 0, 0, 2),
+        ("run", "frob\n", 0, 0, 3),
+        ("run", SCRIPT, 1, 0, 4),
+        ("run", SCRIPT, 0, 1, 5),
     ] {
-        assert_eq!(rt; ending.status(), status);
+        let words = words_of(rt.alloc(), word)?;
+        let reads = [failing_read].to_vec(rt.alloc())?;
+        let writes = [failing_write].to_vec(rt.alloc())?;
+        let mut source = MemSource::new(script.as_bytes().to_vec(rt.alloc())?, reads);
+        let mut sink = MemSink::new(rt.alloc(), ROOM, writes)?;
+        let code = exit_code(&rt, rt.alloc(), words.as_slice(), &mut source, &mut sink);
+        assert_eq!(rt; code, ExitCode::from(status));
     }
+    Ok(())
 }

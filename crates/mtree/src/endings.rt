@@ -16,7 +16,7 @@ pub enum Ending {
     ReadFault,
     /// A write failed.
     WriteFault,
-    /// Want of memory.
+    /// Memory ran out.
     Memory,
 }
 

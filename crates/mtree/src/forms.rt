@@ -1,10 +1,10 @@
 // The forms of lines.
 ghost use Rattle.std.specs.Prelude.{◌≡◌, map};
-ghost use Rattle.mem_base.specs.Form.{add, at, command_named, command_of, command_of_tokens, plain_latch, region, region_named, region_of_kind, show, space};
+ghost use Rattle.mem_base.specs.script.FirstForm.{add, at, command_named, command_of, command_of_tokens, plain_latch, region, region_named, region_of_kind, show, space};
 ghost use Rattle.mtree.specs.Reads.{Reads};
 
 use crate::tokens::{LineStop, Tokens, tokens_of};
-use mem_base::{Command, Device, DeviceKind, Name, Ops};
+use mem_base::{Device, DeviceKind, FirstCommand, Name, Ops};
 use std::alloc::Global;
 
 // A latch of one register of 8 bytes, little-endian, with aligned accesses of 1 to 4 bytes.
@@ -31,22 +31,22 @@ fn region_of_kind(
     name: &[u8],
     kind: &[u8],
     tokens: &mut Tokens,
-) -> Result<Command, LineStop>
+) -> Result<FirstCommand, LineStop>
     ensures { Reads result (region_of_kind name.now kind.now tokens.old) }
 {
     if kind == b"container".as_slice() {
         let size = tokens.size()?;
         tokens.ends()?;
-        Ok(Command::RegionContainer {
-            name: Name::new(alloc, name)?,
+        Ok(FirstCommand::RegionContainer {
+            name: Name::new(name.to_vec(alloc)?),
             size,
         })
     } else if kind == b"io".as_slice() {
         let size = tokens.size()?;
         tokens.word("latch")?;
         tokens.ends()?;
-        Ok(Command::RegionIo {
-            name: Name::new(alloc, name)?,
+        Ok(FirstCommand::RegionIo {
+            name: Name::new(name.to_vec(alloc)?),
             size,
             device: plain_latch(),
         })
@@ -55,7 +55,7 @@ fn region_of_kind(
     }
 }
 
-fn region_named(alloc: Global, name: &[u8], tokens: &mut Tokens) -> Result<Command, LineStop>
+fn region_named(alloc: Global, name: &[u8], tokens: &mut Tokens) -> Result<FirstCommand, LineStop>
     ensures { Reads result (region_named name.now tokens.old) }
 {
     match tokens.next() {
@@ -64,63 +64,63 @@ fn region_named(alloc: Global, name: &[u8], tokens: &mut Tokens) -> Result<Comma
     }
 }
 
-fn region(alloc: Global, tokens: &mut Tokens) -> Result<Command, LineStop>
+fn region(alloc: Global, tokens: &mut Tokens) -> Result<FirstCommand, LineStop>
     ensures { Reads result (region tokens.old) }
 {
     let name = tokens.name()?;
     region_named(alloc, name, tokens)
 }
 
-fn space(alloc: Global, tokens: &mut Tokens) -> Result<Command, LineStop>
+fn space(alloc: Global, tokens: &mut Tokens) -> Result<FirstCommand, LineStop>
     ensures { Reads result (space tokens.old) }
 {
     let name = tokens.name()?;
     let root = tokens.name()?;
     tokens.ends()?;
-    Ok(Command::Space {
-        name: Name::new(alloc, name)?,
-        root: Name::new(alloc, root)?,
+    Ok(FirstCommand::Space {
+        name: Name::new(name.to_vec(alloc)?),
+        root: Name::new(root.to_vec(alloc)?),
     })
 }
 
-fn add(alloc: Global, tokens: &mut Tokens) -> Result<Command, LineStop>
+fn add(alloc: Global, tokens: &mut Tokens) -> Result<FirstCommand, LineStop>
     ensures { Reads result (add tokens.old) }
 {
     let parent = tokens.name()?;
     let offset = tokens.address()?;
     let child = tokens.name()?;
     let priority = tokens.last_priority()?;
-    Ok(Command::Add {
-        parent: Name::new(alloc, parent)?,
+    Ok(FirstCommand::Add {
+        parent: Name::new(parent.to_vec(alloc)?),
         offset,
-        child: Name::new(alloc, child)?,
+        child: Name::new(child.to_vec(alloc)?),
         priority,
     })
 }
 
-fn at(alloc: Global, tokens: &mut Tokens) -> Result<Command, LineStop>
+fn at(alloc: Global, tokens: &mut Tokens) -> Result<FirstCommand, LineStop>
     ensures { Reads result (at tokens.old) }
 {
     let space = tokens.name()?;
     let addr = tokens.address()?;
     tokens.ends()?;
-    Ok(Command::At {
-        space: Name::new(alloc, space)?,
+    Ok(FirstCommand::At {
+        space: Name::new(space.to_vec(alloc)?),
         addr,
     })
 }
 
-fn show(alloc: Global, tokens: &mut Tokens) -> Result<Command, LineStop>
+fn show(alloc: Global, tokens: &mut Tokens) -> Result<FirstCommand, LineStop>
     ensures { Reads result (show tokens.old) }
 {
     let space = tokens.name()?;
     tokens.ends()?;
-    Ok(Command::Show {
-        space: Name::new(alloc, space)?,
+    Ok(FirstCommand::Show {
+        space: Name::new(space.to_vec(alloc)?),
     })
 }
 
-fn command_named(alloc: Global, word: &[u8], tokens: &mut Tokens) -> Result<Command, LineStop>
+fn command_named(alloc: Global, word: &[u8], tokens: &mut Tokens) -> Result<FirstCommand, LineStop>
     ensures { Reads result (command_named word.now tokens.old) }
 {
     if word == b"region".as_slice() {
@@ -138,7 +138,7 @@ fn command_named(alloc: Global, word: &[u8], tokens: &mut Tokens) -> Result<Comm
     }
 }
 
-fn command_of_tokens(alloc: Global, tokens: &[&[u8]]) -> Result<Command, LineStop>
+fn command_of_tokens(alloc: Global, tokens: &[&[u8]]) -> Result<FirstCommand, LineStop>
     ensures { Reads result (command_of_tokens (map (λ x. x.now) tokens.now)) }
 {
     match tokens {
@@ -148,7 +148,7 @@ fn command_of_tokens(alloc: Global, tokens: &[&[u8]]) -> Result<Command, LineSto
 }
 
 /// The command of a line.
-pub fn command_of(alloc: Global, line: &[u8]) -> Result<Command, LineStop>
+pub fn command_of(alloc: Global, line: &[u8]) -> Result<FirstCommand, LineStop>
     ensures { Reads result (command_of line.now) }
 {
     let tokens = tokens_of(alloc, line)?;

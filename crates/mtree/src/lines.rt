@@ -1,6 +1,6 @@
 // The parts of a line that is to be written.
 ghost use Rattle.std.specs.Prelude.{◌≡◌, ◌++◌, [], List, ℕ, OnOk, decimal};
-ghost use Rattle.mem_base.specs.Output.{hex, line_feed};
+ghost use Rattle.mem_base.specs.script.FirstOutput.{hex, line_feed};
 
 use std::alloc::{AllocError, Global};
 use std::marker::Model;
@@ -36,7 +36,7 @@ impl Line {
         &self.bytes
     }
 
-    /// These bytes behind it.
+    /// These bytes after it.
     pub fn bytes(&mut self, bytes: &[u8]) -> Result<(), AllocError>
         ensures { OnOk result (self.new ≡ self.old ++ bytes.now) }
     {
@@ -44,14 +44,14 @@ impl Line {
         Ok(())
     }
 
-    /// This text behind it.
+    /// This text after it.
     pub fn text(&mut self, text: &str) -> Result<(), AllocError>
         ensures { OnOk result (self.new ≡ self.old ++ text.now) }
     {
         self.bytes(text.as_bytes())
     }
 
-    /// A number in decimal behind it.
+    /// A number in decimal after it.
     pub fn decimal(&mut self, number: u64) -> Result<(), AllocError>
         ensures { OnOk result (self.new ≡ self.old ++ decimal number) }
     {
@@ -59,7 +59,7 @@ impl Line {
         self.bytes(digits.as_bytes())
     }
 
-    /// A number in hexadecimal behind it.
+    /// A number in hexadecimal after it.
     pub fn hex(&mut self, number: u64) -> Result<(), AllocError>
         ensures { OnOk result (self.new ≡ self.old ++ hex number) }
     {
@@ -67,7 +67,7 @@ impl Line {
         self.bytes(digits.as_bytes())
     }
 
-    /// A text and then these bytes behind it.
+    /// A text and then these bytes after it.
     pub fn named(&mut self, text: &str, name: &[u8]) -> Result<(), AllocError>
         ensures { OnOk result (self.new ≡ self.old ++ (text.now ++ name.now)) }
     {
@@ -75,7 +75,7 @@ impl Line {
         self.bytes(name)
     }
 
-    /// A text and then a number in decimal behind it.
+    /// A text and then a number in decimal after it.
     pub fn counted(&mut self, text: &str, number: u64) -> Result<(), AllocError>
         ensures { OnOk result (self.new ≡ self.old ++ (text.now ++ decimal number)) }
     {
@@ -83,7 +83,7 @@ impl Line {
         self.decimal(number)
     }
 
-    /// A text and then a number in hexadecimal behind it.
+    /// A text and then a number in hexadecimal after it.
     pub fn placed(&mut self, text: &str, number: u64) -> Result<(), AllocError>
         ensures { OnOk result (self.new ≡ self.old ++ (text.now ++ hex number)) }
     {

@@ -26,29 +26,31 @@ mod top;
 mod views;
 
 use crate::endings::Ending;
-use crate::top::mtree;
-use outside::{OpenGate, StdSink, StdSource};
+use crate::top::exit_code;
+use outside::{StdSink, StdSource};
+use std::alloc::{AllocError, Global};
+use std::env::Args;
 use std::io;
+use std::io::ErrorKind;
 use std::process::ExitCode;
 
+// The words after the program's name; none where one of them is not UTF-8, which no form of words has.
+fn words_of(alloc: Global, args: io::Result<Args>) -> Result<Vec<String>, AllocError> {
+    match args {
+        Ok(args) => args.skip(1).collect::<Vec<String>>(alloc),
+        Err(error) => match error.kind() {
+            ErrorKind::OutOfMemory => Err(AllocError),
+            _ => Ok(Vec::new(alloc)),
+        },
+    }
+}
+
 fn main(rt: HostRuntime) -> ExitCode {
-    let words = match std::env::args(&rt) {
-        Ok(args) => args.skip(1).collect::<Vec<String>>(rt.alloc()),
-        Err(_) => return ExitCode::from(Ending::Usage.status()),
-    };
-    let words = match words {
+    let words = match words_of(rt.alloc(), std::env::args(&rt)) {
         Ok(words) => words,
         Err(_) => return ExitCode::from(Ending::Memory.status()),
     };
     let mut source = StdSource::new(rt.reader());
     let mut sink = StdSink::new(io::writer(&rt));
-    let ending = mtree(
-        &rt,
-        rt.alloc(),
-        words.as_slice(),
-        &mut source,
-        &mut sink,
-        &OpenGate,
-    );
-    ExitCode::from(ending.status())
+    exit_code(&rt, rt.alloc(), words.as_slice(), &mut source, &mut sink)
 }

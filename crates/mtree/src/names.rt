@@ -1,8 +1,8 @@
 // The names that a script has made.
 ghost use Rattle.std.specs.Prelude.{◌≡◌, ◌≤◌, ◌<◌, ◌^◌, ◌++◌, [], ◌∷◌, length, position, OnOk, IfSome};
 ghost use Rattle.std.specs.Str.{bytes_eq};
-ghost use Rattle.mem_base.specs.Output.{name_at, region_name, space_name};
-ghost use Rattle.mem_base.specs.Run.{number_of_name, region_of_name, space_of_name};
+ghost use Rattle.mem_base.specs.script.FirstOutput.{name_at, region_name, space_name};
+ghost use Rattle.mem_base.specs.script.FirstRun.{number_of_name, region_of_name, space_of_name};
 
 use mem_base::{Name, RegionId, SpaceId};
 use std::alloc::{AllocError, Global};
@@ -80,7 +80,7 @@ impl NameList {
         if self.names.len() >= u32::MAX as usize {
             return Err(AllocError);
         }
-        self.names.push(Name::new(alloc, name)?)?;
+        self.names.push(Name::new(name.to_vec(alloc)?))?;
         Ok(())
     }
 }
@@ -93,7 +93,7 @@ pub struct Names {
 }
 
 impl Model for Names {
-    ghost use Rattle.mem_base.specs.Output as output;
+    ghost use Rattle.mem_base.specs.script.FirstOutput as output;
 
     ghost Value = { output.Names };
 

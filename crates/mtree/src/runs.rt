@@ -1,9 +1,9 @@
 // Runs commands, and writes each line as one piece.
 ghost use Rattle.std.specs.Prelude.{◌≡◌, ◌≤◌, IsErrOf, OnErr, OnOk};
 ghost use Rattle.outside.specs.Causes.{Rose};
-ghost use Rattle.outside.specs.Sink.{Takes, TakesFront};
-ghost use Rattle.mem_base.specs.Output.{range_line, range_lines};
-ghost use Rattle.mem_base.specs.Run.{step, text_of};
+ghost use Rattle.outside.specs.Sink.{Takes, TakesPrefix};
+ghost use Rattle.mem_base.specs.script.FirstOutput.{range_line, range_lines};
+ghost use Rattle.mem_base.specs.script.FirstRun.{step, text_of};
 ghost use Rattle.mtree.specs.Replies.{tells};
 ghost use Rattle.mtree.specs.declared.runs.RunFault.TheVariants.{Memory, Write};
 
@@ -11,7 +11,7 @@ use crate::answers::add_range;
 use crate::lines::Line;
 use crate::names::Names;
 use crate::sessions::{Reply, Session};
-use mem_base::{Command, FlatRange};
+use mem_base::{FirstCommand, FlatRange};
 use outside::{Failed, Sink, write_all};
 use region_tree::Tree;
 use std::alloc::{AllocError, Global};
@@ -48,7 +48,7 @@ fn write_range<K: Sink>(
     sink: &mut K,
 ) -> Result<(), RunFault>
     ensures all { OnOk result (Takes K.written K.holds sink.old sink.new (range_line names.now tree.now range)) }
-    ensures front { OnErr result (TakesFront K.written K.holds sink.old sink.new (range_line names.now tree.now range)) }
+    ensures prefix { OnErr result (TakesPrefix K.written K.holds sink.old sink.new (range_line names.now tree.now range)) }
     ensures failed { IsErrOf result RunFault.Write → Rose (K.faults sink.old) (K.faults sink.new) }
     ensures later { K.faults sink.old ≤ K.faults sink.new }
 {
@@ -67,7 +67,7 @@ fn write_ranges<K: Sink>(
     sink: &mut K,
 ) -> Result<(), RunFault>
     ensures all { OnOk result (Takes K.written K.holds sink.old sink.new (range_lines names.now tree.now ranges.now)) }
-    ensures front { OnErr result (TakesFront K.written K.holds sink.old sink.new (range_lines names.now tree.now ranges.now)) }
+    ensures prefix { OnErr result (TakesPrefix K.written K.holds sink.old sink.new (range_lines names.now tree.now ranges.now)) }
     ensures failed { IsErrOf result RunFault.Write → Rose (K.faults sink.old) (K.faults sink.new) }
     ensures later { K.faults sink.old ≤ K.faults sink.new }
 {
@@ -85,7 +85,7 @@ fn write_reply<K: Sink>(
     sink: &mut K,
 ) -> Result<(), RunFault>
     ensures all { OnOk result (Takes K.written K.holds sink.old sink.new (tells session.now reply.now)) }
-    ensures front { OnErr result (TakesFront K.written K.holds sink.old sink.new (tells session.now reply.now)) }
+    ensures prefix { OnErr result (TakesPrefix K.written K.holds sink.old sink.new (tells session.now reply.now)) }
     ensures failed { IsErrOf result RunFault.Write → Rose (K.faults sink.old) (K.faults sink.new) }
     ensures later { K.faults sink.old ≤ K.faults sink.new }
 {
@@ -114,12 +114,12 @@ fn run_line<K: Sink>(
     alloc: Global,
     session: &mut Session,
     number: u32,
-    command: &Command,
+    command: &FirstCommand,
     sink: &mut K,
 ) -> Result<(), RunFault>
     ensures session { OnOk result (session.new ≡ (step session.old number command.now).1) }
     ensures all { OnOk result (Takes K.written K.holds sink.old sink.new (step session.old number command.now).0) }
-    ensures front { OnErr result (TakesFront K.written K.holds sink.old sink.new (step session.old number command.now).0) }
+    ensures prefix { OnErr result (TakesPrefix K.written K.holds sink.old sink.new (step session.old number command.now).0) }
     ensures failed { IsErrOf result RunFault.Write → Rose (K.faults sink.old) (K.faults sink.new) }
     ensures later { K.faults sink.old ≤ K.faults sink.new }
 {
@@ -130,10 +130,14 @@ fn run_line<K: Sink>(
 
 /// Runs a script from the empty forest, and writes its text.
 ///
-/// `Write` only where a write failed; a front of the text was then written.
-pub fn run<K: Sink>(alloc: Global, lines: &[(u32, Command)], sink: &mut K) -> Result<(), RunFault>
+/// `Write` only where a write failed; a prefix of the text was then written.
+pub fn run<K: Sink>(
+    alloc: Global,
+    lines: &[(u32, FirstCommand)],
+    sink: &mut K,
+) -> Result<(), RunFault>
     ensures all { OnOk result (Takes K.written K.holds sink.old sink.new (text_of lines.now)) }
-    ensures front { OnErr result (TakesFront K.written K.holds sink.old sink.new (text_of lines.now)) }
+    ensures prefix { OnErr result (TakesPrefix K.written K.holds sink.old sink.new (text_of lines.now)) }
     ensures failed { IsErrOf result RunFault.Write → Rose (K.faults sink.old) (K.faults sink.new) }
     ensures later { K.faults sink.old ≤ K.faults sink.new }
 {

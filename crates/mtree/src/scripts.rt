@@ -1,13 +1,13 @@
 // A script's text: its lines, and what holds of all of them together.
 ghost use Rattle.std.specs.Prelude.{◌≡◌, ◌==◌, ◌≤◌, ◌<◌, ◌^◌, ◌++◌, List, ℕ, [], IfOk, filter_map, length, map, option_map, position};
 ghost use Rattle.std.specs.Option.{option_to_list};
-ghost use Rattle.mem_base.specs.Scripts.{are_distinct, child_fits, children_fit, faulty, has_text, lines_fit, lines_of, names_fit, parents_with, region_made, script_of, space_made};
+ghost use Rattle.mem_base.specs.script.FirstScripts.{are_distinct, child_fits, children_fit, faulty, has_text, lines_fit, lines_of, names_fit, parents_with, region_made, script_of, space_made};
 ghost use Rattle.mtree.specs.Parses.{ReadsLines, ReadsScript};
 ghost use Rattle.mtree.specs.declared.scripts.ParseFault.TheVariants.{Memory};
 
 use crate::forms::command_of;
 use crate::tokens::LineStop;
-use mem_base::{BadScript, Cause, Command};
+use mem_base::{BadScript, Cause, FirstCommand};
 use std::alloc::{AllocError, Global};
 
 /// The greatest number of bytes of a script.
@@ -50,7 +50,7 @@ fn line_end(text: &[u8]) -> Option<usize>
 }
 
 // The commands of a text, each with its line.
-fn lines_of(alloc: Global, text: &[u8]) -> Result<Vec<(u32, Command)>, LineStop>
+fn lines_of(alloc: Global, text: &[u8]) -> Result<Vec<(u32, FirstCommand)>, LineStop>
     requires { length text.now < 2 ^ 31 }
     ensures { ReadsLines result (lines_of text.now) }
 {
@@ -99,12 +99,12 @@ fn names_fit(most: usize, names: &[&[u8]]) -> bool
     names.len() <= most && are_distinct(names)
 }
 
-fn region_made(command: &Command) -> Option<&[u8]>
+fn region_made(command: &FirstCommand) -> Option<&[u8]>
     ensures { option_map (λ x. x.now) result ≡ region_made command.now }
 {
     match command {
-        Command::RegionContainer { name, size: _ } => Some(name.as_bytes()),
-        Command::RegionIo {
+        FirstCommand::RegionContainer { name, size: _ } => Some(name.as_bytes()),
+        FirstCommand::RegionIo {
             name,
             size: _,
             device: _,
@@ -113,16 +113,16 @@ fn region_made(command: &Command) -> Option<&[u8]>
     }
 }
 
-fn space_made(command: &Command) -> Option<&[u8]>
+fn space_made(command: &FirstCommand) -> Option<&[u8]>
     ensures { option_map (λ x. x.now) result ≡ space_made command.now }
 {
     match command {
-        Command::Space { name, root: _ } => Some(name.as_bytes()),
+        FirstCommand::Space { name, root: _ } => Some(name.as_bytes()),
         _ => None,
     }
 }
 
-fn regions_made(alloc: Global, lines: &[(u32, Command)]) -> Result<Vec<&[u8]>, AllocError>
+fn regions_made(alloc: Global, lines: &[(u32, FirstCommand)]) -> Result<Vec<&[u8]>, AllocError>
     ensures { IfOk result (λ v. map (λ x. x.now) v.items ≡ filter_map (λ line. region_made line.1) lines.now) }
 {
     let mut names = Vec::new(alloc);
@@ -134,7 +134,7 @@ fn regions_made(alloc: Global, lines: &[(u32, Command)]) -> Result<Vec<&[u8]>, A
     Ok(names)
 }
 
-fn spaces_made(alloc: Global, lines: &[(u32, Command)]) -> Result<Vec<&[u8]>, AllocError>
+fn spaces_made(alloc: Global, lines: &[(u32, FirstCommand)]) -> Result<Vec<&[u8]>, AllocError>
     ensures { IfOk result (λ v. map (λ x. x.now) v.items ≡ filter_map (λ line. space_made line.1) lines.now) }
 {
     let mut names = Vec::new(alloc);
@@ -147,11 +147,11 @@ fn spaces_made(alloc: Global, lines: &[(u32, Command)]) -> Result<Vec<&[u8]>, Al
 }
 
 // Whether the child of an add line is none of the parents.
-fn child_fits(parents: &[&[u8]], command: &Command) -> bool
+fn child_fits(parents: &[&[u8]], command: &FirstCommand) -> bool
     ensures { result ≡ child_fits (map (λ x. x.now) parents.now) command.now }
 {
     match command {
-        Command::Add {
+        FirstCommand::Add {
             parent: _,
             offset: _,
             child,
@@ -161,11 +161,11 @@ fn child_fits(parents: &[&[u8]], command: &Command) -> bool
     }
 }
 
-fn parent_of(command: &Command) -> Option<&[u8]>
+fn parent_of(command: &FirstCommand) -> Option<&[u8]>
     ensures { (parents : List (List ℕ)) → parents_with parents command.now ≡ parents ++ option_to_list (option_map (λ x. x.now) result) }
 {
     match command {
-        Command::Add {
+        FirstCommand::Add {
             parent,
             offset: _,
             child: _,
@@ -175,7 +175,7 @@ fn parent_of(command: &Command) -> Option<&[u8]>
     }
 }
 
-fn children_fit(alloc: Global, lines: &[(u32, Command)]) -> Result<bool, AllocError>
+fn children_fit(alloc: Global, lines: &[(u32, FirstCommand)]) -> Result<bool, AllocError>
     ensures { IfOk result (λ fit. fit ≡ children_fit [] lines.now) }
 {
     let mut parents = Vec::new(alloc);
@@ -191,7 +191,7 @@ fn children_fit(alloc: Global, lines: &[(u32, Command)]) -> Result<bool, AllocEr
 }
 
 // Whether the lines are a script together.
-fn lines_fit(alloc: Global, lines: &[(u32, Command)]) -> Result<bool, AllocError>
+fn lines_fit(alloc: Global, lines: &[(u32, FirstCommand)]) -> Result<bool, AllocError>
     ensures { IfOk result (λ fit. fit ≡ lines_fit lines.now) }
 {
     let regions = regions_made(alloc, lines)?;
@@ -204,7 +204,7 @@ fn lines_fit(alloc: Global, lines: &[(u32, Command)]) -> Result<bool, AllocError
 }
 
 /// The commands of a script, each with its line.
-pub fn parse(alloc: Global, text: &[u8]) -> Result<Vec<(u32, Command)>, ParseFault>
+pub fn parse(alloc: Global, text: &[u8]) -> Result<Vec<(u32, FirstCommand)>, ParseFault>
     ensures { ReadsScript result (script_of text.now) }
 {
     if text.len() > MOST_TEXT {

@@ -1,17 +1,17 @@
 // What the commands of a script do, one after another.
 ghost use Rattle.std.specs.Prelude.{◌≡◌, ◌≢◌, Err, IfOk, IfErr, OnOk, OnErr};
-ghost use Rattle.mem_base.specs.declared.commands.Command.TheVariants as commands;
-ghost use Rattle.mem_base.specs.Calls.{after, is_quiet};
-ghost use Rattle.mem_base.specs.Output.{refusal_text, taken_text, unknown_text};
-ghost use Rattle.mem_base.specs.Search.{look};
-ghost use Rattle.mem_base.specs.Run.{called, make_region, make_space, refused, searched, shown_space, start, step};
+ghost use Rattle.mem_base.specs.declared.script.first.FirstCommand.TheVariants as commands;
+ghost use Rattle.mem_base.specs.map.Calls.{after, is_quiet};
+ghost use Rattle.mem_base.specs.script.FirstOutput.{refusal_text, taken_text, unknown_text};
+ghost use Rattle.mem_base.specs.map.Search.{look};
+ghost use Rattle.mem_base.specs.script.FirstRun.{called, make_region, make_space, refused, searched, shown_space, start, step};
 ghost use Rattle.mtree.specs.Replies.{Accepts, Refuses, Replies};
 
 use crate::answers::{add_found, add_refusal};
 use crate::lines::Line;
 use crate::names::Names;
 use crate::views::view_of;
-use mem_base::{Call, Command, Kind, Name, Refusal, RegionId, Size, SpaceId, View};
+use mem_base::{Call, FirstCommand, Kind, Name, Refusal, RegionId, Size, SpaceId, View};
 use region_tree::Tree;
 use std::alloc::{AllocError, Global};
 use std::marker::Model;
@@ -36,7 +36,7 @@ pub struct Session {
 }
 
 impl Model for Session {
-    ghost use Rattle.mem_base.specs.Run.{State};
+    ghost use Rattle.mem_base.specs.script.FirstRun.{State};
 
     ghost Value = { State };
 
@@ -79,7 +79,7 @@ impl Session {
         &self.names
     }
 
-    // The line of a refusal; want of memory has none.
+    // The line of a refusal; out of memory has none.
     fn refuse(&self, number: u32, why: Refusal) -> Result<Reply, AllocError>
         ensures { Refuses result self.now number why }
     {
@@ -262,25 +262,25 @@ impl Session {
     }
 
     /// Does one command, that of the line with this number.
-    pub fn step(&mut self, number: u32, command: &Command) -> Result<Reply, AllocError>
+    pub fn step(&mut self, number: u32, command: &FirstCommand) -> Result<Reply, AllocError>
         ensures { Replies result self.new (step self.old number command.now) }
     {
         match command {
-            Command::RegionContainer { name, size } => {
+            FirstCommand::RegionContainer { name, size } => {
                 self.make_region(number, name, Kind::Container, *size)
             }
-            Command::RegionIo { name, size, device } => {
+            FirstCommand::RegionIo { name, size, device } => {
                 self.make_region(number, name, Kind::Io(*device), *size)
             }
-            Command::Space { name, root } => self.space(number, name, root),
-            Command::Add {
+            FirstCommand::Space { name, root } => self.space(number, name, root),
+            FirstCommand::Add {
                 parent,
                 offset,
                 child,
                 priority,
             } => self.add(number, parent, *offset, child, *priority),
-            Command::At { space, addr } => self.at(number, space, *addr),
-            Command::Show { space } => self.show(number, space),
+            FirstCommand::At { space, addr } => self.at(number, space, *addr),
+            FirstCommand::Show { space } => self.show(number, space),
         }
     }
 }

@@ -1,7 +1,7 @@
 // How names and numbers are spelled in a script.
 ghost use Rattle.std.specs.Prelude.{◌≡◌, ◌≤◌, ◌-◌, ◌^◌, IfSome, pos, neg_ℤ};
 ghost use Rattle.std.specs.List.{list_all};
-ghost use Rattle.mem_base.specs.Spelling.{digit_of, digits, is_letter, is_name, may_follow, number_of, priority_of};
+ghost use Rattle.mem_base.specs.script.FirstSpelling.{digit_of, digits, is_letter, is_name, may_follow, number_of, priority_of};
 
 fn is_letter(byte: u8) -> bool
     ensures { result ≡ is_letter byte }

@@ -220,7 +220,7 @@ fn what_is_not_covered_shows_what_lies_below(rt: HostRuntime) -> Result<(), Fail
             "view S g3\n0-fff C @0 io\n",
         ),
         (
-            "a region with its own registers is behind its children",
+            "a region with its own registers lies under its children",
             "region A container 0x100\n\
              region B io 0x80 latch\n\
              region D io 0x10 latch\n\
@@ -336,7 +336,7 @@ fn addresses_go_to_the_last_of_64_bits(rt: HostRuntime) -> Result<(), Fail> {
              fffffffffffffff0-ffffffffffffffff X @0 io\n",
         ),
         (
-            "a whole space behind an offset",
+            "a whole space at an offset",
             "region A container 0x10000000000000000\n\
              region X io 0x10000000000000000 latch\n\
              space S A\n\
@@ -566,7 +566,7 @@ fn a_line_of_another_form_is_faulty(rt: HostRuntime) -> Result<(), Fail> {
     for (name, script) in [
         ("no line feed at the end", "region A container 1"),
         (
-            "no line feed behind a whole line",
+            "no line feed after a whole line",
             "region A container 1\nspace S A",
         ),
         ("a blank line", "\n"),
@@ -615,7 +615,7 @@ fn an_operand_that_is_missing_or_left_over_is_faulty(rt: HostRuntime) -> Result<
         ("two roots", "space S A B\n"),
         ("no child", "add A 0\n"),
         ("no offset", "add A B\n"),
-        ("a number behind the child", "add A 0 B 1\n"),
+        ("a number after the child", "add A 0 B 1\n"),
         ("no priority behind its word", "add A 0 B prio\n"),
         ("two priorities", "add A 0 B prio 1 2\n"),
         ("no address", "at S\n"),

@@ -1,8 +1,8 @@
 // The tokens of a line, each operand taken from the front.
 ghost use Rattle.std.specs.Prelude.{◌≡◌, List, ℕ, [], ◌∷◌, Some, None, map, MatchResult, MatchOption, IfOk, IsTrue, nat_lt, length, ◌==◌};
 ghost use Rattle.std.specs.List.{slice_split};
-ghost use Rattle.mem_base.specs.Spelling.{most_address};
-ghost use Rattle.mem_base.specs.Form.{ends, last_priority, name, number, priority, size, word};
+ghost use Rattle.mem_base.specs.script.FirstSpelling.{most_address};
+ghost use Rattle.mem_base.specs.script.FirstForm.{ends, last_priority, name, number, priority, size, word};
 ghost use Rattle.mtree.specs.declared.tokens.LineStop.TheVariants.{Memory, NoForm};
 
 use crate::spellings::{is_name, number_of, priority_of};
@@ -137,7 +137,7 @@ impl<'a> Tokens<'a> {
         }
     }
 
-    /// Nothing stands behind the last operand.
+    /// Nothing stands after the last operand.
     pub fn ends(&mut self) -> Result<(), NotInForm>
         ensures { MatchResult result (λ _. self.old ≡ []) (λ _. IsTrue (nat_lt 0 (length self.old))) }
     {
@@ -147,7 +147,7 @@ impl<'a> Tokens<'a> {
         }
     }
 
-    /// Nothing, or `prio N`, stands behind the last operand.
+    /// Nothing, or `prio N`, stands after the last operand.
     pub fn last_priority(&mut self) -> Result<i32, NotInForm>
         ensures { MatchResult result (λ n. last_priority self.old ≡ Some n) (λ _. last_priority self.old ≡ None) }
     {

@@ -2,30 +2,26 @@
 ghost use Rattle.std.specs.Prelude.{◌≡◌, ◌≤◌, ◌⊎◌, [], List, ℕ, map, length, string_bytes, OnOk, OnErr, IfOk, IsTrue, Ok, Err, Some};
 ghost use Rattle.outside.specs.Causes.{Rose};
 ghost use Rattle.outside.specs.Source.{AllCame};
-ghost use Rattle.outside.specs.Sink.{Takes, TakesFront};
-ghost use Rattle.mem_base.specs.Scripts.{Line, script_of};
-ghost use Rattle.mem_base.specs.Output.{bad_line, cause_text};
-ghost use Rattle.mem_base.specs.Run.{text_of};
-ghost use Rattle.mtree.specs.Ends.{Ends};
-ghost use Rattle.mtree.specs.Program.{Came, Had, IfBad, ending_of, is_run, text_of_script};
+ghost use Rattle.outside.specs.Sink.{Takes, TakesPrefix};
+ghost use Rattle.mem_base.specs.script.FirstScripts.{Line, script_of};
+ghost use Rattle.mem_base.specs.script.FirstOutput.{bad_line, cause_text};
+ghost use Rattle.mem_base.specs.script.FirstRun.{text_of};
+ghost use Rattle.mem_base.specs.script.Words.{usage_line};
+ghost use Rattle.script_make.specs.Texts.{text_of_seed};
+ghost use Rattle.mtree.specs.Ends.{Ends, ExitsWith, Says};
+ghost use Rattle.mtree.specs.Program.{Came, Had, IfBad, ending_of, text_of_script};
 
 use crate::endings::Ending;
 use crate::runs::{RunFault, run};
 use crate::scripts::{MOST_TEXT, ParseFault, faulty, parse};
-use mem_base::{BadScript, Cause};
-use outside::{Failed, Gate, ReadStop, Sink, Source, read_all, write_all};
+use mem_base::{BadScript, Cause, Task};
+use outside::{Failed, Gate, OpenGate, ReadStop, Sink, Source, read_all, write_all};
+use script_make::text_of_seed;
+use script_words::{WordsStop, task_of};
 use std::alloc::{AllocError, Global};
+use std::process::ExitCode;
 use std::sync::Wait;
 use std::thread::Threads;
-
-fn is_run(words: &[String]) -> bool
-    ensures { result ≡ is_run (map string_bytes words.now) }
-{
-    match words {
-        [word] => word.as_str() == "run",
-        _ => false,
-    }
-}
 
 fn cause_text(cause: Cause) -> &'static str
     ensures { result.now ≡ cause_text cause }
@@ -55,7 +51,7 @@ fn refuse<K: Sink>(alloc: Global, bad: BadScript, sink: &mut K) -> Ending
     ensures bad { result ≡ Ending.BadScript bad → Takes K.written K.holds sink.old sink.new (bad_line bad) }
     ensures which { (result ≡ Ending.BadScript bad) ⊎ (result ≡ Ending.WriteFault) ⊎ (result ≡ Ending.Memory) }
     ensures write { result ≡ Ending.WriteFault → Rose (K.faults sink.old) (K.faults sink.new) }
-    ensures front { TakesFront K.written K.holds sink.old sink.new (bad_line bad) }
+    ensures prefix { TakesPrefix K.written K.holds sink.old sink.new (bad_line bad) }
     ensures later { K.faults sink.old ≤ K.faults sink.new }
 {
     let line = match bad_line(alloc, bad) {
@@ -74,7 +70,7 @@ fn run_text<K: Sink>(alloc: Global, text: &[u8], sink: &mut K) -> Ending
     ensures bad { IfBad result (λ bad. (script_of text.now ≡ Err bad) × Takes K.written K.holds sink.old sink.new (bad_line bad)) }
     ensures write { result ≡ Ending.WriteFault → Rose (K.faults sink.old) (K.faults sink.new) }
     ensures never { (result ≡ Ending.Usage → ⊥) × (result ≡ Ending.ReadFault → ⊥) }
-    ensures front { TakesFront K.written K.holds sink.old sink.new (text_of_script (script_of text.now)) }
+    ensures prefix { TakesPrefix K.written K.holds sink.old sink.new (text_of_script (script_of text.now)) }
     ensures complete { (Rose (K.faults sink.old) (K.faults sink.new) → ⊥) → (result ≡ ending_of (script_of text.now)) ⊎ (result ≡ Ending.Memory) }
     ensures later { K.faults sink.old ≤ K.faults sink.new }
 {
@@ -98,7 +94,7 @@ fn run_source<S: Source, K: Sink>(alloc: Global, source: &mut S, sink: &mut K) -
     ensures read { result ≡ Ending.ReadFault → Rose (S.faults source.old) (S.faults source.new) × Takes K.written K.holds sink.old sink.new [] }
     ensures write { result ≡ Ending.WriteFault → Rose (K.faults sink.old) (K.faults sink.new) }
     ensures never { result ≡ Ending.Usage → ⊥ }
-    ensures front { (bytes : List ℕ) × Had (S.left source.old) bytes × TakesFront K.written K.holds sink.old sink.new (text_of_script (script_of bytes)) }
+    ensures prefix { (bytes : List ℕ) × Had (S.left source.old) bytes × TakesPrefix K.written K.holds sink.old sink.new (text_of_script (script_of bytes)) }
     ensures complete { (bytes : List ℕ) → S.left source.old ≡ Some bytes → (Rose (S.faults source.old) (S.faults source.new) → ⊥)
         → (Rose (K.faults sink.old) (K.faults sink.new) → ⊥) → (result ≡ ending_of (script_of bytes)) ⊎ (result ≡ Ending.Memory) }
 {
@@ -110,23 +106,47 @@ fn run_source<S: Source, K: Sink>(alloc: Global, source: &mut S, sink: &mut K) -
     }
 }
 
-/// Does what the words ask: `run` reads the source to its end, and writes the text of the script that it is.
+// Writes the script of a seed.
+fn make<K: Sink>(alloc: Global, seed: u64, sink: &mut K) -> Ending
+    ensures { Says K.written K.holds K.faults (text_of_seed seed) Ending.Done sink.old sink.new result }
+{
+    let text = match text_of_seed(alloc, seed) {
+        Ok(text) => text,
+        Err(_) => return Ending::Memory,
+    };
+    match write_all(sink, &text) {
+        Ok(()) => Ending::Done,
+        Err(Failed) => Ending::WriteFault,
+    }
+}
+
+// Writes the usage line.
+fn show_usage<K: Sink>(sink: &mut K) -> Ending
+    ensures { Says K.written K.holds K.faults usage_line Ending.Usage sink.old sink.new result }
+{
+    match write_all(sink, b"usage: mtree run | race | make SEED | demo SEED\n") {
+        Ok(()) => Ending::Usage,
+        Err(Failed) => Ending::WriteFault,
+    }
+}
+
+/// Does what the words ask: `run` reads the source to its end, and writes the text of the script that it is; `make SEED`
+/// writes the script of the seed.
 ///
-/// It never waits. Any other words are answered with the usage line.
+/// It never waits. Any other words are answered with the usage line, and the source is then left alone.
 pub fn alone<S: Source, K: Sink>(
     alloc: Global,
     words: &[String],
     source: &mut S,
     sink: &mut K,
 ) -> Ending
-    ensures { Ends S.left S.faults K.written K.holds K.faults (map string_bytes words.now) source.old source.new sink.old sink.new result }
+    ensures { Ends S.left S.faults K.written K.holds K.faults source.old source.new sink.old sink.new result (map string_bytes words.now) }
 {
-    if is_run(words) {
-        return run_source(alloc, source, sink);
-    }
-    match write_all(sink, b"usage: mtree run | race | make SEED | demo SEED\n") {
-        Ok(()) => Ending::Usage,
-        Err(Failed) => Ending::WriteFault,
+    match task_of(alloc, words) {
+        Ok(Task::Run) => run_source(alloc, source, sink),
+        Ok(Task::Make { seed }) => make(alloc, seed, sink),
+        Ok(_) | Err(WordsStop::Usage) => show_usage(sink),
+        Err(WordsStop::Memory) => Ending::Memory,
     }
 }
 
@@ -139,7 +159,21 @@ pub fn mtree<R: Threads + Wait + Sync, S: Source, K: Sink, G: Gate>(
     sink: &mut K,
     _gate: &G,
 ) -> Ending
-    ensures { Ends S.left S.faults K.written K.holds K.faults (map string_bytes words.now) source.old source.new sink.old sink.new result }
+    ensures { Ends S.left S.faults K.written K.holds K.faults source.old source.new sink.old sink.new result (map string_bytes words.now) }
 {
     alone(alloc, words, source, sink)
+}
+
+/// Does what the words ask, and gives the exit status of the ending.
+pub fn exit_code<R: Threads + Wait + Sync, S: Source, K: Sink>(
+    rt: &R,
+    alloc: Global,
+    words: &[String],
+    source: &mut S,
+    sink: &mut K,
+) -> ExitCode
+    ensures { ExitsWith result (λ ending. Ends S.left S.faults K.written K.holds K.faults source.old source.new sink.old sink.new ending (map string_bytes words.now)) }
+{
+    let ending = mtree(rt, alloc, words, source, sink, &OpenGate);
+    ExitCode::from(ending.status())
 }

@@ -1,7 +1,7 @@
 // The view of a space.
 ghost use Rattle.std.specs.Prelude.{◌≡◌, ◌<◌, IfOk, IsSome};
-ghost use Rattle.mem_base.specs.Search.{root_of};
-ghost use Rattle.mem_base.specs.Flattened.{view_of};
+ghost use Rattle.mem_base.specs.map.Search.{root_of};
+ghost use Rattle.mem_base.specs.views.Flattened.{view_of};
 
 use flat_render::render;
 use flat_simplify::simplify;

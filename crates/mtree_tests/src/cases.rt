@@ -1,12 +1,12 @@
 // A tree beside the plain program, and how the two are compared.
 ghost use Rattle.std.specs.Prelude.{◌≡◌, ◌<◌, IsSome};
-ghost use Rattle.mem_base.specs.Search.{root_of};
+ghost use Rattle.mem_base.specs.map.Search.{root_of};
 
 use crate::grid::{STRETCHES, last_of, start_of};
 use crate::plain::Plain;
 use flat_render::render;
 use flat_simplify::simplify;
-use mem_base::{Call, FlatRange, Pieces, Refusal, SpaceId, Spot, View};
+use mem_base::{Call, FlatRange, Paths, Pieces, Refusal, SpaceId, Spot, View};
 use region_tree::Tree;
 use std::alloc::{AllocError, Global};
 use std::marker::Brand;
@@ -62,7 +62,8 @@ fn counted<L: Ledger>(
 /// The ranges of a space, not counted; none where there is no such space.
 fn rendered(alloc: Global, tree: &Tree, space: SpaceId) -> Result<Pieces, AllocError> {
     if tree.root(space).is_none() {
-        return Ok(Pieces::new(Vec::new(alloc)));
+        let paths = Paths::new(Vec::new(alloc), Vec::new(alloc));
+        return Ok(Pieces::new(Vec::new(alloc), paths));
     }
     counted::<Brand>(alloc, tree, space, Blank::new(1))
 }

@@ -14,7 +14,7 @@ pub(crate) fn draw(rng: &mut Lcg64Xsh32, n: u32) -> u32
     rng.next_word() % n
 }
 
-/// True once in so many draws.
+/// True once in `n` draws.
 fn once_in(rng: &mut Lcg64Xsh32, n: u32) -> bool
     requires { 0 < n }
 {
@@ -94,7 +94,7 @@ fn priority(rng: &mut Lcg64Xsh32) -> i32 {
 }
 
 /// A call that makes or places something.
-fn building(rng: &mut Lcg64Xsh32, made: u32) -> Call {
+pub(crate) fn building(rng: &mut Lcg64Xsh32, made: u32) -> Call {
     match draw(rng, 8) {
         0..=2 => Call::Region {
             kind: kind(rng, made),
@@ -114,7 +114,7 @@ fn building(rng: &mut Lcg64Xsh32, made: u32) -> Call {
 }
 
 /// A call that changes where a region stands or what it covers.
-fn shifting(rng: &mut Lcg64Xsh32, made: u32) -> Call {
+pub(crate) fn shifting(rng: &mut Lcg64Xsh32, made: u32) -> Call {
     match draw(rng, 5) {
         0 => Call::Del {
             parent: region(rng, made),
@@ -142,7 +142,7 @@ fn shifting(rng: &mut Lcg64Xsh32, made: u32) -> Call {
 fn switching(rng: &mut Lcg64Xsh32, made: u32) -> Call {
     let region = region(rng, made);
     let on = once_in(rng, 2);
-    match draw(rng, 6) {
+    match draw(rng, 7) {
         0 => Call::Enable { region, on },
         1 => Call::Readonly { region, on },
         2 => Call::Nonvolatile { region, on },
@@ -152,6 +152,7 @@ fn switching(rng: &mut Lcg64Xsh32, made: u32) -> Call {
             client: client(rng),
             on,
         },
+        5 => Call::Unmergeable { region, on },
         _ => Call::Global { on },
     }
 }
@@ -193,7 +194,7 @@ fn tabling(rng: &mut Lcg64Xsh32, made: u32) -> Call {
     }
 }
 
-/// A call of any kind, where so many regions were made.
+/// A call of any kind, where `made` regions were made.
 pub(crate) fn any_call(rng: &mut Lcg64Xsh32, made: u32) -> Call {
     match draw(rng, 10) {
         0..=5 => building(rng, made),

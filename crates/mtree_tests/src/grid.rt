@@ -23,17 +23,18 @@ pub(crate) fn last_of(stretch: u64) -> u64 {
     start_of(stretch.wrapping_add(1)).wrapping_sub(1)
 }
 
-/// What a space shows on a stretch, by the plain search at its first address.
-fn range_on(plain: &Plain, space: SpaceId, stretch: u64) -> Option<FlatRange> {
+/// What a space shows on a stretch, by the plain search at its first address, and a number for the path there.
+fn range_on(plain: &Plain, space: SpaceId, stretch: u64) -> Option<(FlatRange, u64)> {
     let start = start_of(stretch);
-    let spot = plain.look(space, start)?;
-    Some(FlatRange {
+    let (spot, path) = plain.find(space, start)?;
+    let range = FlatRange {
         start,
         last: last_of(stretch),
         leaf: spot.leaf,
         offset: spot.offset,
         attrs: spot.attrs,
-    })
+    };
+    Some((range, path))
 }
 
 /// Whether a range goes on where another ends.
@@ -47,9 +48,11 @@ fn goes_on(range: &FlatRange, next: &FlatRange) -> bool {
             == next.offset
 }
 
-fn join(view: &mut Vec<FlatRange>, next: FlatRange) -> Result<(), AllocError> {
+/// Puts one range more after the others, or makes the last one longer: not where they are unmergeable and the path
+/// is another.
+fn join(view: &mut Vec<FlatRange>, next: FlatRange, same_path: bool) -> Result<(), AllocError> {
     let count = view.len();
-    if count > 0 && goes_on(&view[count - 1], &next) {
+    if count > 0 && goes_on(&view[count - 1], &next) && (same_path || !next.attrs.unmergeable) {
         view[count - 1].last = next.last;
         return Ok(());
     }
@@ -64,9 +67,11 @@ pub(crate) fn plain_view(
     space: SpaceId,
 ) -> Result<Vec<FlatRange>, AllocError> {
     let mut view = Vec::new(alloc);
+    let mut last_path = 0;
     for stretch in 0..STRETCHES {
-        if let Some(range) = range_on(plain, space, stretch) {
-            join(&mut view, range)?;
+        if let Some((range, path)) = range_on(plain, space, stretch) {
+            join(&mut view, range, path == last_path)?;
+            last_path = path;
         }
     }
     Ok(view)

@@ -14,7 +14,11 @@ mod generated;
 #[cfg(test)]
 mod grid;
 #[cfg(test)]
+mod kept;
+#[cfg(test)]
 mod limits;
+#[cfg(test)]
+mod listeners;
 #[cfg(test)]
 mod maps;
 #[cfg(test)]

@@ -434,6 +434,7 @@ fn attributes_by_kind_flag_and_logging(rt: HostRuntime) -> Result<(), Fail> {
             readonly,
             nonvolatile: true,
             romd,
+            unmergeable: false,
             log,
         };
         assert_eq!(rt;
@@ -443,5 +444,58 @@ fn attributes_by_kind_flag_and_logging(rt: HostRuntime) -> Result<(), Fail> {
         );
     }
     assert_eq!(rt; differs(rt.alloc(), &case, SpaceId(0))?, None);
+    Ok(())
+}
+
+fn unmergeable(id: u32) -> Call {
+    Call::Unmergeable {
+        region: RegionId(id),
+        on: true,
+    }
+}
+
+/// Two aliases side by side on the two halves of a RAM, which are regions 1, 2 and 3 in container 0.
+fn two_aliases(alloc: Global) -> Result<Vec<Call>, AllocError> {
+    Ok(vec![in alloc;
+        region(Kind::Container, 0x5000),
+        region(Kind::Ram, 0x2000),
+        alias(0x1000, 1, 0),
+        alias(0x1000, 1, 0x1000),
+        space(0),
+        add(0, 0, 2, 0),
+        add(0, 0x1000, 3, 0),
+    ]?)
+}
+
+#[test]
+fn unmergeable_aliases_side_by_side_stay_two_ranges(rt: HostRuntime) -> Result<(), Fail> {
+    let mut calls = two_aliases(rt.alloc())?;
+    let (view, differs, refused) = outcome(rt.alloc(), calls.as_slice())?;
+    assert_eq!(rt; view.as_slice(), [(0, 0x1fff, 1, 0, false)].as_slice());
+    assert_eq!(rt; (differs, refused), (None, 0));
+    calls.push(unmergeable(2))?;
+    calls.push(unmergeable(3))?;
+    let (view, differs, refused) = outcome(rt.alloc(), calls.as_slice())?;
+    let want = [
+        (0x0000, 0x0fff, 1, 0x0000, false),
+        (0x1000, 0x1fff, 1, 0x1000, false),
+    ];
+    assert_eq!(rt; view.as_slice(), want.as_slice());
+    assert_eq!(rt; (differs, refused), (None, 0));
+    Ok(())
+}
+
+#[test]
+fn an_unmergeable_region_on_one_path_stays_one_range(rt: HostRuntime) -> Result<(), Fail> {
+    let calls = vec![in rt.alloc();
+        region(latch(), 0x1000),
+        region(Kind::Container, 0x100),
+        space(0),
+        unmergeable(0),
+        add(0, 0x400, 1, 0),
+    ]?;
+    let (view, differs, refused) = outcome(rt.alloc(), calls.as_slice())?;
+    assert_eq!(rt; view.as_slice(), [(0, 0xfff, 0, 0, false)].as_slice());
+    assert_eq!(rt; (differs, refused), (None, 0));
     Ok(())
 }

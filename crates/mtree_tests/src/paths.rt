@@ -6,12 +6,12 @@ use std::alloc::AllocError;
 use std::test::Fail;
 
 /// How many regions were made, dropped ones included.
-fn made(case: &Case) -> u32 {
+pub(crate) fn made(case: &Case) -> u32 {
     u32::try_from(case.plain.made()).unwrap_or(u32::MAX)
 }
 
 /// The first region whose depth or weight is another by the plain walk.
-fn misjudged(case: &Case) -> Option<RegionId> {
+pub(crate) fn misjudged(case: &Case) -> Option<RegionId> {
     for number in 0..made(case) {
         let id = RegionId(number);
         if case.tree.node(id).is_none() {

@@ -18,6 +18,7 @@ struct Region {
     readonly: bool,
     nonvolatile: bool,
     romd: bool,
+    unmergeable: bool,
     log: u8,
 }
 
@@ -36,6 +37,7 @@ impl Region {
             readonly: false,
             nonvolatile: false,
             romd: matches!(kind, Kind::RomDevice(_)),
+            unmergeable: false,
             log: 0,
         }
     }
@@ -49,6 +51,7 @@ impl Region {
             Call::Enable { on, .. } => self.enabled = on,
             Call::Readonly { on, .. } => self.readonly = on,
             Call::Nonvolatile { on, .. } => self.nonvolatile = on,
+            Call::Unmergeable { on, .. } => self.unmergeable = on,
             Call::Romd { on, .. } => self.romd = on,
             Call::Log { client, on, .. } => self.log = logged(self.log, client, on),
             _ => {}
@@ -81,6 +84,7 @@ fn named(call: &Call) -> Option<RegionId> {
         | Call::Enable { region, .. }
         | Call::Readonly { region, .. }
         | Call::Nonvolatile { region, .. }
+        | Call::Unmergeable { region, .. }
         | Call::Romd { region, .. }
         | Call::Log { region, .. } => Some(region),
         _ => None,
@@ -170,6 +174,12 @@ impl Plain {
 
     /// What is found at an address of a space.
     pub(crate) fn look(&self, space: SpaceId, addr: u64) -> Option<Spot> {
+        let (spot, _) = self.find(space, addr)?;
+        Some(spot)
+    }
+
+    /// The same with a number for the path: other paths have other numbers, but for a chance of 1 in 2^64.
+    pub(crate) fn find(&self, space: SpaceId, addr: u64) -> Option<(Spot, u64)> {
         for (named, root) in self.spaces.iter() {
             if named.0 == space.0 {
                 return find_in(
@@ -265,9 +275,22 @@ fn reaches_in(regions: &[Region], most: u32, from: RegionId, to: RegionId) -> bo
     false
 }
 
-/// What is found from a region at an offset in it.
+/// The number of a path that begins with a region, by the number of the rest of it.
+fn path_through(id: RegionId, rest: u64) -> u64 {
+    rest.wrapping_add(u64::from(id.0))
+        .wrapping_add(1)
+        .wrapping_mul(0x9e37_79b9_7f4a_7c15)
+}
+
+/// What is found from a region at an offset in it, and a number for the path.
 #[cycle(plain)]
-fn find_in(regions: &[Region], global: bool, depth: u32, id: RegionId, at: u128) -> Option<Spot> {
+fn find_in(
+    regions: &[Region],
+    global: bool,
+    depth: u32,
+    id: RegionId,
+    at: u128,
+) -> Option<(Spot, u64)> {
     let region = regions.get(id.0 as usize)?;
     if depth == 0 || !region.enabled || at >= region.size {
         return None;
@@ -285,8 +308,11 @@ fn find_in(regions: &[Region], global: bool, depth: u32, id: RegionId, at: u128)
         _ => find_below(regions, global, depth - 1, id, at),
     };
     match found {
-        Some(spot) => Some(flagged(spot, region)),
-        None => own(region, global, id, at),
+        Some((spot, rest)) => Some((flagged(spot, region), path_through(id, rest))),
+        None => {
+            let spot = own(region, global, id, at)?;
+            Some((spot, path_through(id, 0)))
+        }
     }
 }
 
@@ -298,7 +324,7 @@ fn find_below(
     depth: u32,
     id: RegionId,
     at: u128,
-) -> Option<Spot> {
+) -> Option<(Spot, u64)> {
     let mut tried = None;
     for _ in 0..regions.len() {
         let child = next_child(regions, id, tried)?;
@@ -337,7 +363,7 @@ fn next_child(regions: &[Region], id: RegionId, tried: Option<(i32, u64)>) -> Op
     child
 }
 
-/// What is found in a region that is read-only or non-volatile is so too.
+/// What is found in a region that is read-only, non-volatile or unmergeable is so too.
 fn flagged(spot: Spot, region: &Region) -> Spot {
     Spot {
         leaf: spot.leaf,
@@ -346,6 +372,7 @@ fn flagged(spot: Spot, region: &Region) -> Spot {
             readonly: spot.attrs.readonly || region.readonly,
             nonvolatile: spot.attrs.nonvolatile || region.nonvolatile,
             romd: spot.attrs.romd,
+            unmergeable: spot.attrs.unmergeable || region.unmergeable,
             log: spot.attrs.log,
         },
     }
@@ -365,6 +392,7 @@ fn own(region: &Region, global: bool, id: RegionId, at: u128) -> Option<Spot> {
             readonly: region.readonly || matches!(region.kind, Kind::Rom),
             nonvolatile: region.nonvolatile,
             romd: region.romd,
+            unmergeable: region.unmergeable,
             log: if global && bytes {
                 region.log | 4
             } else {

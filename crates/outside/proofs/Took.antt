@@ -2,7 +2,7 @@
 use Rattle.std.proofs.Common.{◌≡◌, ℕ, List, [], ◌++◌, Bool, refl, sym, ap, subst, ◌∙◌, append_assoc, None, Some, take, drop, cond, true, false}
 use Rattle.std.proofs.lemmas.List.{append-nil, take-append-drop}
 use Rattle.std.specs.declared.option.Option.{Option}
-use Rattle.outside.specs.Sink.{Grows, Takes, Stays, TakesFront}
+use Rattle.outside.specs.Sink.{Grows, Takes, Stays, TakesPrefix}
 
 pub Grows-nil : (o : Option (List ℕ)) → Grows o o []
 Grows-nil None = tt
@@ -45,19 +45,19 @@ pub pieces_regroup : (piece front rest back : List ℕ) (n : ℕ) → piece ≡ 
 pieces_regroup piece front rest back n e b =
     e ∙ ap (λ v. front ++ v) (sym (take-append-drop n rest)) ∙ sym (append_assoc front (take n rest) (drop n rest)) ∙ ap (λ v. (front ++ take n rest) ++ v) (sym b)
 
--- nothing is a front of each text
-pub TakesFront-nil : {K : Type 0} (written : K → Option (List ℕ)) (holds : K → List ℕ → Type 0) (s : K) (text : List ℕ) → TakesFront written holds s s text
-TakesFront-nil written holds s text = ([], text, refl, Takes-nil written holds s)
+-- nothing is a prefix of each text
+pub TakesPrefix-nil : {K : Type 0} (written : K → Option (List ℕ)) (holds : K → List ℕ → Type 0) (s : K) (text : List ℕ) → TakesPrefix written holds s s text
+TakesPrefix-nil written holds s text = ([], text, refl, Takes-nil written holds s)
 
--- a text is a front of itself
-pub TakesFront-all : {K : Type 0} (written : K → Option (List ℕ)) (holds : K → List ℕ → Type 0) (a b : K) (text : List ℕ)
-    → Takes written holds a b text → TakesFront written holds a b text
-TakesFront-all written holds a b text t = (text, [], sym (append-nil text), t)
+-- a text is a prefix of itself
+pub TakesPrefix-all : {K : Type 0} (written : K → Option (List ℕ)) (holds : K → List ℕ → Type 0) (a b : K) (text : List ℕ)
+    → Takes written holds a b text → TakesPrefix written holds a b text
+TakesPrefix-all written holds a b text t = (text, [], sym (append-nil text), t)
 
--- a part, and then a front of the next part
-pub TakesFront-after : {K : Type 0} (written : K → Option (List ℕ)) (holds : K → List ℕ → Type 0) (a b c : K) (text done part more : List ℕ)
-    → Takes written holds a b done → TakesFront written holds b c part → text ≡ done ++ (part ++ more) → TakesFront written holds a c text
-TakesFront-after written holds a b c text done part more t p e = (
+-- a part, and then a prefix of the next part
+pub TakesPrefix-after : {K : Type 0} (written : K → Option (List ℕ)) (holds : K → List ℕ → Type 0) (a b c : K) (text done part more : List ℕ)
+    → Takes written holds a b done → TakesPrefix written holds b c part → text ≡ done ++ (part ++ more) → TakesPrefix written holds a c text
+TakesPrefix-after written holds a b c text done part more t p e = (
   done ++ p.0,
   p.1 ++ more,
   e ∙ ap (λ v. done ++ (v ++ more)) p.2 ∙ ap (λ v. done ++ v) (append_assoc p.0 p.1 more) ∙ sym (append_assoc done p.0 (p.1 ++ more)),

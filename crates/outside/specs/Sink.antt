@@ -1,5 +1,5 @@
 -- What a sink took, by the bytes that it tells and the texts that it holds.
-use Rattle.std.specs.Prelude.{ℕ, ◌≡◌, ◌↔◌, None, Some, ⊤, List, Result, ◌++◌, take, MatchResult}
+use Rattle.std.specs.Prelude.{ℕ, ◌≡◌, ◌↔◌, None, Some, ⊤, List, Result, ◌++◌, take, ◌≤◌, MatchResult, OnOk, OnErr}
 use Rattle.std.specs.declared.option.Option.{Option}
 
 -- told bytes grow by these, or are told no longer; what is not told stays so
@@ -9,7 +9,7 @@ Grows None (Some now) bytes = ⊥
 Grows (Some before) None bytes = ⊤
 Grows (Some before) (Some now) bytes = now ≡ before ++ bytes
 
--- the sink took these bytes, behind each text that it held
+-- the sink took these bytes, after each text that it held
 pub record Takes {K : Type 0} (written : K → Option (List ℕ)) (holds : K → List ℕ → Type 0) (old new : K) (bytes : List ℕ) : Type 0 where
   pub told : Grows (written old) (written new) bytes
   pub held : (text : List ℕ) → holds old text → holds new (text ++ bytes)
@@ -24,9 +24,15 @@ abbrev pub TakesCount : {K E : Type 0} → (K → Option (List ℕ)) → (K → 
 TakesCount written holds old new result piece =
     MatchResult result (λ n. Takes written holds old new (take n piece)) (λ _. Stays written holds old new)
 
--- the sink took a front of this text
-abbrev pub TakesFront : {K : Type 0} → (K → Option (List ℕ)) → (K → List ℕ → Type 0) → K → K → List ℕ → Type 0
-TakesFront written holds old new text = (front rest : List ℕ) × (text ≡ front ++ rest) × Takes written holds old new front
+-- the sink took a prefix of this text
+abbrev pub TakesPrefix : {K : Type 0} → (K → Option (List ℕ)) → (K → List ℕ → Type 0) → K → K → List ℕ → Type 0
+TakesPrefix written holds old new text = (front rest : List ℕ) × (text ≡ front ++ rest) × Takes written holds old new front
+
+-- a call wrote a text: all of it where it answers Ok, a prefix of it otherwise, and no fault is forgotten
+pub record Writes {K T E : Type 0} (written : K → Option (List ℕ)) (holds : K → List ℕ → Type 0) (faults : K → ℕ) (old new : K) (text : List ℕ) (result : Result T E) : Type 0 where
+  pub all : OnOk result (Takes written holds old new text)
+  pub prefix : OnErr result (TakesPrefix written holds old new text)
+  pub later : faults old ≤ faults new
 
 -- a sink that tells what it took holds that text alone
 abbrev pub HoldsWhatIsTold : Option (List ℕ) → (List ℕ → Type 0) → Type 0

@@ -12,6 +12,6 @@ pub record AllCame (old new : Option (List ℕ)) (bytes : List ℕ) : Type 0 whe
 abbrev pub SomeCame : Option (List ℕ) → Option (List ℕ) → (List ℕ → Type 0) → Type 0
 SomeCame old new fact = (bytes : List ℕ) × Consumes old new bytes × fact bytes
 
--- some bytes came: what is left is what was left, without a front
+-- some bytes came: what is left is what was left, without a prefix
 abbrev pub CameInOrder : Option (List ℕ) → Option (List ℕ) → Type 0
 CameInOrder old new = (bytes : List ℕ) × Consumes old new bytes

@@ -1,4 +1,4 @@
--- The reader and the writer behind the adapters, and their counts of faults.
+-- The reader and the writer that the adapters stand over, and their counts of faults.
 use Rattle.std.specs.Prelude.{ℕ}
 use Rattle.outside.specs.declared.standard.StdSource.{StdSource}
 use Rattle.outside.specs.declared.standard.StdSink.{StdSink}

@@ -86,7 +86,7 @@ impl Sink for CalmSink<'_> {
         ensures takes { TakesCount calm_written CalmHolds self.old self.new result piece.now }
         ensures cause { HasCause 0 0 result }
 
-        // It answers for the whole piece, keeps a front of it, and is whole as long as that front is all of it.
+        // It answers for the whole piece, keeps a prefix of it, and is whole as long as that prefix is all of it.
         ensures all { result ≡ Ok (length piece.now) }
         ensures kept { calm_kept self.new ≡ calm_kept self.old ++ take (calm_room self.old) piece.now }
         ensures whole { IsWhole self.new ↔ (IsWhole self.old × (length piece.now ≤ calm_room self.old)) }

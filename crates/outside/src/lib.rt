@@ -4,7 +4,7 @@
 //! failed. A call that is generic over them can't raise the count by itself, so "this failure only where the
 //! count rose in this call" means that something outside failed. The layers above rely on three facts: a
 //! failure is answered only where the count rose, `read_all` answers all that the source had, and what
-//! `write_all` wrote before a failure is a front of the piece.
+//! `write_all` wrote before a failure is a prefix of the piece.
 //!
 //! `MemSource` and `MemSink` are ends in memory that fail at the calls which a test lists; `CalmSource` and
 //! `CalmSink` never fail; `StdSource` and `StdSink` adapt the standard library's readers and writers, and are

@@ -4,7 +4,7 @@ ghost use Rattle.std.specs.Io.{ReadsAtMost};
 ghost use Rattle.std.specs.Io.KnownBytes.{ReadConsumes};
 ghost use Rattle.outside.specs.declared.Failed.{Failed};
 
-/// Bytes, of which a front was read.
+/// Bytes, of which a prefix was read.
 #[derive(Drop)]
 pub(crate) struct Remainder {
     bytes: Vec<u8>,

@@ -3,7 +3,7 @@ ghost use Rattle.std.specs.Prelude.{◌≡◌, ◌≤◌, ◌<◌, List, ℕ, le
 ghost use Rattle.std.specs.declared.option.Option.{Option};
 ghost use Rattle.std.specs.Io.{WritesAtMost};
 ghost use Rattle.outside.specs.Causes.{HasCause};
-ghost use Rattle.outside.specs.Sink.{TakesCount, Takes, TakesFront, HoldsWhatIsTold};
+ghost use Rattle.outside.specs.Sink.{TakesCount, Takes, TakesPrefix, HoldsWhatIsTold};
 
 use crate::Failed;
 
@@ -19,7 +19,7 @@ pub trait Sink {
     /// How many writes have failed; it stands still at 2^64 - 1 and never falls.
     ghost faults: { Self → ℕ };
 
-    /// The number of bytes that were taken from the front of the piece, at least one of a piece that has one.
+    /// The number of bytes that were taken from the start of the piece, at least one of a piece that has one.
     ///
     /// After `Failed` nothing of the piece was taken. A write that takes nothing of a piece that has a byte is
     /// a fault.
@@ -34,10 +34,10 @@ pub trait Sink {
 
 /// Writes all of the piece.
 ///
-/// `Failed` only where a write failed; a front of the piece was then taken.
+/// `Failed` only where a write failed; a prefix of the piece was then taken.
 pub fn write_all<K: Sink>(sink: &mut K, piece: &[u8]) -> Result<(), Failed>
     ensures all { OnOk result (Takes K.written K.holds sink.old sink.new piece.now) }
-    ensures front { OnErr result (TakesFront K.written K.holds sink.old sink.new piece.now) }
+    ensures prefix { OnErr result (TakesPrefix K.written K.holds sink.old sink.new piece.now) }
     ensures cause { HasCause (K.faults sink.old) (K.faults sink.new) result }
 {
     let mut rest = piece;

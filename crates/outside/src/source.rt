@@ -18,7 +18,7 @@ pub trait Source {
     /// How many reads have failed; it stands still at 2^64 - 1 and never falls.
     ghost faults: { Self → ℕ };
 
-    /// The number of bytes that were read into the front of `buf`. They are the first of those that were left,
+    /// The number of bytes that were read into the start of `buf`. They are the first of those that were left,
     /// and leave the source.
     ///
     /// `Ok(0)` for a buffer with room is the end of input. After `Failed` the source has lost nothing, and what
@@ -36,7 +36,7 @@ pub enum ReadStop {
     Failed,
     /// More bytes came than were allowed.
     Long,
-    /// Want of memory.
+    /// Out of memory.
     Memory,
 }
 
@@ -51,7 +51,7 @@ impl From<AllocError> for ReadStop {
 /// All bytes that the source gives, up to the end of its input, where these are at most `most`.
 ///
 /// `Long` exactly where more than `most` bytes came; some of them are then read and some may be left. `Failed`
-/// only where a read failed. After any error the source has lost a front of what was left in it.
+/// only where a read failed. After any error the source has lost a prefix of what was left in it.
 pub fn read_all<S: Source>(alloc: Global, source: &mut S, most: usize) -> Result<Vec<u8>, ReadStop>
     // All came, and nothing is left.
     ensures all { IfOk result (λ bytes. AllCame (S.left source.old) (S.left source.new) bytes.items) }
@@ -62,8 +62,8 @@ pub fn read_all<S: Source>(alloc: Global, source: &mut S, most: usize) -> Result
         → SomeCame (S.left source.old) (S.left source.new) (λ bytes. most < length bytes) }
     ensures failed { IsErrOf result ReadStop.Failed → Rose (S.faults source.old) (S.faults source.new) }
 
-    // Whatever the answer, no more than a front of what was left is gone, and no fault is forgotten.
-    ensures front { CameInOrder (S.left source.old) (S.left source.new) }
+    // Whatever the answer, no more than a prefix of what was left is gone, and no fault is forgotten.
+    ensures prefix { CameInOrder (S.left source.old) (S.left source.new) }
     ensures later { S.faults source.old ≤ S.faults source.new }
 {
     let mut bytes = Vec::new(alloc);

@@ -11,7 +11,7 @@ use std::io::{Read, Write};
 /// A reader of the standard library as a source.
 ///
 /// It tells no content, so that nothing is claimed of what a file or a terminal holds, and counts each error of
-/// the reader.
+/// the reader. No clause ties its count to the reader's errors: that it counts no other read is seen by reading it.
 #[derive(Drop)]
 pub struct StdSource<R: Read> {
     reader: R,
@@ -57,7 +57,7 @@ impl<R: Read> Source for StdSource<R> {
 /// A writer of the standard library as a sink.
 ///
 /// It tells no content, and counts each error of the writer and each write that takes nothing of a piece that
-/// has a byte.
+/// has a byte. No clause ties its count to the writer's errors: that it counts no other write is seen by reading it.
 #[derive(Drop)]
 pub struct StdSink<W: Write> {
     writer: W,
@@ -100,7 +100,7 @@ impl<W: Write> Sink for StdSink<W> {
     {
         let taken = match self.writer.write(piece) {
             Ok(count) => count,
-            Err(_) => 0,
+            Err(_) => return Err(self.faults.failure()),
         };
         if taken == 0 && !piece.is_empty() {
             return Err(self.faults.failure());

@@ -1,10 +1,9 @@
 // Readers, writers and ends in memory, and what read_all and write_all make of them.
 
 use crate::{
-    Actor, CalmSink, CalmSource, Failed, Gate, MemSink, MemSource, OpenGate, ReadStop, Sink,
-    Source, StdSink, StdSource, read_all, write_all,
+    CalmSink, CalmSource, Failed, MemSink, MemSource, ReadStop, Sink, Source, StdSink, StdSource,
+    read_all, write_all,
 };
-use mem_base::PassId;
 use std::io::{self, ErrorKind, Read, Write};
 use std::test::Fail;
 
@@ -193,7 +192,9 @@ fn write_all_writes_on_until_a_write_takes_nothing(rt: HostRuntime) -> Result<()
 }
 
 #[test]
-fn an_open_gate_lets_every_actor_pass() {
-    OpenGate.arrive(Actor::Desk, 1);
-    OpenGate.arrive(Actor::Pass(PassId(3)), 2);
+fn an_error_of_a_writer_is_a_fault_for_an_empty_piece_too(rt: HostRuntime) -> Result<(), Fail> {
+    let mut kept = Vec::new(rt.alloc());
+    assert_eq!(rt; StdSink::new(&mut kept).write(b""), Ok(0));
+    assert_eq!(rt; StdSink::new(Gone).write(b""), Err(Failed));
+    Ok(())
 }

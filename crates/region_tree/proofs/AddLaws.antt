@@ -1,22 +1,32 @@
 -- Laws of why an Add is refused.
-use Rattle.std.proofs.Common.{◌≡◌, ◌≢◌, ℕ, zero, suc, ◌+◌, ◌<◌, ◌≤◌, Bool, true, false, cond, ltb, leb, ◌^◌, ℤ, List, [], ◌∷◌, ◌++◌, map, Option, Some, None, refl, sym, ap, subst, ◌∙◌, arith}
+use Rattle.std.proofs.Common.{◌≡◌, ◌≢◌, ℕ, zero, suc, ◌+◌, ◌<◌, ◌≤◌, Bool, true, false, cond, ltb, leb, ◌^◌, ℤ, List, [], ◌∷◌, ◌++◌, length, map, Option, Some, None, refl, sym, ap, subst, ◌∙◌, arith}
 use Rattle.std.specs.Prelude.{is_some}
 use Rattle.std.specs.Option.{option_or}
 use Rattle.std.proofs.lemmas.Bool.Decides.{nat_tests}
-use Rattle.mem_base.specs.declared.ids.RegionId.{RegionId}
-use Rattle.mem_base.specs.declared.forests.Forest.{Forest}
-use Rattle.mem_base.specs.declared.refusals.Refusal.{Refusal}
-use Rattle.mem_base.specs.declared.refusals.Refusal.TheVariants.{TooDeep, TooWide, Unknown, Loop}
-use Rattle.mem_base.specs.declared.refusals.What.TheVariants as what
-use Rattle.mem_base.specs.declared.calls.Call.TheVariants as calls
-use Rattle.mem_base.specs.Region.{node_of}
-use Rattle.mem_base.specs.Refusals.{first_refusal, refuse_if, unknown_region, has_container, alias_parent, makes_loop, too_deep, too_wide, in_container, container_of}
-use Rattle.mem_base.specs.TableRefusals.{no_more_calls}
-use Rattle.mem_base.specs.Changes.{changed}
-use Rattle.mem_base.specs.Calls.{refusal_of}
-use Rattle.mem_base.specs.declared.forests.Node.{Node}
+use Rattle.mem_base.specs.declared.map.ids.RegionId.{RegionId}
+use Rattle.mem_base.specs.declared.map.forests.Forest.{Forest}
+use Rattle.mem_base.specs.declared.map.refusals.Refusal.{Refusal}
+use Rattle.mem_base.specs.declared.map.refusals.Refusal.TheVariants.{TooDeep, TooWide, Unknown, Loop}
+use Rattle.mem_base.specs.declared.map.refusals.What.TheVariants as what
+use Rattle.mem_base.specs.declared.map.calls.Call.TheVariants as calls
+use Rattle.mem_base.specs.map.Region.{node_of}
+use Rattle.mem_base.specs.map.Refusals.{first_refusal, refuse_if, unknown_region, has_container, alias_parent, makes_loop, too_deep, too_wide, in_container, container_of}
+use Rattle.mem_base.specs.map.TableRefusals.{no_more_calls}
+use Rattle.mem_base.specs.map.Changes.{changed}
+use Rattle.std.specs.Prelude.{Result, Ok, Err}
+use Rattle.mem_base.specs.declared.map.calls.Call.{Call}
+use Rattle.mem_base.specs.map.Calls.{refusal_of, after, after_unless, counted}
+use Rattle.mem_base.specs.declared.map.forests.Node.{Node}
 use Rattle.mem_base.proofs.StepLaws.{reaches_by-apart}
-use Rattle.mem_base.specs.Steps.{steps_of, reaches, greatest_depth, greatest_weight}
+use Rattle.mem_base.specs.lists.Every.{Every}
+use Rattle.mem_base.specs.map.Forest.{IsOrderedForest}
+use Rattle.region_slots.specs.declared.slots.Slot.{Slot}
+use Rattle.region_slots.specs.Slots.{nodes_of}
+use Rattle.region_extents.specs.declared.extents.Extent.{Extent}
+use Rattle.region_extents.specs.Kept.{extents_in, steps_plus, IsSettledBy, IsShort}
+use Rattle.region_extents.proofs.StretchLaws.{known}
+use Rattle.region_extents.proofs.BesideLaws.{joined_extents}
+use Rattle.mem_base.specs.map.Steps.{steps_of, reaches, greatest_depth, greatest_weight}
 
 pub none_or : (a b : Option Refusal) → option_or a b ≡ None → (a ≡ None) × (b ≡ None)
 none_or None b e = (refl, e)
@@ -42,7 +52,9 @@ or_assoc (Some x) b d = refl
 or_assoc None b d = refl
 
 -- seven of them
-pub or_seven : (a b d e g h i : Option Refusal) → option_or (option_or (option_or (option_or (option_or (option_or a b) d) e) g) h) i ≡ option_or a (option_or b (option_or d (option_or e (option_or g (option_or h (option_or i None))))))
+pub or_seven : (a b d e g h i : Option Refusal) →
+    option_or (option_or (option_or (option_or (option_or (option_or a b) d) e) g) h) i ≡ option_or a
+    (option_or b (option_or d (option_or e (option_or g (option_or h (option_or i None))))))
 or_seven a b d e g h i = simp (or_assoc, or_none)
 
 pub stands : (a b : Option Refusal) → is_some a ≡ true → option_or a b ≡ a
@@ -53,9 +65,6 @@ pub refused_not : (b : Bool) (why : Refusal) → refuse_if b why ≡ None → b 
 refused_not true why e = cc
 refused_not false why e = refl
 
-pub known : (f : Forest) (r : RegionId) → unknown_region f r ≡ None → is_some (node_of f.nodes r) ≡ true
-known f r e = elim (is_some (node_of f.nodes r)) as (λ b. cond b None (Some (Unknown (what.Region r))) ≡ None → b ≡ true) [ true ↦ λ h. refl | false ↦ λ h. cc ] e
-
 -- what holds where nothing stands against an Add but the lengths of paths
 pub record IsFree (f : Forest) (parent child : RegionId) : Type 0 where
   pub parent_known : is_some (node_of f.nodes parent) ≡ true
@@ -64,9 +73,12 @@ pub record IsFree (f : Forest) (parent child : RegionId) : Type 0 where
   pub no_alias : alias_parent f parent ≡ None
   pub no_loop : reaches f.nodes child parent ≡ false
 
-pub free_of : (f : Forest) (parent child : RegionId) → first_refusal (unknown_region f parent ∷ unknown_region f child ∷ has_container f child ∷ alias_parent f parent ∷ makes_loop f parent child ∷ []) ≡ None → IsFree f parent child
+pub free_of : (f : Forest) (parent child : RegionId) →
+    first_refusal (unknown_region f parent ∷ unknown_region f child ∷ has_container f child ∷ alias_parent f parent ∷ makes_loop f parent child ∷ []) ≡
+    None → IsFree f parent child
 free_of f parent child e =
-    let a = none_or (unknown_region f parent) (first_refusal (unknown_region f child ∷ has_container f child ∷ alias_parent f parent ∷ makes_loop f parent child ∷ [])) e in
+    let a = none_or (unknown_region f parent)
+    (first_refusal (unknown_region f child ∷ has_container f child ∷ alias_parent f parent ∷ makes_loop f parent child ∷ [])) e in
     let b = none_or (unknown_region f child) (first_refusal (has_container f child ∷ alias_parent f parent ∷ makes_loop f parent child ∷ [])) a.1 in
     let c = none_or (has_container f child) (first_refusal (alias_parent f parent ∷ makes_loop f parent child ∷ [])) b.1 in
     let d = none_or (alias_parent f parent) (first_refusal (makes_loop f parent child ∷ [])) c.1 in
@@ -82,8 +94,10 @@ free_of f parent child e =
 -- the refusal of an Add in three parts
 pub refusal_of-add : (f : Forest) (parent : RegionId) (offset : ℕ) (child : RegionId) (priority : ℤ) →
     refusal_of f (calls.Add parent offset child priority) ≡
-    option_or (first_refusal (unknown_region f parent ∷ unknown_region f child ∷ has_container f child ∷ alias_parent f parent ∷ makes_loop f parent child ∷ []))
-    (option_or (first_refusal (too_deep (changed f (calls.Add parent offset child priority)).nodes ∷ too_wide (changed f (calls.Add parent offset child priority)).nodes ∷ [])) (no_more_calls f))
+    option_or (first_refusal (unknown_region f parent ∷ unknown_region f child ∷ has_container f child ∷ alias_parent f parent ∷ makes_loop f parent child ∷
+    []))
+    (option_or (first_refusal (too_deep (changed f (calls.Add parent offset child priority)).nodes ∷ too_wide
+    (changed f (calls.Add parent offset child priority)).nodes ∷ [])) (no_more_calls f))
 refusal_of-add f parent offset child priority =
     let early = unknown_region f parent ∷ unknown_region f child ∷ has_container f child ∷ alias_parent f parent ∷ makes_loop f parent child ∷ [] in
     let late = too_deep (changed f (calls.Add parent offset child priority)).nodes ∷ too_wide (changed f (calls.Add parent offset child priority)).nodes ∷ [] in
@@ -103,11 +117,13 @@ pub record IsAllowed (f : Forest) (parent : RegionId) (offset : ℕ) (child : Re
   pub narrow : greatest_weight (changed f (calls.Add parent offset child priority)).nodes ≤ 65536
   pub few : f.calls < 2 ^ 62
 
-pub allowed_of : (f : Forest) (parent : RegionId) (offset : ℕ) (child : RegionId) (priority : ℤ) → refusal_of f (calls.Add parent offset child priority) ≡ None → IsAllowed f parent offset child priority
+pub allowed_of : (f : Forest) (parent : RegionId) (offset : ℕ) (child : RegionId) (priority : ℤ) →
+    refusal_of f (calls.Add parent offset child priority) ≡ None → IsAllowed f parent offset child priority
 allowed_of f parent offset child priority e =
     let deep = too_deep (changed f (calls.Add parent offset child priority)).nodes in
     let wide = too_wide (changed f (calls.Add parent offset child priority)).nodes in
-    let a = none_or (first_refusal (unknown_region f parent ∷ unknown_region f child ∷ has_container f child ∷ alias_parent f parent ∷ makes_loop f parent child ∷ [])) (option_or (first_refusal (deep ∷ wide ∷ [])) (no_more_calls f)) (sym (refusal_of-add f parent offset child priority) ∙ e) in
+    let a = none_or (first_refusal (unknown_region f parent ∷ unknown_region f child ∷ has_container f child ∷ alias_parent f parent ∷ makes_loop f parent
+    child ∷ [])) (option_or (first_refusal (deep ∷ wide ∷ [])) (no_more_calls f)) (sym (refusal_of-add f parent offset child priority) ∙ e) in
     let b = none_or (first_refusal (deep ∷ wide ∷ [])) (no_more_calls f) a.1 in
     let c = none_or deep (first_refusal (wide ∷ [])) b.0 in
     let d = none_or wide None c.1 in
@@ -130,3 +146,72 @@ no_parent (Some p) h = cc
 
 pub loose_of : (f : Forest) (child : RegionId) (n : Node) → has_container f child ≡ None → node_of f.nodes child ≡ Some n → n.parent ≡ None
 loose_of f child n h e = no_parent n.parent (sym (ap (λ o. in_container (container_of o)) e) ∙ h)
+
+-- the forest after an accepted call
+pub after_free : (f g : Forest) (call : Call) → refusal_of f call ≡ None → g ≡ counted (changed f call) → after f call ≡ Ok g
+after_free f g call e h = answered (refusal_of f call) e
+  where
+    answered : (o : Option Refusal) → o ≡ None → after_unless o f call ≡ Ok g
+    answered None k = ap Ok (sym h)
+    answered (Some why) k = cc
+
+pub refused_after : (f : Forest) (call : Call) (why : Refusal) → refusal_of f call ≡ Some why → after f call ≡ Err why
+refused_after f call why h = ap (λ o. after_unless o f call) h
+
+-- what stands against an Add before loops and the lengths of paths
+abbrev pub early : Forest → RegionId → RegionId → Option Refusal
+early f parent child = first_refusal (unknown_region f parent ∷ unknown_region f child ∷ has_container f child ∷ alias_parent f parent ∷ [])
+
+or_four : (a b d e late : Option Refusal) (why : Refusal) → option_or a (option_or b (option_or d (option_or e None))) ≡ Some why →
+    option_or a (option_or b (option_or d (option_or e late))) ≡ Some why
+or_four (Some x) b d e late why h = h
+or_four None (Some x) d e late why h = h
+or_four None None (Some x) e late why h = h
+or_four None None None (Some x) late why h = h
+or_four None None None None late why h = cc
+
+pub refused_early : (f : Forest) (parent : RegionId) (offset : ℕ) (child : RegionId) (priority : ℤ) (why : Refusal) → early f parent child ≡ Some why →
+    after f (calls.Add parent offset child priority) ≡ Err why
+refused_early f parent offset child priority why h =
+    refused_after f (calls.Add parent offset child priority) why
+    (or_four (unknown_region f parent) (unknown_region f child) (has_container f child) (alias_parent f parent)
+    (first_refusal (makes_loop f parent child ∷ too_deep (changed f (calls.Add parent offset child priority)).nodes ∷ too_wide
+    (changed f (calls.Add parent offset child priority)).nodes ∷ no_more_calls f ∷ [])) why h)
+
+pub or_five : (a b d e l : Option Refusal) →
+    option_or (option_or a (option_or b (option_or d (option_or e None)))) l ≡ option_or a (option_or b (option_or d (option_or e (option_or l None))))
+or_five (Some x) b d e l = refl
+or_five None (Some x) d e l = refl
+or_five None None (Some x) e l = refl
+or_five None None None (Some x) l = refl
+or_five None None None None l = sym (or_none l)
+
+all_none : (a b d e g h i j : Option Refusal) → a ≡ None → b ≡ None → d ≡ None → e ≡ None → g ≡ None → h ≡ None → i ≡ None → j ≡ None →
+    option_or a (option_or b (option_or d (option_or e (option_or g (option_or h (option_or i (option_or j None))))))) ≡ None
+all_none a b d e g h i j p q r s t u v w = rw (p, q, r, s, t, u, v, w) refl
+
+-- an Add after which all regions settle within the limits
+pub record IsJoinedAdd (f : Forest) (parent : RegionId) (offset : ℕ) (child : RegionId) (priority : ℤ) (es : List Extent) : Type 0 where
+  pub accepted : refusal_of f (calls.Add parent offset child priority) ≡ None
+  pub extents : es ≡ extents_in (changed f (calls.Add parent offset child priority)).nodes
+
+pub joined_add : (f : Forest) → IsOrderedForest f → (slots : List Slot) → f.nodes ≡ nodes_of slots → (parent child : RegionId) →
+    early f parent child ≡ None → no_more_calls f ≡ None →
+    (es : List Extent) → ((v : RegionId) → IsSettledBy (steps_plus (nodes_of slots) (Some (record { parent = parent; child = child }))) slots es v) →
+    Every IsShort es → length es ≡ length slots → (offset : ℕ) (priority : ℤ) → IsJoinedAdd f parent offset child priority es
+joined_add f h slots seen parent child none more es settled short all offset priority =
+    let a = none_or (unknown_region f parent) (first_refusal (unknown_region f child ∷ has_container f child ∷ alias_parent f parent ∷ [])) none in
+    let b = none_or (unknown_region f child) (first_refusal (has_container f child ∷ alias_parent f parent ∷ [])) a.1 in
+    let d = none_or (has_container f child) (first_refusal (alias_parent f parent ∷ [])) b.1 in
+    let e = none_or (alias_parent f parent) None d.1 in
+    let j = joined_extents f h slots seen parent child (known f parent a.0) (known f child b.0) e.0 d.0 es settled short all offset priority in
+    let deep = too_deep (changed f (calls.Add parent offset child priority)).nodes in
+    let wide = too_wide (changed f (calls.Add parent offset child priority)).nodes in
+    let l = none_or (makes_loop f parent child) (first_refusal (deep ∷ wide ∷ [])) j.allowed in
+    let m = none_or deep (first_refusal (wide ∷ [])) l.1 in
+    let n = none_or wide None m.1 in
+    record {
+      accepted = all_none (unknown_region f parent) (unknown_region f child) (has_container f child) (alias_parent f parent)
+          (makes_loop f parent child) deep wide (no_more_calls f) a.0 b.0 d.0 e.0 l.0 m.0 n.0 more;
+      extents = j.extents;
+    }

@@ -1,10 +1,5 @@
 pub mod WholeLaws
-pub mod PlaceLaws
-pub mod SlotsLaws
-pub mod ExtentsLaws
-pub mod SettledLaws
-pub mod SlotsBasics
-pub mod StretchLaws
-pub mod ReachLaws
 pub mod AddLaws
 pub mod RegionLaws
+pub mod EditLaws
+pub mod PickedLaws

@@ -3,25 +3,26 @@ use Rattle.std.proofs.Common.{◌≡◌, ◌≢◌, ℕ, zero, suc, ◌+◌, ◌
 use Rattle.std.specs.Prelude.{is_some}
 use Rattle.std.specs.Option.{option_or}
 use Rattle.std.proofs.lemmas.Bool.Decides.{nat_tests}
-use Rattle.mem_base.specs.declared.ids.RegionId.{RegionId}
-use Rattle.mem_base.specs.declared.forests.Node.{Node}
-use Rattle.mem_base.specs.declared.kinds.Kind.{Kind}
-use Rattle.mem_base.specs.declared.kinds.Kind.TheVariants.{Alias}
-use Rattle.mem_base.specs.declared.forests.Forest.{Forest}
-use Rattle.mem_base.specs.declared.refusals.Refusal.{Refusal}
-use Rattle.mem_base.specs.declared.refusals.Refusal.TheVariants.{TooDeep, TooWide}
-use Rattle.mem_base.specs.declared.calls.Call.TheVariants as calls
-use Rattle.mem_base.specs.Forest.{IsForest, IsTargetBefore}
-use Rattle.mem_base.specs.Kinds.{is_alias, device_of}
-use Rattle.mem_base.specs.Refusals.{first_refusal, refuse_if, too_deep, too_wide, unknown_region, unknown_target, bad_size}
-use Rattle.mem_base.specs.TableRefusals.{bad_device, no_more_regions, no_more_calls, at_limit}
-use Rattle.mem_base.specs.declared.refusals.Which.TheVariants as which
-use Rattle.mem_base.specs.Changes.{changed, made_region}
-use Rattle.mem_base.specs.Calls.{alias_too_long, refusal_of}
-use Rattle.mem_base.specs.Steps.{depth_of, weight_of, greatest_depth, greatest_weight}
+use Rattle.mem_base.specs.declared.map.ids.RegionId.{RegionId}
+use Rattle.mem_base.specs.declared.map.forests.Node.{Node}
+use Rattle.mem_base.specs.declared.map.kinds.Kind.{Kind}
+use Rattle.mem_base.specs.declared.map.kinds.Kind.TheVariants.{Alias}
+use Rattle.mem_base.specs.declared.map.forests.Forest.{Forest}
+use Rattle.mem_base.specs.declared.map.refusals.Refusal.{Refusal}
+use Rattle.mem_base.specs.declared.map.refusals.Refusal.TheVariants.{TooDeep, TooWide}
+use Rattle.mem_base.specs.declared.map.calls.Call.TheVariants as calls
+use Rattle.mem_base.specs.map.Forest.{IsOrderedForest, IsTargetBefore}
+use Rattle.mem_base.specs.map.Kinds.{is_alias, device_of}
+use Rattle.mem_base.specs.map.Refusals.{first_refusal, refuse_if, too_deep, too_wide, unknown_region, unknown_target, bad_size}
+use Rattle.mem_base.specs.map.TableRefusals.{bad_device, no_more_regions, no_more_calls, at_limit}
+use Rattle.mem_base.specs.declared.map.refusals.Which.TheVariants as which
+use Rattle.mem_base.specs.map.Changes.{changed, made_region}
+use Rattle.mem_base.specs.map.Calls.{alias_too_long, refusal_of}
+use Rattle.mem_base.specs.map.Steps.{depth_of, weight_of, greatest_depth, greatest_weight}
 use Rattle.mem_base.proofs.ForestLaws.{known_below}
-use Rattle.mem_base.proofs.MadeLaws.{greatest_depth_made, greatest_weight_made, depth_alias, weight_alias, shallow_made, narrow_made}
-use Rattle.region_tree.proofs.AddLaws.{known, or_none, none_or, refused_not}
+use Rattle.map_laws.proofs.MadeLaws.{greatest_depth_made, greatest_weight_made, depth_alias, weight_alias, shallow_made, narrow_made}
+use Rattle.region_tree.proofs.AddLaws.{or_none, none_or, refused_not}
+use Rattle.region_extents.proofs.StretchLaws.{known}
 
 limit_of : (most g d : ℕ) (why : ℕ → Refusal) → g ≤ most → refuse_if (leb most d) (why (d + 1)) ≡ refuse_if (ltb most (max g (d + 1))) (why (max g (d + 1)))
 limit_of most g d why l =
@@ -39,18 +40,22 @@ limit_of most g d why l =
     ] refl
 
 -- only the target's own depth and weight decide
-pub alias_refused : (f : Forest) → IsForest f → (target : RegionId) (offset size : ℕ) → unknown_region f target ≡ None →
-    option_or (refuse_if (leb 32 (depth_of f.nodes target)) (TooDeep (depth_of f.nodes target + 1))) (refuse_if (leb 65536 (weight_of f.nodes target)) (TooWide (weight_of f.nodes target + 1)))
+pub alias_refused : (f : Forest) → IsOrderedForest f → (target : RegionId) (offset size : ℕ) → unknown_region f target ≡ None →
+    option_or (refuse_if (leb 32 (depth_of f.nodes target)) (TooDeep (depth_of f.nodes target + 1)))
+    (refuse_if (leb 65536 (weight_of f.nodes target)) (TooWide (weight_of f.nodes target + 1)))
     ≡ alias_too_long f (Alias target offset) size
 alias_refused f h target offset size e =
     let n = made_region (record { 0 = f.made }) (Alias target offset) size in
     let before = known_below f target h (known f target e) in
     let new = f.nodes ++ n ∷ [] in
-    let d : greatest_depth new ≡ max (greatest_depth f.nodes) (depth_of f.nodes target + 1) = greatest_depth_made f h n refl refl ∙ ap (max (greatest_depth f.nodes)) (depth_alias f h n refl refl target offset refl before) in
-    let w : greatest_weight new ≡ max (greatest_weight f.nodes) (weight_of f.nodes target + 1) = greatest_weight_made f h n refl refl ∙ ap (max (greatest_weight f.nodes)) (weight_alias f h n refl refl target offset refl before) in
+    let d : greatest_depth new ≡ max (greatest_depth f.nodes) (depth_of f.nodes target + 1) = greatest_depth_made f h n refl refl
+    ∙ ap (max (greatest_depth f.nodes)) (depth_alias f h n refl refl target offset refl before) in
+    let w : greatest_weight new ≡ max (greatest_weight f.nodes) (weight_of f.nodes target + 1) = greatest_weight_made f h n refl refl
+    ∙ ap (max (greatest_weight f.nodes)) (weight_alias f h n refl refl target offset refl before) in
     let a = limit_of 32 (greatest_depth f.nodes) (depth_of f.nodes target) TooDeep h.shallow ∙ ap (λ k. refuse_if (ltb 32 k) (TooDeep k)) (sym d) in
     let b = limit_of 65536 (greatest_weight f.nodes) (weight_of f.nodes target) TooWide h.narrow ∙ ap (λ k. refuse_if (ltb 65536 k) (TooWide k)) (sym w) in
-    ap (λ x. option_or x (refuse_if (leb 65536 (weight_of f.nodes target)) (TooWide (weight_of f.nodes target + 1)))) a ∙ ap (option_or (too_deep new)) (b ∙ sym (or_none (too_wide new)))
+    ap (λ x. option_or x (refuse_if (leb 65536 (weight_of f.nodes target)) (TooWide (weight_of f.nodes target + 1)))) a
+    ∙ ap (option_or (too_deep new)) (b ∙ sym (or_none (too_wide new)))
 
 above : (a b : ℕ) → leb a b ≡ false → b < a
 above a b e = grind (arith, nat_tests)
@@ -66,22 +71,28 @@ pub record IsMakeable (f : Forest) (kind : Kind) (size : ℕ) : Type 0 where
   pub room : f.made < 4294967294
   pub few : f.calls < 4611686018427387904
 
-target_made : (f : Forest) → IsForest f → (kind : Kind) → unknown_target f kind ≡ None → IsTargetBefore f.made kind
+target_made : (f : Forest) → IsOrderedForest f → (kind : Kind) → unknown_target f kind ≡ None → IsTargetBefore f.made kind
 target_made f h (Alias target offset) e = known_below f target h (known f target e)
 target_made f h _ e = tt
 
-lengths_made : (f : Forest) → IsForest f → (kind : Kind) (size : ℕ) → alias_too_long f kind size ≡ None → (greatest_depth (changed f (calls.Region kind size)).nodes ≤ 32) × (greatest_weight (changed f (calls.Region kind size)).nodes ≤ 65536)
+lengths_made : (f : Forest) → IsOrderedForest f → (kind : Kind) (size : ℕ) → alias_too_long f kind size ≡ None →
+    (greatest_depth (changed f (calls.Region kind size)).nodes ≤ 32) × (greatest_weight (changed f (calls.Region kind size)).nodes ≤ 65536)
 lengths_made f h (Alias target offset) size e =
     let new = (changed f (calls.Region (Alias target offset) size)).nodes in
     let a = none_or (too_deep new) (first_refusal (too_wide new ∷ [])) e in
     let b = none_or (too_wide new) None a.1 in
     (not_below _ _ (refused_not _ (TooDeep (greatest_depth new)) a.0), not_below _ _ (refused_not _ (TooWide (greatest_weight new)) b.0))
-lengths_made f h kind size e = (shallow_made f h (made_region (record { 0 = f.made }) kind size) refl refl refl, narrow_made f h (made_region (record { 0 = f.made }) kind size) refl refl refl)
+lengths_made f h kind size e = (
+  shallow_made f h (made_region (record { 0 = f.made }) kind size) refl refl refl,
+  narrow_made f h (made_region (record { 0 = f.made }) kind size) refl refl refl,
+)
 
-pub makeable_of : (f : Forest) → IsForest f → (kind : Kind) (size : ℕ) → refusal_of f (calls.Region kind size) ≡ None → IsMakeable f kind size
+pub makeable_of : (f : Forest) → IsOrderedForest f → (kind : Kind) (size : ℕ) → refusal_of f (calls.Region kind size) ≡ None → IsMakeable f kind size
 makeable_of f h kind size e =
-    let a = none_or (unknown_target f kind) (first_refusal (bad_size kind size ∷ bad_device (device_of kind) ∷ alias_too_long f kind size ∷ no_more_regions f ∷ no_more_calls f ∷ [])) e in
-    let b = none_or (bad_size kind size) (first_refusal (bad_device (device_of kind) ∷ alias_too_long f kind size ∷ no_more_regions f ∷ no_more_calls f ∷ [])) a.1 in
+    let a = none_or (unknown_target f kind) (first_refusal
+    (bad_size kind size ∷ bad_device (device_of kind) ∷ alias_too_long f kind size ∷ no_more_regions f ∷ no_more_calls f ∷ [])) e in
+    let b = none_or (bad_size kind size) (first_refusal
+    (bad_device (device_of kind) ∷ alias_too_long f kind size ∷ no_more_regions f ∷ no_more_calls f ∷ [])) a.1 in
     let c = none_or (bad_device (device_of kind)) (first_refusal (alias_too_long f kind size ∷ no_more_regions f ∷ no_more_calls f ∷ [])) b.1 in
     let d = none_or (alias_too_long f kind size) (first_refusal (no_more_regions f ∷ no_more_calls f ∷ [])) c.1 in
     let k = none_or (no_more_regions f) (first_refusal (no_more_calls f ∷ [])) d.1 in
@@ -95,3 +106,8 @@ makeable_of f h kind size e =
       room = above _ _ (refused_not _ _ m.0);
       few = above _ _ (refused_not _ _ l.0);
     }
+
+-- the target of an accepted Region is there
+pub target_of_region : (f : Forest) (kind : Kind) (size : ℕ) → refusal_of f (calls.Region kind size) ≡ None → unknown_target f kind ≡ None
+target_of_region f kind size e = (none_or (unknown_target f kind)
+    (first_refusal (bad_size kind size ∷ bad_device (device_of kind) ∷ alias_too_long f kind size ∷ no_more_regions f ∷ no_more_calls f ∷ [])) e).0

@@ -1,40 +1,39 @@
 -- Laws of what a tree keeps.
 use Rattle.std.proofs.Common.{◌≡◌, ◌≢◌, ℕ, ◌+◌, ◌<◌, ◌≤◌, ◌^◌, ◌-◌, Bool, true, false, cond, leb, List, [], ◌∷◌, ◌++◌, Option, Some, None, refl, sym, ap, subst, ◌∙◌, arith}
 use Rattle.std.proofs.lemmas.Bool.Decides.{nat_tests}
-use Rattle.mem_base.specs.declared.forests.Forest.{Forest}
-use Rattle.mem_base.specs.declared.calls.Call.{Call}
-use Rattle.mem_base.specs.Forest.{FitsTypes}
-use Rattle.mem_base.specs.Refusals.{first_refusal}
-use Rattle.mem_base.specs.TableRefusals.{no_more_calls}
-use Rattle.mem_base.specs.Changes.{changed}
-use Rattle.mem_base.specs.Calls.{counted, refusal_of, refusals}
-use Rattle.mem_base.proofs.CallLaws.{IsForest-accepted}
-use Rattle.mem_base.proofs.SoundCallLaws.{IsSound-accepted}
+use Rattle.mem_base.specs.declared.map.forests.Forest.{Forest}
+use Rattle.mem_base.specs.declared.map.calls.Call.{Call}
+use Rattle.mem_base.specs.map.Forest.{FitsTypes, IsRegion, IsPlainRegion, HasPlainContainer, HasTarget}
+use Rattle.mem_base.specs.lists.Every.{Every}
+use Rattle.mem_base.specs.map.Kinds.{target_of}
+use Rattle.mem_base.specs.map.Refusals.{first_refusal, targets, in_container, container_of}
+use Rattle.mem_base.specs.map.TableRefusals.{no_more_calls}
+use Rattle.mem_base.specs.map.Changes.{changed}
+use Rattle.mem_base.specs.map.Calls.{counted, refusal_of, refusals}
+use Rattle.map_laws.proofs.CallLaws.{IsOrderedForest-accepted}
+use Rattle.map_laws.proofs.SoundCallLaws.{IsClosedForest-accepted}
 use Rattle.std.specs.Prelude.{is_none, is_some}
-use Rattle.mem_base.specs.declared.ids.RegionId.{RegionId}
-use Rattle.mem_base.specs.declared.forests.Node.{Node}
-use Rattle.mem_base.specs.declared.calls.Call.TheVariants as calls
-use Rattle.mem_base.specs.Region.{node_of}
-use Rattle.mem_base.specs.Forest.{IsRegion, IsPlainRegion, HasContainer}
-use Rattle.mem_base.specs.declared.refusals.Refusal.TheVariants.{NotChild}
-use Rattle.mem_base.proofs.RefusalLaws.{each_none, known_node, refuse_where-none}
+use Rattle.mem_base.specs.declared.map.ids.RegionId.{RegionId}
+use Rattle.mem_base.specs.declared.map.forests.Node.{Node}
+use Rattle.mem_base.specs.declared.map.calls.Call.TheVariants as calls
+use Rattle.mem_base.specs.map.Region.{node_of}
+use Rattle.mem_base.specs.declared.map.refusals.Refusal.TheVariants.{NotChild}
+use Rattle.map_laws.proofs.RefusalLaws.{each_none, known_node, refuse_where-none, in_use-none}
 use Rattle.mem_base.proofs.ForestLaws.{every_node_of, id_of}
 use Rattle.std.specs.Prelude.{option_map, option_and_then}
-use Rattle.mem_base.specs.declared.ids.SpaceId.{SpaceId}
-use Rattle.mem_base.specs.declared.translations.Perm.{Perm}
-use Rattle.mem_base.specs.declared.refusals.Refusal.TheVariants.{PageOverlap}
-use Rattle.mem_base.specs.TableRefusals.{least_met}
-use Rattle.mem_base.proofs.PageLaws.{bad_page-none}
+use Rattle.mem_base.specs.declared.map.refusals.Refusal.TheVariants.{PageOverlap}
+use Rattle.mem_base.specs.map.Entries.{least_met}
 use Rattle.region_tree.specs.Tree.{IsWhole}
 
 pub whole_accepted : (f : Forest) (call : Call) → IsWhole f → FitsTypes call → refusal_of f call ≡ None → IsWhole (counted (changed f call))
 whole_accepted f call h fits none = record {
-  forest = IsForest-accepted f call h.forest none;
-  sound = IsSound-accepted f call h.forest h.sound fits none;
+  forest = IsOrderedForest-accepted f call h.forest none;
+  sound = IsClosedForest-accepted f call h.forest h.sound fits none;
 }
 
 -- a container that is there
-container_there : (nodes : List Node) (o : Option RegionId) → is_none o ≡ false → HasContainer nodes o → (p : Node) × (o ≡ Some p.id) × (node_of nodes p.id ≡ Some p)
+container_there : (nodes : List Node) (o : Option RegionId) → is_none o ≡ false → HasPlainContainer nodes o → (p : Node) × (o ≡ Some p.id)
+    × (node_of nodes p.id ≡ Some p)
 container_there nodes None e h = cc
 container_there nodes (Some q) e h = found (node_of nodes q) refl h
   where
@@ -43,7 +42,8 @@ container_there nodes (Some q) e h = found (node_of nodes q) refl h
     found (Some p) k t = let same = id_of nodes q p k in (p, ap Some (sym same), ap (node_of nodes) same ∙ k)
 
 -- a child that may be moved, and its container
-pub moves_child : (f : Forest) (child : RegionId) (offset : ℕ) → IsWhole f → refusal_of f (calls.Move child offset) ≡ None → (m : Node) × (p : Node) × (node_of f.nodes child ≡ Some m) × (m.parent ≡ Some p.id) × (node_of f.nodes p.id ≡ Some p)
+pub moves_child : (f : Forest) (child : RegionId) (offset : ℕ) → IsWhole f → refusal_of f (calls.Move child offset) ≡ None → (m : Node) × (p : Node)
+    × (node_of f.nodes child ≡ Some m) × (m.parent ≡ Some p.id) × (node_of f.nodes p.id ≡ Some p)
 moves_child f child offset h e =
     let each = each_none (refusals f (calls.Move child offset) ++ no_more_calls f ∷ []) e in
     let m = known_node f child each.0 in
@@ -52,24 +52,46 @@ moves_child f child offset h e =
     let p = container_there f.nodes m.0.parent inside region.container in
     (m.0, p.0, m.1, p.1, p.2)
 
--- a translation that may be put into a table
-pub record IsMappable (f : Forest) (region : RegionId) (iova size : ℕ) : Type 0 where
-  pub within : iova + (size - 1) < 2 ^ 64
-  pub apart : (n : Node) → node_of f.nodes region ≡ Some n → least_met iova (size - 1 + 1) n.entries ≡ None
-
+-- a page that meets no translation
 none_met : (o : Option ℕ) → option_map (λ met. PageOverlap met) o ≡ None → o ≡ None
 none_met None e = refl
 none_met (Some k) e = cc
 
-page_apart : (iova size : ℕ) (o : Option Node) (n : Node) → o ≡ Some n → option_and_then (λ (m : Node). option_map (λ met. PageOverlap met) (least_met iova size m.entries)) o ≡ None → least_met iova size n.entries ≡ None
+pub page_apart : (iova size : ℕ) (o : Option Node) (n : Node) → o ≡ Some n →
+    option_and_then (λ (m : Node). option_map (λ met. PageOverlap met) (least_met iova size m.entries)) o ≡ None → least_met iova size n.entries ≡ None
 page_apart iova size None n e h = cc
-page_apart iova size (Some m) n e h = let same : m ≡ n = cc in subst (λ (x : Node). least_met iova size x.entries ≡ None) same (none_met (least_met iova size m.entries) h)
+page_apart iova size (Some m) n e h = let same : m ≡ n = cc in
+    subst (λ (x : Node). least_met iova size x.entries ≡ None) same (none_met (least_met iova size m.entries) h)
 
-pub mappable : (f : Forest) (region : RegionId) (iova size : ℕ) (space : SpaceId) (translated : ℕ) (perm : Perm) → iova < 2 ^ 64 → size ≤ 2 ^ 64 → refusal_of f (calls.Map region iova size space translated perm) ≡ None → IsMappable f region iova size
-mappable f region iova size space translated perm below small e =
-    let each = each_none (refusals f (calls.Map region iova size space translated perm) ++ no_more_calls f ∷ []) e in
-    let page = bad_page-none iova size each.1.1.1.0 below small in
+pub none_of : {A : Type 0} (o : Option A) → is_some o ≡ false → o ≡ None
+none_of None e = refl
+none_of (Some x) e = cc
+
+no_container : (p : Option RegionId) → in_container p ≡ None → p ≡ None
+no_container None e = refl
+no_container (Some q) e = cc
+
+-- a region that may be dropped: it is in no container, and nobody's target
+pub record IsDroppable (f : Forest) (r : RegionId) : Type 0 where
+  pub node : Node
+  pub there : node_of f.nodes r ≡ Some node
+  pub free : node.parent ≡ None
+  pub unused : Every (λ n. targets r n.kind ≡ false) f.nodes
+
+pub dropped_region : (f : Forest) (r : RegionId) → refusal_of f (calls.Drop r) ≡ None → IsDroppable f r
+dropped_region f r e =
+    let each = each_none (refusals f (calls.Drop r) ++ no_more_calls f ∷ []) e in
+    let m = known_node f r each.0 in
     record {
-      within = page.ends;
-      apart = λ n there. subst (λ k. least_met iova k n.entries ≡ None) (sym page.mask) (page_apart iova size (node_of f.nodes region) n there each.1.1.1.1.0);
+      node = m.0;
+      there = m.1;
+      free = no_container m.0.parent (sym (ap (λ o. in_container (container_of o)) m.1) ∙ each.1.0);
+      unused = (in_use-none f r each.1.1.0).no_aliases;
     }
+
+-- the target of a region is there
+pub target_there : (f : Forest) (r : RegionId) (m : Node) → IsWhole f → node_of f.nodes r ≡ Some m → (t : RegionId) → target_of m.kind ≡ Some t →
+    is_some (node_of f.nodes t) ≡ true
+target_there f r m h there t e =
+    let region = (every_node_of (IsRegion f.nodes) f.nodes r m there h.sound.regions).0 in
+    subst (HasTarget f.nodes) e region.target

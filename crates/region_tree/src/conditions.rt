@@ -2,26 +2,38 @@
 
 ghost use Rattle.std.specs.Prelude.{◌≡◌, ◌∷◌, [], ℕ, ◌+◌, nat_lt, nat_le, not, find, filter, option_map, Option, Some, IsSome};
 ghost use Rattle.std.specs.Option.{option_or};
-ghost use Rattle.mem_base.specs.Refusals as conditions;
-ghost use Rattle.mem_base.specs.TableRefusals as tables;
-ghost use Rattle.mem_base.specs.Calls.{alias_too_long};
-ghost use Rattle.mem_base.specs.Forest.{IsForest};
-ghost use Rattle.mem_base.specs.Steps.{depth_of, weight_of};
-ghost use Rattle.mem_base.specs.Kinds as kinds;
-ghost use Rattle.mem_base.specs.Region.{is_in, is_child_of, node_of};
-ghost use Rattle.region_tree.specs.Slots.{nodes_of};
+ghost use Rattle.mem_base.specs.map.Refusals as conditions;
+ghost use Rattle.mem_base.specs.map.TableRefusals as tables;
+ghost use Rattle.mem_base.specs.map.Devices as devices;
+ghost use Rattle.mem_base.specs.map.Calls.{alias_too_long};
+ghost use Rattle.mem_base.specs.map.Forest.{IsOrderedForest};
+ghost use Rattle.mem_base.specs.map.Steps.{depth_of, weight_of};
+ghost use Rattle.mem_base.specs.map.Kinds as kinds;
+ghost use Rattle.mem_base.specs.map.Region.{is_in, is_child_of, node_of};
+ghost use Rattle.region_slots.specs.Slots.{nodes_of};
 ghost use Rattle.region_tree.specs.Spaces.{lesser_of};
 
-use crate::extents::Extent;
-use crate::forest_tree::Tree;
-use crate::paths::reaches_within;
-use crate::slots::Slot;
-use mem_base::{Device, Ioevent, Kind, Refusal, RegionId, Size, SpaceId, User, What, Which};
+use crate::tree::Tree;
+use mem_base::{
+    Device, Ioevent, Kind, MOST_BYTES, MOST_CALLS, MOST_DEPTH, MOST_ENTRIES, MOST_EVENTS,
+    MOST_MADE, MOST_REGIONS, MOST_REGISTERS, MOST_SPACES, MOST_WEIGHT, NOTIFIER_COUNT, PAGE_SIZE,
+    Refusal, RegionId, Size, SpaceId, User, What, Which,
+};
+use region_extents::{Extent, is_alias_of, reaches_within};
+use region_slots::Slot;
 
-fn refuse_if(test: bool, why: Refusal) -> Option<Refusal>
+/// A refusal where a test holds.
+pub(crate) fn refuse_if(test: bool, why: Refusal) -> Option<Refusal>
     ensures { result ≡ conditions.refuse_if test why }
 {
     if test { Some(why) } else { None }
+}
+
+/// A count that stands at its limit.
+fn at_limit(which: Which, most: u64, count: u64) -> Option<Refusal>
+    ensures { result ≡ tables.at_limit which most count }
+{
+    refuse_if(count >= most, Refusal::LimitReached(which, most))
 }
 
 /// A region that is not there.
@@ -54,31 +66,27 @@ pub(crate) fn unknown_target(tree: &Tree, kind: Kind) -> Option<Refusal>
     }
 }
 
-fn has_bytes(kind: &Kind) -> bool
-    ensures { result ≡ kinds.has_bytes kind.now }
-{
-    matches!(kind, Kind::Ram | Kind::Rom | Kind::RomDevice(_))
-}
-
 /// A size that a region of this kind cannot have.
 pub(crate) fn bad_size(kind: Kind, size: Size) -> Option<Refusal>
     ensures { result ≡ conditions.bad_size kind size }
 {
     let bytes = size.get();
     refuse_if(
-        bytes == 0 || has_bytes(&kind) && (!(bytes % 4096 == 0) || bytes > 536_870_912),
+        bytes == 0
+            || kind.has_bytes()
+                && (!(bytes % u128::from(PAGE_SIZE) == 0) || bytes > u128::from(MOST_BYTES)),
         Refusal::BadSize,
     )
 }
 
 fn is_access_size(n: u8) -> bool
-    ensures { result ≡ tables.is_access_size n }
+    ensures { result ≡ devices.is_access_size n }
 {
     n == 1 || n == 2 || n == 4 || n == 8
 }
 
 fn is_good_device(device: &Device) -> bool
-    ensures { result ≡ tables.is_good_device device.now }
+    ensures { result ≡ devices.is_good_device device.now }
 {
     is_access_size(device.ops.valid_min)
         && is_access_size(device.ops.valid_max)
@@ -87,7 +95,7 @@ fn is_good_device(device: &Device) -> bool
         && device.ops.valid_min <= device.ops.valid_max
         && device.ops.impl_min <= device.ops.impl_max
         && 1 <= device.regs
-        && device.regs <= 512
+        && device.regs <= MOST_REGISTERS
 }
 
 /// A device that cannot be.
@@ -120,12 +128,7 @@ pub(crate) fn alias_parent(tree: &Tree, parent: RegionId) -> Option<Refusal>
     ensures { result ≡ conditions.alias_parent tree.now parent }
 {
     match tree.node(parent) {
-        Some(node) => {
-            refuse_if(
-                matches!(node.kind, Kind::Alias { .. }),
-                Refusal::AliasParent(parent),
-            )
-        }
+        Some(node) => { refuse_if(node.kind.is_alias(), Refusal::AliasParent(parent)) }
         None => None,
     }
 }
@@ -135,7 +138,7 @@ pub(crate) fn makes_loop(tree: &Tree, parent: RegionId, child: RegionId) -> Opti
     ensures { result ≡ conditions.makes_loop tree.now parent child }
 {
     refuse_if(
-        reaches_within(tree, 64, child, parent),
+        reaches_within(tree.slots(), 2 * MOST_DEPTH, child, parent),
         Refusal::Loop(parent),
     )
 }
@@ -144,30 +147,26 @@ pub(crate) fn makes_loop(tree: &Tree, parent: RegionId, child: RegionId) -> Opti
 pub(crate) fn no_more_calls(tree: &Tree) -> Option<Refusal>
     ensures { result ≡ tables.no_more_calls tree.now }
 {
-    refuse_if(
-        tree.calls() >= 0x4000_0000_0000_0000,
-        Refusal::LimitReached(Which::Calls, 0x4000_0000_0000_0000),
-    )
+    at_limit(Which::Calls, MOST_CALLS, tree.calls())
 }
 
-/// What stands against an Add before the lengths of paths.
-pub(crate) fn no_add(tree: &Tree, parent: RegionId, child: RegionId) -> Option<Refusal>
-    ensures { result ≡ conditions.first_refusal (conditions.unknown_region tree.now parent ∷ conditions.unknown_region tree.now child ∷ conditions.has_container tree.now child ∷ conditions.alias_parent tree.now parent ∷ conditions.makes_loop tree.now parent child ∷ []) }
+/// What stands against an Add before loops and the lengths of paths.
+pub(crate) fn no_place(tree: &Tree, parent: RegionId, child: RegionId) -> Option<Refusal>
+    ensures { result ≡ conditions.first_refusal (conditions.unknown_region tree.now parent ∷ conditions.unknown_region tree.now child ∷ conditions.has_container tree.now child ∷ conditions.alias_parent tree.now parent ∷ []) }
 {
     unknown_region(tree, parent)
         .or(unknown_region(tree, child))
         .or(has_container(tree, child))
         .or(alias_parent(tree, parent))
-        .or(makes_loop(tree, parent, child))
 }
 
 /// What stands against the lengths of paths.
 pub(crate) fn too_long(most: Extent) -> Option<Refusal>
     ensures { result ≡ conditions.first_refusal (conditions.refuse_if (nat_lt 32 most.depth) (Refusal.TooDeep most.depth) ∷ conditions.refuse_if (nat_lt 65536 most.weight) (Refusal.TooWide most.weight) ∷ []) }
 {
-    if most.depth > 32 {
+    if most.depth > MOST_DEPTH {
         Some(Refusal::TooDeep(most.depth))
-    } else if most.weight > 65_536 {
+    } else if most.weight > MOST_WEIGHT {
         Some(Refusal::TooWide(most.weight))
     } else {
         None
@@ -189,13 +188,13 @@ pub(crate) fn alias_too_long(tree: &Tree, kind: Kind) -> Option<Refusal>
 fn longer_than(tree: &Tree, target: RegionId) -> Option<Refusal>
     requires { IsSome (node_of tree.now.nodes target) }
     ensures refused { result ≡ option_or (conditions.refuse_if (nat_le 32 (depth_of tree.now.nodes target)) (Refusal.TooDeep (depth_of tree.now.nodes target + 1))) (conditions.refuse_if (nat_le 65536 (weight_of tree.now.nodes target)) (Refusal.TooWide (weight_of tree.now.nodes target + 1))) }
-    ensures forest { IsForest tree.now }
+    ensures forest { IsOrderedForest tree.now }
 {
     let _ = tree.node(target);
     let depth = tree.depth(target);
     let weight = tree.weight(target);
-    refuse_if(depth >= 32, Refusal::TooDeep(depth + 1)).or(refuse_if(
-        weight >= 65_536,
+    refuse_if(depth >= MOST_DEPTH, Refusal::TooDeep(depth + 1)).or(refuse_if(
+        weight >= MOST_WEIGHT,
         Refusal::TooWide(weight + 1),
     ))
 }
@@ -231,7 +230,7 @@ pub(crate) fn no_bytes(tree: &Tree, region: RegionId) -> Option<Refusal>
     ensures { result ≡ conditions.wrong_kind kinds.has_bytes tree.now region }
 {
     match tree.node(region) {
-        Some(node) => refuse_if(!has_bytes(&node.kind), Refusal::WrongKind(region)),
+        Some(node) => refuse_if(!node.kind.has_bytes(), Refusal::WrongKind(region)),
         None => None,
     }
 }
@@ -241,7 +240,7 @@ pub(crate) fn resizes_bytes(tree: &Tree, region: RegionId) -> Option<Refusal>
     ensures { result ≡ conditions.wrong_kind (λ k. not (kinds.has_bytes k)) tree.now region }
 {
     match tree.node(region) {
-        Some(node) => refuse_if(has_bytes(&node.kind), Refusal::WrongKind(region)),
+        Some(node) => refuse_if(node.kind.has_bytes(), Refusal::WrongKind(region)),
         None => None,
     }
 }
@@ -251,10 +250,7 @@ pub(crate) fn not_alias(tree: &Tree, region: RegionId) -> Option<Refusal>
     ensures { result ≡ conditions.wrong_kind kinds.is_alias tree.now region }
 {
     match tree.node(region) {
-        Some(node) => refuse_if(
-            !matches!(node.kind, Kind::Alias { .. }),
-            Refusal::WrongKind(region),
-        ),
+        Some(node) => refuse_if(!node.kind.is_alias(), Refusal::WrongKind(region)),
         None => None,
     }
 }
@@ -264,19 +260,9 @@ pub(crate) fn not_rom_device(tree: &Tree, region: RegionId) -> Option<Refusal>
     ensures { result ≡ conditions.wrong_kind kinds.is_rom_device tree.now region }
 {
     match tree.node(region) {
-        Some(node) => refuse_if(
-            !matches!(node.kind, Kind::RomDevice(_)),
-            Refusal::WrongKind(region),
-        ),
+        Some(node) => refuse_if(!node.kind.is_rom_device(), Refusal::WrongKind(region)),
         None => None,
     }
-}
-
-/// A size of no bytes.
-pub(crate) fn zero_size(size: Size) -> Option<Refusal>
-    ensures { result ≡ conditions.zero_size size }
-{
-    refuse_if(size.get() == 0, Refusal::BadSize)
 }
 
 fn is_in(region: RegionId, parent: Option<RegionId>) -> bool
@@ -300,21 +286,12 @@ fn first_child(slots: &[Slot], region: RegionId) -> Option<RegionId>
     None
 }
 
-fn targets(region: RegionId, kind: &Kind) -> bool
-    ensures { result ≡ conditions.targets region kind.now }
-{
-    match *kind {
-        Kind::Alias { target, .. } => target.0 == region.0,
-        _ => false,
-    }
-}
-
 /// The alias of a region that has the least id.
 fn first_alias(slots: &[Slot], region: RegionId) -> Option<RegionId>
     ensures { result ≡ option_map (λ n. n.id) (find (λ n. conditions.targets region n.kind) (nodes_of slots.now)) }
 {
     for slot in slots {
-        if targets(region, &slot.node.kind) {
+        if is_alias_of(slot, region) {
             return Some(slot.node.id);
         }
     }
@@ -347,21 +324,27 @@ fn first_space(spaces: &[(SpaceId, RegionId)], region: RegionId) -> Option<Space
 fn used_by_region(user: Option<RegionId>) -> Option<Refusal>
     ensures { result ≡ conditions.in_use_by_region user }
 {
-    user.map(|region| Refusal::InUse(User::Region(region)))
+    match user {
+        Some(region) => Some(Refusal::InUse(User::Region(region))),
+        None => None,
+    }
 }
 
 fn used_by_space(user: Option<SpaceId>) -> Option<Refusal>
     ensures { result ≡ conditions.in_use_by_space user }
 {
-    user.map(|space| Refusal::InUse(User::Space(space)))
+    match user {
+        Some(space) => Some(Refusal::InUse(User::Space(space))),
+        None => None,
+    }
 }
 
 /// A region with children, with aliases of it, or that is the root of a space.
 pub(crate) fn in_use(tree: &Tree, region: RegionId) -> Option<Refusal>
     ensures { result ≡ conditions.in_use tree.now region }
 {
-    used_by_region(first_child(tree.slots(), region))
-        .or(used_by_region(first_alias(tree.slots(), region)))
+    used_by_region(first_child(tree.slots().as_slice(), region))
+        .or(used_by_region(first_alias(tree.slots().as_slice(), region)))
         .or(used_by_space(first_space(tree.spaces(), region)))
 }
 
@@ -380,10 +363,7 @@ pub(crate) fn not_iommu(tree: &Tree, region: RegionId) -> Option<Refusal>
     ensures { result ≡ conditions.wrong_kind kinds.is_iommu tree.now region }
 {
     match tree.node(region) {
-        Some(node) => refuse_if(
-            !matches!(node.kind, Kind::Iommu),
-            Refusal::WrongKind(region),
-        ),
+        Some(node) => refuse_if(!node.kind.is_iommu(), Refusal::WrongKind(region)),
         None => None,
     }
 }
@@ -393,10 +373,7 @@ pub(crate) fn takes_no_events(tree: &Tree, region: RegionId) -> Option<Refusal>
     ensures { result ≡ conditions.wrong_kind kinds.takes_events tree.now region }
 {
     match tree.node(region) {
-        Some(node) => refuse_if(
-            !matches!(node.kind, Kind::RomDevice(_) | Kind::Io(_)),
-            Refusal::WrongKind(region),
-        ),
+        Some(node) => refuse_if(!node.kind.takes_events(), Refusal::WrongKind(region)),
         None => None,
     }
 }
@@ -440,7 +417,9 @@ pub(crate) fn bad_event(event: &Ioevent) -> Option<Refusal>
     ensures { result ≡ tables.bad_event event.now }
 {
     refuse_if(
-        !(is_access_size(event.size) && event.number <= 63 && (event.matched || event.value == 0)),
+        !(is_access_size(event.size)
+            && event.number < NOTIFIER_COUNT as u32
+            && (event.matched || event.value == 0)),
         Refusal::BadOps,
     )
 }
@@ -484,9 +463,10 @@ pub(crate) fn no_more_entries(tree: &Tree, region: RegionId) -> Option<Refusal>
     ensures { result ≡ tables.no_more_entries tree.now region }
 {
     match tree.node(region) {
-        Some(node) => refuse_if(
-            node.entries.as_slice().len() >= 4096,
-            Refusal::LimitReached(Which::Entries, 4096),
+        Some(node) => at_limit(
+            Which::Entries,
+            MOST_ENTRIES as u64,
+            node.entries.as_slice().len() as u64,
         ),
         None => None,
     }
@@ -497,25 +477,23 @@ pub(crate) fn no_more_events(tree: &Tree, region: RegionId) -> Option<Refusal>
     ensures { result ≡ tables.no_more_events tree.now region }
 {
     match tree.node(region) {
-        Some(node) => refuse_if(
-            node.events.as_slice().len() >= 256,
-            Refusal::LimitReached(Which::Events, 256),
+        Some(node) => at_limit(
+            Which::Events,
+            MOST_EVENTS as u64,
+            node.events.as_slice().len() as u64,
         ),
         None => None,
     }
 }
 
-/// No more regions.
+/// No more regions: too many were made, or too many are there.
 pub(crate) fn no_more_regions(tree: &Tree) -> Option<Refusal>
     ensures { result ≡ tables.no_more_regions tree.now }
 {
-    refuse_if(
-        tree.made() >= 0xffff_fffe,
-        Refusal::LimitReached(Which::Made, 0xffff_fffe),
-    )
-    .or(refuse_if(
-        tree.regions() >= 4096,
-        Refusal::LimitReached(Which::Regions, 4096),
+    at_limit(Which::Made, u64::from(MOST_MADE), u64::from(tree.made())).or(at_limit(
+        Which::Regions,
+        MOST_REGIONS as u64,
+        tree.slots().len() as u64,
     ))
 }
 
@@ -523,8 +501,9 @@ pub(crate) fn no_more_regions(tree: &Tree) -> Option<Refusal>
 pub(crate) fn no_more_spaces(tree: &Tree) -> Option<Refusal>
     ensures { result ≡ tables.no_more_spaces tree.now }
 {
-    refuse_if(
-        tree.spaces().len() >= 16,
-        Refusal::LimitReached(Which::Spaces, 16),
+    at_limit(
+        Which::Spaces,
+        MOST_SPACES as u64,
+        tree.spaces().len() as u64,
     )
 }

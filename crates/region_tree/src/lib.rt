@@ -7,10 +7,10 @@
 //! and `children` lists the children of a region in the order in which they are tried.
 #![tactic(auto)]
 
+mod calls;
 mod conditions;
-mod extents;
-mod forest_tree;
-mod paths;
-mod slots;
+mod refusals;
+mod tree;
 
-pub use forest_tree::Tree;
+pub use region_slots::Child;
+pub use tree::Tree;

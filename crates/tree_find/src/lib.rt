@@ -6,21 +6,17 @@
 #![tactic(auto)]
 
 ghost use Rattle.std.specs.Prelude.{◌≡◌, Some};
-ghost use Rattle.mem_base.specs.declared.ids.RegionId.{RegionId};
-ghost use Rattle.mem_base.specs.Search.{look, root_of};
-ghost use Rattle.mem_base.specs.Paths.{Finds};
+ghost use Rattle.mem_base.specs.declared.map.ids.RegionId.{RegionId};
+ghost use Rattle.mem_base.specs.map.Search.{look, found_at, root_of};
+ghost use Rattle.mem_base.specs.map.Paths.{Finds};
 
-mod answers;
 mod search;
 #[cfg(test)]
 mod tests;
 
-use mem_base::{SpaceId, Spot};
+use mem_base::{MOST_DEPTH, Path, SpaceId, Spot};
 use region_tree::Tree;
 use search::find_from;
-
-/// The longest path of regions.
-const MOST_DEPTH: u32 = 32;
 
 /// The region that answers an address of a space, the offset in it, and what it is like there.
 ///
@@ -28,8 +24,22 @@ const MOST_DEPTH: u32 = 32;
 /// project's own rule). `None` exactly where the search finds nothing, or there is no such space.
 pub fn find(tree: &Tree, space: SpaceId, addr: u64) -> Option<Spot>
     ensures value { result ≡ look tree.now space addr }
+    ensures manual { (root : RegionId) → root_of tree.now space ≡ Some root → Finds tree.now root addr (found_at tree.now space addr) }
+{
+    let mut path = Path::new();
+    let root = tree.root(space)?;
+    find_from(tree, MOST_DEPTH, root, u128::from(addr), &mut path)
+}
+
+/// The same with the path on which the region is found: the regions passed, from the root to the leaf.
+///
+/// `None` exactly where `find` answers `None`. That the search tells its path is this project's own.
+pub fn find_path(tree: &Tree, space: SpaceId, addr: u64) -> Option<(Spot, Path)>
+    ensures value { result ≡ found_at tree.now space addr }
     ensures manual { (root : RegionId) → root_of tree.now space ≡ Some root → Finds tree.now root addr result }
 {
+    let mut path = Path::new();
     let root = tree.root(space)?;
-    find_from(tree, MOST_DEPTH, root, u128::from(addr))
+    let spot = find_from(tree, MOST_DEPTH, root, u128::from(addr), &mut path)?;
+    Some((spot, path))
 }

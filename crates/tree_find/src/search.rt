@@ -1,42 +1,55 @@
 // The search from a region down. Offsets have 128 bits here: an alias may shift an address past 2^64, where
 // nothing is found.
-ghost use Rattle.std.specs.Prelude.{◌≡◌, ◌<◌, ◌^◌, Some, IsSome};
-ghost use Rattle.mem_base.specs.Region.{node_of};
-ghost use Rattle.mem_base.specs.Order.{children_of};
-ghost use Rattle.mem_base.specs.Forest.{IsForest};
-ghost use Rattle.mem_base.specs.Search.{spot_in, at_node, first_of_children, inside};
+ghost use Rattle.std.specs.Prelude.{◌≡◌, ◌+◌, ◌<◌, ◌≤◌, ◌^◌, ◌++◌, Some, IsSome, length};
+ghost use Rattle.mem_base.specs.map.Region.{node_of};
+ghost use Rattle.mem_base.specs.map.Order.{children_of};
+ghost use Rattle.mem_base.specs.map.Forest.{IsOrderedForest};
+ghost use Rattle.mem_base.specs.map.Search.{found_in, at_node, first_of_children, inside, flagged, spot_of, path_of};
+ghost use Rattle.tree_find.specs.Children.{tried};
 
-use crate::answers::{own_spot, pass};
-use mem_base::{Kind, Node, RegionId, Spot};
+use mem_base::{Kind, Node, Path, RegionId, Spot};
+use region_slots::Child;
 use region_tree::Tree;
 
-/// What is found from a region at an offset in it, down to this depth.
+/// The spot that is found from a region at an offset in it, down to this depth. The regions passed go onto the path.
 #[cycle(search)]
-pub(crate) fn find_from(tree: &Tree, depth: u32, region: RegionId, at: u128) -> Option<Spot>
-    ensures value { result ≡ spot_in tree.now depth region at }
-    ensures forest { IsForest tree.now }
+pub(crate) fn find_from(
+    tree: &Tree,
+    depth: u32,
+    region: RegionId,
+    at: u128,
+    path: &mut Path,
+) -> Option<Spot>
+    requires { length path.old + depth ≤ 32 }
+    ensures spot { result ≡ spot_of (found_in tree.now depth region at) }
+    ensures path { path.new ≡ path.old ++ path_of (found_in tree.now depth region at) }
+    ensures forest { IsOrderedForest tree.now }
 {
     let node = tree.node(region)?;
-    find_in(tree, depth, node, at)
+    find_in(tree, depth, node, at, path)
 }
 
 /// The same from a node.
 #[cycle(search)]
-fn find_in(tree: &Tree, depth: u32, node: &Node, at: u128) -> Option<Spot>
-    requires { node_of tree.now.nodes node.now.id ≡ Some node.now }
-    ensures { result ≡ spot_in tree.now depth node.now.id at }
+fn find_in(tree: &Tree, depth: u32, node: &Node, at: u128, path: &mut Path) -> Option<Spot>
+    requires known { node_of tree.now.nodes node.now.id ≡ Some node.now }
+    requires room { length path.old + depth ≤ 32 }
+    ensures spot { result ≡ spot_of (found_in tree.now depth node.now.id at) }
+    ensures path { path.new ≡ path.old ++ path_of (found_in tree.now depth node.now.id at) }
 {
     if depth == 0 {
         return None;
     }
-    find_at(tree, depth - 1, node, at)
+    find_at(tree, depth - 1, node, at, path)
 }
 
 /// One step of the search: a region that is disabled, or that the offset lies past, is left out.
 #[cycle(search)]
-fn find_at(tree: &Tree, depth: u32, node: &Node, at: u128) -> Option<Spot>
-    requires { IsSome (node_of tree.now.nodes node.now.id) }
-    ensures { result ≡ at_node tree.now (spot_in tree.now depth) node.now at }
+fn find_at(tree: &Tree, depth: u32, node: &Node, at: u128, path: &mut Path) -> Option<Spot>
+    requires known { IsSome (node_of tree.now.nodes node.now.id) }
+    requires room { length path.old + depth + 1 ≤ 32 }
+    ensures spot { result ≡ spot_of (at_node tree.now (found_in tree.now depth) node.now at) }
+    ensures path { path.new ≡ path.old ++ path_of (at_node tree.now (found_in tree.now depth) node.now at) }
 {
     if !node.enabled {
         return None;
@@ -44,44 +57,71 @@ fn find_at(tree: &Tree, depth: u32, node: &Node, at: u128) -> Option<Spot>
     if at >= node.size.get() {
         return None;
     }
-    match find_inside(tree, depth, node, at) {
-        Some(spot) => Some(pass(node, spot)),
-        None => None,
+    let passed = path.len();
+    path.push(node.id);
+    match find_inside(tree, depth, node, at, path) {
+        Some(spot) => Some(through(node, spot)),
+        None => {
+            path.truncate(passed);
+            None
+        }
+    }
+}
+
+/// What is found inside a region, once the region is passed.
+fn through(node: &Node, spot: Spot) -> Spot
+    ensures { result ≡ flagged node.now spot }
+{
+    Spot {
+        attrs: spot.attrs.passing(node),
+        ..spot
     }
 }
 
 /// The search at an alias's target, or among a region's children and then in the region itself.
 #[cycle(search)]
-fn find_inside(tree: &Tree, depth: u32, node: &Node, at: u128) -> Option<Spot>
+fn find_inside(tree: &Tree, depth: u32, node: &Node, at: u128, path: &mut Path) -> Option<Spot>
     requires known { IsSome (node_of tree.now.nodes node.now.id) }
     requires at { at < 2 ^ 64 }
-    ensures { result ≡ inside tree.now (spot_in tree.now depth) node.now.kind node.now at }
+    requires room { length path.old + depth ≤ 32 }
+    ensures spot { result ≡ spot_of (inside tree.now (found_in tree.now depth) node.now.kind node.now at) }
+    ensures path { path.new ≡ path.old ++ path_of (inside tree.now (found_in tree.now depth) node.now.kind node.now at) }
 {
     if let Kind::Alias { target, offset } = node.kind {
-        return find_from(tree, depth, target, at + u128::from(offset));
+        return find_from(tree, depth, target, at + u128::from(offset), path);
     }
-    match find_below(tree, depth, node.id, at) {
+    match find_below(tree, depth, node.id, at, path) {
         Some(spot) => Some(spot),
-        None => own_spot(tree.is_global(), node, at as u64),
+        None => node.own_spot(tree.is_global(), at as u64),
     }
 }
 
 /// The search among the children of a region, in the order in which they are tried.
 #[cycle(search)]
-fn find_below(tree: &Tree, depth: u32, region: RegionId, at: u128) -> Option<Spot>
-    requires { IsSome (node_of tree.now.nodes region) }
-    ensures { result ≡ first_of_children (spot_in tree.now depth) (children_of tree.now.nodes region) at }
+fn find_below(tree: &Tree, depth: u32, region: RegionId, at: u128, path: &mut Path) -> Option<Spot>
+    requires known { IsSome (node_of tree.now.nodes region) }
+    requires room { length path.old + depth ≤ 32 }
+    ensures spot { result ≡ spot_of (first_of_children (found_in tree.now depth) (children_of tree.now.nodes region) at) }
+    ensures path { path.new ≡ path.old ++ path_of (first_of_children (found_in tree.now depth) (children_of tree.now.nodes region) at) }
 {
-    for id in tree.children(region) {
-        let Some(child) = tree.node(*id) else {
-            unreachable!();
-        };
-        let offset = u128::from(child.offset);
-        if offset <= at {
-            if let Some(spot) = find_in(tree, depth, child, at - offset) {
-                return Some(spot);
-            }
+    for child in tree.placed_children(region) {
+        if let Some(spot) = find_child(tree, depth, child, at, path) {
+            return Some(spot);
         }
     }
     None
+}
+
+/// The search in one child, at an offset in its container: a child that lies above the offset is discarded.
+#[cycle(search)]
+fn find_child(tree: &Tree, depth: u32, child: &Child, at: u128, path: &mut Path) -> Option<Spot>
+    requires { length path.old + depth ≤ 32 }
+    ensures spot { result ≡ spot_of (tried (found_in tree.now depth) child.now at) }
+    ensures path { path.new ≡ path.old ++ path_of (tried (found_in tree.now depth) child.now at) }
+{
+    let offset = u128::from(child.offset);
+    if offset > at {
+        return None;
+    }
+    find_from(tree, depth, child.id, at - offset, path)
 }

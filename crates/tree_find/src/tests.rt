@@ -1,24 +1,8 @@
-use crate::find;
-use mem_base::{Call, Device, DeviceKind, Kind, Ops, Refusal, RegionId, Size, SpaceId};
+use crate::{find, find_path};
+use mem_base::{Call, Device, DeviceKind, Kind, Path, Refusal, RegionId, Size, SpaceId};
 use region_tree::Tree;
 use std::alloc::Global;
 use std::test::Fail;
-
-fn latch() -> Kind {
-    Kind::Io(Device {
-        kind: DeviceKind::Latch,
-        regs: 1,
-        ops: Ops {
-            valid_min: 1,
-            valid_max: 8,
-            valid_unaligned: false,
-            impl_min: 1,
-            impl_max: 8,
-            impl_unaligned: false,
-            big: false,
-        },
-    })
-}
 
 /// The regions of the picture in QEMU's manual, "The memory API", "Overlapping regions and priority": containers A
 /// and B and devices C, D and E, numbered from 0.
@@ -27,9 +11,9 @@ fn made(alloc: Global) -> Result<Tree, Refusal> {
     for (kind, bytes) in [
         (Kind::Container, 0x8000),
         (Kind::Container, 0x4000),
-        (latch(), 0x6000),
-        (latch(), 0x1000),
-        (latch(), 0x1000),
+        (Kind::Io(Device::plain(DeviceKind::Latch)), 0x6000),
+        (Kind::Io(Device::plain(DeviceKind::Latch)), 0x1000),
+        (Kind::Io(Device::plain(DeviceKind::Latch)), 0x1000),
     ] {
         let size = Size::new(bytes).ok_or(Refusal::BadSize)?;
         tree.apply(&Call::Region { kind, size })?;
@@ -75,4 +59,25 @@ fn the_picture_of_the_manual(rt: HostRuntime) -> Result<(), Fail> {
     }
     assert!(rt; find(&tree, SpaceId(1), 0).is_none());
     Ok(())
+}
+
+#[test]
+fn the_paths_of_the_picture(rt: HostRuntime) -> Result<(), Fail> {
+    let tree = picture(rt.alloc())?;
+    for (addr, want) in [
+        (0x1fff, Some((0, 2, 2))),
+        (0x2000, Some((0, 1, 3))),
+        (0x4abc, Some((0, 1, 4))),
+        (0x6000, None),
+    ] {
+        let found = find_path(&tree, SpaceId(0), addr).map(|(_, path)| ends(&path));
+        assert_eq!(rt; found, want, "at {addr}");
+    }
+    Ok(())
+}
+
+/// The first two regions of a path, and the last.
+fn ends(path: &Path) -> (u32, u32, u32) {
+    let at = |i: usize| path.as_slice().get(i).map_or(u32::MAX, |region| region.0);
+    (at(0), at(1), at(path.len().saturating_sub(1)))
 }

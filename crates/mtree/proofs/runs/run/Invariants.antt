@@ -1,6 +1,6 @@
 use Rattle.std.proofs.Common.{◌≡◌, ◌≤◌, ◌++◌, List, ℕ, drop}
 use Rattle.outside.specs.Sink.{Takes}
-use Rattle.mem_base.specs.Run.{text_of, text_from}
+use Rattle.mem_base.specs.script.FirstRun.{text_of, text_from}
 use Rattle.mtree.proofs.runs.run.Given as goal
 
 abbrev pub invariant-loop-number : goal.invariant-loop-number

@@ -1,6 +1,6 @@
 use Rattle.std.proofs.Common.{◌≡◌, ◌≤◌, ◌++◌, List, ℕ, drop}
 use Rattle.outside.specs.Sink.{Takes}
-use Rattle.mem_base.specs.Output.{range_lines}
+use Rattle.mem_base.specs.script.FirstOutput.{range_lines}
 use Rattle.mtree.proofs.runs.write_ranges.Given as goal
 
 abbrev pub invariant-loop-range : goal.invariant-loop-range

@@ -1,5 +1,5 @@
 use Rattle.std.proofs.Common.{◌≡◌, [], drop, map}
-use Rattle.mem_base.specs.Scripts.{children_fit}
+use Rattle.mem_base.specs.script.FirstScripts.{children_fit}
 use Rattle.mtree.proofs.scripts.children_fit.Given as goal
 
 abbrev pub invariant-loop-command : goal.invariant-loop-command

@@ -1,5 +1,5 @@
 use Rattle.std.proofs.Common.{◌≡◌, drop, map}
-use Rattle.mem_base.specs.Scripts.{has_text}
+use Rattle.mem_base.specs.script.FirstScripts.{has_text}
 use Rattle.mtree.proofs.scripts.has_text.Given as goal
 
 abbrev pub invariant-loop-other : goal.invariant-loop-other

@@ -1,6 +1,6 @@
 use Rattle.std.proofs.Common.{◌≡◌, ◌≤◌, ◌+◌, length, ◌==◌}
 use Rattle.std.specs.List.{slice_split}
-use Rattle.mem_base.specs.Scripts.{lines_from, lines_of}
+use Rattle.mem_base.specs.script.FirstScripts.{lines_from, lines_of}
 use Rattle.mtree.proofs.LineLaws.{prepend}
 use Rattle.mtree.proofs.scripts.lines_of.Given as goal
 

@@ -1,5 +1,5 @@
 use Rattle.std.proofs.Common.{◌≡◌, ◌++◌, drop, map, filter_map}
-use Rattle.mem_base.specs.Scripts.{region_made}
+use Rattle.mem_base.specs.script.FirstScripts.{region_made}
 use Rattle.mtree.proofs.scripts.regions_made.Given as goal
 
 abbrev pub invariant-loop-command : goal.invariant-loop-command

@@ -1,5 +1,5 @@
 use Rattle.std.proofs.Common.{◌≡◌, ◌++◌, drop, map, filter_map}
-use Rattle.mem_base.specs.Scripts.{space_made}
+use Rattle.mem_base.specs.script.FirstScripts.{space_made}
 use Rattle.mtree.proofs.scripts.spaces_made.Given as goal
 
 abbrev pub invariant-loop-command : goal.invariant-loop-command

@@ -1,5 +1,5 @@
 use Rattle.std.proofs.Common.{◌≡◌, ◌≤◌, drop}
-use Rattle.mem_base.specs.Spelling.{digits_after}
+use Rattle.mem_base.specs.script.FirstSpelling.{digits_after}
 use Rattle.mtree.proofs.spellings.digits.Given as goal
 
 abbrev pub invariant-loop-byte : goal.invariant-loop-byte

@@ -1,26 +1,26 @@
 use Rattle.std.proofs.Common.{ap, Err}
-use Rattle.outside.proofs.Took.{TakesFront-nil}
-use Rattle.mem_base.specs.Output.{bad_line}
-use Rattle.mem_base.specs.Scripts.{faulty, script_of}
+use Rattle.outside.proofs.Took.{TakesPrefix-nil}
+use Rattle.mem_base.specs.script.FirstOutput.{bad_line}
+use Rattle.mem_base.specs.script.FirstScripts.{faulty, script_of}
 use Rattle.mtree.specs.Program.{text_of_script}
-use Rattle.mtree.proofs.EndLaws.{had_any, had_long, script_of-long, TakesFront-at}
+use Rattle.mtree.proofs.EndLaws.{had_any, had_long, script_of-long, TakesPrefix-at}
 use Rattle.mtree.proofs.top.run_source.Goals as goal
 
-pub returns-in-Err-Failed-clause-front : goal.returns-in-Err-Failed-clause-front
-returns-in-Err-Failed-clause-front g c =
+pub returns-in-Err-Failed-clause-prefix : goal.returns-in-Err-Failed-clause-prefix
+returns-in-Err-Failed-clause-prefix g c =
     let had = had_any (g.S.Source.left c.args.source.now) in
-    (had.0, had.1, TakesFront-nil g.K.Sink.written g.K.Sink.holds c.args.sink.now (text_of_script (script_of had.0)))
+    (had.0, had.1, TakesPrefix-nil g.K.Sink.written g.K.Sink.holds c.args.sink.now (text_of_script (script_of had.0)))
 
-pub returns-in-Err-Long-clause-front : goal.returns-in-Err-Long-clause-front
-returns-in-Err-Long-clause-front g c =
+pub returns-in-Err-Long-clause-prefix : goal.returns-in-Err-Long-clause-prefix
+returns-in-Err-Long-clause-prefix g c =
     let had = had_long _ _ (c.in-Err-Long.ensures.long (ap Err c.in-Err-Long.field-0-is)) in (
       had.0,
       had.1,
-      TakesFront-at g.K.Sink.written g.K.Sink.holds _ _ (bad_line faulty) (text_of_script (script_of had.0))
-          (ap text_of_script (script_of-long had.0 had.2)) (rw c.faulty.ensures at c.refuse.ensures.front),
+      TakesPrefix-at g.K.Sink.written g.K.Sink.holds _ _ (bad_line faulty) (text_of_script (script_of had.0))
+          (ap text_of_script (script_of-long had.0 had.2)) (rw c.faulty.ensures at c.refuse.ensures.prefix),
     )
 
-pub returns-in-Err-Memory-clause-front : goal.returns-in-Err-Memory-clause-front
-returns-in-Err-Memory-clause-front g c =
+pub returns-in-Err-Memory-clause-prefix : goal.returns-in-Err-Memory-clause-prefix
+returns-in-Err-Memory-clause-prefix g c =
     let had = had_any (g.S.Source.left c.args.source.now) in
-    (had.0, had.1, TakesFront-nil g.K.Sink.written g.K.Sink.holds c.args.sink.now (text_of_script (script_of had.0)))
+    (had.0, had.1, TakesPrefix-nil g.K.Sink.written g.K.Sink.holds c.args.sink.now (text_of_script (script_of had.0)))

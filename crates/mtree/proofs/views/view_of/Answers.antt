@@ -1,6 +1,6 @@
-use Rattle.std.proofs.Common.{rules, ◌≡◌, ◌∙◌, None, sym}
-use Rattle.mem_base.specs.Search.{root_of}
-use Rattle.mem_base.proofs.FlattenedLaws.{view_of-no_space}
+use Rattle.std.proofs.Common.{rules, ◌≡◌, None}
+use Rattle.mem_base.specs.map.Search.{root_of}
+use Rattle.map_laws.proofs.FlattenedLaws.{view_of-no_space}
 use Rattle.mtree.proofs.views.view_of.Goals as goal
 
 pub returns-then-is_none : goal.returns-then-is_none

@@ -1,7 +1,7 @@
 use Rattle.std.proofs.Common.{◌≡◌, drop}
 use Rattle.std.specs.Prelude.{find}
-use Rattle.mem_base.specs.Refusals.{targets}
-use Rattle.region_tree.specs.Slots.{nodes_of}
+use Rattle.mem_base.specs.map.Refusals.{targets}
+use Rattle.region_slots.specs.Slots.{nodes_of}
 use Rattle.region_tree.proofs.conditions.first_alias.Given as goal
 
 -- the first alias is among those that are left

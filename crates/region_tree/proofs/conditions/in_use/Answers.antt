@@ -1,12 +1,12 @@
 use Rattle.std.proofs.Common.{◌≡◌, ◌∙◌, List, Option, None, filter, sym, ap}
 use Rattle.std.specs.Prelude.{find, option_map}
 use Rattle.std.specs.Option.{option_or}
-use Rattle.mem_base.specs.declared.forests.Node.{Node}
-use Rattle.mem_base.specs.declared.ids.SpaceId.{SpaceId}
-use Rattle.mem_base.specs.declared.ids.RegionId.{RegionId}
-use Rattle.mem_base.specs.declared.refusals.Refusal.{Refusal}
-use Rattle.mem_base.specs.Region.{is_child_of}
-use Rattle.mem_base.specs.Refusals.{first_id, targets, has_root, least_space, in_use_by_region, in_use_by_space}
+use Rattle.mem_base.specs.declared.map.forests.Node.{Node}
+use Rattle.mem_base.specs.declared.map.ids.SpaceId.{SpaceId}
+use Rattle.mem_base.specs.declared.map.ids.RegionId.{RegionId}
+use Rattle.mem_base.specs.declared.map.refusals.Refusal.{Refusal}
+use Rattle.mem_base.specs.map.Region.{is_child_of}
+use Rattle.mem_base.specs.map.Refusals.{first_id, targets, has_root, least_space, in_use_by_region, in_use_by_space}
 use Rattle.region_tree.proofs.AddLaws.{or_three}
 use Rattle.region_tree.proofs.conditions.in_use.Goals as goal
 
@@ -15,12 +15,19 @@ returns c =
     let f = c.args.tree.now in
     let r = c.args.region in
     let child : c.used_by_region.result ≡ in_use_by_region (first_id (is_child_of r) f) =
-    c.used_by_region.ensures ∙ ap in_use_by_region (c.first_child.ensures ∙ ap (λ (ns : List Node). option_map (λ n. n.id) (find (is_child_of r) ns)) c.slots.ensures) in
+    c.used_by_region.ensures ∙ ap in_use_by_region
+    (c.first_child.ensures ∙ ap (λ (ns : List Node). option_map (λ n. n.id) (find (is_child_of r) ns)) (c.as_slice.ensures.nodes ∙ c.slots.ensures)) in
     let alias : c.used_by_region-2.result ≡ in_use_by_region (first_id (λ n. targets r n.kind) f) =
-    c.used_by_region-2.ensures ∙ ap in_use_by_region (c.first_alias.ensures ∙ ap (λ (ns : List Node). option_map (λ n. n.id) (find (λ n. targets r n.kind) ns)) c.slots-2.ensures) in
+    c.used_by_region-2.ensures ∙ ap in_use_by_region
+    (c.first_alias.ensures ∙ ap (λ (ns : List Node). option_map (λ n. n.id) (find (λ n. targets r n.kind) ns))
+    (c.as_slice-2.ensures.nodes ∙ c.slots-2.ensures)) in
     let space : c.used_by_space.result ≡ in_use_by_space (least_space (filter (has_root r) f.spaces)) =
-    c.used_by_space.ensures ∙ ap in_use_by_space (c.first_space.ensures ∙ ap (λ (ps : List (SpaceId × RegionId)). least_space (filter (has_root r) ps)) c.spaces.ensures) in
+    c.used_by_space.ensures ∙ ap in_use_by_space
+    (c.first_space.ensures ∙ ap (λ (ps : List (SpaceId × RegionId)). least_space (filter (has_root r) ps)) c.spaces.ensures) in
     c.or-2.ensures
-    ∙ ap (λ (o : Option Refusal). option_or o c.used_by_space.result) (c.or.ensures ∙ ap (λ (o : Option Refusal). option_or o c.used_by_region-2.result) child ∙ ap (option_or (in_use_by_region (first_id (is_child_of r) f))) alias)
+    ∙ ap (λ (o : Option Refusal). option_or o c.used_by_space.result)
+    (c.or.ensures ∙ ap (λ (o : Option Refusal). option_or o c.used_by_region-2.result) child
+    ∙ ap (option_or (in_use_by_region (first_id (is_child_of r) f))) alias)
     ∙ ap (option_or (option_or (in_use_by_region (first_id (is_child_of r) f)) (in_use_by_region (first_id (λ n. targets r n.kind) f)))) space
-    ∙ or_three (in_use_by_region (first_id (is_child_of r) f)) (in_use_by_region (first_id (λ n. targets r n.kind) f)) (in_use_by_space (least_space (filter (has_root r) f.spaces)))
+    ∙ or_three (in_use_by_region (first_id (is_child_of r) f)) (in_use_by_region (first_id (λ n. targets r n.kind) f))
+    (in_use_by_space (least_space (filter (has_root r) f.spaces)))

@@ -1,0 +1,76 @@
+//! How long the memory map takes: all calls that build a map, moves, look-ups of one address, and a view.
+//!
+//! Standard output has a line for each map, which is the same in every run: how many calls it takes, how many of them
+//! were refused, how many ranges its view has, and a sum over what the look-ups found. Standard error has the times,
+//! the least of some rounds. With the word `full` the maps have their full sizes, as in docs/SPEED.md; with no word
+//! they are small.
+#![tactic(auto)]
+
+mod maps;
+mod rounds;
+
+use crate::maps::{Map, aliases, chains, flat, generated, heavy, zigzag};
+use crate::rounds::{Failed, run};
+use std::alloc::AllocError;
+use std::process::ExitCode;
+
+/// How large the maps are and how often each is built.
+#[derive(Clone, Copy)]
+struct Sizes {
+    generated: [u32; 4],
+    flat: [u32; 2],
+    chains: u32,
+    zigzag: u32,
+    aliases: u32,
+    heavy: u32,
+    rounds: u32,
+}
+
+/// Small maps, once each.
+static SMALL: Sizes = Sizes {
+    generated: [50, 100, 150, 200],
+    flat: [50, 100],
+    chains: 4,
+    zigzag: 100,
+    aliases: 100,
+    heavy: 20,
+    rounds: 1,
+};
+
+/// The maps of docs/SPEED.md, the least of five rounds.
+static FULL: Sizes = Sizes {
+    generated: [500, 1000, 2000, 4000],
+    flat: [2000, 4000],
+    chains: 120,
+    zigzag: 2000,
+    aliases: 4000,
+    heavy: 1000,
+    rounds: 5,
+};
+
+fn main(rt: HostRuntime) -> ExitCode {
+    let is_full = match std::env::args(&rt) {
+        Ok(args) => args.skip(1).any(|word| word.as_str() == "full"),
+        Err(_) => false,
+    };
+    let sizes = if is_full { FULL } else { SMALL };
+    match all(rt, sizes) {
+        Ok(()) => ExitCode::from(0),
+        Err(_) => ExitCode::from(1),
+    }
+}
+
+fn all(rt: HostRuntime, sizes: Sizes) -> Result<(), Failed> {
+    for n in sizes.generated {
+        run(rt, &generated(rt.alloc(), n)?, sizes.rounds)?;
+    }
+    for n in sizes.flat {
+        run(rt, &flat(rt.alloc(), n)?, sizes.rounds)?;
+    }
+    run(rt, &chains(rt.alloc(), sizes.chains, true)?, sizes.rounds)?;
+    run(rt, &chains(rt.alloc(), sizes.chains, false)?, sizes.rounds)?;
+    run(rt, &zigzag(rt.alloc(), sizes.zigzag)?, sizes.rounds)?;
+    run(rt, &aliases(rt.alloc(), sizes.aliases)?, sizes.rounds)?;
+    run(rt, &heavy(rt.alloc(), sizes.heavy)?, sizes.rounds)?;
+    Ok(())
+}

@@ -1,0 +1,40 @@
+use Rattle.std.proofs.Common.{◌∙◌, ◌^◌, List, length, sym, ap, subst, arith}
+use Rattle.mem_base.specs.declared.views.flat.FlatRange.{FlatRange}
+use Rattle.mem_base.specs.views.View.{IsRanges}
+use Rattle.flat_lookup.specs.Atlases.{run_end}
+use Rattle.flat_lookup.proofs.AtlasLaws.{atlas_place, atlas_probes, run_of_place, run_before_first, starts_length, not_empty}
+use Rattle.flat_lookup.proofs.atlas.Atlas.run_to.Goals as goal
+
+pub returns-then-addr-ranges-clause-value : goal.returns-then-addr-ranges-clause-value
+returns-then-addr-ranges-clause-value g c =
+    let rs : List FlatRange = c.as_slice-ranges.result.now in
+    let some = not_empty (length rs) c.is_empty.result c.is_empty.ensures c.if-is_empty.false in
+    sym (run_before_first rs c.args.addr some c.if-addr-ranges.true)
+    ∙ ap (λ (xs : List FlatRange). run_end xs c.args.addr) (c.as_slice-ranges.ensures.value ∙ c.self.view_is)
+
+pub end_after-requires : goal.end_after-requires
+end_after-requires g c =
+    let rs : List FlatRange = c.as_slice-ranges.result.now in
+    let some = not_empty (length rs) c.is_empty.result c.is_empty.ensures c.if-is_empty.false in
+    let k = atlas_place c.self.inside.ranges rs c.self.inside.levels.items c.as_slice.result.now c.args.addr c.place-at.result c.self.invariant
+    c.as_slice.ensures.value c.as_slice-ranges.ensures.value some c.place-at.ensures.place in
+    let n = starts_length rs in
+    let inside = k.inside in
+    omega arith
+
+pub returns-clause-value : goal.returns-clause-value
+returns-clause-value g c =
+    let rs : List FlatRange = c.as_slice-ranges.result.now in
+    let some = not_empty (length rs) c.is_empty.result c.is_empty.ensures c.if-is_empty.false in
+    let ranges : IsRanges 0 (2 ^ 64) rs = subst (IsRanges 0 (2 ^ 64)) (sym c.as_slice-ranges.ensures.value) c.as_slice-ranges.ensures.ranges in
+    let k = atlas_place c.self.inside.ranges rs c.self.inside.levels.items c.as_slice.result.now c.args.addr c.place-at.result c.self.invariant
+    c.as_slice.ensures.value c.as_slice-ranges.ensures.value some c.place-at.ensures.place in
+    c.end_after.ensures ∙ sym (run_of_place rs c.args.addr c.place-at.result (2 ^ 64) ranges k)
+    ∙ ap (λ (xs : List FlatRange). run_end xs c.args.addr) (c.as_slice-ranges.ensures.value ∙ c.self.view_is)
+
+pub returns-clause-probes : goal.returns-clause-probes
+returns-clause-probes g c =
+    let rs : List FlatRange = c.as_slice-ranges.result.now in
+    let some = not_empty (length rs) c.is_empty.result c.is_empty.ensures c.if-is_empty.false in
+    atlas_probes c.self.inside.ranges rs c.args.self.now c.self.inside.levels.items c.as_slice.result.now c.args.steps.now c.place-at.new.steps
+    c.self.invariant c.as_slice.ensures.value c.as_slice-ranges.ensures.value c.self.view_is some c.place-at.ensures.probes

@@ -1,0 +1,14 @@
+pub mod FitLaws
+pub mod PlaceLaws
+pub mod OrderLaws
+pub mod HeldLaws
+pub mod Idles
+pub mod Outcomes
+pub mod PublishedLaws
+pub mod ReleasedLaws
+pub mod ReplayedLaws
+pub mod DroppedLaws
+pub mod NumberLaws
+pub mod OwnLaws
+pub mod BackLaws
+pub mod ShownLaws

@@ -1,0 +1,5 @@
+pub mod CountLaws
+pub mod DeliveringLaws
+pub mod JournalLaws
+pub mod OrderLaws
+pub mod SwitchingLaws

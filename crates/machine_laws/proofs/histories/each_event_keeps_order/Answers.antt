@@ -1,7 +1,0 @@
-use Rattle.std.proofs.Common.{refl}
-use Rattle.mem_base.specs.World.{number_in, reply}
-use Rattle.machine_laws.proofs.OrderLaws.{order_after}
-use Rattle.machine_laws.proofs.histories.each_event_keeps_order.Goals as goal
-
-pub returns : goal.returns
-returns c = λ w e k may. order_after w k e (number_in (reply w e)) may refl

@@ -1,5 +1,0 @@
-use Rattle.machine_laws.proofs.LiveRanges.{lives_agree}
-use Rattle.machine_laws.proofs.live_events.lives_agree.Goals as goal
-
-pub returns : goal.returns
-returns c = λ f s rs bytes k. lives_agree f s rs bytes k

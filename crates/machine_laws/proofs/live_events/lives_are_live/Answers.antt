@@ -1,5 +1,0 @@
-use Rattle.machine_laws.proofs.LiveMembers.{lists_live}
-use Rattle.machine_laws.proofs.live_events.lives_are_live.Goals as goal
-
-pub returns : goal.returns
-returns c = lists_live

@@ -1,5 +1,0 @@
-use Rattle.machine_laws.proofs.TurnsLaw.{turns_join}
-use Rattle.machine_laws.proofs.turns.turns_join.Goals as goal
-
-pub returns : goal.returns
-returns c = turns_join

@@ -1,5 +1,0 @@
-pub mod Cuts
-pub mod Walks
-pub mod LiveLists
-pub mod Named
-pub mod Histories

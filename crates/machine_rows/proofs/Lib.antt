@@ -1,0 +1,6 @@
+pub mod AccessRows
+pub mod ListenerRows
+pub mod WorldRows
+pub mod HistoryRows
+pub mod TurnRows
+pub mod PartRows

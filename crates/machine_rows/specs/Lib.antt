@@ -1,0 +1,7 @@
+pub mod Values
+pub mod AccessRows
+pub mod ListenerRows
+pub mod WorldRows
+pub mod HistoryRows
+pub mod TurnRows
+pub mod PartRows

@@ -1,0 +1,52 @@
+-- The place of a region among nodes that stand by ascending id.
+use Rattle.std.proofs.Common.{◌≡◌, ◌≢◌, ℕ, zero, suc, ◌+◌, ◌<◌, ◌≤◌, false, eqb, List, [], ◌∷◌, length, get_or, Option, Some, None, Err, refl, sym, ap, subst, ◌∙◌, arith}
+use Rattle.std.specs.List.Sorted.{IsBinarySearchResult, IsNonDecreasingBy}
+use Rattle.std.specs.declared.cmp.Ordering.TheVariants.{Equal}
+use Rattle.std.specs.Ordering.{nat_cmp, ordering_index}
+use Rattle.std.proofs.lemmas.Cmp.{ranked}
+use Rattle.std.proofs.lemmas.Bool.Decides.{nat_tests}
+use Rattle.mem_base.specs.declared.map.ids.RegionId.{RegionId}
+use Rattle.mem_base.specs.declared.map.forests.Node.{Node}
+use Rattle.mem_base.specs.map.Region.{IsAscending, node_of}
+use Rattle.mem_base.proofs.EveryLaws.{every_at}
+use Rattle.mem_base.proofs.ForestLaws.{node_of-itself}
+
+ids_rise : (nodes : List Node) (i j : ℕ) (d : Node) → IsAscending nodes → i < j → j < length nodes → (get_or nodes i d).id.0 < (get_or nodes j d).id.0
+ids_rise [] i j d h l m = absurd (omega arith)
+ids_rise (n ∷ ns) i zero d h l m = absurd (omega arith)
+ids_rise (n ∷ ns) zero (suc j) d h l m = every_at (λ m. n.id.0 < m.id.0) ns j d (omega arith) h.0
+ids_rise (n ∷ ns) (suc i) (suc j) d h l m = ids_rise ns i j d h.1 (omega arith) (omega arith)
+
+-- the region at a place is the one with its id
+found_there : (nodes : List Node) (i : ℕ) (d : Node) (r : RegionId) → i < length nodes → IsAscending nodes → (get_or nodes i d).id.0 ≡ r.0 →
+    node_of nodes r ≡ Some (get_or nodes i d)
+found_there nodes i d r l ascending e =
+    let same : (get_or nodes i d).id ≡ r = ap (λ (v : ℕ). let q : RegionId = record { 0 = v } in q) e in
+    ap (node_of nodes) (sym same) ∙ every_at (λ n. node_of nodes n.id ≡ Some n) nodes i d l (node_of-itself nodes ascending)
+
+-- a region whose id stands nowhere is not there
+missing : (nodes : List Node) (r : RegionId) → ((k : ℕ) (d : Node) → k < length nodes → (get_or nodes k d).id.0 ≢ r.0) → node_of nodes r ≡ None
+missing [] r h = refl
+missing (n ∷ ns) r h =
+    let first = h 0 n (omega arith) in
+    let t : eqb n.id.0 r.0 ≡ false = grind (arith, nat_tests) in
+    rw t (missing ns r (λ k d l. h (suc k) d (omega arith)))
+
+module _ (nodes : List Node) (ascending : IsAscending nodes) (r : RegionId) where
+  comparisons_rise : IsNonDecreasingBy (λ (n : Node). ordering_index (nat_cmp n.id.0 r.0)) nodes
+  comparisons_rise i j d le l =
+      let rise : (get_or nodes i d).id.0 ≤ (get_or nodes j d).id.0 =
+      grind (arith, ids_rise nodes i j d ascending, λ (same : i ≡ j). ap (λ k. (get_or nodes k d).id.0) same) in
+      grind (arith, nat_tests)
+
+  pub node_found : (i : ℕ) (d : Node) → i < length nodes → ((d : Node) → nat_cmp (get_or nodes i d).id.0 r.0 ≡ Equal) →
+      node_of nodes r ≡ Some (get_or nodes i d)
+  node_found i d l e = found_there nodes i d r l ascending (ranked _ r.0 _ (sym (e d)))
+
+  pub node_missing : (i : ℕ) → i ≤ length nodes → IsBinarySearchResult (λ (n : Node). nat_cmp n.id.0 r.0) nodes (Err i) → node_of nodes r ≡ None
+  node_missing i l e =
+      let parts = e comparisons_rise in
+      missing nodes r (λ k d m same.
+      let a : k < i → (get_or nodes k d).id.0 < r.0 = λ b. ranked _ r.0 _ (sym (parts.0 k d (omega arith) b)) in
+      let b : i ≤ k → r.0 < (get_or nodes k d).id.0 = λ c. ranked _ r.0 _ (sym (parts.1 k d c m)) in
+      grind (arith, a, b))

@@ -1,0 +1,20 @@
+-- The machine: transactions, generations, passes, and its histories.
+pub mod Committed
+pub mod Passes
+pub mod Generations
+pub mod Desk
+pub mod Reaps
+pub mod Publishing
+pub mod Configs
+pub mod Guards
+pub mod Histories
+pub mod World
+pub mod History
+pub mod ListenerReplay
+pub mod Orders
+pub mod Answers
+pub mod Composites
+pub mod SharedHistory
+pub mod Actors
+pub mod Turns
+pub mod JoinedHistory

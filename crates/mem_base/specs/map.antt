@@ -1,0 +1,21 @@
+-- The memory map: regions, the search of QEMU's manual, and the forest after each call.
+pub mod Limits
+pub mod Kinds
+pub mod Devices
+pub mod Clients
+pub mod Attributes
+pub mod Region
+pub mod Order
+pub mod Search
+pub mod Paths
+pub mod Steps
+pub mod Depths
+pub mod Entries
+pub mod Events
+pub mod Refusals
+pub mod TableRefusals
+pub mod Edits
+pub mod Changes
+pub mod Calls
+pub mod Touched
+pub mod Forest

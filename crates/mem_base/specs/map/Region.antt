@@ -1,0 +1,27 @@
+-- Regions by their ids and by their containers.
+use Rattle.std.specs.Prelude.{◌<◌, Bool, false, ◌==◌, List, [], ◌∷◌, Option, Some, None, find}
+use Rattle.mem_base.specs.declared.map.ids.RegionId.{RegionId}
+use Rattle.mem_base.specs.declared.map.forests.Node.{Node}
+use Rattle.mem_base.specs.lists.Every.{Every}
+
+-- the node's id is this one
+abbrev pub has_id : RegionId → Node → Bool
+has_id r n = n.id.0 == r.0
+
+-- the node with this id
+abbrev pub node_of : List Node → RegionId → Option Node
+node_of nodes r = find (has_id r) nodes
+
+-- the regions stand by ascending id
+abbrev pub IsAscending : List Node → Type 0
+IsAscending [] = Unit {0}
+IsAscending (n ∷ ns) = Every (λ m. n.id.0 < m.id.0) ns × IsAscending ns
+
+-- the container is this one
+abbrev pub is_in : RegionId → Option RegionId → Bool
+is_in r None = false
+is_in r (Some p) = p.0 == r.0
+
+-- the region is in this container
+abbrev pub is_child_of : RegionId → Node → Bool
+is_child_of r n = is_in r n.parent

@@ -1,0 +1,25 @@
+-- The script language, and what a run writes.
+pub mod Spelling
+pub mod Operands
+pub mod ChangeForms
+pub mod RegionForms
+pub mod DeskForms
+pub mod PassForms
+pub mod Forms
+pub mod Lines
+pub mod Scripts
+pub mod Printing
+pub mod Sound
+pub mod Named
+pub mod RefusalLines
+pub mod Watching
+pub mod Output
+pub mod Run
+pub mod Words
+pub mod Make
+pub mod Summary
+pub mod FirstSpelling
+pub mod FirstForm
+pub mod FirstScripts
+pub mod FirstOutput
+pub mod FirstRun

@@ -1,0 +1,218 @@
+-- The lines that a run of a script writes.
+-- Numbers of passes and generations, pages, sizes of ioeventfds, notifiers and logging masks are decimal; all other numbers
+-- are lower-case hexadecimal, without prefix or leading zeros.
+use Rattle.std.specs.Prelude.{ℕ, ◌==◌, Bool, if◌then◌else◌, List, [], ◌∷◌, ◌++◌, Option, Some, None, codes, decimal, ℤ, pos, int_lt, nat_abs}
+use Rattle.mem_base.specs.declared.map.ids.RegionId.{RegionId}
+use Rattle.mem_base.specs.declared.map.ids.ListenerId.{ListenerId}
+use Rattle.mem_base.specs.declared.map.ids.PassId.{PassId}
+use Rattle.mem_base.specs.declared.map.kinds.Client.{Client}
+use Rattle.mem_base.specs.declared.map.kinds.Kind.{Kind}
+use Rattle.mem_base.specs.declared.map.kinds.Kind.TheVariants.{Container, Ram, Rom, RomDevice, Io, Iommu, Alias, Reserve}
+use Rattle.mem_base.specs.declared.map.spots.Attrs.{Attrs}
+use Rattle.mem_base.specs.declared.map.spots.Spot.{Spot}
+use Rattle.mem_base.specs.declared.map.ioevents.Live.{Live}
+use Rattle.mem_base.specs.declared.views.flat.FlatRange.{FlatRange}
+use Rattle.mem_base.specs.declared.views.listening.RangeEvent.{RangeEvent}
+use Rattle.mem_base.specs.declared.views.listening.RangeEvent.TheVariants.{Delete, Add, Keep, LogStart, LogStop}
+use Rattle.mem_base.specs.declared.views.listening.ListenerEvent.{ListenerEvent}
+use Rattle.mem_base.specs.declared.views.listening.ListenerEvent.TheVariants.{Begin, Range, EventAdd, EventDel, Commit}
+use Rattle.mem_base.specs.declared.access.notices.Notice.{Notice}
+use Rattle.mem_base.specs.declared.access.notices.Notice.TheVariants.{Map, Unmap}
+use Rattle.mem_base.specs.declared.access.accesses.Access.{Access}
+use Rattle.mem_base.specs.declared.access.accesses.TxResult.{TxResult}
+use Rattle.mem_base.specs.views.Listening.{Delivery}
+use Rattle.mem_base.specs.script.Spelling.{Text}
+use Rattle.mem_base.specs.script.Printing.{bytes_text, client_text, pass_text, perm_text}
+use Rattle.mem_base.specs.script.Named.{Names, region_name, kind_named, space_name, listener_name, notifier_name}
+use Rattle.mem_base.specs.script.Watching.{Noticed}
+use Rattle.mem_base.specs.script.RefusalLines.{hex, line_feed}
+
+-- Spots and ranges
+
+abbrev pub kind_word : Kind → Text
+kind_word Container = codes "container"
+kind_word Ram = codes "ram"
+kind_word Rom = codes "rom"
+kind_word (RomDevice device) = codes "romdev"
+kind_word (Io device) = codes "io"
+kind_word Iommu = codes "iommu"
+kind_word (Alias target offset) = codes "alias"
+kind_word Reserve = codes "reserve"
+
+abbrev pub kind_text : Option Kind → Text
+kind_text None = []
+kind_text (Some kind) = kind_word kind
+
+abbrev pub flag_text : Bool → Text → Text
+flag_text on word = if on then word else []
+
+abbrev pub log_text : ℕ → Text
+log_text log = if log == 0 then [] else codes " log=" ++ decimal log
+
+-- read-only, non-volatile, ROM device mode, unmergeable, and a logging mask that is not 0, each after a space
+abbrev pub attrs_text : Attrs → Text
+attrs_text attrs =
+    flag_text attrs.readonly (codes " ro") ++ (flag_text attrs.nonvolatile (codes " nv") ++ (flag_text attrs.romd (codes " romd")
+    ++ (flag_text attrs.unmergeable (codes " um") ++ log_text attrs.log)))
+
+-- LEAF @OFFSET KIND FLAGS
+abbrev pub spot_text : Names → Spot → Text
+spot_text names s =
+    region_name names s.leaf ++ (codes " @" ++ (hex s.offset ++ (codes " " ++ (kind_text (kind_named names s.leaf) ++ attrs_text s.attrs))))
+
+abbrev pub found_text : Names → Option Spot → Text
+found_text names None = codes "hole"
+found_text names (Some s) = spot_text names s
+
+-- at SPACE ADDR SPOT, or at SPACE ADDR hole
+abbrev pub at_line : Names → Text → ℕ → Option Spot → Text
+at_line names space addr found =
+    codes "at " ++ (space ++ (codes " " ++ (hex addr ++ (codes " " ++ (found_text names found ++ line_feed)))))
+
+abbrev pub first_spot : FlatRange → Spot
+first_spot r = record { leaf = r.leaf; offset = r.offset; attrs = r.attrs }
+
+-- START-LAST SPOT
+abbrev pub range_text : Names → FlatRange → Text
+range_text names r = hex r.start ++ (codes "-" ++ (hex r.last ++ (codes " " ++ spot_text names (first_spot r))))
+
+abbrev pub range_line : Names → FlatRange → Text
+range_line names r = range_text names r ++ line_feed
+
+abbrev pub range_lines : Names → List FlatRange → Text
+range_lines names [] = []
+range_lines names (r ∷ rs) = range_line names r ++ range_lines names rs
+
+-- view SPACE gN
+abbrev pub view_line : Text → ℕ → Text
+view_line space generation = codes "view " ++ (space ++ (codes " g" ++ (decimal generation ++ line_feed)))
+
+-- Accesses
+
+-- ok, error, decode or error+decode
+abbrev pub result_text : TxResult → Text
+result_text r =
+    if r.error then (if r.decode then codes "error+decode" else codes "error")
+    else if r.decode then codes "decode" else codes "ok"
+
+-- vN gG
+abbrev pub entered_text : PassId → ℕ → Text
+entered_text pass generation = pass_text pass ++ (codes " g" ++ decimal generation)
+
+-- vN enter gG
+abbrev pub enter_line : PassId → ℕ → Text
+enter_line pass generation = pass_text pass ++ (codes " enter g" ++ (decimal generation ++ line_feed))
+
+-- vN leave
+abbrev pub leave_line : PassId → Text
+leave_line pass = pass_text pass ++ (codes " leave" ++ line_feed)
+
+-- vN gG read BYTES RESULT
+abbrev pub read_line : PassId → Access → List ℕ → Text
+read_line pass x bytes =
+    entered_text pass x.number ++ (codes " read " ++ (bytes_text bytes ++ (codes " " ++ (result_text x.result ++ line_feed))))
+
+-- vN gG write RESULT
+abbrev pub write_line : PassId → Access → Text
+write_line pass x = entered_text pass x.number ++ (codes " write " ++ (result_text x.result ++ line_feed))
+
+-- vN gG dma RESULT
+abbrev pub dma_line : PassId → Access → Text
+dma_line pass x = entered_text pass x.number ++ (codes " dma " ++ (result_text x.result ++ line_feed))
+
+abbrev pub published_text : Option ℕ → Text
+published_text None = []
+published_text (Some generation) = codes " g" ++ decimal generation
+
+-- vN do gG where a generation was published, else vN do
+abbrev pub do_line : PassId → Option ℕ → Text
+do_line pass published = pass_text pass ++ (codes " do" ++ (published_text published ++ line_feed))
+
+-- Notifiers, marks and releases
+
+-- notified N VALUE
+abbrev pub notified_line : ℕ → ℕ → Text
+notified_line number value = codes "notified " ++ (decimal number ++ (codes " " ++ (decimal value ++ line_feed)))
+
+abbrev pub page_list : List ℕ → Text
+page_list [] = []
+page_list (page ∷ pages) = codes " " ++ (decimal page ++ page_list pages)
+
+-- each after a space
+abbrev pub pages_text : List ℕ → Text
+pages_text [] = codes " none"
+pages_text (page ∷ pages) = page_list (page ∷ pages)
+
+-- dirty REGION CLIENT PAGES
+abbrev pub dirty_line : Text → Client → List ℕ → Text
+dirty_line region client pages =
+    codes "dirty " ++ (region ++ (codes " " ++ (client_text client ++ (pages_text pages ++ line_feed))))
+
+-- released REGION
+abbrev pub released_line : Names → RegionId → Text
+released_line names region = codes "released " ++ (region_name names region ++ line_feed)
+
+abbrev pub released_lines : Names → List RegionId → Text
+released_lines names [] = []
+released_lines names (r ∷ rs) = released_line names r ++ released_lines names rs
+
+-- Listeners: the calls that they got
+
+-- from A to B
+abbrev pub from_to_text : ℕ → ℕ → Text
+from_to_text from to = codes " from " ++ (decimal from ++ (codes " to " ++ decimal to))
+
+abbrev pub range_event_text : Names → RangeEvent → Text
+range_event_text names (Delete r) = codes "del " ++ range_text names r
+range_event_text names (Add r) = codes "add " ++ range_text names r
+range_event_text names (Keep r) = codes "keep " ++ range_text names r
+range_event_text names (LogStart range from to) = codes "logstart " ++ (range_text names range ++ from_to_text from to)
+range_event_text names (LogStop range from to) = codes "logstop " ++ (range_text names range ++ from_to_text from to)
+
+-- `-` before a negative number
+abbrev pub signed_hex : ℤ → Text
+signed_hex n = if int_lt n (pos 0) then 45 ∷ hex (nat_abs n) else hex (nat_abs n)
+
+-- VALUE, or `any` where every value fits
+abbrev pub value_text : Bool → ℕ → Text
+value_text matched value = if matched then hex value else codes "any"
+
+-- ADDR SIZE VALUE NUMBER
+abbrev pub live_text : Live → Text
+live_text l =
+    signed_hex l.addr ++ (codes " " ++ (decimal l.size ++ (codes " " ++ (value_text l.matched l.value ++ (codes " " ++ decimal l.number)))))
+
+abbrev pub listener_event_text : Names → ListenerEvent → Text
+listener_event_text names Begin = codes "begin"
+listener_event_text names (Range e) = range_event_text names e
+listener_event_text names (EventAdd l) = codes "event+ " ++ live_text l
+listener_event_text names (EventDel l) = codes "event- " ++ live_text l
+listener_event_text names Commit = codes "commit"
+
+-- a call that a listener got
+abbrev pub told_line : Names → Delivery → Text
+told_line names t = listener_name names t.0 ++ (codes " " ++ (listener_event_text names t.1 ++ line_feed))
+
+abbrev pub told_lines : Names → List Delivery → Text
+told_lines names [] = []
+told_lines names (t ∷ ts) = told_line names t ++ told_lines names ts
+
+-- Watchers
+
+-- FROM-TO
+abbrev pub offsets_text : ℕ → ℕ → Text
+offsets_text from to = hex from ++ (codes "-" ++ hex to)
+
+-- map FROM-TO SPACE ADDR PERM, or unmap FROM-TO
+abbrev pub notice_text : Names → Notice → Text
+notice_text names (Map p) =
+    codes "map " ++ (offsets_text p.from p.to ++ (codes " " ++ (space_name names p.space ++ (codes " " ++ (hex p.addr ++ (codes " " ++ perm_text p.perm))))))
+notice_text names (Unmap p) = codes "unmap " ++ offsets_text p.from p.to
+
+-- a notice that a watcher got
+abbrev pub notice_line : Names → Noticed → Text
+notice_line names x = notifier_name names x.0 ++ (codes " " ++ (notice_text names x.1 ++ line_feed))
+
+abbrev pub notice_lines : Names → List Noticed → Text
+notice_lines names [] = []
+notice_lines names (x ∷ xs) = notice_line names x ++ notice_lines names xs

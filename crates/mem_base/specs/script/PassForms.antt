@@ -1,0 +1,41 @@
+-- The lines of a pass, from their second word on.
+use Rattle.std.specs.Prelude.{ℕ, List, [], ◌∷◌, codes}
+use Rattle.mem_base.specs.declared.map.ids.PassId.{PassId}
+use Rattle.mem_base.specs.declared.script.commands.Command.{Command}
+use Rattle.mem_base.specs.declared.script.commands.Command.TheVariants as commands
+use Rattle.mem_base.specs.script.Spelling.{Text}
+use Rattle.mem_base.specs.script.Operands.{◌>>=◌, Form, address, bytes, ends, keyword, len, made_by, name, one_of}
+use Rattle.mem_base.specs.script.ChangeForms.{change}
+
+-- vN read SPACE ADDR LEN
+abbrev pub pass_read : PassId → Form Command
+pass_read pass = do ends (commands.PassRead pass (← name) (← address) (← len))
+
+-- vN write SPACE ADDR BYTES
+abbrev pub pass_write : PassId → Form Command
+pass_write pass = do ends (commands.PassWrite pass (← name) (← address) (← bytes))
+
+-- vN dma SPACE ADDR LEN to SPACE ADDR
+abbrev pub pass_dma : PassId → Form Command
+pass_dma pass = do
+  space ← name
+  addr ← address
+  n ← len
+  _ ← keyword (codes "to")
+  ends (commands.PassDma pass space addr n (← name) (← address))
+
+-- vN do COMMAND
+abbrev pub pass_do : PassId → Form Command
+pass_do pass tokens = made_by (commands.PassDo pass) (change tokens)
+
+abbrev pub pass_forms : PassId → List (Text × Form Command)
+pass_forms pass =
+    (codes "enter", ends (commands.PassEnter pass)) ∷ (codes "leave", ends (commands.PassLeave pass))
+    ∷ (codes "read", pass_read pass) ∷ (codes "write", pass_write pass) ∷ (codes "do", pass_do pass)
+    ∷ (codes "dma", pass_dma pass) ∷ []
+
+-- vN, and what the pass does
+abbrev pub pass_line : ℕ → Form Command
+pass_line n = do
+  form ← one_of (pass_forms (record { 0 = n }))
+  form

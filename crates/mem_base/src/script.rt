@@ -1,0 +1,9 @@
+// The script language.
+
+pub mod changes;
+pub mod commands;
+pub mod faults;
+pub mod first;
+pub mod places;
+pub mod tasks;
+pub mod words;

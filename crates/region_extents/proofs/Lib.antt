@@ -1,0 +1,10 @@
+pub mod ExtentsLaws
+pub mod SettledLaws
+pub mod StretchLaws
+pub mod RaiseLaws
+pub mod UsersLaws
+pub mod JoinedLaws
+pub mod BesideLaws
+pub mod LeftLaws
+pub mod ReachLaws
+pub mod DroppedLaws

@@ -1,0 +1,260 @@
+// The forest of regions: what it is seen as, and what it tells.
+
+ghost use Rattle.std.specs.Prelude.{◌≡◌, ◌≤◌, [], length, filter, Option, None, Some, option_copied, IsSome, IfOk, OnOk, ◌++◌, ◌∷◌, if◌then◌else◌};
+ghost use Rattle.mem_base.specs.map.Region.{node_of};
+ghost use Rattle.mem_base.specs.map.Order.{children_of, ids_of};
+ghost use Rattle.mem_base.specs.map.Search.{root_of};
+ghost use Rattle.mem_base.specs.map.Forest.{IsOrderedForest, IsClosedForest};
+ghost use Rattle.mem_base.specs.map.Calls.{empty};
+ghost use Rattle.mem_base.specs.map.Steps.{reaches, depth_of, weight_of};
+ghost use Rattle.mem_base.specs.map.Touched.{reached};
+ghost use Rattle.region_slots.specs.Slots.{nodes_of, placed_of};
+ghost use Rattle.region_tree.specs.Reach.{picked};
+
+use mem_base::{Forest, MOST_DEPTH, Node, Nodes, RegionId, SpaceId, Spaces};
+use region_extents::{Kept, depth_within, kept_extent, mark_within, weight_within};
+use region_slots::{Child, Slot, Slots, copied};
+use std::alloc::{AllocError, Global};
+use std::marker::Model;
+
+/// The forest of regions and the address spaces over it.
+///
+/// It is seen as a `Forest`. A region is found by one look at its place as long as none was dropped, and else in time
+/// that grows with the logarithm of the number of regions. Depth and weight are kept: a change looks only at what
+/// stands above it.
+#[derive(Debug, Drop)]
+pub struct Tree {
+    pub(crate) alloc: Global,
+    pub(crate) slots: Slots,
+    pub(crate) kept: Kept,
+    pub(crate) spaces: Vec<(SpaceId, RegionId)>,
+    pub(crate) made: u32,
+    pub(crate) placings: u64,
+    pub(crate) calls: u64,
+    pub(crate) global: bool,
+}
+
+impl Model for Tree {
+    ghost use Rattle.mem_base.specs.declared.map.forests.Forest.{Forest};
+
+    ghost Value = { Forest };
+
+    ghost use Rattle.region_tree.specs.Tree.{forest_of, IsTree};
+
+    ghost view = { forest_of };
+
+    ghost invariant = { IsTree };
+}
+
+/// The same spaces once more.
+fn copied_spaces(spaces: &Vec<(SpaceId, RegionId)>) -> Result<Vec<(SpaceId, RegionId)>, AllocError>
+    ensures { IfOk result (λ copy. copy.items ≡ spaces.now.items) }
+{
+    Ok(spaces.clone()?)
+}
+
+impl Tree {
+    /// The empty forest: no region, no space, and nothing done yet. It takes no memory.
+    pub fn new(alloc: Global) -> Tree
+        ensures { result ≡ empty }
+    {
+        Tree {
+            alloc,
+            slots: Slots::new(alloc),
+            kept: Kept::new(alloc),
+            spaces: Vec::new(alloc),
+            made: 0,
+            placings: 0,
+            calls: 0,
+            global: false,
+        }
+    }
+
+    /// The region with this id, or `None` where it is not in the forest.
+    pub fn node(&self, region: RegionId) -> Option<&Node>
+        ensures value { option_copied result ≡ node_of self.now.nodes region }
+        ensures forest { IsOrderedForest self.now }
+        ensures sound { IsClosedForest self.now }
+    {
+        self.slots.get(region)
+    }
+
+    /// The children of a region, in the order in which they are tried: by priority descending, and among
+    /// equals the one that was placed last first.
+    ///
+    /// QEMU's manual, "The memory API", "Overlapping regions and priority", and QEMU's core.
+    pub fn children(&self, region: RegionId) -> &[RegionId]
+        requires { IsSome (node_of self.now.nodes region) }
+        ensures { result.now ≡ ids_of (children_of self.now.nodes region) }
+    {
+        self.slots.child_ids(region)
+    }
+
+    /// The children of a region, in the same order, each with its offset and its priority: what a search and a
+    /// rendering need of a child before they look at the region itself.
+    pub fn placed_children(&self, region: RegionId) -> &[Child]
+        requires { IsSome (node_of self.now.nodes region) }
+        ensures { result.now ≡ placed_of (children_of self.now.nodes region) }
+    {
+        self.slots.children(region).as_slice()
+    }
+
+    /// The root of a space, or `None` where there is no such space.
+    pub fn root(&self, space: SpaceId) -> Option<RegionId>
+        ensures { result ≡ root_of self.now space }
+    {
+        for (s, root) in self.spaces.iter() {
+            if s.0 == space.0 {
+                return Some(*root);
+            }
+        }
+        None
+    }
+
+    /// Whether global logging is on.
+    pub fn is_global(&self) -> bool
+        ensures { result ≡ self.now.global }
+    {
+        self.global
+    }
+
+    /// The number of accepted calls.
+    pub(crate) fn calls(&self) -> u64
+        ensures { result ≡ self.now.calls }
+    {
+        self.calls
+    }
+
+    /// The number of regions made.
+    pub(crate) fn made(&self) -> u32
+        ensures { result ≡ self.now.made }
+    {
+        self.made
+    }
+
+    /// The spaces and their roots, in order of making.
+    pub(crate) fn spaces(&self) -> &[(SpaceId, RegionId)]
+        ensures { result.now ≡ self.now.spaces }
+    {
+        self.spaces.as_slice()
+    }
+
+    /// All regions, by ascending id.
+    pub(crate) fn slots(&self) -> &Slots
+        ensures { result.now ≡ self.now.nodes }
+    {
+        &self.slots
+    }
+
+    /// The regions on the longest path of steps from a region to a child, or from an alias to its target.
+    ///
+    /// It takes no memory. Flags do not count.
+    pub fn depth(&self, region: RegionId) -> u32
+        requires { IsSome (node_of self.now.nodes region) }
+        ensures value { result ≡ depth_of self.now.nodes region }
+        ensures within { result ≤ 32 }
+    {
+        let _ = &self.alloc;
+        match kept_extent(self.slots.as_slice(), &self.kept, region) {
+            Some(extent) => extent.depth,
+            None => depth_within(&self.slots, 2 * MOST_DEPTH, region),
+        }
+    }
+
+    /// 1 plus the weights of all children of a region, and for an alias 1 plus the weight of its target.
+    ///
+    /// It takes no memory. Flags do not count.
+    pub fn weight(&self, region: RegionId) -> u64
+        requires { IsSome (node_of self.now.nodes region) }
+        ensures value { result ≡ weight_of self.now.nodes region }
+        ensures within { result ≤ 65536 }
+    {
+        let _ = &self.alloc;
+        match kept_extent(self.slots.as_slice(), &self.kept, region) {
+            Some(extent) => extent.weight,
+            None => weight_within(&self.slots, 2 * MOST_DEPTH, region),
+        }
+    }
+
+    /// The regions that are reached in a space, by ascending id: its root, and the children and the alias target of each
+    /// reached region. The list is empty where there is no such space.
+    ///
+    /// It fails only where memory runs out.
+    pub fn reach(&self, space: SpaceId) -> Result<Vec<RegionId>, AllocError>
+        ensures { IfOk result (λ list. list.items ≡ reached self.now space) }
+    {
+        match self.root(space) {
+            Some(root) => Ok(reached_from(self.alloc, &self.slots, root)?),
+            None => Ok(Vec::new(self.alloc)),
+        }
+    }
+
+    /// A tree of the same forest, which shares nothing with this one.
+    pub fn try_copy(&self) -> Result<Tree, AllocError>
+        ensures { IfOk result (λ copy. copy ≡ self.now) }
+    {
+        let slots = self.slots.try_copy(self.alloc)?;
+        let kept = self.kept.try_copy(self.alloc)?;
+        let spaces = copied_spaces(&self.spaces)?;
+        Ok(Tree {
+            alloc: self.alloc,
+            slots,
+            kept,
+            spaces,
+            made: self.made,
+            placings: self.placings,
+            calls: self.calls,
+            global: self.global,
+        })
+    }
+
+    /// The forest that the tree is seen as.
+    pub fn forest(&self) -> Result<Forest, AllocError>
+        ensures { IfOk result (λ forest. forest ≡ self.now) }
+    {
+        let mut nodes = Vec::new(self.alloc);
+        for slot in self.slots.as_slice() {
+            nodes.push(copied(&slot.node)?)?;
+        }
+        Ok(Forest {
+            nodes: Nodes::new(nodes),
+            spaces: Spaces::new(self.spaces.clone()?),
+            made: self.made,
+            placings: self.placings,
+            calls: self.calls,
+            global: self.global,
+        })
+    }
+}
+
+/// The regions that are reached from one of them, by ascending id.
+fn reached_from(alloc: Global, slots: &Slots, root: RegionId) -> Result<Vec<RegionId>, AllocError>
+    ensures { IfOk result (λ list. list.items ≡ ids_of (filter (λ n. reaches slots.now root n.id) slots.now)) }
+{
+    let mut marks = vec![in alloc; false; slots.len()]?;
+    mark_within(slots, 2 * MOST_DEPTH, root, &mut marks);
+    let list = picked(alloc, slots.as_slice(), &marks)?;
+    Ok(list)
+}
+
+/// The regions that have a mark beside them.
+fn picked(alloc: Global, slots: &[Slot], marks: &[bool]) -> Result<Vec<RegionId>, AllocError>
+    requires { length marks.now ≡ length slots.now }
+    ensures { IfOk result (λ list. list.items ≡ picked (nodes_of slots.now) marks.now) }
+{
+    let mut list = Vec::new(alloc);
+    for (at, slot) in slots.iter().enumerate() {
+        pick(&mut list, slot.node.id, marks[at])?;
+    }
+    Ok(list)
+}
+
+/// Puts a region after those that were picked, if it has a mark.
+fn pick(list: &mut Vec<RegionId>, region: RegionId, mark: bool) -> Result<(), AllocError>
+    ensures { OnOk result (list.new.items ≡ list.old.items ++ (if mark then region ∷ [] else [])) }
+{
+    if mark {
+        list.push(region)?;
+    }
+    Ok(())
+}

@@ -1,0 +1,6 @@
+use Rattle.script_make.proofs.Steps.{command_pushed}
+use Rattle.script_make.proofs.regions.push_placed.Goals as goal
+
+pub returns : goal.returns
+returns c =
+    command_pushed _ c.push.new.self.items c.in_ok-command.command c.draw_place.new.rng _ c.in_ok-push.ensures.items c.in_ok-command.ensures

@@ -1,0 +1,158 @@
+// The lines that read and write, and the moves between them.
+ghost use Rattle.std.specs.Prelude.{◌≡◌, ◌<◌, ◌≤◌, IfOk, OnOk, ◌++◌, ◌∷◌, []};
+ghost use Rattle.mem_base.specs.script.Make.{draw, draw_access, draw_accesses, draw_bytes, draw_move, draw_move_at, draw_way, draw_write};
+ghost use Rattle.script_make.specs.Draws.{AccessPushed, Appended, AccessDrawn, draw_len, first_accesses, one_access};
+ghost use Rattle.rand_pcg.specs.Pcg.{pcg32};
+
+use crate::draws::{draw, draw_page, name_of, region_name};
+use mem_base::{Bytes, Command, MapChange, PassId};
+use rand_pcg::Lcg64Xsh32;
+use std::alloc::{AllocError, Global};
+
+// A region of the 2,000, and a place of the 4,096.
+fn draw_move(alloc: Global, rng: &mut Lcg64Xsh32) -> Result<Command, AllocError>
+    ensures { IfOk result (λ command. (command ∷ [], rng.new) ≡ draw_move pcg32 rng.old) }
+{
+    let region = draw(rng, 2000);
+    let offset = draw_page(rng, 4096);
+    Ok(Command::Change(MapChange::Move {
+        child: region_name(alloc, region)?,
+        offset,
+    }))
+}
+
+fn push_drawn_move(
+    alloc: Global,
+    rng: &mut Lcg64Xsh32,
+    commands: &mut Vec<Command>,
+) -> Result<(), AllocError>
+    ensures { OnOk result (Appended commands.old.items commands.new.items rng.new (draw_move pcg32 rng.old)) }
+{
+    let command = draw_move(alloc, rng)?;
+    commands.push(command)?;
+    Ok(())
+}
+
+// Each hundredth access comes after a move.
+fn push_move(
+    alloc: Global,
+    rng: &mut Lcg64Xsh32,
+    t: u32,
+    commands: &mut Vec<Command>,
+) -> Result<(), AllocError>
+    ensures { OnOk result (Appended commands.old.items commands.new.items rng.new (draw_move_at pcg32 t rng.old)) }
+{
+    if t % 100 != 99 {
+        return Ok(());
+    }
+    push_drawn_move(alloc, rng, commands)?;
+    Ok(())
+}
+
+fn draw_byte(rng: &mut Lcg64Xsh32) -> u8
+    ensures { (result, rng.new) ≡ draw pcg32 256 rng.old }
+{
+    draw(rng, 256) as u8
+}
+
+fn draw_bytes(alloc: Global, rng: &mut Lcg64Xsh32, count: u8) -> Result<Vec<u8>, AllocError>
+    ensures { IfOk result (λ bytes. (bytes.items, rng.new) ≡ draw_bytes pcg32 count rng.old) }
+{
+    let mut bytes = Vec::new(alloc);
+    for i in 0..count {
+        let byte = draw_byte(rng);
+        bytes.push(byte)?;
+    }
+    Ok(bytes)
+}
+
+// A read where the way is 0, else a write.
+fn draw_way(
+    alloc: Global,
+    rng: &mut Lcg64Xsh32,
+    way: u32,
+    pass: PassId,
+    addr: u64,
+    len: u8,
+) -> Result<Command, AllocError>
+    ensures { IfOk result (λ command. (command, rng.new) ≡ draw_way pcg32 way pass addr len rng.old) }
+{
+    if way == 0 {
+        return Ok(Command::PassRead {
+            pass,
+            space: name_of(alloc, b"s")?,
+            addr,
+            len,
+        });
+    }
+    let bytes = draw_bytes(alloc, rng, len)?;
+    Ok(Command::PassWrite {
+        pass,
+        space: name_of(alloc, b"s")?,
+        addr,
+        bytes: Bytes::new(bytes),
+    })
+}
+
+// A length of 1 to 8 bytes.
+fn draw_len(rng: &mut Lcg64Xsh32) -> u8
+    ensures value { (result, rng.new) ≡ draw_len pcg32 rng.old }
+    ensures bound { result ≤ 8 }
+{
+    1 + draw(rng, 8) as u8
+}
+
+// A read or a write of 1 to 8 bytes by one of 16 passes.
+
+fn draw_access(alloc: Global, rng: &mut Lcg64Xsh32) -> Result<Command, AllocError>
+    ensures { IfOk result (λ command. (command, rng.new) ≡ one_access pcg32 rng.old) }
+{
+    let pass = PassId(draw(rng, 16));
+    let way = draw(rng, 2);
+    let page = draw_page(rng, 4096);
+    let offset = draw(rng, 4096);
+    let len = draw_len(rng);
+    let command = draw_way(alloc, rng, way, pass, page + u64::from(offset), len)?;
+    Ok(command)
+}
+
+fn push_drawn_access(
+    alloc: Global,
+    rng: &mut Lcg64Xsh32,
+    commands: &mut Vec<Command>,
+) -> Result<(), AllocError>
+    ensures { OnOk result (AccessDrawn pcg32 commands.old.items commands.new.items rng.old rng.new) }
+{
+    let command = draw_access(alloc, rng)?;
+    commands.push(command)?;
+    Ok(())
+}
+
+// Access t, and the move before it.
+fn push_access(
+    alloc: Global,
+    rng: &mut Lcg64Xsh32,
+    t: u32,
+    commands: &mut Vec<Command>,
+) -> Result<(), AllocError>
+    ensures { OnOk result (AccessPushed pcg32 t commands.old.items commands.new.items rng.old rng.new) }
+{
+    push_move(alloc, rng, t, commands)?;
+    push_drawn_access(alloc, rng, commands)?;
+    Ok(())
+}
+
+/// The lines of this many accesses.
+pub fn draw_accesses(
+    alloc: Global,
+    rng: &mut Lcg64Xsh32,
+    count: u32,
+) -> Result<Vec<Command>, AllocError>
+    ensures { IfOk result (λ commands. (commands.items, rng.new) ≡ first_accesses pcg32 count rng.old) }
+{
+    let mut commands = Vec::new(alloc);
+    for t in 0..count {
+        push_access(alloc, rng, t, &mut commands)?;
+    }
+    Ok(commands)
+}

@@ -1,0 +1,4 @@
+pub mod Dash
+pub mod App
+pub mod Agrees
+pub mod Reads

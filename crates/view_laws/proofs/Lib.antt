@@ -1,0 +1,14 @@
+pub mod Tests
+pub mod CutLaws
+pub mod RangeLaws
+pub mod WalkLaws
+pub mod SortedLaws
+pub mod LiveLaws
+pub mod LiveRanges
+pub mod LiveMembers
+pub mod NamingLaws
+pub mod ShownEvents
+pub mod TouchedLaws
+pub mod ViewRanges
+pub mod SwitchLaws
+pub mod Projections

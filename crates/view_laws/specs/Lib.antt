@@ -1,0 +1,6 @@
+pub mod Cuts
+pub mod Walks
+pub mod LiveLists
+pub mod Named
+pub mod Deliveries
+pub mod Untouched
