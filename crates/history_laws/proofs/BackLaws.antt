@@ -26,7 +26,7 @@ use Rattle.mem_base.specs.map.TableRefusals.{no_more_calls}
 use Rattle.mem_base.specs.map.Edits.{retargeted, edited}
 use Rattle.mem_base.specs.map.Calls.{after as forest_after, refusals, counted, answer_of, is_quiet}
 use Rattle.mem_base.specs.map.Changes.{changed, changed_at, moved, made_region}
-use Rattle.mem_base.specs.access.Editions.{place_in}
+use Rattle.mem_base.specs.access.PlacesByRegion.{place_in}
 use Rattle.mem_base.specs.access.Places.{Extent, extent_of, words_of, place_from, past, is_notifiers, notifiers_place, first_fit}
 use Rattle.mem_base.specs.access.EditionPlaces.{ArePlacesApart}
 use Rattle.mem_base.specs.declared.map.calls.Config.{Config}

@@ -75,8 +75,8 @@ put_rising : (x : RegionId) (xs : List RegionId) → Every (Other x) xs → IsRi
 put_rising x [] h k = (tt, tt)
 put_rising x (y ∷ ys) h k = go (nat_cmp x.0 y.0) refl (put_rising x ys h.1 k.1)
   where
-    behind : y.0 < x.0 → Every (λ z. region_order y z ≡ Less) (put_by region_order x ys)
-    behind l = every_put (λ z. region_order y z ≡ Less) region_order x ys (less_of y.0 x.0 l) k.0
+    larger : y.0 < x.0 → Every (λ z. region_order y z ≡ Less) (put_by region_order x ys)
+    larger l = every_put (λ z. region_order y z ≡ Less) region_order x ys (less_of y.0 x.0 l) k.0
 
     more : (o : Ordering) → nat_cmp x.0 y.0 ≡ o → (o ≡ Less → ⊥) → y.0 < x.0
     more o e ne = let far : x.0 < y.0 → ⊥ = (λ l. ne (sym e ∙ less_of x.0 y.0 l)) in let other = h.0 in grind (arith, far, other)
@@ -91,8 +91,8 @@ put_rising x (y ∷ ys) h k = go (nat_cmp x.0 y.0) refl (put_rising x ys h.1 k.1
       ),
       k,
     )
-    go Equal e rest = (behind (more Equal e (λ q. let f : Equal ≡ Less = q in cc)), rest)
-    go Greater e rest = (behind (more Greater e (λ q. let f : Greater ≡ Less = q in cc)), rest)
+    go Equal e rest = (larger (more Equal e (λ q. let f : Equal ≡ Less = q in cc)), rest)
+    go Greater e rest = (larger (more Greater e (λ q. let f : Greater ≡ Less = q in cc)), rest)
 
 rising_filter : (test : RegionId → Bool) (xs : List RegionId) → IsRising region_order xs → IsRising region_order (filter test xs)
 rising_filter test [] k = tt

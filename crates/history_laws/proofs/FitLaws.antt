@@ -7,7 +7,7 @@ use Rattle.mem_base.specs.declared.map.ids.RegionId.{RegionId}
 use Rattle.mem_base.specs.declared.access.cells.Place.{Place}
 use Rattle.mem_base.specs.lists.Booleans.{bool_eq}
 use Rattle.mem_base.specs.lists.Every.{Every}
-use Rattle.mem_base.specs.access.Editions.{place_in}
+use Rattle.mem_base.specs.access.PlacesByRegion.{place_in}
 use Rattle.mem_base.specs.lists.Runs.{Run, runs, put_before}
 use Rattle.mem_base.specs.access.Places.{past, is_free, is_as_free, holes, first_fit, notifiers_place}
 use Rattle.mem_base.proofs.EveryLaws.{both as both_each}

@@ -18,7 +18,7 @@ use Rattle.mem_base.specs.lists.Every.{Every}
 use Rattle.mem_base.specs.map.Forest.{IsOrderedForest}
 use Rattle.mem_base.specs.map.Calls.{after as forest_after, refusals}
 use Rattle.mem_base.specs.map.TableRefusals.{no_more_calls}
-use Rattle.mem_base.specs.access.Editions.{place_in}
+use Rattle.mem_base.specs.access.PlacesByRegion.{place_in}
 use Rattle.mem_base.specs.access.Places.{notifiers_place, is_notifiers}
 use Rattle.mem_base.specs.machine.Desk.{Desk, places_of}
 use Rattle.mem_base.specs.machine.Generations.{nothing_known}

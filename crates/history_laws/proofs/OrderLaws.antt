@@ -28,7 +28,7 @@ use Rattle.mem_base.specs.machine.Passes.{PassState, pass_of, with_pass, idle}
 use Rattle.mem_base.specs.machine.Generations.{PassTrack, nothing_known, Generations, Generation, known_of, known_after_sweep, pin_word, with_placed}
 use Rattle.mem_base.specs.machine.Desk.{Desk}
 use Rattle.mem_base.specs.views.Listening.{Listening}
-use Rattle.mem_base.specs.machine.Publishing.{settled, refused_desk, unless_refused, would_publish, is_behind, held_at, held_from, held_up, readied, publishing}
+use Rattle.mem_base.specs.machine.Publishing.{settled, refused_desk, unless_refused, would_publish, holds_up, held_at, held_from, held_up, readied, publishing}
 use Rattle.mem_base.specs.machine.Configs.{configured, made, backed, kept_back, after_call, begun, committed, without_listener}
 use Rattle.mem_base.specs.machine.World.{World, possible, reply, after_telling, number_in, opening}
 use Rattle.mem_base.specs.machine.History.{PureEntry, after_entry, after_entries, IsLegalFrom, IsLegal, IsInOrder, is_swept, AllInOrder, IsOrderly}
@@ -191,7 +191,7 @@ readies c due k p ok free = record {
 
 -- no pass holds a publish up
 
-past_first : (c w : ℕ) (ks : List PassTrack) (o : Option ℕ) → (if is_behind c o then held_at (record { 0 = w }) o else held_from c (w + 1) ks) ≡ None
+past_first : (c w : ℕ) (ks : List PassTrack) (o : Option ℕ) → (if holds_up c o then held_at (record { 0 = w }) o else held_from c (w + 1) ks) ≡ None
     → ((q : ℕ) → o ≡ Some q → c < q + 7) × (held_from c (w + 1) ks ≡ None)
 past_first c w ks None h = (λ q e. absurd (none_is_no_number q e), h)
 past_first c w ks (Some p) h = go (nat_le (p + 7) c) refl h
@@ -201,10 +201,10 @@ past_first c w ks (Some p) h = go (nat_le (p + 7) c) refl h
     go true e h = none_is_not_some (Held (record { 0 = w }) p) (sym h)
     go false e h = (λ q z. let same = same_number p q z in let far = leb-false _ _ e in omega arith, h)
 
-none_behind : (c w : ℕ) (ks : List PassTrack) → held_from c w ks ≡ None → (v q : ℕ) → (get_or ks v nothing_known).found ≡ Some q → c < q + 7
-none_behind c w [] h v q e = absurd (none_is_no_number q e)
-none_behind c w (k ∷ ks) h zero q e = (past_first c w ks k.found h).0 q e
-none_behind c w (k ∷ ks) h (suc v) q e = none_behind c (w + 1) ks (past_first c w ks k.found h).1 v q e
+none_after : (c w : ℕ) (ks : List PassTrack) → held_from c w ks ≡ None → (v q : ℕ) → (get_or ks v nothing_known).found ≡ Some q → c < q + 7
+none_after c w [] h v q e = absurd (none_is_no_number q e)
+none_after c w (k ∷ ks) h zero q e = (past_first c w ks k.found h).0 q e
+none_after c w (k ∷ ks) h (suc v) q e = none_after c (w + 1) ks (past_first c w ks k.found h).1 v q e
 
 -- what a private event does to what is due and to who is swept
 record Settles (g : Generations) (d : Desk) (k : Config) (m : Desk) : Type 0 where
@@ -388,7 +388,7 @@ privates_all due sw bs g ps k same ready = record {
         readies g.current false (known_of g v) (pass_of ps v)
         (subst (λ (b : Bool). IsInOrder g.current false b (known_of g v) (pass_of ps v))
         (all_at sw v.0 all.0 (subst (λ (m : ℕ). v.0 < m) (sym k.all_flagged) l)) (k.each v l))
-        (λ q e. none_behind g.current 0 g.passes all.1 v.0 q e)
+        (λ q e. none_after g.current 0 g.passes all.1 v.0 q e)
 
 -- each event keeps the facts
 pub order_after : (w : World) → IsOrderly w → (e : Event) (n : ℕ) → possible w e ≡ true → number_in (reply w e) ≡ n → IsOrderly (after_telling w e n)

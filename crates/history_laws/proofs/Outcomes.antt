@@ -45,9 +45,9 @@ abbrev pub Distinct : List Cell → Type 0
 Distinct [] = Unit {0}
 Distinct (c ∷ cs) = Every (λ x. is_same_cell c x ≡ false) cs × Distinct cs
 
-behind_cells : (r : RegionId) (i a n : ℕ) → i < a → Every (λ x. is_same_cell (cell r i) x ≡ false) (map (cell r) (range_with_len a n))
-behind_cells r i a zero l = tt
-behind_cells r i a (suc n) l = (go (r.0 == r.0) (ne_eqb i a (λ e. omega arith)), behind_cells r i (a + 1) n (omega arith))
+after_cells : (r : RegionId) (i a n : ℕ) → i < a → Every (λ x. is_same_cell (cell r i) x ≡ false) (map (cell r) (range_with_len a n))
+after_cells r i a zero l = tt
+after_cells r i a (suc n) l = (go (r.0 == r.0) (ne_eqb i a (λ e. omega arith)), after_cells r i (a + 1) n (omega arith))
   where
     go : (b : Bool) → eqb i a ≡ false → (b && (i == a)) ≡ false
     go true e = e
@@ -55,7 +55,7 @@ behind_cells r i a (suc n) l = (go (r.0 == r.0) (ne_eqb i a (λ e. omega arith))
 
 cells_distinct : (r : RegionId) (a n : ℕ) → Distinct (map (cell r) (range_with_len a n))
 cells_distinct r a zero = tt
-cells_distinct r a (suc n) = (behind_cells r a (a + 1) n (omega arith), cells_distinct r (a + 1) n)
+cells_distinct r a (suc n) = (after_cells r a (a + 1) n (omega arith), cells_distinct r (a + 1) n)
 
 -- what stands, of a desk
 abbrev pub stands : Desk → TransactionState

@@ -13,7 +13,7 @@ use Rattle.mem_base.specs.map.Limits.{most_depth}
 use Rattle.mem_base.specs.map.Region.{IsAscending, node_of}
 use Rattle.mem_base.specs.map.Order.{children_of}
 use Rattle.mem_base.specs.map.Search.{Found, Search, passed, itself, first_of_children, inside, at_node, found_in, root_of}
-use Rattle.mem_base.specs.access.Editions.{notifiers, place_in}
+use Rattle.mem_base.specs.access.PlacesByRegion.{notifiers, place_in}
 use Rattle.mem_base.specs.access.Places.{extent_of, place_from, past, is_notifiers, notifiers_place}
 use Rattle.mem_base.specs.access.EditionPlaces.{IsRegionPlace, IsNotifiersPlace, HasPlace, ArePlacesApart, ArePlacesOf}
 use Rattle.mem_base.specs.views.Naming.{names, shows_events}

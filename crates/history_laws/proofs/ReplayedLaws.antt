@@ -295,16 +295,16 @@ leaves_told f x told gone_id l k there = record {
 
 record GoesOn (x y : Listening) (joins : ListenerId → Bool) : Type 0 where
   more : List Delivery
-  behind : y.journal ≡ x.journal ++ more
+  grown : y.journal ≡ x.journal ++ more
   stayed : (id : ListenerId) (l : Listener) → joins id ≡ false → listener_of y.listeners id ≡ Some l → listener_of x.listeners id ≡ Some l
   came : (id : ListenerId) → joins id ≡ true → listener_of x.listeners id ≡ None
 
 stays : (x : Listening) (joins : ListenerId → Bool) → ((id : ListenerId) → joins id ≡ false) → GoesOn x x joins
-stays x joins none = record { more = []; behind = sym (append-nil x.journal); stayed = λ id l e s. s; came = λ id e. true_is_not_false (joins id) e (none id) }
+stays x joins none = record { more = []; grown = sym (append-nil x.journal); stayed = λ id l e s. s; came = λ id e. true_is_not_false (joins id) e (none id) }
 
 longer : (x : Listening) (more : List Delivery) (joins : ListenerId → Bool) → ((id : ListenerId) → joins id ≡ false)
     → GoesOn x (record { listeners = x.listeners; journal = x.journal ++ more }) joins
-longer x more joins none = record { more = more; behind = refl; stayed = λ id l e s. s; came = λ id e. true_is_not_false (joins id) e (none id) }
+longer x more joins none = record { more = more; grown = refl; stayed = λ id l e s. s; came = λ id e. true_is_not_false (joins id) e (none id) }
 
 -- the private events
 
@@ -414,7 +414,7 @@ module _ (g : Generations) (d : Desk) (off : d.due ≡ false) (k : IsTold d.fore
         (joins_told d.forest d.listening now l k free there);
     goes_on = record {
       more = deliveries_to l.listener (joining (view_of now l.space) (lives_of now l.space));
-      behind = refl;
+      grown = refl;
       stayed = λ id z e s. sym (find_push (is_listener id) d.listening.listeners l e) ∙ s;
       came = λ id e. subst (λ (i : ListenerId). listener_of d.listening.listeners i ≡ None) (same_id l.listener id e)
           (one_more (is_listener l.listener) d.listening.listeners l free (itself l.listener)).none;
@@ -470,7 +470,7 @@ module _ (g : Generations) (d : Desk) (off : d.due ≡ false) (k : IsTold d.fore
         (leaves_told d.forest d.listening now id l k there);
     goes_on = record {
       more = deliveries_to id (leaving (view_of now l.space) (lives_of now l.space));
-      behind = refl;
+      grown = refl;
       stayed = λ i z e s. stayed i z (id.0 == i.0) refl s;
       came = λ i e. absurd (grind arith);
     };
@@ -554,19 +554,19 @@ starts_free : (x y : Listening) (joins : ListenerId → Bool) (told : Forest) (i
 starts_free x y joins told id n go r k = at (joins id) refl
   where
     enough : length x.journal ≤ length y.journal
-    enough = let e : length y.journal ≡ length x.journal + length go.more = ap (λ (ts : List Delivery). length ts) go.behind
+    enough = let e : length y.journal ≡ length x.journal + length go.more = ap (λ (ts : List Delivery). length ts) go.grown
         ∙ length-append x.journal go.more in omega arith
 
     at : (b : Bool) → joins id ≡ b → StartsFree id y (if b then length x.journal else n)
     at true e l s = (
       enough,
-      ap (λ (ts : List Delivery). replay (calls_to id (take (length x.journal) ts))) go.behind
+      ap (λ (ts : List Delivery). replay (calls_to id (take (length x.journal) ts))) go.grown
           ∙ ap (λ (ts : List Delivery). replay (calls_to id ts)) (take_at x.journal go.more (length x.journal) refl)
           ∙ r ∙ ap (λ (o : Option Listener). Some (heard_of told o)) (go.came id e),
     )
     at false e l s = let t = k l (go.stayed id l e s) in let m = t.0 in let u = enough in (
       omega arith,
-      ap (λ (ts : List Delivery). replay (calls_to id (take n ts))) go.behind
+      ap (λ (ts : List Delivery). replay (calls_to id (take n ts))) go.grown
           ∙ ap (λ (ts : List Delivery). replay (calls_to id ts)) (take-append-le n x.journal go.more m)
           ∙ t.1,
     )
@@ -633,16 +633,16 @@ after_both w (x ∷ xs) ys = after_both (after_entry w x) xs ys
 
 record Longer (old new : List Delivery) : Type 0 where
   more : List Delivery
-  behind : new ≡ old ++ more
+  grown : new ≡ old ++ more
 
 -- calls are only put at the end of the journal
 journal_goes_on : (w : World) (xs : List PureEntry) → TellsAll w → IsLegalFrom w xs → Longer w.writer.desk.listening.journal
     (after_entries w xs).writer.desk.listening.journal
-journal_goes_on w [] k l = record { more = []; behind = sym (append-nil w.writer.desk.listening.journal) }
+journal_goes_on w [] k l = record { more = []; grown = sym (append-nil w.writer.desk.listening.journal) }
 journal_goes_on w (x ∷ xs) k l =
     let t = goes w x.event (number_in x.reply) x.reply l.0 l.1 k in let u = journal_goes_on (after_entry w x) xs t.told l.2 in record {
       more = t.goes_on.more ++ u.more;
-      behind = u.behind ∙ ap (λ (ts : List Delivery). ts ++ u.more) t.goes_on.behind ∙ append_assoc w.writer.desk.listening.journal t.goes_on.more u.more;
+      grown = u.grown ∙ ap (λ (ts : List Delivery). ts ++ u.more) t.goes_on.grown ∙ append_assoc w.writer.desk.listening.journal t.goes_on.more u.more;
     }
 
 pub later_calls_replay : (pool_words passes : ℕ) (xs ys : List PureEntry) → IsLegal pool_words passes (xs ++ ys) → (id : ListenerId) →
@@ -658,7 +658,7 @@ later_calls_replay pool_words passes xs ys legal id none =
     let h = (after_entries (opening pool_words passes) (xs ++ ys)).writer in
     let old = w.writer.desk.listening.journal in
     let longer : h.desk.listening.journal ≡ old ++ j.more = ap (λ (z : World). z.writer.desk.listening.journal)
-    (after_both (opening pool_words passes) xs ys) ∙ j.behind in
+    (after_both (opening pool_words passes) xs ys) ∙ j.grown in
     replays_since id h.desk.listening.journal (length old) (heard_of (told_forest h) (listener_of h.desk.listening.listeners id))
     (ap (λ (ts : List Delivery). replay (calls_to id (take (length old) ts))) longer
     ∙ ap (λ (ts : List Delivery). replay (calls_to id ts)) (take_at old j.more (length old) refl)

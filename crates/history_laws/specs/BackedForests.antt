@@ -6,7 +6,7 @@ use Rattle.mem_base.specs.declared.map.forests.Forest.{Forest}
 use Rattle.mem_base.specs.declared.access.cells.Place.{Place}
 use Rattle.mem_base.specs.lists.Every.{Every, EveryPair}
 use Rattle.mem_base.specs.map.Region.{IsAscending, node_of}
-use Rattle.mem_base.specs.access.Editions.{place_in}
+use Rattle.mem_base.specs.access.PlacesByRegion.{place_in}
 use Rattle.mem_base.specs.access.Places.{extent_of, words_of, place_from, past, is_notifiers, notifiers_place}
 use Rattle.mem_base.specs.access.EditionPlaces.{ArePlacesApart, ArePlacesOf}
 use Rattle.mem_base.specs.machine.Desk.{shown_places}

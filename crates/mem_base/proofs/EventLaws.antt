@@ -161,8 +161,8 @@ event_gap e l r p q free is (inl at) same =
     cc
 event_gap e l r p q free is (inr at) same = sym is ∙ at ∙ ap (λ k. let x : Result ℕ ℕ = Err k in x) (sym same)
 
-less_behind : (e y : Ioevent) → stands_to e y ≡ Less → is_lt (event_order e y) ≡ false
-less_behind e y t =
+less_after : (e y : Ioevent) → stands_to e y ≡ Less → is_lt (event_order e y) ≡ false
+less_after e y t =
     let is : match_order e y ≡ Greater = match_total.antisymm e y ∙ ap ordering_reverse t in
     event_order-lt e y (λ k. cc) ∙ ap is_lt is
 
@@ -172,4 +172,4 @@ greater_before e y t =
     event_order-lt e y (λ k. cc) ∙ ap is_lt is
 
 pub event-inserted : (e : Ioevent) (l : List Ioevent) (i : ℕ) → place_of (stands_to e) l ≡ Err i → insert l i e ≡ put_by event_order e l
-event-inserted e l i at = insert-place_of (stands_to e) event_order e (less_behind e) (greater_before e) l i at
+event-inserted e l i at = insert-place_of (stands_to e) event_order e (less_after e) (greater_before e) l i at

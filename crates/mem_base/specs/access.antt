@@ -1,6 +1,6 @@
 -- An access: its route, its chunks and pieces, and the steps on words that it makes.
 pub mod Words
-pub mod Editions
+pub mod PlacesByRegion
 pub mod Places
 pub mod EditionPlaces
 pub mod Cells

@@ -13,7 +13,12 @@ pub mod Sound
 pub mod Named
 pub mod RefusalLines
 pub mod Watching
+pub mod SpotLines
 pub mod Output
+pub mod States
+pub mod WriterSteps
+pub mod Shows
+pub mod PassSteps
 pub mod Run
 pub mod Words
 pub mod Make

@@ -40,7 +40,7 @@ none_is_false : (b : Bool) (n : ℕ) → cond b (Some n) None ≡ None → b ≡
 none_is_false true n e = cc
 none_is_false false n e = refl
 
--- what is behind the last line feed
+-- what is after the last line feed
 last_part : (number : ℕ) (text : List ℕ) → position (λ b. b == 10) text ≡ None
     → lines_from number (slice_split (λ b. b == 10) text) ≡ cond (length text == 0) (Some []) None
 last_part number text e =
@@ -78,14 +78,14 @@ next_line front command number k text whole e some h =
     ∙ ap (λ o. line_then number o (lines_from (number + 1) (slice_split (λ b. b == 10) (drop (k + 1) text)))) some))
     ∙ h
 
--- something stands behind the last line feed
+-- something stands after the last line feed
 pub no_end : (front : List Line) (number : ℕ) (text : List ℕ) (whole : Option (List Line))
     → position (λ b. b == 10) text ≡ None → length text == 0 ≡ false
     → prepend front (lines_from number (slice_split (λ b. b == 10) text)) ≡ whole → whole ≡ None
 no_end front number text whole e some h =
     sym h ∙ ap (prepend front) (last_part number text e ∙ ap (λ b. cond b (Some []) None) some)
 
--- nothing stands behind it
+-- nothing stands after it
 pub good_end : (front : List Line) (number : ℕ) (text : List ℕ) (whole : Option (List Line))
     → position (λ b. b == 10) text ≡ None → length text == 0 ≡ true
     → prepend front (lines_from number (slice_split (λ b. b == 10) text)) ≡ whole → whole ≡ Some front

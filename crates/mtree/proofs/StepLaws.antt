@@ -46,10 +46,10 @@ abbrev state_of : Names → Forest → ℕ → State
 state_of names forest changes = record { names = names; forest = forest; changes = changes }
 
 -- a call that is accepted
-pub replies_accepted : (new behind old : State) (line : ℕ) (names : Names) (call : Call)
-    → Accepts old new call → behind.names ≡ names → behind.forest ≡ new.forest → behind.changes ≡ new.changes
-    → Replies (Ok Nothing) behind (called old line names call)
-replies_accepted new behind old line names call accepts n f c =
-    ap (λ s. ([], s)) (let same : state_of behind.names behind.forest behind.changes ≡ state_of names new.forest
+pub replies_accepted : (new left old : State) (line : ℕ) (names : Names) (call : Call)
+    → Accepts old new call → left.names ≡ names → left.forest ≡ new.forest → left.changes ≡ new.changes
+    → Replies (Ok Nothing) left (called old line names call)
+replies_accepted new left old line names call accepts n f c =
+    ap (λ s. ([], s)) (let same : state_of left.names left.forest left.changes ≡ state_of names new.forest
     (cond (is_quiet call) old.changes (old.changes + 1)) = let e = accepts.changes in cc in same)
     ∙ sym (ap (told old line names call) accepts.forest)

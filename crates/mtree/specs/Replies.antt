@@ -25,7 +25,7 @@ abbrev pub Refuses : Result Reply AllocError → State → ℕ → Refusal → T
 Refuses result state line why =
     IfOk result (λ reply. (why ≢ Memory) × ((tells state reply, state) ≡ refused state line (refusal_text state.names why)))
 
--- what an accepted call leaves: the forest behind it, and one change more where it is one
+-- what an accepted call leaves: the forest after it, and one change more where it is one
 pub record Accepts (old new : State) (call : Call) : Type 0 where
   pub forest : after old.forest call ≡ Ok new.forest
   pub names : new.names ≡ old.names

@@ -616,7 +616,7 @@ fn an_operand_that_is_missing_or_left_over_is_faulty(rt: HostRuntime) -> Result<
         ("no child", "add A 0\n"),
         ("no offset", "add A B\n"),
         ("a number after the child", "add A 0 B 1\n"),
-        ("no priority behind its word", "add A 0 B prio\n"),
+        ("no priority after its word", "add A 0 B prio\n"),
         ("two priorities", "add A 0 B prio 1 2\n"),
         ("no address", "at S\n"),
         ("two addresses", "at S 0 0\n"),
@@ -709,7 +709,7 @@ fn lines_that_do_not_fit_together_are_faulty(rt: HostRuntime) -> Result<(), Fail
              add A 0 B\n",
         ),
         (
-            "a fault behind lines that answer",
+            "a fault after lines that answer",
             "region A io 1 latch\nspace S A\nat S 0\nfrob\n",
         ),
     ] {

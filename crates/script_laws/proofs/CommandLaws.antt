@@ -17,7 +17,7 @@ use Rattle.mem_base.specs.script.PassForms.{pass_dma, pass_do, pass_forms, pass_
 use Rattle.mem_base.specs.script.Printing.{pass_text}
 use Rattle.script_laws.proofs.Tokens.{Law, Spelled}
 use Rattle.script_laws.proofs.Spelled.{bytes_law, client_law, length_law, machine_law, mapped_some, name_law, pass_law, short_law}
-use Rattle.script_laws.proofs.Reading.{Every, Outcome, address_law, ended, ended_behind, found, no_ok, same_Ok, size_law, took, took_form, took_priority}
+use Rattle.script_laws.proofs.Reading.{Every, Outcome, address_law, ended, ended_after, found, no_ok, same_Ok, size_law, took, took_form, took_priority}
 use Rattle.script_laws.proofs.ChangeLaws.{change_again, change_table}
 use Rattle.script_laws.proofs.ChangeLaws as of_change
 use Rattle.script_laws.proofs.DeviceLaws.{took_device}
@@ -50,12 +50,12 @@ rom_again name n t y e =
 romdev_again : (name : Text) → Spelled name_of name name → Again (romdev name)
 romdev_again name n t y e =
     took size_law t _ _ _ e λ bytes b t e. took_device t _ _ e λ d v t e.
-    ended_behind Reads d.ops.big (commands.RegionRomDevice name bytes d) t _ e (rw (n.token, n.reads, b.token, b.reads, v.0, v.1) (refl, refl))
+    ended_after Reads d.ops.big (commands.RegionRomDevice name bytes d) t _ e (rw (n.token, n.reads, b.token, b.reads, v.0, v.1) (refl, refl))
 
 io_again : (name : Text) → Spelled name_of name name → Again (io name)
 io_again name n t y e =
     took size_law t _ _ _ e λ bytes b t e. took_device t _ _ e λ d v t e.
-    ended_behind Reads d.ops.big (commands.RegionIo name bytes d) t _ e (rw (n.token, n.reads, b.token, b.reads, v.0, v.1) (refl, refl))
+    ended_after Reads d.ops.big (commands.RegionIo name bytes d) t _ e (rw (n.token, n.reads, b.token, b.reads, v.0, v.1) (refl, refl))
 
 iommu_again : (name : Text) → Spelled name_of name name → Again (iommu name)
 iommu_again name n t y e =

@@ -45,9 +45,9 @@ pub ended : {Y : Type 0} (P : Y → Type 0) (x : Y) (t : List Text) (y : Y) → 
 ended P x [] y e p = subst P (same_Ok x y (Ok x) refl e) p
 ended P x (token ∷ t) y e p = no_ok e
 
-pub ended_behind : {Y : Type 0} (P : Y → Type 0) (given : Bool) (x : Y) (t : List Text) (y : Y) → ends_after_options given x t ≡ Ok y → P x → P y
-ended_behind P given x [] y e p = subst P (same_Ok x y (Ok x) refl e) p
-ended_behind P given x (token ∷ t) y e p = no_ok e
+pub ended_after : {Y : Type 0} (P : Y → Type 0) (given : Bool) (x : Y) (t : List Text) (y : Y) → ends_after_options given x t ≡ Ok y → P x → P y
+ended_after P given x [] y e p = subst P (same_Ok x y (Ok x) refl e) p
+ended_after P given x (token ∷ t) y e p = no_ok e
 
 -- these are all the tokens, and the operand reads them as this
 pub record EndsWith {X : Type 0} (operand : Operand X) (all : List Text) (x : X) : Type 0 where
@@ -82,14 +82,14 @@ value_spelled n p = record { tokens = rw p.token refl; reads = rw p.reads refl }
 pub took_data : {Y G : Type 0} (t : List Text) (rest : Option ℕ → Form Y) (y : Y) → then_read (last_data t) rest ≡ Ok y
     → ((o : Option ℕ) → EndsWith last_data (data_tokens o) o → (t : List Text) → rest o t ≡ Ok y → G) → G
 took_data {Y} {G} t rest y e k =
-    took_option (codes "data") data_value None rest t y e (λ t e. k None (record { tokens = refl; reads = refl }) t e) (λ t e. behind t (address t) refl e)
+    took_option (codes "data") data_value None rest t y e (λ t e. k None (record { tokens = refl; reads = refl }) t e) (λ t e. after_data t (address t) refl e)
   where
     data_value : Operand (Option ℕ)
     data_value = address >>= λ value. give (Some value)
 
-    behind : (t : List Text) (o : Outcome (ℕ × List Text)) → address t ≡ o → then_read (then_read o (λ n. give (Some n))) rest ≡ Ok y → G
-    behind t (Err c) is e = no_ok e
-    behind t (Ok p) is e = took address_law t causes.Number (λ n t. Ok (n, t)) p (ap (λ r. then_read r (λ n t. Ok (n, t))) is) λ n s t2 same.
+    after_data : (t : List Text) (o : Outcome (ℕ × List Text)) → address t ≡ o → then_read (then_read o (λ n. give (Some n))) rest ≡ Ok y → G
+    after_data t (Err c) is e = no_ok e
+    after_data t (Ok p) is e = took address_law t causes.Number (λ n t. Ok (n, t)) p (ap (λ r. then_read r (λ n t. Ok (n, t))) is) λ n s t2 same.
         k (Some p.0) (value_spelled p.0 (subst (λ m. Spelled (number_of most_address) (number_text m) m)
         (ap (λ q. q.0) (same_Ok (n, t2) p (Ok (n, t2)) refl same)) s)) p.1 e
 

@@ -38,8 +38,8 @@ dma = refl
 repeated-option : line_of (codes "region D io 8 latch valid 1-4 regs 2") ≡ Err causes.Word
 repeated-option = refl
 
-behind-big : line_of (codes "region D io 8 latch big regs") ≡ Err causes.Count
-behind-big = refl
+after-big : line_of (codes "region D io 8 latch big regs") ≡ Err causes.Count
+after-big = refl
 
 missing : line_of (codes "add A 0") ≡ Err causes.Count
 missing = refl

@@ -8,7 +8,7 @@ use Rattle.mem_base.specs.declared.map.ids.RegionId.{RegionId}
 use Rattle.mem_base.specs.declared.access.cells.Place.{Place}
 use Rattle.mem_base.specs.declared.access.cells.Cell.{Cell}
 use Rattle.mem_base.specs.declared.access.cells.WordStep.{WordStep}
-use Rattle.mem_base.specs.access.Editions.{place_in}
+use Rattle.mem_base.specs.access.PlacesByRegion.{place_in}
 use Rattle.mem_base.specs.access.Words.{word_after}
 use Rattle.mem_base.specs.access.Cells.{cell, is_same_cell, Block, has_block, cells_in, blocks_after, words_after}
 use Rattle.view_laws.proofs.Tests.{same_region, same_place}

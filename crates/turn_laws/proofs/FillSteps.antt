@@ -10,7 +10,7 @@ use Rattle.mem_base.specs.declared.access.cells.Cell.{Cell}
 use Rattle.mem_base.specs.declared.access.cells.WordStep.TheVariants.{Take}
 use Rattle.mem_base.specs.declared.machine.events.Carried.TheVariants.{At}
 use Rattle.mem_base.specs.declared.machine.events.Event.TheVariants as events
-use Rattle.mem_base.specs.access.Editions.{place_in}
+use Rattle.mem_base.specs.access.PlacesByRegion.{place_in}
 use Rattle.mem_base.specs.access.Cells.{cell, is_same_cell, cells_in, blocks_after, words_after}
 use Rattle.mem_base.specs.machine.Generations.{held_generations}
 use Rattle.mem_base.specs.machine.Desk.{places_of}

@@ -14,7 +14,7 @@ use Rattle.mem_base.specs.machine.History.{PureEntry, pure_entry, after_entry, a
 use Rattle.mem_base.specs.machine.SharedHistory.{Shared, pool_after, pool_touch_of}
 use Rattle.mem_base.specs.machine.SharedHistory as running
 use Rattle.mem_base.specs.machine.Turns.{history_entry, is_writers, writers_of}
-use Rattle.mem_base.specs.machine.JoinedHistory.{RowPart, next_entry, behind_last, before_next, before_entry, at_once, past_at_once, past_entry, put_in, read, reply_read}
+use Rattle.mem_base.specs.machine.JoinedHistory.{RowPart, next_entry, after_last, before_next, before_entry, at_once, past_at_once, past_entry, put_in, read, reply_read}
 use Rattle.turn_laws.proofs.Coupled.{Coupled, Follows, seen}
 use Rattle.turn_laws.proofs.PassSteps.{passes_follow}
 
@@ -23,7 +23,7 @@ abbrev pub Goes : (Writer → HistoryEntry → Type 0) → (Writer → PureEntry
 Goes Ready Due end h [] ys = (ys ≡ []) × (h ≡ end)
 Goes Ready Due end h (next_entry ∷ ps) [] = ⊥
 Goes Ready Due end h (next_entry ∷ ps) (y ∷ ys) = Ready h y × Goes Ready Due end (writer_after h y.event y.carried y.reply) ps ys
-Goes Ready Due end h (behind_last x ∷ ps) ys = Due h x × Goes Ready Due end (writer_after h x.event (carried_by h.desk x.event) 0) ps ys
+Goes Ready Due end h (after_last x ∷ ps) ys = Due h x × Goes Ready Due end (writer_after h x.event (carried_by h.desk x.event) 0) ps ys
 Goes Ready Due end h (before_next x ∷ ps) ys = Due h x × Goes Ready Due end (writer_after h x.event (carried_by h.desk x.event) 0) ps ys
 
 -- a legal history of the pure machine that leads to this writer's part
@@ -84,7 +84,7 @@ module _ (Ready : Writer → HistoryEntry → Type 0) (Due : Writer → PureEntr
   once [] ys rest w words k g go = go w k refl g
   once (next_entry ∷ ps) ys rest w words k g go = go w k refl g
   once (before_next x ∷ ps) ys rest w words k g go = go w k refl g
-  once (behind_last x ∷ ps) ys rest w words k g go = let s = settles w words k x g.0 in (
+  once (after_last x ∷ ps) ys rest w words k g go = let s = settles w words k x g.0 in (
     s.may,
     s.tells,
     once ps ys rest (after_entry w x) words s.coupled (subst (λ (h : Writer). Goes Ready Due end h ps ys) (sym s.writer) g.1)
@@ -106,7 +106,7 @@ module _ (Ready : Writer → HistoryEntry → Type 0) (Due : Writer → PureEntr
         once ps ys rest (after_entry w (read y)) t.0 t.3 (subst (λ (h : Writer). Goes Ready Due end h ps ys) (sym s.writer) g.1)
             (λ v c e h. go v t.0 c (e ∙ sym t.4) h),
       )
-  lead (behind_last x ∷ ps) y ys rest w words k g may is go = let s = settles w words k x g.0 in (
+  lead (after_last x ∷ ps) y ys rest w words k g may is go = let s = settles w words k x g.0 in (
     s.may,
     s.tells,
     lead ps y ys rest (after_entry w x) words s.coupled (subst (λ (h : Writer). Goes Ready Due end h ps (y ∷ ys)) (sym s.writer) g.1)
@@ -127,7 +127,7 @@ module _ (Ready : Writer → HistoryEntry → Type 0) (Due : Writer → PureEntr
   trails : (ps : List RowPart) (w : World) (words : List ℕ) → Coupled w words → Goes Ready Due end w.writer ps [] → Reaches end w (before_entry ps)
   trails [] w words k g = g.1
   trails (next_entry ∷ ps) w words k g = absurd g
-  trails (behind_last x ∷ ps) w words k g = let s = settles w words k x g.0 in
+  trails (after_last x ∷ ps) w words k g = let s = settles w words k x g.0 in
       (s.may, s.tells, trails ps (after_entry w x) words s.coupled (subst (λ (h : Writer). Goes Ready Due end h ps []) (sym s.writer) g.1))
   trails (before_next x ∷ ps) w words k g = let s = settles w words k x g.0 in
       (s.may, s.tells, trails ps (after_entry w x) words s.coupled (subst (λ (h : Writer). Goes Ready Due end h ps []) (sym s.writer) g.1))

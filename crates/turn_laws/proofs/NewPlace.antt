@@ -8,7 +8,7 @@ use lib.ListN.{length-replicate}
 use Rattle.mem_base.specs.declared.map.ids.RegionId.{RegionId}
 use Rattle.mem_base.specs.declared.access.cells.Place.{Place}
 use Rattle.mem_base.specs.lists.Every.{Every}
-use Rattle.mem_base.specs.access.Editions.{place_in}
+use Rattle.mem_base.specs.access.PlacesByRegion.{place_in}
 use Rattle.mem_base.specs.access.Cells.{cell, Block, has_block, cells_in}
 use Rattle.mem_base.specs.machine.Desk.{cells_of}
 use Rattle.mem_base.specs.machine.World.{block_for}

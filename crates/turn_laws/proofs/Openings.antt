@@ -6,7 +6,7 @@ use lib.ListN.{length-replicate}
 use Rattle.mem_base.specs.declared.map.ids.RegionId.{RegionId}
 use Rattle.mem_base.specs.declared.access.cells.Place.{Place}
 use Rattle.mem_base.specs.lists.Every.{Every}
-use Rattle.mem_base.specs.access.Editions.{place_in}
+use Rattle.mem_base.specs.access.PlacesByRegion.{place_in}
 use Rattle.mem_base.specs.map.Limits.{notifier_count}
 use Rattle.mem_base.specs.access.Places.{notifiers_place}
 use Rattle.mem_base.specs.machine.Generations.{Generation, nothing_known, least_lowest}

@@ -18,7 +18,7 @@ use Rattle.mem_base.specs.declared.machine.events.Reply.TheVariants as replies
 use Rattle.std.specs.Prelude.{Ok, option_and_then}
 use Rattle.mem_base.specs.machine.History.{IsOrderly}
 use Rattle.mem_base.specs.lists.Every.{Every}
-use Rattle.mem_base.specs.access.Editions.{place_in}
+use Rattle.mem_base.specs.access.PlacesByRegion.{place_in}
 use Rattle.mem_base.specs.views.Naming.{names}
 use Rattle.mem_base.specs.map.Limits.{notifier_count}
 use Rattle.mem_base.specs.access.Places.{is_notifiers, is_data_or_register, data_words, pages_in}

@@ -8,21 +8,21 @@ use Rattle.mem_base.specs.declared.machine.events.HistoryEntry.{HistoryEntry}
 use Rattle.mem_base.specs.machine.Histories.{last_of, first_of}
 use Rattle.mem_base.specs.machine.History.{PureEntry}
 use Rattle.mem_base.specs.machine.Turns.{is_writers, writers_of}
-use Rattle.mem_base.specs.machine.JoinedHistory.{RowPart, next_entry, behind_last, before_next, read, before_entry, at_once, past_at_once, past_entry, put_in, is_private}
+use Rattle.mem_base.specs.machine.JoinedHistory.{RowPart, next_entry, after_last, before_next, read, before_entry, at_once, past_at_once, past_entry, put_in, is_private}
 use Rattle.view_laws.proofs.Tests.{true_is_not_false}
 
 -- the private entries of a row are private events of the writer
 abbrev pub ArePrivate : List RowPart → Type 0
 ArePrivate [] = Unit {0}
 ArePrivate (next_entry ∷ ps) = ArePrivate ps
-ArePrivate (behind_last x ∷ ps) = (is_private x.event ≡ true) × ArePrivate ps
+ArePrivate (after_last x ∷ ps) = (is_private x.event ≡ true) × ArePrivate ps
 ArePrivate (before_next x ∷ ps) = (is_private x.event ≡ true) × ArePrivate ps
 
 -- and these are all of them
 abbrev pub privates_in : List RowPart → List PureEntry
 privates_in [] = []
 privates_in (next_entry ∷ ps) = privates_in ps
-privates_in (behind_last x ∷ ps) = x ∷ privates_in ps
+privates_in (after_last x ∷ ps) = x ∷ privates_in ps
 privates_in (before_next x ∷ ps) = x ∷ privates_in ps
 
 -- the row has no more entries than these
@@ -30,7 +30,7 @@ abbrev pub Fits : List RowPart → List HistoryEntry → Type 0
 Fits [] ws = Unit {0}
 Fits (next_entry ∷ ps) [] = ⊥
 Fits (next_entry ∷ ps) (w ∷ ws) = Fits ps ws
-Fits (behind_last x ∷ ps) ws = Fits ps ws
+Fits (after_last x ∷ ps) ws = Fits ps ws
 Fits (before_next x ∷ ps) ws = Fits ps ws
 
 -- a row as a list of entries, and the entries left over
@@ -38,14 +38,14 @@ abbrev pub row_entries : List RowPart → List HistoryEntry → List PureEntry
 row_entries [] ws = []
 row_entries (next_entry ∷ ps) [] = []
 row_entries (next_entry ∷ ps) (w ∷ ws) = read w ∷ row_entries ps ws
-row_entries (behind_last x ∷ ps) ws = x ∷ row_entries ps ws
+row_entries (after_last x ∷ ps) ws = x ∷ row_entries ps ws
 row_entries (before_next x ∷ ps) ws = x ∷ row_entries ps ws
 
 abbrev pub left_over : List RowPart → List HistoryEntry → List HistoryEntry
 left_over [] ws = ws
 left_over (next_entry ∷ ps) [] = []
 left_over (next_entry ∷ ps) (w ∷ ws) = left_over ps ws
-left_over (behind_last x ∷ ps) ws = left_over ps ws
+left_over (after_last x ∷ ps) ws = left_over ps ws
 left_over (before_next x ∷ ps) ws = left_over ps ws
 
 abbrev writers : List PureEntry → List PureEntry
@@ -71,7 +71,7 @@ last_or x xs p = let e = last_cons x xs in ap (λ (o : Option PureEntry). option
 -- a private entry in a row: one that waits for the writer's next entry, or one that stands directly after the last
 abbrev pub private_at : Bool → PureEntry → RowPart
 private_at true y = before_next y
-private_at false y = behind_last y
+private_at false y = after_last y
 
 -- what one waits for comes next
 abbrev pub Starts : Bool → List RowPart → Type 0
@@ -114,7 +114,7 @@ first_at_end : (y : PureEntry) (late : Bool) (bs : List RowPart) → Starts late
     → Placement late y [] [] (before_entry (private_at late y ∷ bs))
 first_at_end y true [] s f = absurd s
 first_at_end y true (next_entry ∷ bs) s f = absurd f
-first_at_end y true (behind_last z ∷ bs) s f = absurd s
+first_at_end y true (after_last z ∷ bs) s f = absurd s
 first_at_end y true (before_next z ∷ bs) s f = absurd s
 first_at_end y false bs s f =
     record { before = []; after = before_entry bs; parts = refl; row = refl; last = λ h. refl; next = λ h. true_is_not_false true refl (sym h) }
@@ -147,7 +147,7 @@ first_before y true (next_entry ∷ bs) x xs ws s = record {
   last = λ h. refl;
   next = λ h. refl;
 }
-first_before y true (behind_last z ∷ bs) x xs ws s = absurd s
+first_before y true (after_last z ∷ bs) x xs ws s = absurd s
 first_before y true (before_next z ∷ bs) x xs ws s = absurd s
 first_before y false bs x xs ws s = record {
   before = [];
@@ -178,7 +178,7 @@ module _ (bs : List RowPart) (late : Bool) (y : PureEntry) (starts : Starts late
   at_end : (ps : List RowPart) → ArePrivate ps → Fits (with_rest ps) [] → Placement late y ps [] (before_entry (with_rest ps))
   at_end [] k f = first_at_end y late bs starts f
   at_end (next_entry ∷ ps) k f = absurd f
-  at_end (behind_last z ∷ ps) k f = later z ps (behind_last z ∷ ps) [] [] _ (is_private_writers z k.0) refl refl (at_end ps k.1 f)
+  at_end (after_last z ∷ ps) k f = later z ps (after_last z ∷ ps) [] [] _ (is_private_writers z k.0) refl refl (at_end ps k.1 f)
   at_end (before_next z ∷ ps) k f = later z ps (before_next z ∷ ps) [] [] _ (is_private_writers z k.0) refl refl (at_end ps k.1 f)
 
   module _ (xs ws : List HistoryEntry)
@@ -188,7 +188,7 @@ module _ (bs : List RowPart) (late : Bool) (y : PureEntry) (starts : Starts late
         → Placement late y ps ws (at_once (with_rest ps) ++ put_in (past_at_once (with_rest ps)) xs)
     at_entry [] k f = first_at_entry y late bs xs ws (on [] tt f)
     at_entry (next_entry ∷ ps) k f = on (next_entry ∷ ps) k f tt
-    at_entry (behind_last z ∷ ps) k f = later z ps (behind_last z ∷ ps) ws ws _ (is_private_writers z k.0) refl refl (at_entry ps k.1 f)
+    at_entry (after_last z ∷ ps) k f = later z ps (after_last z ∷ ps) ws ws _ (is_private_writers z k.0) refl refl (at_entry ps k.1 f)
     at_entry (before_next z ∷ ps) k f = on (before_next z ∷ ps) k f tt
 
     -- before an entry of the writer
@@ -196,8 +196,8 @@ module _ (bs : List RowPart) (late : Bool) (y : PureEntry) (starts : Starts late
         → Placement late y ps (x ∷ ws) (with_entry (with_rest ps) x xs)
     before_writers x mine [] k f = first_before y late bs x xs ws starts
     before_writers x mine (next_entry ∷ ps) k f = later (read x) ps (next_entry ∷ ps) ws (x ∷ ws) _ mine refl refl (at_entry ps k f)
-    before_writers x mine (behind_last z ∷ ps) k f =
-        later z ps (behind_last z ∷ ps) (x ∷ ws) (x ∷ ws) _ (is_private_writers z k.0) refl refl (before_writers x mine ps k.1 f)
+    before_writers x mine (after_last z ∷ ps) k f =
+        later z ps (after_last z ∷ ps) (x ∷ ws) (x ∷ ws) _ (is_private_writers z k.0) refl refl (before_writers x mine ps k.1 f)
     before_writers x mine (before_next z ∷ ps) k f =
         later z ps (before_next z ∷ ps) (x ∷ ws) (x ∷ ws) _ (is_private_writers z k.0) refl refl (before_writers x mine ps k.1 f)
 
@@ -207,7 +207,7 @@ module _ (bs : List RowPart) (late : Bool) (y : PureEntry) (starts : Starts late
   row_last [] ws p h o f = absurd (subst (Opens []) h o)
   row_last (next_entry ∷ ps) [] p h o f = absurd f
   row_last (next_entry ∷ ps) (w ∷ ws) p h o f = last_or (read w) (row_entries ps ws) p
-  row_last (behind_last z ∷ ps) ws p h o f = last_or z (row_entries ps ws) p
+  row_last (after_last z ∷ ps) ws p h o f = last_or z (row_entries ps ws) p
   row_last (before_next z ∷ ps) ws p h o f = last_or z (row_entries ps ws) p
 
   -- a pass's entry before it

@@ -21,7 +21,7 @@ use Rattle.mem_base.specs.declared.access.cells.Cell.{Cell}
 use Rattle.mem_base.specs.declared.machine.events.Event.TheVariants as events
 use Rattle.mem_base.specs.map.Limits.{most_nested}
 use Rattle.mem_base.specs.lists.Every.{Every}
-use Rattle.mem_base.specs.access.Editions.{place_in}
+use Rattle.mem_base.specs.access.PlacesByRegion.{place_in}
 use Rattle.mem_base.specs.map.Calls.{after as forest_after, answer_of, is_quiet}
 use Rattle.mem_base.specs.access.Places.{Extent, extent_of, words_of, place_from, notifiers_place, is_notifiers, word_of_page, pages_in, first_fit}
 use Rattle.mem_base.specs.machine.Generations.{Generations, held_generations}

@@ -12,7 +12,7 @@ use Rattle.mem_base.specs.declared.machine.events.Carried.{Carried}
 use Rattle.mem_base.specs.declared.machine.events.Event.{Event}
 use Rattle.mem_base.specs.declared.machine.events.Event.TheVariants as events
 use Rattle.mem_base.specs.declared.machine.events.Hand.TheVariants as hands
-use Rattle.mem_base.specs.access.Editions.{place_in}
+use Rattle.mem_base.specs.access.PlacesByRegion.{place_in}
 use Rattle.mem_base.specs.access.Places.{mark_words}
 use Rattle.mem_base.specs.machine.Desk.{Desk, places_of, at_place, carried_by, is_all_swept}
 use Rattle.mem_base.specs.machine.Reaps.{Writer}

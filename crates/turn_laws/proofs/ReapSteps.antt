@@ -7,7 +7,7 @@ use Rattle.mem_base.specs.declared.map.ids.RegionId.{RegionId}
 use Rattle.mem_base.specs.declared.access.cells.Place.{Place}
 use Rattle.mem_base.specs.declared.machine.events.Event.TheVariants as events
 use Rattle.mem_base.specs.lists.Every.{Every}
-use Rattle.mem_base.specs.access.Editions.{place_in}
+use Rattle.mem_base.specs.access.PlacesByRegion.{place_in}
 use Rattle.mem_base.specs.views.Naming.{names}
 use Rattle.mem_base.specs.access.Places.{is_notifiers, notifiers_place}
 use Rattle.mem_base.specs.machine.Generations.{Generation, held_generations}
@@ -91,8 +91,8 @@ whole_left h p is s = record {
 }
 
 -- only the notifiers' place stands after those of regions
-behind_all : (n : ℕ) (r : RegionId) (q : Place) → place_in (notifiers_place n ∷ []) r ≡ Some q → is_notifiers r ≡ true
-behind_all n r q is = go (eqb (2 ^ 32 - 1) r.0) refl is
+after_all : (n : ℕ) (r : RegionId) (q : Place) → place_in (notifiers_place n ∷ []) r ≡ Some q → is_notifiers r ≡ true
+after_all n r q is = go (eqb (2 ^ 32 - 1) r.0) refl is
   where
     go : (b : Bool) → eqb (2 ^ 32 - 1) r.0 ≡ b → (if b then Some (notifiers_place n) else None) ≡ Some q → is_notifiers r ≡ true
     go true e x = eq-eqb r.0 (2 ^ 32 - 1) (sym (eqb-true _ _ e))
@@ -102,7 +102,7 @@ behind_all n r q is = go (eqb (2 ^ 32 - 1) r.0) refl is
 pub reaps : (w : World) (words : List ℕ) → Coupled w words → possible w events.Reap ≡ true → Coupled (world_after w events.Reap) words
 reaps w words k may = let h = w.writer in let d = w.writer.desk in let xs = held_generations w.writer.generations in record {
   backed = fewer (kept_by h) d.places (notifiers_place d.pool_words ∷ []) d.unfilled w.blocks words
-      (λ r q is. notifier_kept h r k.low (behind_all d.pool_words r q is)) k.backed;
+      (λ r q is. notifier_kept h r k.low (after_all d.pool_words r q is)) k.backed;
   held = weaker (λ x. AllStand (places_of d) d.unfilled x × ((r : RegionId) → names x.forest r ≡ true → is_named h.generations r ≡ true))
       (AllStand (left h) d.unfilled)
       (λ x t. weaker (Stands (places_of d) d.unfilled x) (Stands (left h) d.unfilled x)

@@ -47,8 +47,8 @@ abbrev pub fills_of : List Cell → List Event
 fills_of cs = map (λ c. events.Fill c) cs
 
 -- the writer's part after a row, and the forests that it carries
-abbrev pub behind : Writer → List Event → List ℕ → Writer
-behind h es ns = (played h es ns).writer
+abbrev pub writer_played : Writer → List Event → List ℕ → Writer
+writer_played h es ns = (played h es ns).writer
 
 abbrev pub forests_in : Writer → List Event → List ℕ → List Forest
 forests_in h es ns = published_forests (played h es ns).entries
@@ -68,12 +68,12 @@ pub flags_after : List PassId → List Bool → List Bool
 flags_after [] bs = bs
 flags_after (v ∷ vs) bs = flags_after vs (set bs v.0 true)
 
-pub swept_desk : (vs : List PassId) (h : Writer) (ns : List ℕ) → (behind h (sweeps_of vs) ns).desk ≡ with_swept (flags_after vs h.desk.swept) h.desk
+pub swept_desk : (vs : List PassId) (h : Writer) (ns : List ℕ) → (writer_played h (sweeps_of vs) ns).desk ≡ with_swept (flags_after vs h.desk.swept) h.desk
 unfolding flags_after
 swept_desk [] h ns = refl
 swept_desk (v ∷ vs) h ns = swept_desk vs (writer_after h (events.Sweep v) (carried_by h.desk (events.Sweep v)) (first_or_zero ns)) (drop 1 ns)
 
-pub swept_passes : (vs : List PassId) (h : Writer) (ns : List ℕ) → length (behind h (sweeps_of vs) ns).generations.passes ≡ length h.generations.passes
+pub swept_passes : (vs : List PassId) (h : Writer) (ns : List ℕ) → length (writer_played h (sweeps_of vs) ns).generations.passes ≡ length h.generations.passes
 swept_passes [] h ns = refl
 swept_passes (v ∷ vs) h ns = swept_passes vs (writer_after h (events.Sweep v) (carried_by h.desk (events.Sweep v)) (first_or_zero ns)) (drop 1 ns)
     ∙ length-set h.generations.passes v.0 _
@@ -114,11 +114,11 @@ all_swept n bs e = all_on (flags_after (ids 0 n) bs) (λ v l. let m : v < length
 
 -- copies and a publish
 
-pub published_desk : (vs : List PassId) (h : Writer) (ns : List ℕ) → (behind h (publishes_of vs) ns).desk ≡ with_due false h.desk
+pub published_desk : (vs : List PassId) (h : Writer) (ns : List ℕ) → (writer_played h (publishes_of vs) ns).desk ≡ with_due false h.desk
 published_desk [] h ns = refl
 published_desk (v ∷ vs) h ns = published_desk vs (writer_after h (events.Place v) (carried_by h.desk (events.Place v)) (first_or_zero ns)) (drop 1 ns)
 
-pub published_passes : (vs : List PassId) (h : Writer) (ns : List ℕ) → length (behind h (publishes_of vs) ns).generations.passes ≡ length h.generations.passes
+pub published_passes : (vs : List PassId) (h : Writer) (ns : List ℕ) → length (writer_played h (publishes_of vs) ns).generations.passes ≡ length h.generations.passes
 published_passes [] h ns = length_map _ h.generations.passes
 published_passes (v ∷ vs) h ns = published_passes vs (writer_after h (events.Place v) (carried_by h.desk (events.Place v)) (first_or_zero ns))
     (drop 1 ns) ∙ length-set h.generations.passes v.0 _
@@ -141,11 +141,11 @@ filled_one h c n = writer_after h (events.Fill c) (carried_by h.desk (events.Fil
 left_to_fill : (h : Writer) (c : Cell) (cs : List Cell) (n : ℕ) → h.desk.unfilled ≡ c ∷ cs → Distinct (c ∷ cs) → (filled_one h c n).desk.unfilled ≡ cs
 left_to_fill h c cs n e d = ap (λ (xs : List Cell). filter (λ x. not (is_same_cell c x)) xs) e ∙ one_less c cs d.0
 
-pub filled_desk : (cs : List Cell) (h : Writer) (ns : List ℕ) → h.desk.unfilled ≡ cs → Distinct cs → (behind h (fills_of cs) ns).desk ≡ with_unfilled [] h.desk
+pub filled_desk : (cs : List Cell) (h : Writer) (ns : List ℕ) → h.desk.unfilled ≡ cs → Distinct cs → (writer_played h (fills_of cs) ns).desk ≡ with_unfilled [] h.desk
 filled_desk [] h ns e d = λ i. with_unfilled (e i) h.desk
 filled_desk (c ∷ cs) h ns e d = filled_desk cs (filled_one h c (first_or_zero ns)) (drop 1 ns) (left_to_fill h c cs (first_or_zero ns) e d) d.1
 
-pub filled_generations : (cs : List Cell) (h : Writer) (ns : List ℕ) → (behind h (fills_of cs) ns).generations ≡ h.generations
+pub filled_generations : (cs : List Cell) (h : Writer) (ns : List ℕ) → (writer_played h (fills_of cs) ns).generations ≡ h.generations
 filled_generations [] h ns = refl
 filled_generations (c ∷ cs) h ns = filled_generations cs (filled_one h c (first_or_zero ns)) (drop 1 ns)
 
@@ -189,10 +189,10 @@ pub record IsSteady (h : Writer) (e : Event) : Type 0 where
   pub stays : (x : Carried) (n : ℕ) → writer_after h e x n ≡ h
   pub carries : forest_carried (carried_by h.desk e) ≡ []
 
-pub steady_behind : (es : List Event) (h : Writer) (ns : List ℕ) → Every (IsSteady h) es → behind h es ns ≡ h
-steady_behind [] h ns k = refl
-steady_behind (e ∷ es) h ns k = ap (λ (z : Writer). behind z es (drop 1 ns)) (k.0.stays (carried_by h.desk e) (first_or_zero ns))
-    ∙ steady_behind es h (drop 1 ns) k.1
+pub steady_after : (es : List Event) (h : Writer) (ns : List ℕ) → Every (IsSteady h) es → writer_played h es ns ≡ h
+steady_after [] h ns k = refl
+steady_after (e ∷ es) h ns k = ap (λ (z : Writer). writer_played z es (drop 1 ns)) (k.0.stays (carried_by h.desk e) (first_or_zero ns))
+    ∙ steady_after es h (drop 1 ns) k.1
 
 pub steady_forests : (es : List Event) (h : Writer) (ns : List ℕ) → Every (IsSteady h) es → forests_in h es ns ≡ []
 steady_forests [] h ns k = refl

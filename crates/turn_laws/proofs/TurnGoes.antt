@@ -7,10 +7,10 @@ use Rattle.mem_base.specs.machine.Desk.{carried_by}
 use Rattle.mem_base.specs.machine.Reaps.{Writer}
 use Rattle.mem_base.specs.machine.Configs.{writer_after, private_reply}
 use Rattle.mem_base.specs.machine.History.{PureEntry, pure_entry}
-use Rattle.mem_base.specs.machine.Orders.{Order, events_before, private_of, events_behind}
+use Rattle.mem_base.specs.machine.Orders.{Order, events_before, private_of, events_after}
 use Rattle.mem_base.specs.machine.Answers.{first_or_zero}
 use Rattle.mem_base.specs.machine.Turns.{WriterCall, turn, turns, Answered, played, history_entry, private_entries, after_private, entries_of_turn, last_writer}
-use Rattle.mem_base.specs.machine.JoinedHistory.{RowPart, next_entry, behind_last, before_next, row_of, private_part, waits_for_fill}
+use Rattle.mem_base.specs.machine.JoinedHistory.{RowPart, next_entry, after_last, before_next, row_of, private_part, waits_for_fill}
 use Rattle.turn_laws.proofs.Joining.{Goes}
 
 abbrev nexts : List HistoryEntry → List RowPart
@@ -39,7 +39,7 @@ module _ (Ready : Writer → HistoryEntry → Type 0) (Due : Writer → PureEntr
     where
       go : (b : Bool) → Goes Ready Due end (writer_after h e (carried_by h.desk e) 0)
           (map (private_part t) (private_entries (writer_after h e (carried_by h.desk e) 0) es) ++ ps) ys
-          → Goes Ready Due end h ((if b then before_next (pure_entry e (private_reply h e)) else behind_last (pure_entry e (private_reply h e)))
+          → Goes Ready Due end h ((if b then before_next (pure_entry e (private_reply h e)) else after_last (pure_entry e (private_reply h e)))
           ∷ map (private_part t) (private_entries (writer_after h e (carried_by h.desk e) 0) es) ++ ps) ys
       go true r = (a.0, r)
       go false r = (a.0, r)
@@ -48,7 +48,7 @@ module _ (Ready : Writer → HistoryEntry → Type 0) (Due : Writer → PureEntr
   pub record TurnReady (h : Writer) (k : Order) (ns : List ℕ) : Type 0 where
     pub before : AllReady h (events_before h k) ns
     pub private : AllDue (played h (events_before h k) ns).writer (private_of k)
-    pub behind : let b = played h (events_before h k) ns in let m = after_private b.writer (private_of k) in AllReady m (events_behind m k) b.replies
+    pub after : let b = played h (events_before h k) ns in let m = after_private b.writer (private_of k) in AllReady m (events_after m k) b.replies
 
   -- a turn, with what comes after it
   pub turn_goes : (h : Writer) (k : Order) (ns : List ℕ) (ps : List RowPart) (ys : List HistoryEntry) → TurnReady h k ns
@@ -57,14 +57,14 @@ module _ (Ready : Writer → HistoryEntry → Type 0) (Due : Writer → PureEntr
   turn_goes h k ns ps ys r g =
       let before = played h (events_before h k) ns in
       let m = after_private before.writer (private_of k) in
-      let one = played_goes (events_behind m k) m before.replies ps ys r.behind g in
+      let one = played_goes (events_after m k) m before.replies ps ys r.after g in
       let two = private_goes (turn h k ns) (private_of k) before.writer _ _ r.private one in
       let three = played_goes (events_before h k) h ns _ _ r.before two in
       let A : List RowPart = nexts before.entries in
       let B : List RowPart = map (private_part (turn h k ns)) (private_entries before.writer (private_of k)) in
-      let C : List RowPart = nexts (played m (events_behind m k) before.replies).entries in
+      let C : List RowPart = nexts (played m (events_after m k) before.replies).entries in
       let x : (A ++ B ++ C) ++ ps ≡ A ++ (B ++ (C ++ ps)) = append_assoc (A ++ B) C ps ∙ append_assoc A B (C ++ ps) in
-      let y = append_assoc before.entries (played m (events_behind m k) before.replies).entries ys in
+      let y = append_assoc before.entries (played m (events_after m k) before.replies).entries ys in
       subst (λ (z : List RowPart × List HistoryEntry). Goes Ready Due end h z.0 z.1) (λ i. (sym x i, sym y i)) three
 
   -- all turns

@@ -12,7 +12,7 @@ use Rattle.mem_base.specs.machine.History.{PureEntry}
 use Rattle.mem_base.specs.machine.SharedHistory.{Shared}
 use Rattle.mem_base.specs.machine.SharedHistory as running
 use Rattle.mem_base.specs.machine.Turns.{WriterCall, entries_of_turn, is_writers, writers_of}
-use Rattle.mem_base.specs.machine.JoinedHistory.{RowPart, next_entry, behind_last, before_next, read, waits_for_fill, private_part, row_of, before_entry, at_once, past_at_once, past_entry, put_in, joined_history, is_private, shared_entries, private_entries_in, IsWritersOrNone, StandsBeside, IsPlaced}
+use Rattle.mem_base.specs.machine.JoinedHistory.{RowPart, next_entry, after_last, before_next, read, waits_for_fill, private_part, row_of, before_entry, at_once, past_at_once, past_entry, put_in, joined_history, is_private, shared_entries, private_entries_in, IsWritersOrNone, StandsBeside, IsPlaced}
 use Rattle.mem_base.proofs.EveryLaws.{every_filter}
 use Rattle.turn_laws.proofs.Placing.{ArePrivate, privates_in, Fits, row_entries, left_over, private_at, Starts, Placement, placed_all}
 
@@ -64,67 +64,67 @@ private_skip y ys e = ap (λ (b : Bool). if b then y ∷ private_entries_in ys e
 none_before : (ps : List RowPart) → ArePrivate ps → shared_entries (before_entry ps) ≡ []
 none_before [] k = refl
 none_before (next_entry ∷ ps) k = refl
-none_before (behind_last x ∷ ps) k = shared_skip x (before_entry ps) k.0 ∙ none_before ps k.1
+none_before (after_last x ∷ ps) k = shared_skip x (before_entry ps) k.0 ∙ none_before ps k.1
 none_before (before_next x ∷ ps) k = shared_skip x (before_entry ps) k.0 ∙ none_before ps k.1
 
 none_at_once : (ps : List RowPart) → ArePrivate ps → shared_entries (at_once ps) ≡ []
 none_at_once [] k = refl
 none_at_once (next_entry ∷ ps) k = refl
-none_at_once (behind_last x ∷ ps) k = shared_skip x (at_once ps) k.0 ∙ none_at_once ps k.1
+none_at_once (after_last x ∷ ps) k = shared_skip x (at_once ps) k.0 ∙ none_at_once ps k.1
 none_at_once (before_next x ∷ ps) k = refl
 
 all_before : (ps : List RowPart) → ArePrivate ps → private_entries_in (before_entry ps) ≡ before_entry ps
 all_before [] k = refl
 all_before (next_entry ∷ ps) k = refl
-all_before (behind_last x ∷ ps) k = private_cons x (before_entry ps) k.0 ∙ ap (λ (ys : List PureEntry). x ∷ ys) (all_before ps k.1)
+all_before (after_last x ∷ ps) k = private_cons x (before_entry ps) k.0 ∙ ap (λ (ys : List PureEntry). x ∷ ys) (all_before ps k.1)
 all_before (before_next x ∷ ps) k = private_cons x (before_entry ps) k.0 ∙ ap (λ (ys : List PureEntry). x ∷ ys) (all_before ps k.1)
 
 all_at_once : (ps : List RowPart) → ArePrivate ps → private_entries_in (at_once ps) ≡ at_once ps
 all_at_once [] k = refl
 all_at_once (next_entry ∷ ps) k = refl
-all_at_once (behind_last x ∷ ps) k = private_cons x (at_once ps) k.0 ∙ ap (λ (ys : List PureEntry). x ∷ ys) (all_at_once ps k.1)
+all_at_once (after_last x ∷ ps) k = private_cons x (at_once ps) k.0 ∙ ap (λ (ys : List PureEntry). x ∷ ys) (all_at_once ps k.1)
 all_at_once (before_next x ∷ ps) k = refl
 
 private_past_entry : (ps : List RowPart) → ArePrivate ps → ArePrivate (past_entry ps)
 private_past_entry [] k = tt
 private_past_entry (next_entry ∷ ps) k = k
-private_past_entry (behind_last x ∷ ps) k = private_past_entry ps k.1
+private_past_entry (after_last x ∷ ps) k = private_past_entry ps k.1
 private_past_entry (before_next x ∷ ps) k = private_past_entry ps k.1
 
 private_past_once : (ps : List RowPart) → ArePrivate ps → ArePrivate (past_at_once ps)
 private_past_once [] k = k
 private_past_once (next_entry ∷ ps) k = k
-private_past_once (behind_last x ∷ ps) k = private_past_once ps k.1
+private_past_once (after_last x ∷ ps) k = private_past_once ps k.1
 private_past_once (before_next x ∷ ps) k = k
 
 fits_past_entry : (ps : List RowPart) (w : HistoryEntry) (ws : List HistoryEntry) → Fits ps (w ∷ ws) → Fits (past_entry ps) ws
 fits_past_entry [] w ws f = tt
 fits_past_entry (next_entry ∷ ps) w ws f = f
-fits_past_entry (behind_last x ∷ ps) w ws f = fits_past_entry ps w ws f
+fits_past_entry (after_last x ∷ ps) w ws f = fits_past_entry ps w ws f
 fits_past_entry (before_next x ∷ ps) w ws f = fits_past_entry ps w ws f
 
 fits_past_once : (ps : List RowPart) (ws : List HistoryEntry) → Fits ps ws → Fits (past_at_once ps) ws
 fits_past_once [] ws f = f
 fits_past_once (next_entry ∷ ps) ws f = f
-fits_past_once (behind_last x ∷ ps) ws f = fits_past_once ps ws f
+fits_past_once (after_last x ∷ ps) ws f = fits_past_once ps ws f
 fits_past_once (before_next x ∷ ps) ws f = f
 
 privates_at_entry : (ps : List RowPart) → before_entry ps ++ privates_in (past_entry ps) ≡ privates_in ps
 privates_at_entry [] = refl
 privates_at_entry (next_entry ∷ ps) = refl
-privates_at_entry (behind_last x ∷ ps) = ap (λ (ys : List PureEntry). x ∷ ys) (privates_at_entry ps)
+privates_at_entry (after_last x ∷ ps) = ap (λ (ys : List PureEntry). x ∷ ys) (privates_at_entry ps)
 privates_at_entry (before_next x ∷ ps) = ap (λ (ys : List PureEntry). x ∷ ys) (privates_at_entry ps)
 
 privates_at_once : (ps : List RowPart) → at_once ps ++ privates_in (past_at_once ps) ≡ privates_in ps
 privates_at_once [] = refl
 privates_at_once (next_entry ∷ ps) = refl
-privates_at_once (behind_last x ∷ ps) = ap (λ (ys : List PureEntry). x ∷ ys) (privates_at_once ps)
+privates_at_once (after_last x ∷ ps) = ap (λ (ys : List PureEntry). x ∷ ys) (privates_at_once ps)
 privates_at_once (before_next x ∷ ps) = refl
 
 privates_at_end : (ps : List RowPart) → Fits ps [] → before_entry ps ≡ privates_in ps
 privates_at_end [] f = refl
 privates_at_end (next_entry ∷ ps) f = absurd f
-privates_at_end (behind_last x ∷ ps) f = ap (λ (ys : List PureEntry). x ∷ ys) (privates_at_end ps f)
+privates_at_end (after_last x ∷ ps) f = ap (λ (ys : List PureEntry). x ∷ ys) (privates_at_end ps f)
 privates_at_end (before_next x ∷ ps) f = ap (λ (ys : List PureEntry). x ∷ ys) (privates_at_end ps f)
 
 -- the history with all put in has the shared entries, and the private ones of the row
@@ -177,7 +177,7 @@ IsRowOf [] [] = Unit {0}
 IsRowOf [] (w ∷ ws) = ⊥
 IsRowOf (next_entry ∷ ps) [] = ⊥
 IsRowOf (next_entry ∷ ps) (w ∷ ws) = IsRowOf ps ws
-IsRowOf (behind_last x ∷ ps) ws = IsRowOf ps ws
+IsRowOf (after_last x ∷ ps) ws = IsRowOf ps ws
 IsRowOf (before_next x ∷ ps) ws = IsRowOf ps ws
 
 rows_both : (ps qs : List RowPart) (us ws : List HistoryEntry) → IsRowOf ps us → IsRowOf qs ws → IsRowOf (ps ++ qs) (us ++ ws)
@@ -185,7 +185,7 @@ rows_both [] qs [] ws h k = k
 rows_both [] qs (u ∷ us) ws h k = absurd h
 rows_both (next_entry ∷ ps) qs [] ws h k = absurd h
 rows_both (next_entry ∷ ps) qs (u ∷ us) ws h k = rows_both ps qs us ws h k
-rows_both (behind_last x ∷ ps) qs us ws h k = rows_both ps qs us ws h k
+rows_both (after_last x ∷ ps) qs us ws h k = rows_both ps qs us ws h k
 rows_both (before_next x ∷ ps) qs us ws h k = rows_both ps qs us ws h k
 
 nexts_row : (ws : List HistoryEntry) → IsRowOf (map (λ x. next_entry) ws) ws
@@ -196,7 +196,7 @@ row_fits : (ps : List RowPart) (ws : List HistoryEntry) → IsRowOf ps ws → Fi
 row_fits [] ws h = tt
 row_fits (next_entry ∷ ps) [] h = h
 row_fits (next_entry ∷ ps) (w ∷ ws) h = row_fits ps ws h
-row_fits (behind_last x ∷ ps) ws h = row_fits ps ws h
+row_fits (after_last x ∷ ps) ws h = row_fits ps ws h
 row_fits (before_next x ∷ ps) ws h = row_fits ps ws h
 
 row_shared : (ps : List RowPart) (us ws : List HistoryEntry) → IsRowOf ps us → ArePrivate ps → AreShared us
@@ -206,7 +206,7 @@ row_shared [] (u ∷ us) ws h k s = absurd h
 row_shared (next_entry ∷ ps) [] ws h k s = absurd h
 row_shared (next_entry ∷ ps) (u ∷ us) ws h k s = shared_cons (read u) (row_entries ps (us ++ ws)) s.0
     ∙ ap (λ (zs : List PureEntry). read u ∷ zs) (row_shared ps us ws h k s.1)
-row_shared (behind_last x ∷ ps) us ws h k s = shared_skip x (row_entries ps (us ++ ws)) k.0 ∙ row_shared ps us ws h k.1 s
+row_shared (after_last x ∷ ps) us ws h k s = shared_skip x (row_entries ps (us ++ ws)) k.0 ∙ row_shared ps us ws h k.1 s
 row_shared (before_next x ∷ ps) us ws h k s = shared_skip x (row_entries ps (us ++ ws)) k.0 ∙ row_shared ps us ws h k.1 s
 
 row_left : (ps : List RowPart) (us ws : List HistoryEntry) → IsRowOf ps us → left_over ps (us ++ ws) ≡ ws
@@ -214,7 +214,7 @@ row_left [] [] ws h = refl
 row_left [] (u ∷ us) ws h = absurd h
 row_left (next_entry ∷ ps) [] ws h = absurd h
 row_left (next_entry ∷ ps) (u ∷ us) ws h = row_left ps us ws h
-row_left (behind_last x ∷ ps) us ws h = row_left ps us ws h
+row_left (after_last x ∷ ps) us ws h = row_left ps us ws h
 row_left (before_next x ∷ ps) us ws h = row_left ps us ws h
 
 -- the last of a row that ends in an entry of the writer
@@ -228,7 +228,7 @@ rows_entries [] qs [] ws h = refl
 rows_entries [] qs (u ∷ us) ws h = absurd h
 rows_entries (next_entry ∷ ps) qs [] ws h = absurd h
 rows_entries (next_entry ∷ ps) qs (u ∷ us) ws h = ap (λ (zs : List PureEntry). read u ∷ zs) (rows_entries ps qs us ws h)
-rows_entries (behind_last x ∷ ps) qs us ws h = ap (λ (zs : List PureEntry). x ∷ zs) (rows_entries ps qs us ws h)
+rows_entries (after_last x ∷ ps) qs us ws h = ap (λ (zs : List PureEntry). x ∷ zs) (rows_entries ps qs us ws h)
 rows_entries (before_next x ∷ ps) qs us ws h = ap (λ (zs : List PureEntry). x ∷ zs) (rows_entries ps qs us ws h)
 
 nexts_entries : (us ws : List HistoryEntry) → row_entries (map (λ x. next_entry) us) (us ++ ws) ≡ map read us
@@ -239,7 +239,7 @@ private_row : (t : WriterCall) (ys : List PureEntry) → IsRowOf (map (private_p
 private_row t [] = tt
 private_row t (y ∷ ys) = go (waits_for_fill t) (private_row t ys)
   where
-    go : (b : Bool) → IsRowOf (map (private_part t) ys) [] → IsRowOf ((if b then before_next y else behind_last y) ∷ map (private_part t) ys) []
+    go : (b : Bool) → IsRowOf (map (private_part t) ys) [] → IsRowOf ((if b then before_next y else after_last y) ∷ map (private_part t) ys) []
     go true rest = rest
     go false rest = rest
 
@@ -250,14 +250,14 @@ row_private : (t : WriterCall) (ys : List PureEntry) → Every (λ y. is_private
 row_private t [] k = tt
 row_private t (y ∷ ys) k = go (waits_for_fill t) (row_private t ys k.1)
   where
-    go : (b : Bool) → ArePrivate (map (private_part t) ys) → ArePrivate ((if b then before_next y else behind_last y) ∷ map (private_part t) ys)
+    go : (b : Bool) → ArePrivate (map (private_part t) ys) → ArePrivate ((if b then before_next y else after_last y) ∷ map (private_part t) ys)
     go true rest = (k.0, rest)
     go false rest = (k.0, rest)
 
 private_both : (ps qs : List RowPart) → ArePrivate ps → ArePrivate qs → ArePrivate (ps ++ qs)
 private_both [] qs h k = k
 private_both (next_entry ∷ ps) qs h k = private_both ps qs h k
-private_both (behind_last x ∷ ps) qs h k = (h.0, private_both ps qs h.1 k)
+private_both (after_last x ∷ ps) qs h k = (h.0, private_both ps qs h.1 k)
 private_both (before_next x ∷ ps) qs h k = (h.0, private_both ps qs h.1 k)
 
 nexts_private : (ws : List HistoryEntry) → ArePrivate (map (λ x. next_entry) ws)
@@ -267,7 +267,7 @@ nexts_private (w ∷ ws) = nexts_private ws
 privates_both : (ps qs : List RowPart) → privates_in (ps ++ qs) ≡ privates_in ps ++ privates_in qs
 privates_both [] qs = refl
 privates_both (next_entry ∷ ps) qs = privates_both ps qs
-privates_both (behind_last x ∷ ps) qs = ap (λ (zs : List PureEntry). x ∷ zs) (privates_both ps qs)
+privates_both (after_last x ∷ ps) qs = ap (λ (zs : List PureEntry). x ∷ zs) (privates_both ps qs)
 privates_both (before_next x ∷ ps) qs = ap (λ (zs : List PureEntry). x ∷ zs) (privates_both ps qs)
 
 nexts_none : (ws : List HistoryEntry) → privates_in (map (λ x. next_entry) ws) ≡ []
@@ -278,7 +278,7 @@ private_all : (t : WriterCall) (ys : List PureEntry) → privates_in (map (priva
 private_all t [] = refl
 private_all t (y ∷ ys) = go (waits_for_fill t) (private_all t ys)
   where
-    go : (b : Bool) → privates_in (map (private_part t) ys) ≡ ys → privates_in ((if b then before_next y else behind_last y) ∷ map (private_part t) ys) ≡ y ∷ ys
+    go : (b : Bool) → privates_in (map (private_part t) ys) ≡ ys → privates_in ((if b then before_next y else after_last y) ∷ map (private_part t) ys) ≡ y ∷ ys
     go true rest = ap (λ (zs : List PureEntry). y ∷ zs) rest
     go false rest = ap (λ (zs : List PureEntry). y ∷ zs) rest
 
@@ -289,10 +289,10 @@ append_nil [] = refl
 append_nil (x ∷ xs) = ap (λ (zs : List _). x ∷ zs) (append_nil xs)
 
 turn_row : (t : WriterCall) → IsRowOf (row_of t) (entries_of_turn t)
-turn_row t = subst (λ (us : List HistoryEntry). IsRowOf (row_of t) (us ++ t.behind)) (append_nil t.before)
-    (rows_both (map (λ x. next_entry) t.before ++ map (private_part t) t.private) (map (λ x. next_entry) t.behind) (t.before ++ []) t.behind
+turn_row t = subst (λ (us : List HistoryEntry). IsRowOf (row_of t) (us ++ t.after)) (append_nil t.before)
+    (rows_both (map (λ x. next_entry) t.before ++ map (private_part t) t.private) (map (λ x. next_entry) t.after) (t.before ++ []) t.after
     (rows_both (map (λ x. next_entry) t.before) (map (private_part t) t.private) t.before [] (nexts_row t.before) (private_row t t.private))
-    (nexts_row t.behind))
+    (nexts_row t.after))
 
 turns_row : (ts : List WriterCall) → IsRowOf (flat_map row_of ts) (flat_map entries_of_turn ts)
 turns_row [] = tt
@@ -301,18 +301,18 @@ turns_row (t ∷ ts) = rows_both (row_of t) (flat_map row_of ts) (entries_of_tur
 turns_private : (ts : List WriterCall) → Every PrivateCall ts → ArePrivate (flat_map row_of ts)
 turns_private [] k = tt
 turns_private (t ∷ ts) k = private_both (row_of t) (flat_map row_of ts)
-    (private_both (map (λ x. next_entry) t.before ++ map (private_part t) t.private) (map (λ x. next_entry) t.behind)
+    (private_both (map (λ x. next_entry) t.before ++ map (private_part t) t.private) (map (λ x. next_entry) t.after)
     (private_both (map (λ x. next_entry) t.before) (map (private_part t) t.private) (nexts_private t.before) (row_private t t.private k.0))
-    (nexts_private t.behind))
+    (nexts_private t.after))
     (turns_private ts k.1)
 
 turn_privates : (t : WriterCall) → privates_in (row_of t) ≡ t.private
 turn_privates t =
-    privates_both (map (λ x. next_entry) t.before ++ map (private_part t) t.private) (map (λ x. next_entry) t.behind)
-    ∙ ap (λ (zs : List PureEntry). zs ++ privates_in (map (λ x. next_entry) t.behind))
+    privates_both (map (λ x. next_entry) t.before ++ map (private_part t) t.private) (map (λ x. next_entry) t.after)
+    ∙ ap (λ (zs : List PureEntry). zs ++ privates_in (map (λ x. next_entry) t.after))
     (privates_both (map (λ x. next_entry) t.before) (map (private_part t) t.private)
     ∙ ap (λ (zs : List PureEntry). zs ++ privates_in (map (private_part t) t.private)) (nexts_none t.before) ∙ private_all t t.private)
-    ∙ ap (λ (zs : List PureEntry). t.private ++ zs) (nexts_none t.behind) ∙ append_nil t.private
+    ∙ ap (λ (zs : List PureEntry). t.private ++ zs) (nexts_none t.after) ∙ append_nil t.private
 
 turns_privates : (ts : List WriterCall) → privates_in (flat_map row_of ts) ≡ flat_map (λ t. t.private) ts
 turns_privates [] = refl
@@ -381,8 +381,8 @@ beside_it (s ∷ ss) fills ws ps us y ys h k =
     ∙ ap (λ (zs : List PureEntry). row_entries ps us ++ zs) (nexts_entries (s ∷ ss) (fills ++ ws)))
     ∙ last_both (row_entries ps us) (read s) (map read ss)
 
-starts_with : (t : WriterCall) (qs : List RowPart) → Starts (waits_for_fill t) (map (λ x. next_entry) t.behind ++ qs)
-starts_with t qs = go t.before t.behind
+starts_with : (t : WriterCall) (qs : List RowPart) → Starts (waits_for_fill t) (map (λ x. next_entry) t.after ++ qs)
+starts_with t qs = go t.before t.after
   where
     go : (sweeps fills : List HistoryEntry) → Starts ((length sweeps == 0) && not (length fills == 0)) (map (λ x. next_entry) fills ++ qs)
     go [] [] = tt
@@ -392,32 +392,32 @@ starts_with t qs = go t.before t.behind
 part_is : (t : WriterCall) (y : PureEntry) → private_part t y ≡ private_at (waits_for_fill t) y
 part_is t y = go (waits_for_fill t)
   where
-    go : (b : Bool) → (if b then before_next y else behind_last y) ≡ private_at b y
+    go : (b : Bool) → (if b then before_next y else after_last y) ≡ private_at b y
     go true = refl
     go false = refl
 
 -- the row of all turns, cut at a private entry
 row_cut : (done rest : List WriterCall) (t : WriterCall) (y : PureEntry) → t.private ≡ y ∷ []
     → flat_map row_of (done ++ t ∷ rest) ≡ (flat_map row_of done ++ map (λ x. next_entry) t.before) ++ private_at (waits_for_fill t) y
-    ∷ (map (λ x. next_entry) t.behind ++ flat_map row_of rest)
+    ∷ (map (λ x. next_entry) t.after ++ flat_map row_of rest)
 row_cut done rest t y one =
-    let before = map (λ (x : HistoryEntry). next_entry) t.before in let behind = map (λ (x : HistoryEntry). next_entry) t.behind in
-    let mine : row_of t ≡ (before ++ private_at (waits_for_fill t) y ∷ []) ++ behind =
-    ap (λ (ys : List PureEntry). (before ++ map (private_part t) ys) ++ behind) one ∙ ap (λ (p : RowPart). (before ++ p ∷ []) ++ behind) (part_is t y) in
+    let before = map (λ (x : HistoryEntry). next_entry) t.before in let later = map (λ (x : HistoryEntry). next_entry) t.after in
+    let mine : row_of t ≡ (before ++ private_at (waits_for_fill t) y ∷ []) ++ later =
+    ap (λ (ys : List PureEntry). (before ++ map (private_part t) ys) ++ later) one ∙ ap (λ (p : RowPart). (before ++ p ∷ []) ++ later) (part_is t y) in
     flat_both row_of done (t ∷ rest)
     ∙ ap (λ (ps : List RowPart). flat_map row_of done ++ (ps ++ flat_map row_of rest)) mine
     ∙ ap (λ (ps : List RowPart). flat_map row_of done ++ ps)
-    (append_assoc (before ++ private_at (waits_for_fill t) y ∷ []) behind (flat_map row_of rest)
-    ∙ append_assoc before (private_at (waits_for_fill t) y ∷ []) (behind ++ flat_map row_of rest))
-    ∙ sym (append_assoc (flat_map row_of done) before (private_at (waits_for_fill t) y ∷ (behind ++ flat_map row_of rest)))
+    (append_assoc (before ++ private_at (waits_for_fill t) y ∷ []) later (flat_map row_of rest)
+    ∙ append_assoc before (private_at (waits_for_fill t) y ∷ []) (later ++ flat_map row_of rest))
+    ∙ sym (append_assoc (flat_map row_of done) before (private_at (waits_for_fill t) y ∷ (later ++ flat_map row_of rest)))
 
 -- the writer's entries, cut there
 entries_cut : (done rest : List WriterCall) (t : WriterCall)
-    → flat_map entries_of_turn (done ++ t ∷ rest) ≡ flat_map entries_of_turn done ++ t.before ++ (t.behind ++ flat_map entries_of_turn rest)
+    → flat_map entries_of_turn (done ++ t ∷ rest) ≡ flat_map entries_of_turn done ++ t.before ++ (t.after ++ flat_map entries_of_turn rest)
 entries_cut done rest t =
     flat_both entries_of_turn done (t ∷ rest)
-    ∙ ap (λ (zs : List HistoryEntry). flat_map entries_of_turn done ++ zs) (append_assoc t.before t.behind (flat_map entries_of_turn rest))
-    ∙ sym (append_assoc (flat_map entries_of_turn done) t.before (t.behind ++ flat_map entries_of_turn rest))
+    ∙ ap (λ (zs : List HistoryEntry). flat_map entries_of_turn done ++ zs) (append_assoc t.before t.after (flat_map entries_of_turn rest))
+    ∙ sym (append_assoc (flat_map entries_of_turn done) t.before (t.after ++ flat_map entries_of_turn rest))
 
 every_left_calls : (done rest : List WriterCall) → Every PrivateCall (done ++ rest) → Every PrivateCall done
 every_left_calls done rest h = every_left PrivateCall done rest h
@@ -428,10 +428,10 @@ pub turn_placed : (ts : List WriterCall) (xs : List HistoryEntry) → Every Priv
 turn_placed ts xs private shared same done rest t y cut one =
     let nexts = λ (es : List HistoryEntry). map (λ (x : HistoryEntry). next_entry) es in
     let ps = flat_map row_of done ++ nexts t.before in
-    let bs = nexts t.behind ++ flat_map row_of rest in
+    let bs = nexts t.after ++ flat_map row_of rest in
     let late = waits_for_fill t in
     let us = flat_map entries_of_turn done ++ t.before in
-    let ws = t.behind ++ flat_map entries_of_turn rest in
+    let ws = t.after ++ flat_map entries_of_turn rest in
     let all : flat_map row_of ts ≡ ps ++ private_at late y ∷ bs = ap (λ (ts : List WriterCall). flat_map row_of ts) cut ∙ row_cut done rest t y one in
     let entries : writers_of xs ≡ us ++ ws = same ∙ ap (λ (ts : List WriterCall). flat_map entries_of_turn ts) cut ∙ entries_cut done rest t in
     let row_all : ArePrivate ps = private_both (flat_map row_of done) (nexts t.before)
@@ -452,7 +452,7 @@ turn_placed ts xs private shared same done rest t y cut one =
       after = m.after;
       parts = ap (λ (qs : List RowPart). at_once qs ++ put_in (past_at_once qs) xs) all ∙ m.parts;
       row = filter_swap (λ y. is_writers y.event) not_private m.before ∙ ap shared_entries m.row ∙ row_shared ps us ws is_row row_all are_shared;
-      beside = beside_it t.before t.behind (flat_map entries_of_turn rest) (flat_map row_of done) (flat_map entries_of_turn done) y _ (turns_row done) m;
+      beside = beside_it t.before t.after (flat_map entries_of_turn rest) (flat_map row_of done) (flat_map entries_of_turn done) y _ (turns_row done) m;
     }
 
 -- the joined history has the shared entries and the private ones

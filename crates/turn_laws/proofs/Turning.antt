@@ -17,7 +17,7 @@ use Rattle.mem_base.specs.declared.machine.events.Event.TheVariants as events
 use Rattle.mem_base.specs.lists.Every.{Every}
 use Rattle.mem_base.specs.lists.Runs.{Run, touched}
 use Rattle.mem_base.specs.map.Limits.{word_size}
-use Rattle.mem_base.specs.access.Editions.{place_in}
+use Rattle.mem_base.specs.access.PlacesByRegion.{place_in}
 use Rattle.mem_base.specs.machine.Committed.{committed_from}
 use Rattle.mem_base.specs.access.Cells.{cell}
 use Rattle.mem_base.specs.access.MemoryAccess.{replaces}
@@ -26,7 +26,7 @@ use Rattle.mem_base.specs.machine.Reaps.{Writer, writer}
 use Rattle.mem_base.specs.machine.Publishing.{would_publish}
 use Rattle.mem_base.specs.machine.Configs.{configured, answers}
 use Rattle.mem_base.specs.machine.World.{is_at_rest}
-use Rattle.mem_base.specs.machine.Orders.{Order, configure, reap, load, harvest, notified, journal, current, sweeps, publishes, pass_ids, events_behind, unless, loads, harvests, mark_words_at, load_refusal, harvest_refusal}
+use Rattle.mem_base.specs.machine.Orders.{Order, configure, reap, load, harvest, notified, journal, current, sweeps, publishes, pass_ids, events_after, unless, loads, harvests, mark_words_at, load_refusal, harvest_refusal}
 use Rattle.mem_base.specs.machine.Turns.{turn, played, private_entries, after_private, entries_of_turn}
 use Rattle.mem_base.specs.machine.JoinedHistory.{published_forests, accepted, accepted_one}
 use Rattle.mem_base.proofs.EveryLaws.{weaker, every_map}
@@ -36,7 +36,7 @@ use Rattle.view_laws.proofs.SortedLaws.{every_filter}
 use Rattle.turn_laws.proofs.Readies.{Ready, Due}
 use Rattle.turn_laws.proofs.TurnGoes.{AllDue, TurnReady}
 use Rattle.history_laws.proofs.Idles.{IsSoundDesk, Idle, fresh}
-use Rattle.turn_laws.proofs.Rows.{AreReady, behind, forests_in, forests_both, no_forest_at, with_swept, with_due, with_unfilled, flags_after, swept_desk, swept_passes, swept_length, sweeps_forests, all_swept, sweeps_ready, published_desk, published_passes, publish_forests, publish_ready, filled_desk, filled_generations, fill_forests, fills_ready, IsSteady, steady_behind, steady_forests, steady_ready}
+use Rattle.turn_laws.proofs.Rows.{AreReady, writer_played, forests_in, forests_both, no_forest_at, with_swept, with_due, with_unfilled, flags_after, swept_desk, swept_passes, swept_length, sweeps_forests, all_swept, sweeps_ready, published_desk, published_passes, publish_forests, publish_ready, filled_desk, filled_generations, fill_forests, fills_ready, IsSteady, steady_after, steady_forests, steady_ready}
 
 -- nothing is due or unfilled in an idle desk
 at_rest : (d : Desk) → d.due ≡ false → d.unfilled ≡ [] → is_at_rest d ≡ true
@@ -59,8 +59,8 @@ record Swept (h m : Writer) : Type 0 where
   same : stands m.desk ≡ stands h.desk
   all : is_all_swept m.desk ≡ true
 
-swept : (h : Writer) (ns : List ℕ) → Idle h → Swept h (behind h (sweeps h.generations) ns)
-swept h ns i = let vs = pass_ids h.generations in let m = behind h (sweeps h.generations) ns in let e = swept_desk vs h ns in record {
+swept : (h : Writer) (ns : List ℕ) → Idle h → Swept h (writer_played h (sweeps h.generations) ns)
+swept h ns i = let vs = pass_ids h.generations in let m = writer_played h (sweeps h.generations) ns in let e = swept_desk vs h ns in record {
   idle = record {
     due = ap (λ (d : Desk). d.due) e ∙ i.due;
     filled = ap (λ (d : Desk). d.unfilled) e ∙ i.filled;
@@ -79,9 +79,9 @@ module _ (end : Writer) where
 
   record Finished (s : Desk) (m : Writer) (es : List Event) (ns : List ℕ) (b : Bool) : Type 0 where
     ready : AreReady end m es ns
-    idle : Idle (behind m es ns)
+    idle : Idle (writer_played m es ns)
     forests : forests_in m es ns ≡ due_forests b s.forest
-    same : stands (behind m es ns).desk ≡ stands s
+    same : stands (writer_played m es ns).desk ≡ stands s
 
   finished : (m : Writer) (c : Config) (ns : List ℕ) → Idle m → (let s = configured m.generations m.desk c in (b : Bool) → s.desk.due ≡ b
       → Finished s.desk (writer (unswept s.desk) m.generations) (if b then publishes m.generations else map (λ c. events.Fill c) s.desk.unfilled) ns b)
@@ -123,24 +123,24 @@ module _ (end : Writer) where
   -- a call, by the events before its private one
   record FactsBy (h : Writer) (c : Config) (es : List Event) (ns : List ℕ) : Type 0 where
     before : AreReady end h es ns
-    private : AllDue Ready Due end (behind h es ns) (events.Config c ∷ [])
-    behind_it : let b = played h es ns in let n = after_private b.writer (events.Config c ∷ []) in AreReady end n (events_behind n (configure c)) b.replies
-    idle : let b = played h es ns in let n = after_private b.writer (events.Config c ∷ []) in Idle (behind n (events_behind n (configure c)) b.replies)
+    private : AllDue Ready Due end (writer_played h es ns) (events.Config c ∷ [])
+    after_it : let b = played h es ns in let n = after_private b.writer (events.Config c ∷ []) in AreReady end n (events_after n (configure c)) b.replies
+    idle : let b = played h es ns in let n = after_private b.writer (events.Config c ∷ []) in Idle (writer_played n (events_after n (configure c)) b.replies)
     forests : (ks : List Config) → let b = played h es ns in let n = after_private b.writer (events.Config c ∷ []) in
-        let t = played n (events_behind n (configure c)) b.replies in
+        let t = played n (events_after n (configure c)) b.replies in
         committed_from (stands h.desk) (accepted (private_entries b.writer (events.Config c ∷ [])) ++ ks) ≡ published_forests (b.entries ++ t.entries)
         ++ committed_from (stands t.writer.desk) ks
 
-  config_by : (h : Writer) (c : Config) (es : List Event) (ns : List ℕ) → AreReady end h es ns → Prepared h (behind h es ns) c → forests_in h es ns
+  config_by : (h : Writer) (c : Config) (es : List Event) (ns : List ℕ) → AreReady end h es ns → Prepared h (writer_played h es ns) c → forests_in h es ns
       ≡ [] → FactsBy h c es ns
   config_by h c es ns r p none =
       let b = played h es ns in let m = b.writer in let s = configured m.generations m.desk c in
       let o = outcome m.generations m.desk p.idle.sound p.idle.due p.idle.filled c in
       let f = finished m c b.replies p.idle s.desk.due refl in
-      let n = after_private m (events.Config c ∷ []) in let t = played n (events_behind n (configure c)) b.replies in record {
+      let n = after_private m (events.Config c ∷ []) in let t = played n (events_after n (configure c)) b.replies in record {
         before = r;
         private = (record { tells = refl; event = (at_rest m.desk p.idle.due p.idle.filled, p.ok, fresh m.desk p.idle.sound c) }, tt);
-        behind_it = f.ready;
+        after_it = f.ready;
         idle = f.idle;
         forests = λ ks.
             (λ i. committed_from (sym p.same i) ((accepted_one (events.Config c) (answers c s.answer) ++ []) ++ ks))
@@ -153,7 +153,7 @@ module _ (end : Writer) where
 
   config_turn : (h : Writer) (c : Config) (ns : List ℕ) → Idle h → TurnFacts h (configure c) ns
   config_turn h c ns i = let f = go (would_publish h.desk c) refl in record {
-    ready = record { before = f.before; private = f.private; behind = f.behind_it };
+    ready = record { before = f.before; private = f.private; after = f.after_it };
     idle = f.idle;
     forests = f.forests;
   }
@@ -169,7 +169,7 @@ module _ (end : Writer) where
     ready = record {
       before = sweeps_ready end (pass_ids h.generations) h ns;
       private = (record { tells = refl; event = (at_rest m.desk s.idle.due s.idle.filled, s.all) }, tt);
-      behind = tt;
+      after = tt;
     };
     idle = record {
       due = s.idle.due;
@@ -193,8 +193,8 @@ module _ (end : Writer) where
 
   -- events that leave the writer's part as it is
   steady_commits : (es : List Event) (h : Writer) (ns : List ℕ) → Every (IsSteady h) es → (ks : List Config) → committed_from (stands h.desk) ks
-      ≡ forests_in h es ns ++ committed_from (stands (behind h es ns).desk) ks
-  steady_commits es h ns k ks = λ i. sym (steady_forests es h ns k) i ++ committed_from (stands (sym (steady_behind es h ns k) i).desk) ks
+      ≡ forests_in h es ns ++ committed_from (stands (writer_played h es ns).desk) ks
+  steady_commits es h ns k ks = λ i. sym (steady_forests es h ns k) i ++ committed_from (stands (sym (steady_after es h ns k) i).desk) ks
 
   writes_steady : (h : Writer) → Idle h → (ws : List Run) (f : Run → ℕ) (region : RegionId) (s : Run → WordStep)
       → Every (IsSteady h) (map (λ w. events.Word hands.Writer (cell region (f w)) (s w)) ws)
@@ -224,30 +224,30 @@ module _ (end : Writer) where
 
   load_turn : (h : Writer) (region : RegionId) (offset : ℕ) (bytes : List ℕ) (ns : List ℕ) → Idle h → TurnFacts h (load region offset bytes) ns
   load_turn h region offset bytes ns i =
-      let es = events_behind h (load region offset bytes) in
+      let es = events_after h (load region offset bytes) in
       let k : Every (IsSteady h) es = unless_steady h (load_refusal h.desk.forest region offset (length bytes)) (loads region offset bytes)
       (writes_steady h i (touched word_size offset (length bytes)) (λ w. w.start / word_size) region (replaces offset bytes)) in record {
-        ready = record { before = tt; private = tt; behind = steady_ready end es h ns k };
-        idle = subst Idle (sym (steady_behind es h ns k)) i;
+        ready = record { before = tt; private = tt; after = steady_ready end es h ns k };
+        idle = subst Idle (sym (steady_after es h ns k)) i;
         forests = steady_commits es h ns k;
       }
 
   harvest_turn : (h : Writer) (region : RegionId) (client : Client) (ns : List ℕ) → Idle h → TurnFacts h (harvest region client) ns
   harvest_turn h region client ns i =
-      let es = events_behind h (harvest region client) in
+      let es = events_after h (harvest region client) in
       let k : Every (IsSteady h) es = unless_steady h (harvest_refusal h.desk.forest region) (harvests h.desk region client)
       (harvests_steady h i region client) in record {
-        ready = record { before = tt; private = tt; behind = steady_ready end es h ns k };
-        idle = subst Idle (sym (steady_behind es h ns k)) i;
+        ready = record { before = tt; private = tt; after = steady_ready end es h ns k };
+        idle = subst Idle (sym (steady_after es h ns k)) i;
         forests = steady_commits es h ns k;
       }
 
   notified_turn : (h : Writer) (number : ℕ) (ns : List ℕ) → Idle h → TurnFacts h (notified number) ns
   notified_turn h number ns i =
-      let es = events_behind h (notified number) in
+      let es = events_after h (notified number) in
       let k : Every (IsSteady h) es = (record { ready = i.filled; stays = λ x n. refl; carries = no_forest_at _ }, tt) in record {
-        ready = record { before = tt; private = tt; behind = steady_ready end es h ns k };
-        idle = subst Idle (sym (steady_behind es h ns k)) i;
+        ready = record { before = tt; private = tt; after = steady_ready end es h ns k };
+        idle = subst Idle (sym (steady_after es h ns k)) i;
         forests = steady_commits es h ns k;
       }
 
@@ -258,5 +258,5 @@ module _ (end : Writer) where
   turn_facts h (load region offset bytes) ns i = load_turn h region offset bytes ns i
   turn_facts h (harvest region client) ns i = harvest_turn h region client ns i
   turn_facts h (notified number) ns i = notified_turn h number ns i
-  turn_facts h journal ns i = record { ready = record { before = tt; private = tt; behind = tt }; idle = i; forests = λ ks. refl }
-  turn_facts h current ns i = record { ready = record { before = tt; private = tt; behind = tt }; idle = i; forests = λ ks. refl }
+  turn_facts h journal ns i = record { ready = record { before = tt; private = tt; after = tt }; idle = i; forests = λ ks. refl }
+  turn_facts h current ns i = record { ready = record { before = tt; private = tt; after = tt }; idle = i; forests = λ ks. refl }

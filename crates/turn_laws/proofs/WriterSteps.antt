@@ -13,7 +13,7 @@ use Rattle.mem_base.specs.declared.machine.events.Carried.TheVariants.{Nothing, 
 use Rattle.mem_base.specs.declared.machine.events.Event.TheVariants as events
 use Rattle.mem_base.specs.declared.machine.events.Reply.TheVariants as replies
 use Rattle.mem_base.specs.lists.Every.{Every}
-use Rattle.mem_base.specs.access.Editions.{place_in}
+use Rattle.mem_base.specs.access.PlacesByRegion.{place_in}
 use Rattle.mem_base.specs.views.Naming.{names, shows_events}
 use Rattle.mem_base.specs.access.Places.{is_notifiers, mark_words, mark_word}
 use Rattle.mem_base.specs.machine.Passes.{pass_of}

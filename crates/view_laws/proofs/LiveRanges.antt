@@ -104,7 +104,7 @@ ranges_in : (f : Forest) (rs : List FlatRange) (l : Live) → In l (flat_map (li
 ranges_in f [] l m = absurd m
 ranges_in f (r ∷ rs) l m = ⊎_elim
     (λ here. record { range = r; among = inl refl; lives = here })
-    (λ behind. let t = ranges_in f rs l behind in record { range = t.range; among = inr t.among; lives = t.lives })
+    (λ past. let t = ranges_in f rs l past in record { range = t.range; among = inr t.among; lives = t.lives })
     (in_either l (lives_of_range f r) (flat_map (lives_of_range f) rs) m)
 
 ranges_out : (f : Forest) (rs : List FlatRange) (l : Live) (r : FlatRange) → In r rs → In l (lives_of_range f r) → In l (flat_map (lives_of_range f) rs)

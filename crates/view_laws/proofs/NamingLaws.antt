@@ -55,11 +55,11 @@ leaf_here path region a (Some s) (r ∷ rs) h = go (goes_on path a s r)
     go true = or_left (s.leaf.0 == region.0) (has_leaf region rs) h
     go false = or_left (s.leaf.0 == region.0) (has_leaf region (r ∷ rs)) h
 
-leaf_behind : (path : PathAt) (region : RegionId) (a : ℕ) (o : Option Spot) (rs : List FlatRange) → has_leaf region rs ≡ true
+leaf_after : (path : PathAt) (region : RegionId) (a : ℕ) (o : Option Spot) (rs : List FlatRange) → has_leaf region rs ≡ true
     → has_leaf region (put_before path a o rs) ≡ true
-leaf_behind path region a None rs h = h
-leaf_behind path region a (Some s) [] h = absurd (grind arith)
-leaf_behind path region a (Some s) (r ∷ rs) h = go (goes_on path a s r) refl
+leaf_after path region a None rs h = h
+leaf_after path region a (Some s) [] h = absurd (grind arith)
+leaf_after path region a (Some s) (r ∷ rs) h = go (goes_on path a s r) refl
   where
     go : (b : Bool) → goes_on path a s r ≡ b
         → has_leaf region (if b then record { start = a; last = r.last; leaf = s.leaf; offset = s.offset; attrs = s.attrs } ∷ rs else lone a s ∷ r
@@ -91,7 +91,7 @@ leaf_ranges : (found : ℕ → Option Spot) (path : PathAt) (a n i : ℕ) (regio
 unfolding ranges_from
 leaf_ranges found path a zero i region l m h = absurd (omega arith)
 leaf_ranges found path a (suc n) i region l m h = ⊎_elim
-    (λ more. leaf_behind path region a (found a) (ranges_from found path (a + 1) n) (leaf_ranges found path (a + 1) n i region (omega arith) (omega arith) h))
+    (λ more. leaf_after path region a (found a) (ranges_from found path (a + 1) n) (leaf_ranges found path (a + 1) n i region (omega arith) (omega arith) h))
     (λ less. let e : i ≡ a = omega arith in leaf_here path region a (found a) (ranges_from found path (a + 1) n)
     (subst (λ (z : ℕ). leaf_is region (found z) ≡ true) e h))
     (cases_lt a i)

@@ -16,13 +16,13 @@ abbrev pub Apart : List FlatRange → Type 0
 Apart [] = Unit {0}
 Apart (r ∷ rs) = (r.start ≤ r.last) × Every (λ q. r.last < q.start) rs × Apart rs
 
-behind : (from end a : ℕ) (rs : List FlatRange) → a < from → IsRanges from end rs → Every (λ q. a < q.start) rs
-behind from end a [] l h = tt
-behind from end a (r ∷ rs) l h = let m = h.0 in let n = h.1 in (omega arith, behind (r.last + 1) end a rs (omega arith) h.3)
+past : (from end a : ℕ) (rs : List FlatRange) → a < from → IsRanges from end rs → Every (λ q. a < q.start) rs
+past from end a [] l h = tt
+past from end a (r ∷ rs) l h = let m = h.0 in let n = h.1 in (omega arith, past (r.last + 1) end a rs (omega arith) h.3)
 
 pub apart : (from end : ℕ) (rs : List FlatRange) → IsRanges from end rs → Apart rs
 apart from end [] h = tt
-apart from end (r ∷ rs) h = (h.1, behind (r.last + 1) end r.last rs (omega arith) h.3, apart (r.last + 1) end rs h.3)
+apart from end (r ∷ rs) h = (h.1, past (r.last + 1) end r.last rs (omega arith) h.3, apart (r.last + 1) end rs h.3)
 
 -- what two ranges that are the same have in common
 pub record Same (r q : FlatRange) : Type 0 where

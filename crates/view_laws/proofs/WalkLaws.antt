@@ -38,14 +38,14 @@ first_of xs y ys h = weaker (λ x. Every (λ y. x.start < y.start) (y ∷ ys)) (
 rest_of : (xs : List FlatRange) (y : FlatRange) (ys : List FlatRange) → Precede xs (y ∷ ys) → Precede xs ys
 rest_of xs y ys h = weaker (λ x. Every (λ y. x.start < y.start) (y ∷ ys)) (λ x. Every (λ y. x.start < y.start) ys) (λ x e. e.1) xs h
 
-starts_behind : (r : FlatRange) (rs : List FlatRange) → r.start ≤ r.last → Every (λ q. r.last < q.start) rs → Every (λ q. r.start < q.start) rs
-starts_behind r rs l h = weaker (λ q. r.last < q.start) (λ q. r.start < q.start) (λ q e. omega arith) rs h
+starts_after : (r : FlatRange) (rs : List FlatRange) → r.start ≤ r.last → Every (λ q. r.last < q.start) rs → Every (λ q. r.start < q.start) rs
+starts_after r rs l h = weaker (λ q. r.last < q.start) (λ q. r.start < q.start) (λ q e. omega arith) rs h
 
 unequal_before : (r : FlatRange) (xs : List FlatRange) → Every (λ x. x.start < r.start) xs → Every (λ x. is_equal_range r x ≡ false) xs
 unequal_before r xs h = weaker (λ x. x.start < r.start) (λ x. is_equal_range r x ≡ false) (λ x e. not_equal r x (λ z. omega arith)) xs h
 
-unequal_behind : (r : FlatRange) (xs : List FlatRange) → Every (λ x. r.start < x.start) xs → Every (λ x. is_equal_range r x ≡ false) xs
-unequal_behind r xs h = weaker (λ x. r.start < x.start) (λ x. is_equal_range r x ≡ false) (λ x e. not_equal r x (λ z. omega arith)) xs h
+unequal_after : (r : FlatRange) (xs : List FlatRange) → Every (λ x. r.start < x.start) xs → Every (λ x. is_equal_range r x ≡ false) xs
+unequal_after r xs h = weaker (λ x. r.start < x.start) (λ x. is_equal_range r x ≡ false) (λ x e. not_equal r x (λ z. omega arith)) xs h
 
 -- one delete takes its range out
 deletes_one : (r : FlatRange) (xs ys : List FlatRange) → Every (λ x. x.start < r.start) xs → Every (λ x. r.start < x.start) ys
@@ -53,7 +53,7 @@ deletes_one : (r : FlatRange) (xs ys : List FlatRange) → Every (λ x. x.start 
 deletes_one r xs ys before after =
     let there : list_any (is_equal_range r) (xs ++ r ∷ ys) ≡ true = any_middle (is_equal_range r) xs r ys (equal_itself r) in
     let out : filter (λ q. not (is_equal_range r q)) (xs ++ r ∷ ys) ≡ xs ++ ys = takes_out (is_equal_range r) xs r ys (unequal_before r xs before)
-    (equal_itself r) (unequal_behind r ys after) in
+    (equal_itself r) (unequal_after r ys after) in
     rw there (ap Some out)
 
 abbrev deletes_of : List FlatRange → List FlatRange → List RangeEvent
@@ -64,7 +64,7 @@ deletes_from : (new done rest : List FlatRange) → Precede done rest → Apart 
 deletes_from new done [] h k = refl
 deletes_from new done (r ∷ rest) h k =
     let before = first_of done r rest h in
-    let after = starts_behind r rest k.0 k.1 in
+    let after = starts_after r rest k.0 k.1 in
     go (kept_in new r)
     (subst (λ (z : List FlatRange). ranges_after_all (Some z) (deletes_of new rest) ≡ Some (done ++ r ∷ filter (kept_in new) rest))
     (append_assoc done (r ∷ []) rest)
@@ -89,9 +89,9 @@ old_same old r = find (is_same_range r) old
 abbrev olds : List FlatRange → List FlatRange → List FlatRange
 olds old new = filter_map (old_same old) new
 
-none_behind : (r : FlatRange) (qs : List FlatRange) → Every (λ q. r.start < q.start) qs → find (is_same_range r) qs ≡ None
-none_behind r [] h = refl
-none_behind r (q ∷ qs) h = rw (not_same r q (λ z. let l = h.0 in omega arith)) (none_behind r qs h.1)
+none_after : (r : FlatRange) (qs : List FlatRange) → Every (λ q. r.start < q.start) qs → find (is_same_range r) qs ≡ None
+none_after r [] h = refl
+none_after r (q ∷ qs) h = rw (not_same r q (λ z. let l = h.0 in omega arith)) (none_after r qs h.1)
 
 -- what is found is the same, and one of the list
 found_same : (r : FlatRange) (qs : List FlatRange) (x : FlatRange) → find (is_same_range r) qs ≡ Some x → is_same_range r x ≡ true
@@ -103,17 +103,17 @@ found_same r (q ∷ qs) x h = go (is_same_range r q) refl h (found_same r qs x)
     go true e h rest = subst (λ (z : FlatRange). is_same_range r z ≡ true) (same_some q x h) e
     go false e h rest = rest h
 
-found_behind : (a : ℕ) (r : FlatRange) (qs : List FlatRange) (x : FlatRange) → Every (λ q. a < q.start) qs → find (is_same_range r) qs ≡ Some x → a < x.start
-found_behind a r [] x k h = none_is_not_some x h
-found_behind a r (q ∷ qs) x k h = go (is_same_range r q) h (found_behind a r qs x k.1)
+found_after : (a : ℕ) (r : FlatRange) (qs : List FlatRange) (x : FlatRange) → Every (λ q. a < q.start) qs → find (is_same_range r) qs ≡ Some x → a < x.start
+found_after a r [] x k h = none_is_not_some x h
+found_after a r (q ∷ qs) x k h = go (is_same_range r q) h (found_after a r qs x k.1)
   where
     go : (b : Bool) → (if b then Some q else find (is_same_range r) qs) ≡ Some x → (find (is_same_range r) qs ≡ Some x → a < x.start) → a < x.start
     go true h rest = subst (λ (z : FlatRange). a < z.start) (same_some q x h) k.0
     go false h rest = rest h
 
-any_same_behind : (q : FlatRange) (rs : List FlatRange) → Every (λ r. q.start < r.start) rs → list_any (is_same_range q) rs ≡ false
-any_same_behind q [] h = refl
-any_same_behind q (r ∷ rs) h = rw (not_same q r (λ z. let l = h.0 in omega arith)) (any_same_behind q rs h.1)
+any_same_after : (q : FlatRange) (rs : List FlatRange) → Every (λ r. q.start < r.start) rs → list_any (is_same_range q) rs ≡ false
+any_same_after q [] h = refl
+any_same_after q (r ∷ rs) h = rw (not_same q r (λ z. let l = h.0 in omega arith)) (any_same_after q rs h.1)
 
 -- an old range that is the same as none of some new ones is not found for them
 olds_without : (q : FlatRange) (qs new : List FlatRange) → Every (λ r. q.start < r.start) new → olds (q ∷ qs) new ≡ olds qs new
@@ -148,18 +148,18 @@ olds_with q qs [] h k = refl
 olds_with q qs (r ∷ rs) h k = go (is_same_range r q) refl (olds_with q qs rs h k.2)
   where
     after : Every (λ x. r.start < x.start) rs
-    after = starts_behind r rs k.0 k.1
+    after = starts_after r rs k.0 k.1
 
-    behind_q : (x : FlatRange) → find (is_same_range r) qs ≡ Some x → Every (λ y. q.start < y.start) rs
-    behind_q x e = let l = found_behind q.start r qs x h e in let s = (same_of r x (found_same r qs x e)).start in
+    after_q : (x : FlatRange) → find (is_same_range r) qs ≡ Some x → Every (λ y. q.start < y.start) rs
+    after_q x e = let l = found_after q.start r qs x h e in let s = (same_of r x (found_same r qs x e)).start in
         weaker (λ y. r.start < y.start) (λ y. q.start < y.start) (λ y z. omega arith) rs after
 
     others : (o : Option FlatRange) → find (is_same_range r) qs ≡ o → olds (q ∷ qs) rs ≡ (if kept_in rs q then q ∷ olds qs rs else olds qs rs)
         → cons_option o (olds (q ∷ qs) rs) ≡ (if kept_in rs q then q ∷ cons_option o (olds qs rs) else cons_option o (olds qs rs))
     others None e rest = rest
-    others (Some x) e rest = let b = behind_q x e in
+    others (Some x) e rest = let b = after_q x e in
         ap (λ (z : List FlatRange). x ∷ z) (olds_without q qs rs b) ∙ ap (λ (b : Bool). if b then q ∷ x ∷ olds qs rs else x ∷ olds qs rs)
-        (sym (any_same_behind q rs b))
+        (sym (any_same_after q rs b))
 
     go : (b : Bool) → is_same_range r q ≡ b → olds (q ∷ qs) rs ≡ (if kept_in rs q then q ∷ olds qs rs else olds qs rs)
         → cons_option (if b then Some q else find (is_same_range r) qs) (olds (q ∷ qs) rs)
@@ -167,7 +167,7 @@ olds_with q qs (r ∷ rs) h k = go (is_same_range r q) refl (olds_with q qs rs h
         else cons_option (find (is_same_range r) qs) (olds qs rs))
     go true e rest =
         let s = (same_of r q e).start in
-        let none : find (is_same_range r) qs ≡ None = none_behind r qs (weaker (λ x. q.start < x.start) (λ x. r.start < x.start) (λ x z. omega arith) qs h) in
+        let none : find (is_same_range r) qs ≡ None = none_after r qs (weaker (λ x. q.start < x.start) (λ x. r.start < x.start) (λ x z. omega arith) qs h) in
         let w : olds (q ∷ qs) rs ≡ olds qs rs = olds_without q qs rs (weaker (λ y. r.start < y.start) (λ y. q.start < y.start) (λ y z. omega arith) rs after) in
         rw (both_ways r q true e, none, w) refl
     go false e rest = rw (both_ways r q false e) (others (find (is_same_range r) qs) refl rest)
@@ -175,13 +175,13 @@ olds_with q qs (r ∷ rs) h k = go (is_same_range r q) refl (olds_with q qs rs h
 -- the old ranges that are kept are those found for the new ones
 olds_kept : (old new : List FlatRange) → Apart old → Apart new → filter (kept_in new) old ≡ olds old new
 olds_kept [] new h k = sym (no_olds new)
-olds_kept (q ∷ qs) new h k = sym (olds_with q qs new (starts_behind q qs h.0 h.1) k ∙ ap (λ (z : List FlatRange). if kept_in new q then q ∷ z else z)
+olds_kept (q ∷ qs) new h k = sym (olds_with q qs new (starts_after q qs h.0 h.1) k ∙ ap (λ (z : List FlatRange). if kept_in new q then q ∷ z else z)
     (sym (olds_kept qs new h.2 k)))
 
 -- the ranges that are found begin where the new ones do
-olds_behind : (a : ℕ) (old new : List FlatRange) → Every (λ r. a < r.start) new → Every (λ x. a < x.start) (olds old new)
-olds_behind a old [] h = tt
-olds_behind a old (r ∷ new) h = go (old_same old r) refl (olds_behind a old new h.1)
+olds_after : (a : ℕ) (old new : List FlatRange) → Every (λ r. a < r.start) new → Every (λ x. a < x.start) (olds old new)
+olds_after a old [] h = tt
+olds_after a old (r ∷ new) h = go (old_same old r) refl (olds_after a old new h.1)
   where
     go : (o : Option FlatRange) → old_same old r ≡ o → Every (λ x. a < x.start) (olds old new) → Every (λ x. a < x.start) (cons_option o (olds old new))
     go None e rest = rest
@@ -196,8 +196,8 @@ meets_none_before r xs h = weaker (λ x. x.last < r.start) (λ x. meets_range r 
     go true = refl
     go false = refl
 
-meets_none_behind : (r : FlatRange) (xs : List FlatRange) → Every (λ x. r.last < x.start) xs → Every (λ x. meets_range r x ≡ false) xs
-meets_none_behind r xs h = weaker (λ x. r.last < x.start) (λ x. meets_range r x ≡ false) (λ x l. rw (lt-ltb r.last x.start l) refl) xs h
+meets_none_after : (r : FlatRange) (xs : List FlatRange) → Every (λ x. r.last < x.start) xs → Every (λ x. meets_range r x ≡ false) xs
+meets_none_after r xs h = weaker (λ x. r.last < x.start) (λ x. meets_range r x ≡ false) (λ x l. rw (lt-ltb r.last x.start l) refl) xs h
 
 not_less : (a b : ℕ) → b < a → is_lt (nat_cmp a b) ≡ false
 not_less a b l = rw (le-ltb a b (omega arith), ne_eqb a b (λ z. omega arith)) refl
@@ -220,10 +220,10 @@ adds_one : (r : FlatRange) (xs ys : List FlatRange) → r.start ≤ r.last → E
 adds_one r xs ys l before after =
     let free : list_any (meets_range r) (xs ++ ys) ≡ false = none_any (meets_range r) xs ys
     (meets_none_before r xs (weaker (λ x. (x.start ≤ x.last) × (x.last < r.start)) (λ x. x.last < r.start) (λ x e. e.1) xs before))
-    (meets_none_behind r ys after) in
+    (meets_none_after r ys after) in
     let put : put_by range_order r (xs ++ ys) ≡ xs ++ r ∷ ys =
     put_between r xs ys (weaker (λ x. (x.start ≤ x.last) × (x.last < r.start)) (λ x. x.start < r.start) (λ x e. let a = e.0 in let b = e.1 in
-    omega arith) xs before) (starts_behind r ys l after) in
+    omega arith) xs before) (starts_after r ys l after) in
     rw free (ap Some put)
 
 -- a range that is kept gets the new log
@@ -282,8 +282,8 @@ not_same_before : (r : FlatRange) (xs : List FlatRange) → Every (λ x. (x.star
 not_same_before r xs h = weaker (λ x. (x.start ≤ x.last) × (x.last < r.start)) (λ x. is_same_range r x ≡ false)
     (λ x e. not_same r x (λ z. let a = e.0 in let b = e.1 in omega arith)) xs h
 
-not_same_behind : (r : FlatRange) (xs : List FlatRange) → Every (λ x. r.start < x.start) xs → Every (λ x. is_same_range r x ≡ false) xs
-not_same_behind r xs h = weaker (λ x. r.start < x.start) (λ x. is_same_range r x ≡ false) (λ x e. not_same r x (λ z. omega arith)) xs h
+not_same_after : (r : FlatRange) (xs : List FlatRange) → Every (λ x. r.start < x.start) xs → Every (λ x. is_same_range r x ≡ false) xs
+not_same_after r xs h = weaker (λ x. r.start < x.start) (λ x. is_same_range r x ≡ false) (λ x e. not_same r x (λ z. omega arith)) xs h
 
 -- each of these ranges ends before all of those
 abbrev EndBefore : List FlatRange → List FlatRange → Type 0
@@ -304,19 +304,19 @@ shows_from old done (r ∷ rest) h k =
     (shows_from old (done ++ r ∷ []) rest (every_push (λ x. (x.start ≤ x.last) × Every (λ y. x.last < y.start) rest) done r others (k.0, k.1)) k.2) in
     go (old_same old r) refl before later
   where
-    behind : Every (λ x. r.last < x.start) (olds old rest)
-    behind = olds_behind r.last old rest k.1
+    past : Every (λ x. r.last < x.start) (olds old rest)
+    past = olds_after r.last old rest k.1
 
     go : (o : Option FlatRange) → old_same old r ≡ o → Every (λ x. (x.start ≤ x.last) × (x.last < r.start)) done
         → ranges_after_all (Some (done ++ r ∷ olds old rest)) (shown_again old rest) ≡ Some (done ++ r ∷ rest)
         → ranges_after_all (Some (done ++ cons_option o (olds old rest))) (added_or_kept r o ++ shown_again old rest) ≡ Some (done ++ r ∷ rest)
     go None e before later = ap (λ (z : Option (List FlatRange)). ranges_after_all z (shown_again old rest))
-        (adds_one r done (olds old rest) k.0 before behind) ∙ later
+        (adds_one r done (olds old rest) k.0 before past) ∙ later
     go (Some q) e before later =
         after_both (Some (done ++ q ∷ olds old rest)) (Keep r ∷ logs r q) (shown_again old rest)
         ∙ ap (λ (z : Option (List FlatRange)). ranges_after_all z (shown_again old rest))
         (keeps_one r q done (olds old rest) (not_same_before r done before) (found_same r old q e)
-        (not_same_behind r (olds old rest) (starts_behind r (olds old rest) k.0 behind)))
+        (not_same_after r (olds old rest) (starts_after r (olds old rest) k.0 past)))
         ∙ later
 
 -- from one view to another, each of which stands apart

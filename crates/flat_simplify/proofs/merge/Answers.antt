@@ -13,7 +13,7 @@ merges-requires c = record { some = search rules; within = search rules }
 pub loop-i-init : goal.loop-i-init
 loop-i-init c = record {
   merging = merging_first c.args.ranges.now c.args.paths.now no_range (search rules) c.requires.paths c.requires.ranges;
-  behind = omega arith;
+  kept_below = omega arith;
   within = search rules;
 }
 
@@ -28,7 +28,7 @@ loop-i-preserved c =
     let n = c.loop-i.auto.ranges in
     let t = c.loop-i-test.true in
     let many = c.requires.paths in
-    let behind = c.loop-i.invariant.behind in
+    let kept_below = c.loop-i.invariant.kept_below in
     let in_now : i < length now = omega arith in
     let in_paths : i < length paths = omega arith in
     let meet = paths_meet told _ _ current (get_or paths (i - 1) []) now paths i no_range in_now in_paths c.loop-i.invariant.merging in
@@ -42,16 +42,16 @@ loop-i-preserved c =
           (get_or paths (i - 1) []) no_range in_now in_paths c.loop-i.invariant.merging m in
           record {
             merging = turned told c.args.ranges.now _ _ _ _ _ _ _ _ _ _ w.ranges-is w.kept-is w.current-is (ap (λ k. get_or paths k []) at) step;
-            behind = let k = w.kept-is in omega arith;
+            kept_below = let k = w.kept-is in omega arith;
             within = let l = c.if-merges.auto.ranges in omega arith;
           }
       | else-merges w ↦
           let m : Merges told current next → ⊥ = λ m. let yes = (c.merges.ensures told here there).1 m in let no = w.if-merges.false in cc in
           let step = turn_next told c.args.ranges.now now paths c.loop-i.kept i current
-          (get_or paths (i - 1) []) no_range in_now in_paths behind c.loop-i.invariant.merging m in
+          (get_or paths (i - 1) []) no_range in_now in_paths kept_below c.loop-i.invariant.merging m in
           record {
             merging = turned told c.args.ranges.now _ _ _ _ _ _ _ _ _ _ w.ranges-is w.kept-is w.current-is (ap (λ k. get_or paths k []) at) step;
-            behind = let k = w.kept-is in omega arith;
+            kept_below = let k = w.kept-is in omega arith;
             within = let l = c.if-merges.auto.ranges in omega arith;
           }
     ]

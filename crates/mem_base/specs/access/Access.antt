@@ -1,6 +1,6 @@
 -- A whole access: its chunks, and what is done at the leaf of each.
--- QEMU's manual, "Load and Store APIs", and QEMU's core, `address_space_rw`. All chunks, translations and pieces go
--- by one forest.
+-- QEMU's manual, "Load and Store APIs", and QEMU's core, `address_space_rw`. That all chunks,
+-- translations and pieces go by one forest is this project's own rule.
 use Rattle.std.specs.Prelude.{ℕ, ◌-◌, ◌&&◌, not, if◌then◌else◌, List, flat_map, Option, Some, None}
 use Rattle.mem_base.specs.declared.map.ids.SpaceId.{SpaceId}
 use Rattle.mem_base.specs.declared.map.forests.Node.{Node}

@@ -9,7 +9,7 @@ use Rattle.mem_base.specs.declared.access.cells.WordStep.{WordStep}
 use Rattle.mem_base.specs.declared.access.cells.WordStep.TheVariants.{Or, Take}
 use Rattle.mem_base.specs.declared.machine.events.Event.{Event}
 use Rattle.mem_base.specs.declared.machine.events.Event.TheVariants as events
-use Rattle.mem_base.specs.access.Editions.{notifiers}
+use Rattle.mem_base.specs.access.PlacesByRegion.{notifiers}
 use Rattle.mem_base.specs.access.Words.{word_after}
 use Rattle.mem_base.specs.access.Places.{mark_word, word_of_page, bit_of_page}
 
@@ -33,7 +33,7 @@ abbrev pub touch : ℕ → WordStep → Bool → Touch
 touch word step tells = record { word = word; step = step; tells = tells }
 
 -- what an event does to the place of its region. A Mark sets the bit of a page, a Harvest takes a mark word, and a
--- Fill leaves 0 as a Take does, but tells nothing
+-- Fill leaves 0 as a Take does. A Mark and a Fill tell nothing of the word before
 abbrev pub touch_of : Place → Event → Option Touch
 touch_of p (events.Word hand cell step) = Some (touch cell.word step true)
 touch_of p (events.Mark pass region client page) = Some (touch (word_of_page p client page) (Or (bit_of_page page)) false)

@@ -1,6 +1,7 @@
 -- An access to a device: its pieces, the ioeventfds that take a write, and the callbacks on registers.
--- QEMU's core, `access_with_adjusted_size` and `memory_region_dispatch_write_eventfds`. The four devices, and what a
--- callback that is wider than its piece reads and writes, are this project's own rule.
+-- QEMU's core, `access_with_adjusted_size` and `memory_region_dispatch_write_eventfds`. The four devices, what a
+-- callback that is wider than its piece reads and writes, and that each piece of a write sets a notifier by itself are this
+-- project's own rules.
 use Rattle.std.specs.Prelude.{◌≡◌, ℕ, ◌+◌, ◌-◌, ◌*◌, ◌/◌, ◌%◌, ◌^◌, Bool, true, false, ◌==◌, ◌&&◌, ◌||◌, not, if◌then◌else◌, List, [], ◌∷◌, ◌++◌, map, take, length, replicate, flat_map, Option, Some, None, option_map, find}
 use Rattle.mem_base.specs.declared.map.ids.RegionId.{RegionId}
 use Rattle.mem_base.specs.declared.map.forests.Node.{Node}

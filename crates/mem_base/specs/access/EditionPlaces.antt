@@ -6,7 +6,7 @@ use Rattle.mem_base.specs.declared.access.cells.Place.{Place}
 use Rattle.mem_base.specs.lists.Every.{Every, EveryPair}
 use Rattle.mem_base.specs.map.Region.{node_of}
 use Rattle.mem_base.specs.map.Forest.{IsMade}
-use Rattle.mem_base.specs.access.Editions.{notifiers, place_in}
+use Rattle.mem_base.specs.access.PlacesByRegion.{notifiers, place_in}
 use Rattle.mem_base.specs.access.Places.{extent_of, words_of, place_from, past, notifiers_place}
 use Rattle.mem_base.specs.views.Naming.{names, shows_events}
 

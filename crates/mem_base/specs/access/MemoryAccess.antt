@@ -1,6 +1,7 @@
 -- An access to RAM, to ROM, or to a ROM device that is read directly: one atomic step for each word that it touches,
 -- and after a write the marks of the pages.
 -- QEMU's core, `flatview_read_continue` and `flatview_write_continue`, and `invalidate_and_set_dirty` for the marks.
+-- That memory is read and written word by word, each by one atomic step, is this project's own rule.
 use Rattle.std.specs.Prelude.{ℕ, ◌-◌, ◌/◌, ◌%◌, false, if◌then◌else◌, List, ◌++◌, map, take, drop}
 use Rattle.mem_base.specs.declared.map.ids.RegionId.{RegionId}
 use Rattle.mem_base.specs.declared.map.spots.Spot.{Spot}

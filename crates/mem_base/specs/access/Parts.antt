@@ -1,5 +1,5 @@
--- The parts of a range of an IOMMU region's table, and what a notifier is told as they change.
--- QEMU's manual, "The memory API", IOMMU regions, and `IOMMUNotifier` with its range of QEMU's core. That a notifier
+-- The parts of a range of an IOMMU region's table, and what a watcher of the range is told as they change.
+-- QEMU's manual, "The memory API", IOMMU regions, and `IOMMUNotifier` with its range of QEMU's core. That a watcher
 -- is told after a publish, and of the whole difference at once, is this project's own rule.
 use Rattle.std.specs.Prelude.{ℕ, ◌+◌, min, max, Bool, true, false, ◌==◌, ◌&&◌, not, nat_lt, nat_le, if◌then◌else◌, List, [], ◌∷◌, ◌++◌, map, filter, Option, Some, option_and_then}
 use Rattle.std.specs.List.{list_any}
@@ -46,7 +46,7 @@ parts_of entries first last = map (part_of first last) (filter (meets_offsets fi
 abbrev pub parts_in : Forest → RegionId → ℕ → ℕ → List Part
 parts_in f region first last = parts_of (table_of f region) first last
 
--- what a notifier is told
+-- what a watcher is told
 
 abbrev pub is_same_perm : Perm → Perm → Bool
 is_same_perm Nothing Nothing = true
@@ -63,12 +63,12 @@ is_same_part p q =
 abbrev pub parts_without : List Part → List Part → List Part
 parts_without ps qs = filter (λ p. not (list_any (is_same_part p) qs)) ps
 
--- from the parts that a notifier has to those that it is to have: each that goes is unmapped, ascending, and then
--- each that comes is mapped, ascending. A new notifier has none before, and one that leaves has none after
+-- from the parts that a watcher has to those that it is to have: each that goes is unmapped, ascending, and then
+-- each that comes is mapped, ascending. A new watcher has none before, and one that leaves has none after
 abbrev pub notices_between : List Part → List Part → List Notice
 notices_between old new = map (λ p. Unmap p) (parts_without old new) ++ map (λ p. Map p) (parts_without new old)
 
--- the replay of a notifier's notices
+-- the replay of a watcher's notices
 
 -- two parts have an address in common
 abbrev pub meets_part : Part → Part → Bool
@@ -86,11 +86,11 @@ abbrev pub parts_after_all : Option (List Part) → List Notice → Option (List
 parts_after_all ps [] = ps
 parts_after_all ps (x ∷ xs) = parts_after_all (option_and_then (λ qs. parts_after qs x) ps) xs
 
--- the parts that a notifier's notices since it joined leave it; None where one does not fit
+-- the parts that a watcher's notices since it joined leave it; None where one does not fit
 abbrev pub replay_notices : List Notice → Option (List Part)
 replay_notices xs = parts_after_all (Some []) xs
 
--- the notices of one notifier in a list of those of all
+-- the notices of one watcher in a list of those of all
 abbrev pub notices_to : NotifierId → List (NotifierId × Notice) → List Notice
 notices_to id [] = []
 notices_to id (x ∷ xs) = if x.0.0 == id.0 then x.1 ∷ notices_to id xs else notices_to id xs

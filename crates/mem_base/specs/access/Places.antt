@@ -12,7 +12,7 @@ use Rattle.mem_base.specs.declared.map.kinds.Client.{Client}
 use Rattle.mem_base.specs.declared.map.kinds.Client.TheVariants.{Vga, Code, Migration}
 use Rattle.mem_base.specs.declared.access.cells.Place.{Place}
 use Rattle.mem_base.specs.map.Limits.{page_size, word_size, notifier_count, pages_per_word}
-use Rattle.mem_base.specs.access.Editions.{notifiers}
+use Rattle.mem_base.specs.access.PlacesByRegion.{notifiers}
 use Rattle.mem_base.specs.lists.Runs.{Run, runs}
 
 -- the bytes of data and the registers of a region, by its kind and size

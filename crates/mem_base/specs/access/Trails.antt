@@ -1,5 +1,6 @@
 -- The way of one address through translations to a leaf, which neighbours share it, and so the route of an access.
--- QEMU's core, `address_space_translate` and its IOMMU walk. The bound of eight translations is this project's own.
+-- QEMU's core, `address_space_translate` and its IOMMU walk. The bound of eight translations is this project's own, and
+-- so is that two neighbours share a route only where each search on the way of one finds the byte after the other's.
 use Rattle.std.specs.Prelude.{ℕ, zero, suc, ◌+◌, Bool, true, false, ◌==◌, ◌&&◌, ◌||◌, not, if◌then◌else◌, List, [], ◌∷◌, Option, Some, None, filter_map}
 use Rattle.mem_base.specs.lists.Booleans.{bool_eq}
 use Rattle.mem_base.specs.declared.map.ids.RegionId.{RegionId}
@@ -66,7 +67,8 @@ trail_of f write s a = trail_within f write most_translations s a
 abbrev pub is_next_spot : Spot → Spot → Bool
 is_next_spot x y = (x.leaf.0 == y.leaf.0) && same_attrs x.attrs y.attrs && (x.offset + 1 == y.offset)
 
--- both are the same translation of one region, where two never have one iova; or neither is one
+-- the same translation of one region, told by its address, since no two translations of a region have one address; or
+-- no translation in both
 abbrev pub is_same_entry : Option Entry → Option Entry → Bool
 is_same_entry None None = true
 is_same_entry (Some x) (Some y) = x.iova == y.iova

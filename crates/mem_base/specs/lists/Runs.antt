@@ -1,5 +1,5 @@
 -- Numbers in a row, cut into runs where two neighbours do not belong together. An access is cut into chunks by it,
--- a chunk of memory into words and pages, a pool into holes and taken parts, and an address space into ranges.
+-- a chunk of memory into words and pages, and the pool into holes and taken parts.
 use Rattle.std.specs.Prelude.{ℕ, zero, suc, ◌+◌, ◌%◌, ◌==◌, not, Bool, true, List, [], ◌∷◌}
 
 -- the `length` numbers from `start` on

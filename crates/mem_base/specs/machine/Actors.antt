@@ -13,7 +13,7 @@ use Rattle.mem_base.specs.declared.machine.events.Carried.{Carried}
 use Rattle.mem_base.specs.declared.machine.events.Carried.TheVariants.{Edition}
 use Rattle.mem_base.specs.declared.machine.events.HistoryEntry.{HistoryEntry}
 use Rattle.mem_base.specs.map.Calls.{empty}
-use Rattle.mem_base.specs.access.Editions.{place_in}
+use Rattle.mem_base.specs.access.PlacesByRegion.{place_in}
 use Rattle.mem_base.specs.access.Cells.{region_of}
 use Rattle.mem_base.specs.machine.Passes.{PassState, pass_after}
 use Rattle.mem_base.specs.machine.Generations.{Generation, Generations, generation, generations_after, entered_generation}

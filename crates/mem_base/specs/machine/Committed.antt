@@ -21,7 +21,7 @@ pub record TransactionState : Type 0 where
 abbrev pub transaction : Forest → ℕ → Bool → TransactionState
 transaction forest depth pending = record { forest = forest; depth = depth; pending = pending }
 
--- the forest accepts the call, and the call changes it: to make or to drop a region is no change
+-- the call is a change, and the forest accepts it; making and dropping a region are no changes
 abbrev pub is_change : Forest → Call → Bool
 is_change f call = not (is_quiet call) && is_ok (after f call)
 

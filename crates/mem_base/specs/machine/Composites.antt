@@ -15,7 +15,7 @@ use Rattle.mem_base.specs.machine.Passes.{pass_of}
 use Rattle.mem_base.specs.machine.Generations.{Generation, entered_generation}
 use Rattle.mem_base.specs.machine.World.{World, number_in}
 use Rattle.mem_base.specs.machine.History.{PureEntry, run_events}
-use Rattle.mem_base.specs.machine.Orders.{Order, events_before, private_of, events_behind}
+use Rattle.mem_base.specs.machine.Orders.{Order, events_before, private_of, events_after}
 use Rattle.mem_base.specs.machine.Answers.{Answer, answer_to}
 
 -- the numbers in the replies
@@ -32,10 +32,10 @@ abbrev pub completed : World → Order → Completed
 completed w k =
     let before = run_events w (events_before w.writer k) in
     let private = run_events before.world (private_of k) in
-    let behind = run_events private.world (events_behind private.world.writer k) in record {
-      world = behind.world;
-      entries = before.entries ++ (private.entries ++ behind.entries);
-      answer = answer_to before.world.writer private.world.writer k (numbers_of behind.entries);
+    let later = run_events private.world (events_after private.world.writer k) in record {
+      world = later.world;
+      entries = before.entries ++ (private.entries ++ later.entries);
+      answer = answer_to before.world.writer private.world.writer k (numbers_of later.entries);
     }
 
 -- a pass looks at the current number, announces it, and enters
@@ -98,9 +98,9 @@ accessed w pass s a transfer =
     let before = run_events w (enters_unless (is_entered w pass) pass) in
     let doings = done_by before.world pass s a transfer in
     let steps = run_events before.world (events_of_steps pass doings) in
-    let behind = run_events steps.world (leaves_unless (is_entered w pass) pass) in record {
-      world = behind.world;
-      entries = before.entries ++ (steps.entries ++ behind.entries);
+    let later = run_events steps.world (leaves_unless (is_entered w pass) pass) in record {
+      world = later.world;
+      entries = before.entries ++ (steps.entries ++ later.entries);
       answer = record { result = result_of doings; number = unwrap_or (pass_of before.world.passes pass).entered 0 };
       bytes = bytes_read doings (numbers_of steps.entries);
     }

@@ -12,7 +12,7 @@ use Rattle.mem_base.specs.declared.machine.events.Event.{Event}
 use Rattle.mem_base.specs.declared.machine.events.Event.TheVariants as events
 use Rattle.mem_base.specs.declared.machine.events.Carried.{Carried}
 use Rattle.mem_base.specs.declared.machine.events.Carried.TheVariants as carries
-use Rattle.mem_base.specs.access.Editions.{place_in}
+use Rattle.mem_base.specs.access.PlacesByRegion.{place_in}
 use Rattle.mem_base.specs.map.Calls.{empty}
 use Rattle.mem_base.specs.access.Places.{notifiers_place, is_notifiers}
 use Rattle.mem_base.specs.access.Cells.{cell, is_same_cell, region_of}

@@ -1,7 +1,7 @@
 -- A shared history read as one of the pure machine: its steps on pool words as steps on the cells that they name, and
 -- the private events of the writer's calls put in. Where a private event stands is told by three rules:
 --   it stands directly after the last Sweep of its call;
---   where its call has no Sweep, it stands directly before the call's first Fill;
+--   where its call has no Sweep, it stands directly before the call's first Fill (in a machine without passes, its Publish);
 --   where its call has no shared event, it stands directly after the writer's last entry before it.
 use Rattle.std.specs.Prelude.{◌≡◌, ℕ, ◌+◌, Bool, true, false, ◌==◌, ◌&&◌, not, if◌then◌else◌, List, [], ◌∷◌, ◌++◌, map, filter, length, flat_map, Option, Some, None, Result, Ok}
 use Rattle.mem_base.specs.declared.map.forests.Forest.{Forest}
@@ -42,33 +42,34 @@ read x = pure_entry x.event (reply_read x.event x.reply)
 -- the writer's row: its entries in the shared history, each the next one there, and its private events between them
 pub data RowPart : Type 0 where
   next_entry : RowPart
-  behind_last : PureEntry → RowPart  -- a private event directly after the writer's entry before it
+  after_last : PureEntry → RowPart  -- a private event directly after the writer's entry before it
   before_next : PureEntry → RowPart  -- a private event directly before the writer's next entry
 
--- a call has no Sweep, and has Fills: its private event waits for the first of them
+-- a call has no Sweep, and an event after its private one, a Fill (in a machine without passes, the Publish): the private
+-- event waits for the first of them
 abbrev pub waits_for_fill : WriterCall → Bool
-waits_for_fill t = (length t.before == 0) && not (length t.behind == 0)
+waits_for_fill t = (length t.before == 0) && not (length t.after == 0)
 
 abbrev pub private_part : WriterCall → PureEntry → RowPart
-private_part t x = if waits_for_fill t then before_next x else behind_last x
+private_part t x = if waits_for_fill t then before_next x else after_last x
 
 -- the row of one turn
 abbrev pub row_of : WriterCall → List RowPart
-row_of t = map (λ x. next_entry) t.before ++ map (private_part t) t.private ++ map (λ x. next_entry) t.behind
+row_of t = map (λ x. next_entry) t.before ++ map (private_part t) t.private ++ map (λ x. next_entry) t.after
 
 -- the private events that stand before the writer's next entry
 abbrev pub before_entry : List RowPart → List PureEntry
-before_entry (behind_last x ∷ ps) = x ∷ before_entry ps
+before_entry (after_last x ∷ ps) = x ∷ before_entry ps
 before_entry (before_next x ∷ ps) = x ∷ before_entry ps
 before_entry _ = []
 
 -- of these, the ones that stand directly after the writer's last entry, and the row after them
 abbrev pub at_once : List RowPart → List PureEntry
-at_once (behind_last x ∷ ps) = x ∷ at_once ps
+at_once (after_last x ∷ ps) = x ∷ at_once ps
 at_once _ = []
 
 abbrev pub past_at_once : List RowPart → List RowPart
-past_at_once (behind_last x ∷ ps) = past_at_once ps
+past_at_once (after_last x ∷ ps) = past_at_once ps
 past_at_once ps = ps
 
 -- the row after the writer's next entry
@@ -89,7 +90,7 @@ put_in ps (x ∷ xs) =
 abbrev pub joined_history : List WriterCall → List HistoryEntry → List PureEntry
 joined_history ts xs = let ps = flat_map row_of ts in at_once ps ++ put_in (past_at_once ps) xs
 
--- the calls, begins and commits among private events that were accepted
+-- the private events that were accepted, reaps left out: calls, begins, commits, and listeners that join or leave
 abbrev pub accepted_one : Event → Result Reply Refusal → List Config
 accepted_one (events.Config k) (Ok reply) = k ∷ []
 accepted_one e reply = []
@@ -146,7 +147,7 @@ pub record IsPlaced (done : List WriterCall) (t : WriterCall) (y : PureEntry) (y
   pub after : List PureEntry
   pub parts : ys ≡ before ++ y ∷ after
   pub row : writers_shared before ≡ map read (flat_map entries_of_turn done ++ t.before)
-  pub beside : StandsBeside t.before t.behind before after
+  pub beside : StandsBeside t.before t.after before after
 
 -- what joins turns and a shared history to the pure machine: the history so read is legal, it ends in the writer's
 -- part of the last turn, and the forest of its n-th Publish is the n-th committed forest

@@ -21,7 +21,7 @@ use Rattle.mem_base.specs.map.Limits.{word_size}
 use Rattle.mem_base.specs.map.Region.{node_of}
 use Rattle.mem_base.specs.map.Kinds.{has_bytes}
 use Rattle.mem_base.specs.map.Refusals.{first_refusal, refuse_where, unknown_region, wrong_kind}
-use Rattle.mem_base.specs.access.Editions.{place_in}
+use Rattle.mem_base.specs.access.PlacesByRegion.{place_in}
 use Rattle.mem_base.specs.lists.Runs.{touched}
 use Rattle.mem_base.specs.access.Places.{mark_words}
 use Rattle.mem_base.specs.access.Cells.{cell, notifier_cell}
@@ -96,11 +96,11 @@ private_of reap = events.Reap ∷ []
 private_of _ = []
 
 -- the events after it, in the writer's part that it left
-abbrev pub events_behind : Writer → Order → List Event
-events_behind w (configure k) = if w.desk.due then publishes w.generations else map (λ c. events.Fill c) w.desk.unfilled
-events_behind w reap = []
-events_behind w (load region offset bytes) = unless (load_refusal w.desk.forest region offset (length bytes)) (loads region offset bytes)
-events_behind w (harvest region client) = unless (harvest_refusal w.desk.forest region) (harvests w.desk region client)
-events_behind w (notified number) = events.Word hands.Writer (notifier_cell number) Take ∷ []
-events_behind w journal = []
-events_behind w current = []
+abbrev pub events_after : Writer → Order → List Event
+events_after w (configure k) = if w.desk.due then publishes w.generations else map (λ c. events.Fill c) w.desk.unfilled
+events_after w reap = []
+events_after w (load region offset bytes) = unless (load_refusal w.desk.forest region offset (length bytes)) (loads region offset bytes)
+events_after w (harvest region client) = unless (harvest_refusal w.desk.forest region) (harvests w.desk region client)
+events_after w (notified number) = events.Word hands.Writer (notifier_cell number) Take ∷ []
+events_after w journal = []
+events_after w current = []

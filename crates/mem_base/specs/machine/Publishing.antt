@@ -40,9 +40,9 @@ would_publish d configs.Commit = (d.depth == 1) && d.pending
 would_publish d _ = false
 
 -- the pass was found at a number so old that the next generation would take its slot
-abbrev pub is_behind : ℕ → Option ℕ → Bool
-is_behind current None = false
-is_behind current (Some number) = nat_le (number + (most_generations - 1)) current
+abbrev pub holds_up : ℕ → Option ℕ → Bool
+holds_up current None = false
+holds_up current (Some number) = nat_le (number + (most_generations - 1)) current
 
 abbrev pub held_at : PassId → Option ℕ → Option Refusal
 held_at pass None = None
@@ -52,7 +52,7 @@ held_at pass (Some number) = Some (Held pass number)
 abbrev pub held_from : ℕ → ℕ → List PassTrack → Option Refusal
 held_from current first [] = None
 held_from current first (k ∷ ks) =
-    if is_behind current k.found then held_at (record { 0 = first }) k.found else held_from current (first + 1) ks
+    if holds_up current k.found then held_at (record { 0 = first }) k.found else held_from current (first + 1) ks
 
 abbrev pub held_up : Generations → Option Refusal
 held_up g = held_from g.current 0 g.passes

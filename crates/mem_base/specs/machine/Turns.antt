@@ -10,7 +10,7 @@ use Rattle.mem_base.specs.machine.Desk.{carried_by}
 use Rattle.mem_base.specs.machine.Reaps.{Writer}
 use Rattle.mem_base.specs.machine.Configs.{writer_after, private_reply}
 use Rattle.mem_base.specs.machine.History.{PureEntry, pure_entry}
-use Rattle.mem_base.specs.machine.Orders.{Order, events_before, private_of, events_behind}
+use Rattle.mem_base.specs.machine.Orders.{Order, events_before, private_of, events_after}
 use Rattle.mem_base.specs.machine.Answers.{Answer, answer_to, first_or_zero}
 
 abbrev pub history_entry : Event → Carried → ℕ → HistoryEntry
@@ -46,7 +46,7 @@ replies_of xs = map (λ x. x.reply) xs
 pub record WriterCall : Type 0 where
   pub before : List HistoryEntry
   pub private : List PureEntry
-  pub behind : List HistoryEntry
+  pub after : List HistoryEntry
   pub writer : Writer
   pub answer : Answer
 
@@ -54,17 +54,17 @@ abbrev pub turn : Writer → Order → List ℕ → WriterCall
 turn w k replies =
     let before = played w (events_before w k) replies in
     let middle = after_private before.writer (private_of k) in
-    let behind = played middle (events_behind middle k) before.replies in record {
+    let later = played middle (events_after middle k) before.replies in record {
       before = before.entries;
       private = private_entries before.writer (private_of k);
-      behind = behind.entries;
-      writer = behind.writer;
-      answer = answer_to before.writer middle k (replies_of behind.entries);
+      after = later.entries;
+      writer = later.writer;
+      answer = answer_to before.writer middle k (replies_of later.entries);
     }
 
 -- the shared events of a turn
 abbrev pub entries_of_turn : WriterCall → List HistoryEntry
-entries_of_turn t = t.before ++ t.behind
+entries_of_turn t = t.before ++ t.after
 
 -- an order with the replies that its shared events got
 abbrev pub Answered : Type 0

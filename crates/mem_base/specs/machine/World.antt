@@ -1,6 +1,6 @@
 -- The pure machine: which events are possible, what each answers, and what it leaves.
 -- This project's own: all that a machine has, as if one lock were round it, namely the desk, the generations that are
--- kept, the passes, and the cells of all regions that have a place.
+-- kept, the passes, and the cells of the notifiers and of all regions that have a place.
 use Rattle.std.specs.Prelude.{ℕ, Bool, false, ◌&&◌, ◌||◌, not, nat_lt, if◌then◌else◌, List, [], map, replicate, slice_index, Option, Some, None, option_and_then, Result, Ok}
 use Rattle.mem_base.specs.declared.map.ids.RegionId.{RegionId}
 use Rattle.mem_base.specs.declared.map.refusals.Refusal.{Refusal}
@@ -10,7 +10,7 @@ use Rattle.mem_base.specs.declared.machine.events.Event.{Event}
 use Rattle.mem_base.specs.declared.machine.events.Event.TheVariants as events
 use Rattle.mem_base.specs.declared.machine.events.Reply.{Reply}
 use Rattle.mem_base.specs.declared.machine.events.Reply.TheVariants.{Number, Old, Done}
-use Rattle.mem_base.specs.access.Editions.{place_in}
+use Rattle.mem_base.specs.access.PlacesByRegion.{place_in}
 use Rattle.mem_base.specs.access.Places.{mark_words}
 use Rattle.mem_base.specs.access.Cells.{Touch, touch_of, region_of, Block, has_block, cells_in, blocks_after}
 use Rattle.mem_base.specs.machine.Passes.{PassState, idle, passes_after}

@@ -1,5 +1,5 @@
 -- What a leaf is like where it is reached: its flags and its logging mask.
--- QEMU's manual, "The memory API": read-only, non-volatile and unmergeable hold of all that is reached through a region
+-- QEMU's core, `render_memory_region`: read-only, non-volatile and unmergeable hold of all that is reached through a region
 -- that has them; the mode of a ROM device and the logging mask are the leaf's own.
 use Rattle.std.specs.Prelude.{Bool, ◌&&◌, ◌||◌, ◌==◌}
 use Rattle.mem_base.specs.declared.map.forests.Node.{Node}

@@ -10,7 +10,7 @@ use Rattle.mem_base.specs.map.Limits.{most_registers}
 abbrev pub is_access_size : ℕ → Bool
 is_access_size n = (n == 1) || (n == 2) || (n == 4) || (n == 8)
 
--- its four sizes are access sizes, no least one is above its greatest, and it has registers
+-- its four sizes are access sizes, no least one is above its greatest, and it has 1 to 512 registers
 abbrev pub is_good_device : Device → Bool
 is_good_device d =
     is_access_size d.ops.valid_min && is_access_size d.ops.valid_max && is_access_size d.ops.impl_min && is_access_size d.ops.impl_max

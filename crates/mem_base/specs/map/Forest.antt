@@ -30,8 +30,8 @@ abbrev pub IsTargetBefore : ℕ → Kind → Type 0
 IsTargetBefore made (Alias target offset) = target.0 < made
 IsTargetBefore made _ = Unit {0}
 
--- order, counts and bounds: regions stand by ascending id, and no path is longer and no region wider than the limits.
--- Each accepted call keeps this by itself
+-- order, counts and bounds: regions stand by ascending id, what a region names was counted before it, and no depth or
+-- weight is above its limit. An accepted call keeps this, also where the forest is not closed
 pub record IsOrderedForest (f : Forest) : Type 0 where
   pub ascending : IsAscending f.nodes
   -- each region was made
@@ -110,7 +110,8 @@ pub record IsClosedForest (f : Forest) : Type 0 where
   pub few_spaces : length f.spaces ≤ most_spaces
   pub few_calls : f.calls ≤ most_calls
 
--- the numbers of a call are such as the types of its fields hold
+-- the sizes of a call, and the address of a page that it maps, are such as the types of these fields hold; the laws of
+-- forests ask for no bound on its other numbers
 abbrev pub FitsTypes : Call → Type 0
 FitsTypes (calls.Region kind size) = size ≤ 2 ^ 64
 FitsTypes (calls.Resize region size) = size ≤ 2 ^ 64

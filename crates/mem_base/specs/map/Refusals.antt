@@ -1,5 +1,6 @@
--- Why a call is refused: each condition by itself, as the refusal that it gives where it stands. A condition on a
--- region that is not there does not stand.
+-- Why a call is refused: each condition by itself, as the refusal that it gives where it stands. But for Unknown, a
+-- condition on a region that is not there does not stand. What QEMU's core asserts, or leaves undefined, is a refusal
+-- with a name here; the names and the bounds are this project's own.
 use Rattle.std.specs.Prelude.{ℕ, ◌%◌, ◌==◌, ◌&&◌, ◌||◌, not, Bool, false, nat_lt, if◌then◌else◌, List, [], ◌∷◌, Option, Some, None, is_some, is_none, option_map, find, filter}
 use Rattle.std.specs.Option.{option_or}
 use Rattle.mem_base.specs.declared.map.ids.RegionId.{RegionId}

@@ -2,8 +2,9 @@
 -- QEMU's manual, "The memory API", "Visibility": the children of a region are tried in order; one that does not
 -- hold the address is discarded; a leaf ends the search; a container is searched at the address less the
 -- child's offset, an alias goes on at its target; where the inner search finds nothing the next child is tried;
--- where no child answers, a region that is no pure container answers itself. That the search also tells its path is
--- this project's own.
+-- where no child answers, a region that is no pure container answers itself. That migration's bit is set while global
+-- logging is on is QEMU's core, `memory_region_get_dirty_log_mask`. That the search also tells its path, and goes down at
+-- most 32 regions, is this project's own.
 use Rattle.std.specs.Prelude.{◌≡◌, ◌≤◌, length, ℕ, zero, suc, ◌+◌, ◌-◌, Bool, true, false, ◌==◌, ◌&&◌, nat_lt, nat_le, if◌then◌else◌, List, [], ◌∷◌, Option, Some, None, option_map, option_and_then, find, bit_or}
 use Rattle.std.specs.Option.{option_or}
 use Rattle.mem_base.specs.declared.map.ids.RegionId.{RegionId}

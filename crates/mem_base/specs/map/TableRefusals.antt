@@ -1,5 +1,5 @@
 -- Why a call is refused for a region's translations, its device and its ioeventfds, and for a count that stands at
--- its limit. A condition on a region that is not there does not stand.
+-- its limit. But for Unknown, a condition on a region that is not there does not stand. This project's own rules.
 use Rattle.std.specs.Prelude.{ℕ, ◌%◌, ◌==◌, ◌||◌, not, Bool, nat_le, List, length, Option, Some, None, option_map, option_and_then, count_ones}
 use Rattle.std.specs.List.{list_any}
 use Rattle.std.specs.Option.{option_or}

@@ -1,17 +1,11 @@
--- The lines that a run of a script writes.
--- Numbers of passes and generations, pages, sizes of ioeventfds, notifiers and logging masks are decimal; all other numbers
--- are lower-case hexadecimal, without prefix or leading zeros.
-use Rattle.std.specs.Prelude.{ℕ, ◌==◌, Bool, if◌then◌else◌, List, [], ◌∷◌, ◌++◌, Option, Some, None, codes, decimal, ℤ, pos, int_lt, nat_abs}
+-- The lines that a run of a script writes of accesses, notifiers, marks, listeners and watchers.
+-- Numbers of passes, generations and notifiers, the value of a notifier, numbers of pages, sizes of ioeventfds and logging
+-- masks are decimal; all other numbers are lower-case hexadecimal, without prefix or leading zeros.
+use Rattle.std.specs.Prelude.{if◌then◌else◌, ℕ, Bool, List, [], ◌∷◌, ◌++◌, Option, Some, None, codes, decimal, ℤ, pos, int_lt, nat_abs}
 use Rattle.mem_base.specs.declared.map.ids.RegionId.{RegionId}
-use Rattle.mem_base.specs.declared.map.ids.ListenerId.{ListenerId}
 use Rattle.mem_base.specs.declared.map.ids.PassId.{PassId}
 use Rattle.mem_base.specs.declared.map.kinds.Client.{Client}
-use Rattle.mem_base.specs.declared.map.kinds.Kind.{Kind}
-use Rattle.mem_base.specs.declared.map.kinds.Kind.TheVariants.{Container, Ram, Rom, RomDevice, Io, Iommu, Alias, Reserve}
-use Rattle.mem_base.specs.declared.map.spots.Attrs.{Attrs}
-use Rattle.mem_base.specs.declared.map.spots.Spot.{Spot}
 use Rattle.mem_base.specs.declared.map.ioevents.Live.{Live}
-use Rattle.mem_base.specs.declared.views.flat.FlatRange.{FlatRange}
 use Rattle.mem_base.specs.declared.views.listening.RangeEvent.{RangeEvent}
 use Rattle.mem_base.specs.declared.views.listening.RangeEvent.TheVariants.{Delete, Add, Keep, LogStart, LogStop}
 use Rattle.mem_base.specs.declared.views.listening.ListenerEvent.{ListenerEvent}
@@ -23,69 +17,10 @@ use Rattle.mem_base.specs.declared.access.accesses.TxResult.{TxResult}
 use Rattle.mem_base.specs.views.Listening.{Delivery}
 use Rattle.mem_base.specs.script.Spelling.{Text}
 use Rattle.mem_base.specs.script.Printing.{bytes_text, client_text, pass_text, perm_text}
-use Rattle.mem_base.specs.script.Named.{Names, region_name, kind_named, space_name, listener_name, notifier_name}
+use Rattle.mem_base.specs.script.Named.{Names, region_name, space_name, listener_name, notifier_name}
 use Rattle.mem_base.specs.script.Watching.{Noticed}
 use Rattle.mem_base.specs.script.RefusalLines.{hex, line_feed}
-
--- Spots and ranges
-
-abbrev pub kind_word : Kind → Text
-kind_word Container = codes "container"
-kind_word Ram = codes "ram"
-kind_word Rom = codes "rom"
-kind_word (RomDevice device) = codes "romdev"
-kind_word (Io device) = codes "io"
-kind_word Iommu = codes "iommu"
-kind_word (Alias target offset) = codes "alias"
-kind_word Reserve = codes "reserve"
-
-abbrev pub kind_text : Option Kind → Text
-kind_text None = []
-kind_text (Some kind) = kind_word kind
-
-abbrev pub flag_text : Bool → Text → Text
-flag_text on word = if on then word else []
-
-abbrev pub log_text : ℕ → Text
-log_text log = if log == 0 then [] else codes " log=" ++ decimal log
-
--- read-only, non-volatile, ROM device mode, unmergeable, and a logging mask that is not 0, each after a space
-abbrev pub attrs_text : Attrs → Text
-attrs_text attrs =
-    flag_text attrs.readonly (codes " ro") ++ (flag_text attrs.nonvolatile (codes " nv") ++ (flag_text attrs.romd (codes " romd")
-    ++ (flag_text attrs.unmergeable (codes " um") ++ log_text attrs.log)))
-
--- LEAF @OFFSET KIND FLAGS
-abbrev pub spot_text : Names → Spot → Text
-spot_text names s =
-    region_name names s.leaf ++ (codes " @" ++ (hex s.offset ++ (codes " " ++ (kind_text (kind_named names s.leaf) ++ attrs_text s.attrs))))
-
-abbrev pub found_text : Names → Option Spot → Text
-found_text names None = codes "hole"
-found_text names (Some s) = spot_text names s
-
--- at SPACE ADDR SPOT, or at SPACE ADDR hole
-abbrev pub at_line : Names → Text → ℕ → Option Spot → Text
-at_line names space addr found =
-    codes "at " ++ (space ++ (codes " " ++ (hex addr ++ (codes " " ++ (found_text names found ++ line_feed)))))
-
-abbrev pub first_spot : FlatRange → Spot
-first_spot r = record { leaf = r.leaf; offset = r.offset; attrs = r.attrs }
-
--- START-LAST SPOT
-abbrev pub range_text : Names → FlatRange → Text
-range_text names r = hex r.start ++ (codes "-" ++ (hex r.last ++ (codes " " ++ spot_text names (first_spot r))))
-
-abbrev pub range_line : Names → FlatRange → Text
-range_line names r = range_text names r ++ line_feed
-
-abbrev pub range_lines : Names → List FlatRange → Text
-range_lines names [] = []
-range_lines names (r ∷ rs) = range_line names r ++ range_lines names rs
-
--- view SPACE gN
-abbrev pub view_line : Text → ℕ → Text
-view_line space generation = codes "view " ++ (space ++ (codes " g" ++ (decimal generation ++ line_feed)))
+use Rattle.mem_base.specs.script.SpotLines.{range_text}
 
 -- Accesses
 

@@ -23,7 +23,7 @@ hex n = digits 16 false n
 abbrev pub line_feed : Text
 line_feed = 10 ∷ []
 
--- a region, space, listener or notifier is told by its name, a translation or ioeventfd by its offset
+-- a region, space, listener or watcher is told by its name, a translation or ioeventfd by its offset
 abbrev pub what_text : Names → What → Text
 what_text names (what.Region r) = region_name names r
 what_text names (what.Space s) = space_name names s

@@ -47,7 +47,7 @@ ranges_from found path a (suc n) = put_before path a (found a) (ranges_from foun
 unfoldable pub view_of : Forest → SpaceId → List FlatRange
 view_of f s = ranges_from (look f s) (path_at f s) 0 (2 ^ 64)
 
--- of two views of a forest at a space, each is the other
+-- two views of a forest at a space are equal
 abbrev pub HasOneView : Type 0
 HasOneView = (f : Forest) (s : SpaceId) (rs qs : List FlatRange) → IsView f s rs → IsView f s qs → rs ≡ qs
 

@@ -2,7 +2,7 @@
 ghost use Rattle.std.specs.Prelude.{◌≡◌, ℕ, List};
 ghost use Rattle.mem_base.specs.declared.map.forests.Forest.{Forest};
 ghost use Rattle.mem_base.specs.declared.access.cells.Place.{Place};
-ghost use Rattle.mem_base.specs.access.Editions.{place_in};
+ghost use Rattle.mem_base.specs.access.PlacesByRegion.{place_in};
 ghost use Rattle.mem_base.specs.access.EditionPlaces.{IsEdition};
 
 use crate::{Place, RegionId};

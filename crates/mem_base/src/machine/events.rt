@@ -83,7 +83,7 @@ pub enum Carried {
 pub struct HistoryEntry {
     pub event: Event,
     pub carried: Carried,
-    /// What the step tells: the number of a generation; of a Sweep the announced number plus one, or 0; of a step
-    /// on a word the word before it, also where the step is a store; 0 where there is nothing to tell.
+    /// What the step tells: the number of a generation; of a Sweep the announced number plus one, or 0; of a Word
+    /// or a Harvest the word before it, also where the step is a store; 0 of all other events.
     pub reply: u64,
 }

@@ -35,7 +35,7 @@ pub enum Call {
         child: RegionId,
         offset: u64,
     },
-    /// Gives a container, a device, an alias or a reservation another size.
+    /// Gives a region another size: any region but RAM, ROM or a ROM device.
     Resize {
         region: RegionId,
         size: Size,

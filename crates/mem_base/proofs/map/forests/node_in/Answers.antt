@@ -1,8 +1,6 @@
-use Rattle.std.proofs.Common.{rules, ◌≡◌, Some, refl, sym, ap, ◌∙◌}
+use Rattle.std.proofs.Common.{rules, Some, refl, sym, ap, ◌∙◌}
 use Rattle.std.proofs.lemmas.List.Sorted.{answers_always}
-use Rattle.std.proofs.lemmas.List.{get_or_default}
 use Rattle.mem_base.specs.declared.map.forests.Node.{Node}
-use Rattle.mem_base.specs.map.Region.{node_of}
 use Rattle.mem_base.proofs.NodeLaws.{node_found, node_missing}
 use Rattle.mem_base.proofs.map.forests.node_in.Goals as goal
 

@@ -1,4 +1,4 @@
--- Places by their regions.
+-- The place of a region among places, and who owns the words of the notifiers.
 use Rattle.std.specs.Prelude.{◌==◌, ◌-◌, ◌^◌, List, Option, find}
 use Rattle.mem_base.specs.declared.map.ids.RegionId.{RegionId}
 use Rattle.mem_base.specs.declared.access.cells.Place.{Place}
