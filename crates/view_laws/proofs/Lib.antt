@@ -12,3 +12,5 @@ pub mod TouchedLaws
 pub mod ViewRanges
 pub mod SwitchLaws
 pub mod Projections
+pub mod PriorityLaws
+pub mod PairLaws

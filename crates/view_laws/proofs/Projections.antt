@@ -51,7 +51,7 @@ one (Some x) = x ∷ []
 abbrev pub AtMost : {A : Type 0} → (A → Bool) → List A → Option A → Type 0
 AtMost test xs o = filter test xs ≡ one o
 
-reverse_filter : {A : Type 0} (test : A → Bool) (xs : List A) → filter test (reverse xs) ≡ reverse (filter test xs)
+pub reverse_filter : {A : Type 0} (test : A → Bool) (xs : List A) → filter test (reverse xs) ≡ reverse (filter test xs)
 reverse_filter test [] = refl
 reverse_filter test (x ∷ xs) = ap (filter test) (reverse-cons x xs) ∙ filter-append test (reverse xs) (x ∷ []) ∙ go (test x) (reverse_filter test xs)
   where
@@ -182,7 +182,7 @@ abbrev kept_by : (Listener → Bool) → Option Listener → Option Listener
 kept_by test None = None
 kept_by test (Some l) = if test l then Some l else None
 
-filter_swap : {A : Type 0} (p q : A → Bool) (xs : List A) → filter p (filter q xs) ≡ filter q (filter p xs)
+pub filter_swap : {A : Type 0} (p q : A → Bool) (xs : List A) → filter p (filter q xs) ≡ filter q (filter p xs)
 filter_swap p q [] = refl
 filter_swap p q (x ∷ xs) = go (p x) refl (q x) refl (filter_swap p q xs)
   where

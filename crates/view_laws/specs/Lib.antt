@@ -3,4 +3,5 @@ pub mod Walks
 pub mod LiveLists
 pub mod Named
 pub mod Deliveries
+pub mod Priorities
 pub mod Untouched

@@ -3,7 +3,7 @@ use Rattle.std.specs.Prelude.{not, filter}
 use Rattle.std.proofs.lemmas.Fn.{filter_same}
 use Rattle.mem_base.specs.declared.views.listening.Listener.{Listener}
 use Rattle.mem_base.specs.views.Listening.{is_listener, ascending, deliveries_to, leaving}
-use Rattle.listener_set.proofs.OrderLaws.{ascending_filter}
+use Rattle.view_laws.proofs.PriorityLaws.{ascending_filter}
 use Rattle.listener_set.proofs.set.Set.remove.Goals as goal
 
 pub invariant_of-self-2 : goal.invariant_of-self-2
