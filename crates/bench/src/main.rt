@@ -1,4 +1,5 @@
-//! How long the memory map takes: all calls that build a map, moves, look-ups of one address, and a view.
+//! How long the memory map takes: all calls that build a map, moves, look-ups of one address, a view, its atlas, and a
+//! walk to the next view.
 //!
 //! Standard output has a line for each map, which is the same in every run: how many calls it takes, how many of them
 //! were refused, how many ranges its view has, and a sum over what the look-ups found. Standard error has the times,
@@ -8,9 +9,11 @@
 
 mod maps;
 mod rounds;
+mod views;
 
 use crate::maps::{Map, aliases, chains, flat, generated, heavy, zigzag};
 use crate::rounds::{Failed, run};
+use crate::views::run_views;
 use std::alloc::AllocError;
 use std::process::ExitCode;
 
@@ -72,5 +75,7 @@ fn all(rt: HostRuntime, sizes: Sizes) -> Result<(), Failed> {
     run(rt, &zigzag(rt.alloc(), sizes.zigzag)?, sizes.rounds)?;
     run(rt, &aliases(rt.alloc(), sizes.aliases)?, sizes.rounds)?;
     run(rt, &heavy(rt.alloc(), sizes.heavy)?, sizes.rounds)?;
+    let third = generated(rt.alloc(), sizes.generated[2])?;
+    run_views(rt, &third, sizes.rounds)?;
     Ok(())
 }

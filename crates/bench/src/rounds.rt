@@ -5,7 +5,7 @@ ghost use Rattle.mem_base.specs.map.Search.{root_of};
 use crate::maps::Map;
 use flat_render::render;
 use flat_simplify::simplify;
-use mem_base::{Call, Pieces, SpaceId};
+use mem_base::{Call, Paths, Pieces, SpaceId, View};
 use region_tree::Tree;
 use std::alloc::{AllocError, Global};
 use std::io;
@@ -85,7 +85,7 @@ pub(crate) fn run(rt: HostRuntime, map: &Map, rounds: u32) -> Result<(), Failed>
     Ok(())
 }
 
-fn nanos(time: Duration) -> u64 {
+pub(crate) fn nanos(time: Duration) -> u64 {
     u64::try_from(time.as_nanos()).unwrap_or(u64::MAX)
 }
 
@@ -118,7 +118,7 @@ fn round(rt: HostRuntime, map: &Map) -> Result<(Facts, Times), Failed> {
 }
 
 /// Does all calls, and counts those that are refused.
-fn build(tree: &mut Tree, calls: &[Call]) -> u64 {
+pub(crate) fn build(tree: &mut Tree, calls: &[Call]) -> u64 {
     let mut refused: u64 = 0;
     for call in calls {
         if tree.apply(call).is_err() {
@@ -169,11 +169,17 @@ fn counted<L: Ledger>(
     render(alloc, tree, space, &mut steps)
 }
 
-/// How many ranges the view of space 0 has.
-fn ranges(alloc: Global, tree: &Tree) -> Result<u64, AllocError> {
+/// The view of space 0; an empty one where there is no such space.
+pub(crate) fn view(alloc: Global, tree: &Tree) -> Result<View, AllocError> {
     if tree.root(SpaceId(0)).is_none() {
-        return Ok(0);
+        let paths = Paths::new(Vec::new(alloc), Vec::new(alloc));
+        return Ok(simplify(Pieces::new(Vec::new(alloc), paths)));
     }
     let pieces = counted::<Brand>(alloc, tree, SpaceId(0), Blank::new(1))?;
-    Ok(simplify(pieces).as_slice().len() as u64)
+    Ok(simplify(pieces))
+}
+
+/// How many ranges it has.
+fn ranges(alloc: Global, tree: &Tree) -> Result<u64, AllocError> {
+    Ok(view(alloc, tree)?.as_slice().len() as u64)
 }

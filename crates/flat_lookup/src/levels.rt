@@ -29,7 +29,8 @@ impl Level {
     }
 }
 
-// The last key of a node that is at most the address, from a key on that is: one probe reads one node.
+// The last key of a node that is at most the address, where its first key is: one probe reads one node. It reads all
+// keys: a way out of the loop that depends on the address takes more time than the rest of the node.
 fn last_in(node: &[u64], addr: u64) -> usize
     requires some { 0 < length node.now }
     requires few { length node.now ≤ 16 }
@@ -38,12 +39,13 @@ fn last_in(node: &[u64], addr: u64) -> usize
     ensures reached { slice_index node.now result ≤ addr }
     ensures next { result + 1 < length node.now → addr < slice_index node.now (result + 1) }
 {
-    for i in 1..node.len() {
-        if addr < node[i] {
-            return i - 1;
+    let mut at = 0;
+    for i in 0..node.len() {
+        if node[i] <= addr {
+            at = i;
         }
     }
-    node.len() - 1
+    at
 }
 
 // The last key of a level that is at most the address, by the node that holds it.

@@ -48,7 +48,7 @@ pub fn walk(alloc: Global, old: &View, new: &View) -> Result<Walk, AllocError>
 {
     let (olds, news) = (old.as_slice(), new.as_slice());
     let mut steps = Vec::new(alloc);
-    let mut shown = Vec::new(alloc);
+    let mut shown = Vec::with_capacity(alloc, news.len())?;
     let (mut i, mut j) = (0, 0);
     while let Some(next) = next_side(range_at(olds, i), range_at(news, j)) {
         match next {

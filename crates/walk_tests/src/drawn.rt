@@ -1,8 +1,8 @@
 // Drawn maps that are changed by drawn calls: what is told of each change, against programs that compare everything
 // with everything.
 use crate::draws::{any_call, building, draw};
-use crate::maps::{add, bells, latch, region, run, space, viewed};
-use crate::plain::{plain_bells, plain_walk, without};
+use crate::maps::{add, ioeventfds, latch, region, run, space, viewed};
+use crate::plain::{plain_ioeventfds, plain_walk, without};
 use ioevents::differ;
 use mem_base::{Applied, Call, Kind, Live, RangeEvent, Refusal};
 use rand_pcg::Lcg64Xsh32;
@@ -132,12 +132,12 @@ fn ioeventfds_of_drawn_maps_are_those_met_byte_by_byte(rt: HostRuntime) -> Resul
     for seed in 0..MAPS {
         let mut map = Map::new(alloc, seed)?;
         let view = viewed(alloc, &map.tree)?;
-        let mut old = bells(alloc, &view, &map.tree)?;
+        let mut old = ioeventfds(alloc, &view, &map.tree)?;
         for step in 0..CHANGES {
             map.change_some()?;
             let view = viewed(alloc, &map.tree)?;
-            let new = bells(alloc, &view, &map.tree)?;
-            let want = plain_bells(alloc, &map.tree, view.as_slice())?;
+            let new = ioeventfds(alloc, &view, &map.tree)?;
+            let want = plain_ioeventfds(alloc, &map.tree, view.as_slice())?;
             assert!(rt;
                 are_same(new.as_slice(), want.as_slice()),
                 "seed {seed} step {step}"

@@ -1,7 +1,7 @@
 // Calls drawn by a generator.
 ghost use Rattle.std.specs.Prelude.{◌<◌};
 
-use crate::maps::{bell, latch};
+use crate::maps::{ioeventfd, latch};
 use mem_base::{Call, Client, Kind, RegionId, Size};
 use rand_core::utils::NextWord;
 use rand_pcg::Lcg64Xsh32;
@@ -121,7 +121,7 @@ fn switching(rng: &mut Lcg64Xsh32, made: u32) -> Call {
 }
 
 /// A call that gives a device an ioeventfd, or takes one away: in every other draw the device that is region 3.
-fn ringing(rng: &mut Lcg64Xsh32, made: u32) -> Call {
+fn ioeventfd_call(rng: &mut Lcg64Xsh32, made: u32) -> Call {
     let region = if draw(rng, 2) == 0 {
         RegionId(3)
     } else {
@@ -133,7 +133,7 @@ fn ringing(rng: &mut Lcg64Xsh32, made: u32) -> Call {
     } else {
         Some(u64::from(draw(rng, 2)))
     };
-    let event = bell(place, 4, value, draw(rng, 64));
+    let event = ioeventfd(place, 4, value, draw(rng, 64));
     if draw(rng, 3) != 0 {
         return Call::Event { region, event };
     }
@@ -151,7 +151,7 @@ pub(crate) fn any_call(rng: &mut Lcg64Xsh32, made: u32) -> Call {
     match draw(rng, 8) {
         0 | 1 => building(rng, made),
         2 | 3 => shifting(rng, made),
-        4 | 5 => ringing(rng, made),
+        4 | 5 => ioeventfd_call(rng, made),
         _ => switching(rng, made),
     }
 }

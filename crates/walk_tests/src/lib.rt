@@ -7,11 +7,11 @@
 #![tactic(auto)]
 
 #[cfg(test)]
-mod bells;
-#[cfg(test)]
 mod drawn;
 #[cfg(test)]
 mod draws;
+#[cfg(test)]
+mod ioeventfds;
 #[cfg(test)]
 mod lookups;
 #[cfg(test)]

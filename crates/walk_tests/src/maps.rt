@@ -60,7 +60,7 @@ pub(crate) fn space() -> Call {
 }
 
 /// An ioeventfd, matched where there is a value.
-pub(crate) fn bell(offset: u64, size: u8, value: Option<u64>, number: u32) -> Ioevent {
+pub(crate) fn ioeventfd(offset: u64, size: u8, value: Option<u64>, number: u32) -> Ioevent {
     Ioevent {
         offset,
         size,
@@ -112,7 +112,7 @@ pub(crate) fn viewed(alloc: Global, tree: &Tree) -> Result<View, AllocError> {
 }
 
 /// The ioeventfds that a view of this tree shows.
-pub(crate) fn bells(alloc: Global, view: &View, tree: &Tree) -> Result<Lives, AllocError> {
+pub(crate) fn ioeventfds(alloc: Global, view: &View, tree: &Tree) -> Result<Lives, AllocError> {
     let forest = tree.forest()?;
     live(alloc, view, &forest)
 }

@@ -76,7 +76,7 @@ fn put(list: &mut Vec<Live>, live: Live) -> Result<(), AllocError> {
 }
 
 /// The ioeventfds that a range shows, at their addresses in the space.
-fn put_bells(list: &mut Vec<Live>, tree: &Tree, range: &FlatRange) -> Result<(), AllocError> {
+fn put_ioeventfds(list: &mut Vec<Live>, tree: &Tree, range: &FlatRange) -> Result<(), AllocError> {
     let Some(leaf) = tree.node(range.leaf) else {
         return Ok(());
     };
@@ -99,14 +99,14 @@ fn put_bells(list: &mut Vec<Live>, tree: &Tree, range: &FlatRange) -> Result<(),
 }
 
 /// The ioeventfds that the ranges show, each once, in the order in which they are met.
-pub(crate) fn plain_bells(
+pub(crate) fn plain_ioeventfds(
     alloc: Global,
     tree: &Tree,
     ranges: &[FlatRange],
 ) -> Result<Vec<Live>, AllocError> {
     let mut list = Vec::new(alloc);
     for range in ranges {
-        put_bells(&mut list, tree, range)?;
+        put_ioeventfds(&mut list, tree, range)?;
     }
     Ok(list)
 }

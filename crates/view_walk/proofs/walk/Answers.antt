@@ -6,7 +6,7 @@ use Rattle.view_walk.proofs.walk.Goals as goal
 
 pub loop-next-init : goal.loop-next-init
 loop-next-init c = record {
-  walking = rw (c.new-steps.ensures.items, c.new-shown.ensures.items)
+  walking = rw (c.new-steps.ensures.items, c.in_ok-shown.ensures.items)
       (walking_first c.args.old.now c.args.new.now c.as_slice-olds.ensures.ranges c.as_slice-news.ensures.ranges);
   within_old = omega arith;
   within_new = omega arith;

@@ -1,5 +1,5 @@
 // Worked ioeventfds: moved with their device, hanging out of a range, seen twice, and set by a write.
-use crate::maps::{add, alias, bell, bells, latch, made, region, run, space, viewed};
+use crate::maps::{add, alias, ioeventfd, ioeventfds, latch, made, region, run, space, viewed};
 use ioevents::{differ, matches};
 use mem_base::{Call, Ioevent, Kind, Live, Lives, Refusal, RegionId};
 use region_tree::Tree;
@@ -34,7 +34,7 @@ fn event(event: Ioevent) -> Call {
 /// The ioeventfds that space 0 shows.
 fn shown(alloc: Global, tree: &Tree) -> Result<Lives, Refusal> {
     let view = viewed(alloc, tree)?;
-    Ok(bells(alloc, &view, tree)?)
+    Ok(ioeventfds(alloc, &view, tree)?)
 }
 
 /// The notifier that a write at an offset of region 1 sets.
@@ -92,7 +92,7 @@ fn an_ioeventfd_comes_with_its_call_and_moves_with_its_device(rt: HostRuntime) -
         ),
         (
             "given an ioeventfd",
-            event(bell(0x10, 4, Some(0x55), 7)),
+            event(ioeventfd(0x10, 4, Some(0x55), 7)),
             none.as_slice(),
             low.as_slice(),
         ),
@@ -160,10 +160,10 @@ fn windows_show_the_ioeventfds_that_they_meet_each_once(rt: HostRuntime) -> Resu
         let mut tree = device(
             alloc,
             &[
-                bell(2, 4, None, 1),
-                bell(6, 2, Some(3), 2),
-                bell(6, 2, Some(1), 3),
-                bell(0x20, 1, None, 4),
+                ioeventfd(2, 4, None, 1),
+                ioeventfd(6, 2, Some(3), 2),
+                ioeventfd(6, 2, Some(1), 3),
+                ioeventfd(0x20, 1, None, 4),
             ],
         )?;
         let mut number = 2;
@@ -181,12 +181,12 @@ fn a_write_sets_the_first_that_fits(rt: HostRuntime) -> Result<(), Fail> {
     let tree = device(
         rt.alloc(),
         &[
-            bell(16, 4, Some(7), 6),
-            bell(8, 4, Some(5), 4),
-            bell(0, 4, Some(9), 1),
-            bell(8, 2, None, 2),
-            bell(16, 4, None, 5),
-            bell(8, 4, Some(1), 3),
+            ioeventfd(16, 4, Some(7), 6),
+            ioeventfd(8, 4, Some(5), 4),
+            ioeventfd(0, 4, Some(9), 1),
+            ioeventfd(8, 2, None, 2),
+            ioeventfd(16, 4, None, 5),
+            ioeventfd(8, 4, Some(1), 3),
         ],
     )?;
     for (name, offset, size, value, want) in [
