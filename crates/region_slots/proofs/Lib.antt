@@ -1,3 +1,4 @@
 pub mod PlaceLaws
 pub mod SlotsLaws
 pub mod SlotsBasics
+pub mod ResizeLaws

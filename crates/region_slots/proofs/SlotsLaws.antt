@@ -1,5 +1,5 @@
 -- Laws of regions beside the lists of their children.
-use Rattle.std.proofs.Common.{◌≡◌, ◌≢◌, ℕ, zero, suc, ◌+◌, ◌<◌, ◌≤◌, Bool, true, false, not, cond, eqb, ℤ, List, [], ◌∷◌, ◌++◌, length, get_or, set, map, filter, take, drop, Option, Some, None, refl, sym, ap, subst, ◌∙◌, arith, add-one}
+use Rattle.std.proofs.Common.{◌≡◌, ◌≢◌, ℕ, zero, suc, ◌+◌, ◌-◌, ◌<◌, ◌≤◌, Bool, true, false, not, cond, eqb, ℤ, List, [], ◌∷◌, ◌++◌, length, get_or, set, map, filter, take, drop, Option, Some, None, refl, sym, ap, subst, ◌∙◌, arith, add-one}
 use Rattle.std.specs.Prelude.{insert, int_lt, is_some}
 use Rattle.std.specs.List.{remove}
 use Rattle.std.specs.declared.cmp.Ordering.{Ordering}
@@ -33,12 +33,17 @@ use Rattle.map_laws.proofs.DropLaws.{children_of-without, ascending_without}
 use Rattle.region_slots.specs.declared.slots.Slot.{Slot}
 use Rattle.region_slots.specs.declared.children.Child.{Child}
 use Rattle.region_slots.specs.Slots.{nodes_of, child_of, placed_of, ids_in, HasItsChildren, AreKept, AreIn, AreByPriority, rank_in, others}
+use Rattle.region_slots.specs.Edits.{new_size}
 use Rattle.region_slots.proofs.PlaceLaws.{ids_rise, length_nodes}
 
 every_set : {A : Type 0} (P : A → Type 0) (xs : List A) (i : ℕ) (v : A) → Every P xs → P v → Every P (set xs i v)
 every_set P [] i v h k = tt
 every_set P (x ∷ xs) zero v h k = (k, h.1)
 every_set P (x ∷ xs) (suc i) v h k = (h.0, every_set P xs i v h.1 k)
+
+pub of_all : {A : Type 0} {P : A → Type 0} (xs : List A) → ((x : A) → P x) → Every P xs
+of_all [] h = tt
+of_all (x ∷ xs) h = (h x, of_all xs h)
 
 every_by_place : {A : Type 0} (P : A → Type 0) (xs : List A) → ((i : ℕ) (d : A) → i < length xs → P (get_or xs i d)) → Every P xs
 every_by_place P [] h = tt
@@ -79,6 +84,7 @@ found_node nodes r m slots i h e d = let a = h d in cc
 pub record IsEdit (g : Node → Node) : Type 0 where
   pub field : IsField g
   pub offset : (n : Node) → (g n).offset ≡ n.offset
+  pub size : (n : Node) → (g n).size ≡ n.size
 
 module _ (r : RegionId) (g : Node → Node) (edit : IsEdit g) where
   one_child : (n : Node) → child_of (cond (has_id r n) (g n) n) ≡ child_of n
@@ -87,7 +93,8 @@ module _ (r : RegionId) (g : Node → Node) (edit : IsEdit g) where
         let a = edit.field.id n in
         let b = edit.offset n in
         let c = edit.field.priority n in
-        simp (a, b, c)
+        let d = edit.size n in
+        simp (a, b, c, d)
     | false ↦ refl
   ]
 
@@ -114,20 +121,20 @@ module _ (slots : List Slot) (kept : AreKept slots) (i : ℕ) (d : Slot) (r : Re
       ∙ ap (λ n. set (nodes_of slots) i (g n)) (sym there)
       ∙ sym (changed_at-set r g (nodes_of slots) i d.node in_nodes id_there kept.ascending)
 
-  -- a field that is no part of its place leaves all children as they are
-  pub written_kept : IsEdit g → AreKept written
-  written_kept edit =
-      let field = edit.field in
-      let ids = children_edited r g edit (nodes_of slots) in
-      let same : (s : Slot) → HasItsChildren (nodes_of slots) s → HasItsChildren (changed_at r g (nodes_of slots)) s = λ s h. h ∙ sym (ids s.node.id) in
-      let all = weaker (HasItsChildren (nodes_of slots)) (HasItsChildren (changed_at r g (nodes_of slots))) same slots kept.children in
-      let here : HasItsChildren (changed_at r g (nodes_of slots)) (record { node = g (get_or slots i d).node; children = (get_or slots i d).children }) =
-      every_at (HasItsChildren (changed_at r g (nodes_of slots))) slots i d l all
-      ∙ ap (λ q. placed_of (children_of (changed_at r g (nodes_of slots)) q)) (sym (field.id (get_or slots i d).node)) in
+  -- where the lists that stand are those of the children still, they are kept
+  pub written_kept : ((n : Node) → (g n).id ≡ n.id) →
+      Every (λ s. placed_of (children_of (changed_at r g (nodes_of slots)) s.node.id) ≡ placed_of (children_of (nodes_of slots) s.node.id)) slots →
+      AreKept written
+  written_kept keeps same =
+      let now = changed_at r g (nodes_of slots) in
+      let stay = λ (s : Slot). placed_of (children_of now s.node.id) ≡ placed_of (children_of (nodes_of slots) s.node.id) in
+      let all = weaker (λ s. HasItsChildren (nodes_of slots) s × stay s) (HasItsChildren now) (λ s h. h.0 ∙ sym h.1) slots
+      (both (HasItsChildren (nodes_of slots)) stay slots kept.children same) in
+      let here : HasItsChildren now (record { node = g (get_or slots i d).node; children = (get_or slots i d).children }) =
+      every_at (HasItsChildren now) slots i d l all ∙ ap (λ q. placed_of (children_of now q)) (sym (keeps (get_or slots i d).node)) in
       record {
-        ascending = subst IsAscending (sym written_nodes) (ascending_changed_at r g field.id (nodes_of slots) kept.ascending);
-        children = subst (λ ns. Every (HasItsChildren ns) written) (sym written_nodes)
-            (every_set (HasItsChildren (changed_at r g (nodes_of slots))) slots i _ all here);
+        ascending = subst IsAscending (sym written_nodes) (ascending_changed_at r g keeps (nodes_of slots) kept.ascending);
+        children = subst (λ ns. Every (HasItsChildren ns) written) (sym written_nodes) (every_set (HasItsChildren now) slots i _ all here);
       }
 
 -- the same for a slot that was read there
@@ -142,8 +149,14 @@ module _ (slots : List Slot) (kept : AreKept slots) (i : ℕ) (s : Slot) (read :
   pub field_nodes : nodes_of field_written ≡ changed_at r g (nodes_of slots)
   field_nodes = ap nodes_of same_written ∙ written_nodes slots kept i s r l e g
 
+  pub unlisted_kept : ((n : Node) → (g n).id ≡ n.id) →
+      Every (λ t. placed_of (children_of (changed_at r g (nodes_of slots)) t.node.id) ≡ placed_of (children_of (nodes_of slots) t.node.id)) slots →
+      AreKept field_written
+  unlisted_kept keeps same = subst AreKept (sym same_written) (written_kept slots kept i s r l e g keeps same)
+
+  -- a field that is no part of its place leaves all children as they are
   pub field_kept : IsEdit g → AreKept field_written
-  field_kept edit = subst AreKept (sym same_written) (written_kept slots kept i s r l e g edit)
+  field_kept edit = unlisted_kept edit.field.id (of_all slots (λ (t : Slot). children_edited r g edit (nodes_of slots) t.node.id))
 
 -- a region that is not there is not changed
 pub missing_same : (r : RegionId) (g : Node → Node) (nodes : List Node) → node_of nodes r ≡ None → nodes ≡ changed_at r g nodes
@@ -505,7 +518,7 @@ module _ (f : Forest) (nodes : List Node) (parent : RegionId) (offset : ℕ) (ch
       children_of-joined child parent put m nodes at_child (ap (is_in parent) free) itself ascending before
 
   abbrev child_put : RegionId → Child
-  child_put r = record { id = r; offset = offset; priority = priority }
+  child_put r = record { id = r; offset = offset; last = m.size - 1; priority = priority }
 
   pub placed_here : (list : List Child) (rank : ℕ) → list ≡ placed_of (children_of nodes parent) → rank ≡ rank_in priority list →
       insert list rank (child_put child) ≡ placed_of (children_of (changed_at child put nodes) parent)
@@ -563,7 +576,7 @@ module _ (f : Forest) (placing : ℕ) (forest : IsOrderedForest f) (same : f.pla
         ∙ children_elsewhere f forest child offset m at_child parent in_parent q h
 
     abbrev child_moved : RegionId → Child
-    child_moved r = record { id = r; offset = offset; priority = m.priority }
+    child_moved r = record { id = r; offset = offset; last = m.size - 1; priority = m.priority }
 
     pub moved_here : (list : List Child) (rank : ℕ) → eqb m.offset offset ≡ false → list ≡ others child (placed_of (children_of f.nodes parent)) →
         rank ≡ rank_in m.priority list → insert list rank (child_moved child) ≡ placed_of
@@ -589,7 +602,7 @@ pub moved_id : (offset placing : ℕ) (n : Node) → (moved offset placing n).id
 moved_id offset placing n = elim (eqb n.offset offset) as
     (λ b. (cond b n (record n { offset = offset; placing = placing })).id ≡ n.id) [ true ↦ refl | false ↦ refl ]
 
--- the calls that change the fields of one region keep what a search needs of it
+-- the calls that change the fields of one region but its size keep what a search needs of it
 edited_offset : (call : Call) (n : Node) → (edited call n).offset ≡ n.offset
 edited_offset (calls.Resize region size) n = refl
 edited_offset (calls.Retarget alias offset) n = refl
@@ -605,8 +618,23 @@ edited_offset (calls.Event region event) n = refl
 edited_offset (calls.Unevent region offset size matched value) n = refl
 edited_offset _ n = refl
 
-pub edited_keeps : (call : Call) → IsEdit (edited call)
-edited_keeps call = record { field = edited_field call; offset = edited_offset call }
+edited_size : (call : Call) → new_size call ≡ None → (n : Node) → (edited call n).size ≡ n.size
+edited_size (calls.Resize region size) e n = cc
+edited_size (calls.Retarget alias offset) e n = refl
+edited_size (calls.Enable region on) e n = refl
+edited_size (calls.Readonly region on) e n = refl
+edited_size (calls.Nonvolatile region on) e n = refl
+edited_size (calls.Unmergeable region on) e n = refl
+edited_size (calls.Romd region on) e n = refl
+edited_size (calls.Log region client on) e n = refl
+edited_size (calls.Map region iova size space translated perm) e n = refl
+edited_size (calls.Unmap region iova) e n = refl
+edited_size (calls.Event region event) e n = refl
+edited_size (calls.Unevent region offset size matched value) e n = refl
+edited_size _ e n = refl
+
+pub edited_keeps : (call : Call) → new_size call ≡ None → IsEdit (edited call)
+edited_keeps call e = record { field = edited_field call; offset = edited_offset call; size = edited_size call e }
 
 -- a region that was read at its place and written back
 pub same_slot : (slots : List Slot) (i : ℕ) (s : Slot) → s ≡ get_or slots i s → set slots i s ≡ slots

@@ -1,5 +1,5 @@
 -- Regions beside the lists of their children.
-use Rattle.std.specs.Prelude.{ℕ, ◌≡◌, false, ◌+◌, ◌==◌, not, int_lt, if◌then◌else◌, ℤ, List, [], ◌∷◌, map, filter}
+use Rattle.std.specs.Prelude.{ℕ, ◌≡◌, false, ◌+◌, ◌-◌, ◌==◌, not, int_lt, if◌then◌else◌, ℤ, List, [], ◌∷◌, map, filter}
 use Rattle.mem_base.specs.declared.map.ids.RegionId.{RegionId}
 use Rattle.mem_base.specs.declared.map.forests.Node.{Node}
 use Rattle.mem_base.specs.declared.map.forests.Forest.{Forest}
@@ -10,9 +10,9 @@ use Rattle.mem_base.specs.map.Forest.{IsOrderedForest}
 use Rattle.region_slots.specs.declared.children.Child.{Child}
 use Rattle.region_slots.specs.declared.slots.Slot.{Slot}
 
--- what a search needs of a child
+-- what a search needs of a child: its last offset is its size less 1
 abbrev pub child_of : Node → Child
-child_of n = record { id = n.id; offset = n.offset; priority = n.priority }
+child_of n = record { id = n.id; offset = n.offset; last = n.size - 1; priority = n.priority }
 
 -- the same of some regions
 abbrev pub placed_of : List Node → List Child
@@ -53,3 +53,11 @@ AreByPriority (c ∷ cs) = Every (λ d. int_lt c.priority d.priority ≡ false) 
 -- the children without one region
 abbrev pub others : RegionId → List Child → List Child
 others r cs = filter (λ c. not (c.id.0 == r.0)) cs
+
+-- the child has another last offset, if its id is this one
+abbrev pub one_resized : RegionId → ℕ → Child → Child
+one_resized r last c = if c.id.0 == r.0 then record c { last = last } else c
+
+-- the children, of which the one with this id has another last offset
+abbrev pub resized : RegionId → ℕ → List Child → List Child
+resized r last cs = map (one_resized r last) cs

@@ -1,10 +1,10 @@
 // The children of a region, in the order of search.
 
-ghost use Rattle.std.specs.Prelude.{◌≡◌, ◌<◌, ◌≤◌, [], length, insert, IfOk, OnOk, OnErr};
+ghost use Rattle.std.specs.Prelude.{◌≡◌, ◌-◌, ◌<◌, ◌≤◌, [], length, insert, IfOk, OnOk, OnErr};
 ghost use Rattle.std.specs.Vec.{vec_len, vec_capacity};
-ghost use Rattle.region_slots.specs.Slots.{ids_in, rank_in, others, AreByPriority};
+ghost use Rattle.region_slots.specs.Slots.{ids_in, rank_in, others, resized, AreByPriority};
 
-use mem_base::RegionId;
+use mem_base::{RegionId, Size};
 use std::alloc::{AllocError, Global};
 use std::marker::Model;
 
@@ -12,10 +12,12 @@ use std::marker::Model;
 #[derive(Clone, Copy, Debug, PartialEq, Eq)]
 pub struct Child {
     pub id: RegionId,
-    /// The offset in the container, in bytes.
-    pub offset: u64,
     /// Of two children that hold an address, the one of higher priority is tried first.
     pub priority: i32,
+    /// The offset in the container, in bytes.
+    pub offset: u64,
+    /// The last offset in the child itself, in bytes: its size less 1.
+    pub last: u64,
 }
 
 /// The children of a region, in the order of search, and their ids once more as a list of its own.
@@ -102,6 +104,13 @@ impl Children {
         Ok(())
     }
 
+    /// Gives the child with this id another last offset, if it is there.
+    pub fn resize(&mut self, id: RegionId, last: u64)
+        ensures { self.new ≡ resized id last self.old }
+    {
+        set_last(&mut self.placed, id, last);
+    }
+
     /// Takes a child out.
     pub fn remove(&mut self, id: RegionId)
         ensures { self.new ≡ others id self.old }
@@ -130,6 +139,24 @@ fn put<T: Copy>(list: &mut Vec<T>, rank: usize, item: T)
         Ok(()) => {}
         Err(_) => unreachable!(),
     }
+}
+
+/// Gives the child with this id another last offset, if it is there.
+fn set_last(placed: &mut [Child], id: RegionId, last: u64)
+    ensures { placed.new ≡ resized id last placed.old }
+{
+    for child in placed.iter_mut() {
+        if child.id.0 == id.0 {
+            child.last = last;
+        }
+    }
+}
+
+/// The last offset in a region of this size, in bytes.
+pub(crate) fn last_in(size: Size) -> u64
+    ensures { result ≡ size - 1 }
+{
+    size.get().saturating_sub(1) as u64
 }
 
 /// How many of the first children have a higher priority than this.

@@ -4,7 +4,7 @@ ghost use Rattle.std.specs.Prelude.{◌≡◌, ◌+◌, ◌-◌, ◌<◌, ◌≤
 ghost use Rattle.mem_base.specs.map.TableRefusals.{bad_page};
 ghost use Rattle.mem_base.specs.map.Clients.{logged};
 ghost use Rattle.mem_base.specs.map.Edits.{edited, retargeted};
-ghost use Rattle.region_slots.specs.Edits.{Allows};
+ghost use Rattle.region_slots.specs.Edits.{Allows, new_size};
 
 use mem_base::{Call, Client, Entry, Kind, Node, Perm, Size, SpaceId};
 use std::alloc::AllocError;
@@ -41,6 +41,16 @@ fn entry_of(iova: u64, size: Size, space: SpaceId, translated: u64, perm: Perm) 
         space,
         translated,
         perm,
+    }
+}
+
+/// The size that a call gives to the region that it changes, if it gives one.
+pub(crate) fn new_size(call: &Call) -> Option<Size>
+    ensures { result ≡ new_size call.now }
+{
+    match *call {
+        Call::Resize { size, .. } => Some(size),
+        _ => None,
     }
 }
 

@@ -4,17 +4,17 @@ ghost use Rattle.std.specs.Prelude.{◌≡◌, ◌≢◌, ◌+◌, ◌++◌, ◌
 ghost use Rattle.mem_base.specs.declared.map.forests.Node.{Node as N};
 ghost use Rattle.mem_base.specs.declared.map.forests.Forest.{Forest};
 ghost use Rattle.mem_base.specs.lists.Every.{Every};
-ghost use Rattle.mem_base.specs.map.Region.{node_of, has_id, is_child_of};
+ghost use Rattle.mem_base.specs.map.Region.{node_of, has_id, is_in, is_child_of};
 ghost use Rattle.mem_base.specs.map.Order.{children_of, ids_of};
 ghost use Rattle.mem_base.specs.map.Region.{IsAscending};
 ghost use Rattle.mem_base.specs.map.Changes.{changed_at, placed, moved, moves};
 ghost use Rattle.mem_base.specs.map.Edits.{edited};
-ghost use Rattle.region_slots.specs.Edits.{Allows};
+ghost use Rattle.region_slots.specs.Edits.{Allows, new_size};
 ghost use Rattle.region_slots.specs.Slots.{nodes_of, placed_of, AreKept, AreIn};
 
-use crate::children::{Child, Children};
-use crate::edits::edit;
-use mem_base::{Call, Node, RegionId};
+use crate::children::{Child, Children, last_in};
+use crate::edits::{edit, new_size};
+use mem_base::{Call, Node, RegionId, Size};
 use std::alloc::{AllocError, Global};
 use std::marker::Model;
 
@@ -73,6 +73,18 @@ pub fn place_of(slots: &[Slot], region: RegionId) -> Option<usize>
     match slots.binary_search_by_key(&region.0, |slot| slot.node.id.0) {
         Ok(i) => Some(i),
         Err(_) => None,
+    }
+}
+
+/// The index of the region's container, if there is one.
+fn place_of_container(slots: &[Slot], parent: Option<RegionId>) -> Option<usize>
+    requires { IsAscending (nodes_of slots.now) }
+    ensures { MatchOption result (Every (λ s. is_in s.node.id parent ≡ false) slots.now) (λ i.
+        (i < length slots.now) × ((d : _) → is_in (slice_index_or slots.now i d).node.id parent ≡ true)) }
+{
+    match parent {
+        Some(container) => place_of(slots, container),
+        None => None,
     }
 }
 
@@ -186,10 +198,12 @@ impl Slots {
         let Some(below) = place_of(&self.items, child) else {
             unreachable!()
         };
+        let last = last_in(self.items[below].node.size);
         let placed = Child {
             id: child,
-            offset,
             priority,
+            offset,
+            last,
         };
         let rank = self.items[above].children.rank(priority);
         self.items[above].children.insert(rank, placed)?;
@@ -239,10 +253,12 @@ impl Slots {
             unreachable!()
         };
         let priority = self.items[below].node.priority;
+        let last = last_in(self.items[below].node.size);
         let moved = Child {
             id: child,
-            offset,
             priority,
+            offset,
+            last,
         };
         self.items[above].children.replace(moved)?;
         let node = &mut self.items[below].node;
@@ -257,9 +273,42 @@ impl Slots {
         ensures ok { OnOk result (self.new ≡ changed_at region (edited call.now) self.old) }
         ensures err { OnErr result (self.new ≡ self.old) }
     {
+        match new_size(call) {
+            Some(size) => {
+                self.resize(region, size);
+                Ok(())
+            }
+            None => Ok(self.edit_in_place(region, call)?),
+        }
+    }
+
+    /// The same for a call that leaves the size as it is.
+    fn edit_in_place(&mut self, region: RegionId, call: &Call) -> Result<(), AllocError>
+        requires allowed { (n : N) → node_of self.old region ≡ Some n → Allows call.now n }
+        requires same_size { new_size call.now ≡ None }
+        ensures ok { OnOk result (self.new ≡ changed_at region (edited call.now) self.old) }
+        ensures err { OnErr result (self.new ≡ self.old) }
+    {
         match place_of(&self.items, region) {
             Some(i) => Ok(edit(&mut self.items[i].node, call)?),
             None => Ok(()),
+        }
+    }
+
+    /// Gives a region another size; a region that is not there stays so.
+    fn resize(&mut self, region: RegionId, size: Size)
+        ensures { self.new ≡ changed_at region (λ n. record n { size = size }) self.old }
+    {
+        let Some(below) = place_of(&self.items, region) else {
+            return;
+        };
+        let parent = self.items[below].node.parent;
+        match place_of_container(&self.items, parent) {
+            Some(above) => {
+                self.items[above].children.resize(region, last_in(size));
+                self.items[below].node.size = size;
+            }
+            None => self.items[below].node.size = size,
         }
     }
 

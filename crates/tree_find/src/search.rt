@@ -1,11 +1,11 @@
-// The search from a region down. Offsets have 128 bits here: an alias may shift an address past 2^64, where
-// nothing is found.
+// The search from a region down. An offset in a region has 128 bits here until it is known to lie in the region: an
+// alias may shift an address past 2^64, where nothing is found.
 ghost use Rattle.std.specs.Prelude.{◌≡◌, ◌+◌, ◌<◌, ◌≤◌, ◌^◌, ◌++◌, Some, IsSome, length};
 ghost use Rattle.mem_base.specs.map.Region.{node_of};
 ghost use Rattle.mem_base.specs.map.Order.{children_of};
 ghost use Rattle.mem_base.specs.map.Forest.{IsOrderedForest};
 ghost use Rattle.mem_base.specs.map.Search.{found_in, at_node, first_of_children, inside, flagged, spot_of, path_of};
-ghost use Rattle.tree_find.specs.Children.{tried};
+ghost use Rattle.tree_find.specs.Children.{tried, IsChild};
 
 use mem_base::{Kind, Node, Path, RegionId, Spot};
 use region_slots::Child;
@@ -33,6 +33,7 @@ pub(crate) fn find_from(
 #[cycle(search)]
 fn find_in(tree: &Tree, depth: u32, node: &Node, at: u128, path: &mut Path) -> Option<Spot>
     requires known { node_of tree.now.nodes node.now.id ≡ Some node.now }
+    requires forest { IsOrderedForest tree.now }
     requires room { length path.old + depth ≤ 32 }
     ensures spot { result ≡ spot_of (found_in tree.now depth node.now.id at) }
     ensures path { path.new ≡ path.old ++ path_of (found_in tree.now depth node.now.id at) }
@@ -47,6 +48,7 @@ fn find_in(tree: &Tree, depth: u32, node: &Node, at: u128, path: &mut Path) -> O
 #[cycle(search)]
 fn find_at(tree: &Tree, depth: u32, node: &Node, at: u128, path: &mut Path) -> Option<Spot>
     requires known { IsSome (node_of tree.now.nodes node.now.id) }
+    requires forest { IsOrderedForest tree.now }
     requires room { length path.old + depth + 1 ≤ 32 }
     ensures spot { result ≡ spot_of (at_node tree.now (found_in tree.now depth) node.now at) }
     ensures path { path.new ≡ path.old ++ path_of (at_node tree.now (found_in tree.now depth) node.now at) }
@@ -82,6 +84,7 @@ fn through(node: &Node, spot: Spot) -> Spot
 #[cycle(search)]
 fn find_inside(tree: &Tree, depth: u32, node: &Node, at: u128, path: &mut Path) -> Option<Spot>
     requires known { IsSome (node_of tree.now.nodes node.now.id) }
+    requires forest { IsOrderedForest tree.now }
     requires at { at < 2 ^ 64 }
     requires room { length path.old + depth ≤ 32 }
     ensures spot { result ≡ spot_of (inside tree.now (found_in tree.now depth) node.now.kind node.now at) }
@@ -90,16 +93,18 @@ fn find_inside(tree: &Tree, depth: u32, node: &Node, at: u128, path: &mut Path) 
     if let Kind::Alias { target, offset } = node.kind {
         return find_from(tree, depth, target, at + u128::from(offset), path);
     }
+    let at = at as u64;
     match find_below(tree, depth, node.id, at, path) {
         Some(spot) => Some(spot),
-        None => node.own_spot(tree.is_global(), at as u64),
+        None => node.own_spot(tree.is_global(), at),
     }
 }
 
 /// The search among the children of a region, in the order in which they are tried.
 #[cycle(search)]
-fn find_below(tree: &Tree, depth: u32, region: RegionId, at: u128, path: &mut Path) -> Option<Spot>
+fn find_below(tree: &Tree, depth: u32, region: RegionId, at: u64, path: &mut Path) -> Option<Spot>
     requires known { IsSome (node_of tree.now.nodes region) }
+    requires forest { IsOrderedForest tree.now }
     requires room { length path.old + depth ≤ 32 }
     ensures spot { result ≡ spot_of (first_of_children (found_in tree.now depth) (children_of tree.now.nodes region) at) }
     ensures path { path.new ≡ path.old ++ path_of (first_of_children (found_in tree.now depth) (children_of tree.now.nodes region) at) }
@@ -112,16 +117,22 @@ fn find_below(tree: &Tree, depth: u32, region: RegionId, at: u128, path: &mut Pa
     None
 }
 
-/// The search in one child, at an offset in its container: a child that lies above the offset is discarded.
+/// The search in one child, at an offset in its container. A child that lies above the offset, or ends before it, is
+/// passed over without a look at the region.
 #[cycle(search)]
-fn find_child(tree: &Tree, depth: u32, child: &Child, at: u128, path: &mut Path) -> Option<Spot>
-    requires { length path.old + depth ≤ 32 }
+#[inline(always)]
+fn find_child(tree: &Tree, depth: u32, child: &Child, at: u64, path: &mut Path) -> Option<Spot>
+    requires child { IsChild tree.now.nodes child.now }
+    requires room { length path.old + depth ≤ 32 }
     ensures spot { result ≡ spot_of (tried (found_in tree.now depth) child.now at) }
     ensures path { path.new ≡ path.old ++ path_of (tried (found_in tree.now depth) child.now at) }
 {
-    let offset = u128::from(child.offset);
-    if offset > at {
+    if at < child.offset {
         return None;
     }
-    find_from(tree, depth, child.id, at - offset, path)
+    let inside = at - child.offset;
+    if inside > child.last {
+        return None;
+    }
+    find_from(tree, depth, child.id, u128::from(inside), path)
 }

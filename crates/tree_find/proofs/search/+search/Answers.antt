@@ -1,10 +1,10 @@
-use Rattle.std.proofs.Common.{◌∙◌, ◌-◌, ◌++◌, sym, ap, get_or, arith, rules}
+use Rattle.std.proofs.Common.{◌∙◌, ◌+◌, ◌-◌, ◌≤◌, ◌++◌, length, sym, ap, subst, get_or, arith, rules}
 use Rattle.mem_base.specs.map.Order.{children_of}
 use Rattle.mem_base.specs.map.Search.{found_in, spot_of, path_of}
 use Rattle.tree_find.specs.Children.{tried}
 use Rattle.map_laws.proofs.SearchLaws.{found_in_zero, found_in_missing, found_in_step}
 use Rattle.mem_base.proofs.ForestLaws.{found_by_id, id_of}
-use Rattle.tree_find.proofs.FoundLaws.{found_itself, no_path, none_found, no_child, next_placed, found_first, found_later}
+use Rattle.tree_find.proofs.FoundLaws.{found_itself, no_path, none_found, no_child, next_placed, is_child, tried_past, found_first, found_later}
 use Rattle.tree_find.proofs.search.+search.Goals as goal
 
 pub find_from-returns-in_err-node-clause-spot : goal.find_from-returns-in_err-node-clause-spot
@@ -16,7 +16,10 @@ find_from-returns-in_err-node-clause-path t c =
     no_path c.args.path.now _ (found_in_missing c.args.tree.now c.args.depth c.args.region c.args.at (sym c.in_err-node.ensures.value))
 
 pub find_from-find_in-requires : goal.find_from-find_in-requires
-find_from-find_in-requires t c = (search rules, (found_itself c.args.tree.now.nodes c.args.region c.in_ok-node.node.now c.in_ok-node.ensures.value, c.requires))
+find_from-find_in-requires t c = (
+  search rules,
+  (found_itself c.args.tree.now.nodes c.args.region c.in_ok-node.node.now c.in_ok-node.ensures.value, (c.in_ok-node.ensures.forest, c.requires)),
+)
 
 pub find_from-returns-clause-spot : goal.find_from-returns-clause-spot
 find_from-returns-clause-spot t c =
@@ -38,7 +41,10 @@ find_in-returns-then-depth-eq0-clause-path t c =
 pub find_in-find_at-requires : goal.find_in-find_at-requires
 find_in-find_at-requires t c = (
   search rules,
-  (found_by_id c.args.tree.now.nodes c.args.node.now.id c.args.node.now (sym c.requires.known), let room = c.requires.room in omega arith),
+  (
+    found_by_id c.args.tree.now.nodes c.args.node.now.id c.args.node.now (sym c.requires.known),
+    (c.requires.forest, let room = c.requires.room in omega arith),
+  ),
 )
 
 pub find_in-returns-clause-spot : goal.find_in-returns-clause-spot
@@ -52,6 +58,24 @@ find_in-returns-clause-path t c =
     c.find_at.ensures.path
     ∙ ap (λ x. c.args.path.now ++ path_of x)
     (sym (found_in_step c.args.tree.now c.args.depth (c.args.depth - 1) c.args.node.now.id c.args.at c.args.node.now (omega arith) c.requires.known))
+
+pub find_below-find_child-requires : goal.find_below-find_child-requires
+find_below-find_child-requires t c = (
+  search rules,
+  (
+    is_child c.args.tree.now.nodes c.args.region c.placed_children-child-items.result.now c.loop-child.child-index no_child c.requires.forest.ascending
+        c.placed_children-child-items.ensures c.loop-child-test.true,
+    subst (λ p. length p + c.args.depth ≤ 32) (sym c.loop-child.invariant.path) c.requires.room,
+  ),
+)
+
+pub find_child-returns-then-inside-child-clause-spot : goal.find_child-returns-then-inside-child-clause-spot
+find_child-returns-then-inside-child-clause-spot t c =
+    sym (ap spot_of (tried_past c.args.tree.now c.args.depth c.args.child.now c.args.at c.requires.child c.if-at-child.false c.if-inside-child.true))
+
+pub find_child-returns-then-inside-child-clause-path : goal.find_child-returns-then-inside-child-clause-path
+find_child-returns-then-inside-child-clause-path t c = no_path c.args.path.now _
+    (tried_past c.args.tree.now c.args.depth c.args.child.now c.args.at c.requires.child c.if-at-child.false c.if-inside-child.true)
 
 -- what was found in this child is what is found among all
 pub find_below-returns-in-Some-clause-spot : goal.find_below-returns-in-Some-clause-spot

@@ -1,4 +1,5 @@
-use Rattle.std.proofs.Common.{◌≡◌, ◌≢◌, ◌∙◌, refl, sym, ap, subst, None, Some, get_or, w32}
+use Rattle.std.specs.Prelude.{insert}
+use Rattle.std.proofs.Common.{◌≡◌, ◌≢◌, ◌∙◌, ◌-◌, refl, sym, ap, subst, None, Some, get_or, w32}
 use Rattle.std.proofs.lemmas.Int.{to_z-of_z}
 use Rattle.mem_base.specs.declared.map.ids.RegionId.{RegionId}
 use Rattle.mem_base.specs.declared.map.forests.Node.{Node}
@@ -7,17 +8,18 @@ use Rattle.mem_base.specs.lists.Sorting.{sorted_by}
 use Rattle.mem_base.specs.map.Order.{children_of}
 use Rattle.mem_base.specs.map.Changes.{changed_at, placed}
 use Rattle.region_slots.specs.declared.slots.Slot.{Slot}
+use Rattle.region_slots.specs.declared.children.Child.{Child}
 use Rattle.region_slots.specs.Slots.{nodes_of, placed_of, rank_in, AreKept, AreIn, AreByPriority}
-use Rattle.region_slots.proofs.SlotsLaws.{children_at, pair_kept, pair_nodes, placed_here, placed_elsewhere, children_by_priority}
+use Rattle.region_slots.proofs.SlotsLaws.{found_node, children_at, pair_kept, pair_nodes, placed_here, placed_elsewhere, children_by_priority}
 use Rattle.region_slots.proofs.slots.Slots.place.Goals as goal
 
 pub rank-rank-requires : goal.rank-rank-requires
 rank-rank-requires c =
     let slots = c.self.inside.items.items in
     let at_parent = rw c.deref.ensures.value at c.in-Some.ensures in
-    let d : Slot = c.index.result.now in
+    let d : Slot = c.index-2.result.now in
     record {
-      sorted = subst AreByPriority (ap (λ (t : Slot). t.children) (sym c.index.ensures))
+      sorted = subst AreByPriority (ap (λ (t : Slot). t.children) (sym c.index-2.ensures))
           (children_by_priority slots c.in-Some.above d at_parent.0 c.self.invariant);
     }
 
@@ -36,10 +38,15 @@ invariant_of-self-2 c =
     let same = to_z-of_z w32 c.args.priority c.ranges.priority in
     let listed : s.children ≡ placed_of (children_of nodes c.args.parent) = ap (λ (t : Slot). t.children) c.index_mut.ensures.value
     ∙ children_at slots c.in-Some.above s c.args.parent at_parent.0 (at_parent.1 s) kept in
-    let seen : c.index.result.now.children ≡ s.children = ap (λ (t : Slot). t.children) c.index.ensures
+    let seen : c.index-2.result.now.children ≡ s.children = ap (λ (t : Slot). t.children) c.index-2.ensures
     ∙ children_at slots c.in-Some.above _ c.args.parent at_parent.0 (at_parent.1 _) kept ∙ sym listed in
     let ranked : c.rank-rank.result ≡ rank_in c.args.priority s.children = (rw same at c.rank-rank.ensures.rank) ∙ ap (rank_in c.args.priority) seen in
+    let read = c.index.result.now in
+    let last : c.last_in-last.result ≡ m.size - 1 = c.last_in-last.ensures ∙ ap (λ (t : Slot). t.node.size - 1) c.index.ensures
+    ∙ ap (λ (n : Node). n.size - 1) (found_node nodes c.args.child m slots c.in-Some-place_of.below at_child.1 there read) in
     let here = (rw same at c.in_ok-insert.ensures.ok)
+    ∙ ap (λ k. insert s.children c.rank-rank.result
+    (let x : Child = record { id = c.args.child; offset = c.args.offset; last = k; priority = c.args.priority } in x)) last
     ∙ placed_here f nodes c.args.parent c.args.offset c.args.child c.args.priority c.args.placing in_forest m there c.requires.child.2 s.children
     c.rank-rank.result listed ranked in
     rw same (pair_kept slots kept c.args.parent c.args.child c.in-Some.above c.in-Some-place_of.below s c.index_mut-2.result.now c.insert.new.self
@@ -62,10 +69,15 @@ returns-clause-ok c =
     let same = to_z-of_z w32 c.args.priority c.ranges.priority in
     let listed : s.children ≡ placed_of (children_of nodes c.args.parent) = ap (λ (t : Slot). t.children) c.index_mut.ensures.value
     ∙ children_at slots c.in-Some.above s c.args.parent at_parent.0 (at_parent.1 s) kept in
-    let seen : c.index.result.now.children ≡ s.children = ap (λ (t : Slot). t.children) c.index.ensures
+    let seen : c.index-2.result.now.children ≡ s.children = ap (λ (t : Slot). t.children) c.index-2.ensures
     ∙ children_at slots c.in-Some.above _ c.args.parent at_parent.0 (at_parent.1 _) kept ∙ sym listed in
     let ranked : c.rank-rank.result ≡ rank_in c.args.priority s.children = (rw same at c.rank-rank.ensures.rank) ∙ ap (rank_in c.args.priority) seen in
+    let read = c.index.result.now in
+    let last : c.last_in-last.result ≡ m.size - 1 = c.last_in-last.ensures ∙ ap (λ (t : Slot). t.node.size - 1) c.index.ensures
+    ∙ ap (λ (n : Node). n.size - 1) (found_node nodes c.args.child m slots c.in-Some-place_of.below at_child.1 there read) in
     let here = (rw same at c.in_ok-insert.ensures.ok)
+    ∙ ap (λ k. insert s.children c.rank-rank.result
+    (let x : Child = record { id = c.args.child; offset = c.args.offset; last = k; priority = c.args.priority } in x)) last
     ∙ placed_here f nodes c.args.parent c.args.offset c.args.child c.args.priority c.args.placing in_forest m there c.requires.child.2 s.children
     c.rank-rank.result listed ranked in
     let g = placed c.args.parent c.args.offset c.args.priority c.args.placing in

@@ -1,5 +1,5 @@
 use Rattle.std.specs.Prelude.{insert}
-use Rattle.std.proofs.Common.{◌≡◌, ◌≢◌, ◌∙◌, ◌<◌, ℕ, List, length, Bool, true, false, cond, eqb, refl, sym, ap, subst, Some, set, get_or, w32, arith, rules}
+use Rattle.std.proofs.Common.{◌≡◌, ◌≢◌, ◌∙◌, ◌-◌, ◌<◌, ℕ, List, length, Bool, true, false, cond, eqb, refl, sym, ap, subst, Some, set, get_or, w32, arith, rules}
 use mir.Val.{SFits}
 use Rattle.std.proofs.lemmas.Int.{to_z-of_z}
 use Rattle.std.proofs.lemmas.Bool.Decides.{nat_tests}
@@ -79,10 +79,13 @@ invariant_of-self-2 c =
     let same = to_z-of_z w32 c.index-3.result.now.node.priority fits in
     let priority : c.index-3.result.now.node.priority ≡ m.priority = ap (λ (u : Slot). u.node.priority) c.index-3.ensures
     ∙ ap (λ (n : Node). n.priority) (read c.index-3.result.now) in
+    let last : c.last_in-last.result ≡ m.size - 1 = c.last_in-last.ensures ∙ ap (λ (u : Slot). u.node.size - 1) c.index-4.ensures
+    ∙ ap (λ (n : Node). n.size - 1) (read c.index-4.result.now) in
     let ranked : rank_in m.priority list ≡ rank_in m.priority list = refl in
     let g = moved offset c.args.placing in
     let here : c.replace.new.self ≡ placed_of (children_of (changed_at child g nodes) p) = (rw same at c.in_ok-replace.ensures.ok)
-    ∙ ap (λ k. insert list (rank_in k list) (let x : Child = record { id = child; offset = offset; priority = k } in x)) priority
+    ∙ ap (λ k. insert list (rank_in k list) (let x : Child = record { id = child; offset = offset; last = c.last_in-last.result; priority = k } in x)) priority
+    ∙ ap (λ k. insert list (rank_in m.priority list) (let x : Child = record { id = child; offset = offset; last = k; priority = m.priority } in x)) last
     ∙ moved_here f c.args.placing in_forest.forest in_forest.same_placings child offset m there p in_parent list
     (rank_in m.priority list) at listed ranked ∙ ap (λ ns. placed_of (children_of (changed_at child g ns) p)) seen in
     let elsewhere : (q : RegionId) → q.0 ≢ p.0 →
@@ -134,10 +137,13 @@ returns-clause-ok c =
     let same = to_z-of_z w32 c.index-3.result.now.node.priority fits in
     let priority : c.index-3.result.now.node.priority ≡ m.priority = ap (λ (u : Slot). u.node.priority) c.index-3.ensures
     ∙ ap (λ (n : Node). n.priority) (read c.index-3.result.now) in
+    let last : c.last_in-last.result ≡ m.size - 1 = c.last_in-last.ensures ∙ ap (λ (u : Slot). u.node.size - 1) c.index-4.ensures
+    ∙ ap (λ (n : Node). n.size - 1) (read c.index-4.result.now) in
     let ranked : rank_in m.priority list ≡ rank_in m.priority list = refl in
     let g = moved offset c.args.placing in
     let here : c.replace.new.self ≡ placed_of (children_of (changed_at child g nodes) p) = (rw same at c.in_ok-replace.ensures.ok)
-    ∙ ap (λ k. insert list (rank_in k list) (let x : Child = record { id = child; offset = offset; priority = k } in x)) priority
+    ∙ ap (λ k. insert list (rank_in k list) (let x : Child = record { id = child; offset = offset; last = c.last_in-last.result; priority = k } in x)) priority
+    ∙ ap (λ k. insert list (rank_in m.priority list) (let x : Child = record { id = child; offset = offset; last = k; priority = m.priority } in x)) last
     ∙ moved_here f c.args.placing in_forest.forest in_forest.same_placings child offset m there p in_parent list
     (rank_in m.priority list) at listed ranked ∙ ap (λ ns. placed_of (children_of (changed_at child g ns) p)) seen in
     let elsewhere : (q : RegionId) → q.0 ≢ p.0 →

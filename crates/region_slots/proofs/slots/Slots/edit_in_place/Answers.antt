@@ -6,7 +6,7 @@ use Rattle.mem_base.specs.map.Edits.{edited}
 use Rattle.region_slots.specs.declared.slots.Slot.{Slot}
 use Rattle.region_slots.specs.Slots.{nodes_of, AreKept}
 use Rattle.region_slots.proofs.SlotsLaws.{field_nodes, field_kept, missing_same, edited_keeps}
-use Rattle.region_slots.proofs.slots.Slots.edit.Goals as goal
+use Rattle.region_slots.proofs.slots.Slots.edit_in_place.Goals as goal
 
 pub invariant_of-self-in-Some : goal.invariant_of-self-in-Some
 invariant_of-self-in-Some c =
@@ -14,7 +14,7 @@ invariant_of-self-in-Some c =
     let found = rw c.deref.ensures.value at c.in-Some.ensures in
     let s : Slot = c.index_mut.result.now in
     let kept = field_kept slots c.self.invariant c.in-Some.i s c.index_mut.ensures.value c.args.region found.0 (found.1 s) (edited c.args.call.now)
-    (edited_keeps c.args.call.now) in
+    (edited_keeps c.args.call.now c.requires.same_size) in
     subst (λ (n : Node). AreKept (set slots c.in-Some.i (let t : Slot = record { node = n; children = s.children } in t)))
     (sym c.in_ok-edit-in-Some.ensures.ok) kept
 
