@@ -2,3 +2,4 @@ pub mod PlaceLaws
 pub mod SlotsLaws
 pub mod SlotsBasics
 pub mod ResizeLaws
+pub mod ToldLaws

@@ -5,7 +5,8 @@ ghost use Rattle.mem_base.specs.map.Region.{node_of};
 ghost use Rattle.mem_base.specs.map.Order.{children_of};
 ghost use Rattle.mem_base.specs.map.Forest.{IsOrderedForest};
 ghost use Rattle.mem_base.specs.map.Search.{found_in, at_node, first_of_children, inside, flagged, spot_of, path_of};
-ghost use Rattle.tree_find.specs.Children.{tried, IsChild};
+ghost use Rattle.region_slots.specs.Told.{IsChild};
+ghost use Rattle.tree_find.specs.Children.{tried};
 
 use mem_base::{Kind, Node, Path, RegionId, Spot};
 use region_slots::Child;

@@ -1,10 +1,14 @@
 use Rattle.std.proofs.Common.{◌∙◌, ◌+◌, ◌-◌, ◌≤◌, ◌++◌, length, sym, ap, subst, get_or, arith, rules}
 use Rattle.mem_base.specs.map.Order.{children_of}
 use Rattle.mem_base.specs.map.Search.{found_in, spot_of, path_of}
+use Rattle.mem_base.specs.lists.Every.{Every}
+use Rattle.mem_base.proofs.EveryLaws.{every_at}
+use Rattle.region_slots.specs.Told.{IsChild}
+use Rattle.region_slots.proofs.ToldLaws.{children_are}
 use Rattle.tree_find.specs.Children.{tried}
 use Rattle.map_laws.proofs.SearchLaws.{found_in_zero, found_in_missing, found_in_step}
 use Rattle.mem_base.proofs.ForestLaws.{found_by_id, id_of}
-use Rattle.tree_find.proofs.FoundLaws.{found_itself, no_path, none_found, no_child, next_placed, is_child, tried_past, found_first, found_later}
+use Rattle.tree_find.proofs.FoundLaws.{found_itself, no_path, none_found, no_child, next_placed, tried_past, found_first, found_later}
 use Rattle.tree_find.proofs.search.+search.Goals as goal
 
 pub find_from-returns-in_err-node-clause-spot : goal.find_from-returns-in_err-node-clause-spot
@@ -63,8 +67,9 @@ pub find_below-find_child-requires : goal.find_below-find_child-requires
 find_below-find_child-requires t c = (
   search rules,
   (
-    is_child c.args.tree.now.nodes c.args.region c.placed_children-child-items.result.now c.loop-child.child-index no_child c.requires.forest.ascending
-        c.placed_children-child-items.ensures c.loop-child-test.true,
+    every_at (IsChild c.args.tree.now.nodes) c.placed_children-child-items.result.now c.loop-child.child-index no_child c.loop-child-test.true
+        (subst (Every (IsChild c.args.tree.now.nodes)) (sym c.placed_children-child-items.ensures)
+        (children_are c.args.tree.now.nodes c.args.region c.requires.forest.ascending)),
     subst (λ p. length p + c.args.depth ≤ 32) (sym c.loop-child.invariant.path) c.requires.room,
   ),
 )
