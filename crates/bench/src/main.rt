@@ -17,7 +17,7 @@ use crate::views::run_views;
 use std::alloc::AllocError;
 use std::process::ExitCode;
 
-/// How large the maps are and how often each is built.
+/// How large the maps are, how often each is built, and how often each is rendered then.
 #[derive(Clone, Copy)]
 struct Sizes {
     generated: [u32; 4],
@@ -27,6 +27,7 @@ struct Sizes {
     aliases: u32,
     heavy: u32,
     rounds: u32,
+    views: u32,
 }
 
 /// Small maps, once each.
@@ -38,9 +39,10 @@ static SMALL: Sizes = Sizes {
     aliases: 100,
     heavy: 20,
     rounds: 1,
+    views: 1,
 };
 
-/// The maps of docs/SPEED.md, the least of five rounds.
+/// The maps of docs/SPEED.md, the least of five rounds with 60 views each.
 static FULL: Sizes = Sizes {
     generated: [500, 1000, 2000, 4000],
     flat: [2000, 4000],
@@ -49,6 +51,7 @@ static FULL: Sizes = Sizes {
     aliases: 4000,
     heavy: 1000,
     rounds: 5,
+    views: 60,
 };
 
 fn main(rt: HostRuntime) -> ExitCode {
@@ -65,16 +68,41 @@ fn main(rt: HostRuntime) -> ExitCode {
 
 fn all(rt: HostRuntime, sizes: Sizes) -> Result<(), Failed> {
     for n in sizes.generated {
-        run(rt, &generated(rt.alloc(), n)?, sizes.rounds)?;
+        run(rt, &generated(rt.alloc(), n)?, sizes.rounds, sizes.views)?;
     }
     for n in sizes.flat {
-        run(rt, &flat(rt.alloc(), n)?, sizes.rounds)?;
+        run(rt, &flat(rt.alloc(), n)?, sizes.rounds, sizes.views)?;
     }
-    run(rt, &chains(rt.alloc(), sizes.chains, true)?, sizes.rounds)?;
-    run(rt, &chains(rt.alloc(), sizes.chains, false)?, sizes.rounds)?;
-    run(rt, &zigzag(rt.alloc(), sizes.zigzag)?, sizes.rounds)?;
-    run(rt, &aliases(rt.alloc(), sizes.aliases)?, sizes.rounds)?;
-    run(rt, &heavy(rt.alloc(), sizes.heavy)?, sizes.rounds)?;
+    run(
+        rt,
+        &chains(rt.alloc(), sizes.chains, true)?,
+        sizes.rounds,
+        sizes.views,
+    )?;
+    run(
+        rt,
+        &chains(rt.alloc(), sizes.chains, false)?,
+        sizes.rounds,
+        sizes.views,
+    )?;
+    run(
+        rt,
+        &zigzag(rt.alloc(), sizes.zigzag)?,
+        sizes.rounds,
+        sizes.views,
+    )?;
+    run(
+        rt,
+        &aliases(rt.alloc(), sizes.aliases)?,
+        sizes.rounds,
+        sizes.views,
+    )?;
+    run(
+        rt,
+        &heavy(rt.alloc(), sizes.heavy)?,
+        sizes.rounds,
+        sizes.views,
+    )?;
     let third = generated(rt.alloc(), sizes.generated[2])?;
     run_views(rt, &third, sizes.rounds)?;
     Ok(())

@@ -35,7 +35,7 @@ impl From<io::Error> for Failed {
     }
 }
 
-/// Times, in nanoseconds: of all calls, of moving each region once, of a thousand look-ups, and of a view.
+/// Times, in nanoseconds: of all calls, of moving each region twice, of a thousand look-ups, and of a view.
 #[derive(Clone, Copy)]
 struct Times {
     build: u64,
@@ -53,10 +53,10 @@ struct Facts {
 }
 
 /// Builds a map some times and tells what it is and how long it took.
-pub(crate) fn run(rt: HostRuntime, map: &Map, rounds: u32) -> Result<(), Failed> {
-    let (facts, mut least) = round(rt, map)?;
+pub(crate) fn run(rt: HostRuntime, map: &Map, rounds: u32, views: u32) -> Result<(), Failed> {
+    let (facts, mut least) = round(rt, map, views)?;
     for _ in 1..rounds {
-        let (_, times) = round(rt, map)?;
+        let (_, times) = round(rt, map, views)?;
         least = Times {
             build: least.build.min(times.build),
             moves: least.moves.min(times.moves),
@@ -74,13 +74,13 @@ pub(crate) fn run(rt: HostRuntime, map: &Map, rounds: u32) -> Result<(), Failed>
         facts.found
     )?;
     eprintln!(rt;
-        "{} {}: calls {} us, moves {} us, a look-up {} ns, a view {} us",
+        "{} {}: calls {} us, moves {} us, a look-up {} ns, a view {} ns",
         map.name,
         map.size,
         least.build / 1000,
         least.moves / 1000,
         least.finds / 1000,
-        least.view / 1000
+        least.view
     )?;
     Ok(())
 }
@@ -89,7 +89,7 @@ pub(crate) fn nanos(time: Duration) -> u64 {
     u64::try_from(time.as_nanos()).unwrap_or(u64::MAX)
 }
 
-fn round(rt: HostRuntime, map: &Map) -> Result<(Facts, Times), Failed> {
+fn round(rt: HostRuntime, map: &Map, views: u32) -> Result<(Facts, Times), Failed> {
     let mut tree = Tree::new(rt.alloc());
     let start = Instant::now(&rt)?;
     let refused = build(&mut tree, map.calls.as_slice());
@@ -100,9 +100,7 @@ fn round(rt: HostRuntime, map: &Map) -> Result<(Facts, Times), Failed> {
     let start = Instant::now(&rt)?;
     let found = look_up(&tree);
     let finds = nanos(start.elapsed(&rt)?);
-    let start = Instant::now(&rt)?;
-    let ranges = ranges(rt.alloc(), &tree)?;
-    let view = nanos(start.elapsed(&rt)?);
+    let (ranges, view) = view(rt, &tree, views)?;
     let facts = Facts {
         refused,
         ranges,
@@ -115,6 +113,18 @@ fn round(rt: HostRuntime, map: &Map) -> Result<(Facts, Times), Failed> {
         view,
     };
     Ok((facts, times))
+}
+
+/// How many ranges the view of space 0 has, and the least time that some renderings of it took.
+fn view(rt: HostRuntime, tree: &Tree, views: u32) -> Result<(u64, u64), Failed> {
+    let mut count = 0;
+    let mut least = u64::MAX;
+    for _ in 0..views {
+        let start = Instant::now(&rt)?;
+        count = ranges(rt.alloc(), tree)?;
+        least = least.min(nanos(start.elapsed(&rt)?));
+    }
+    Ok((count, least))
 }
 
 /// Does all calls, and counts those that are refused.

@@ -4,3 +4,4 @@ pub mod Windows
 pub mod Ids
 pub mod Edges
 pub mod Rendered
+pub mod Descending

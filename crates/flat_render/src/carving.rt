@@ -1,8 +1,8 @@
 // Laying one list of cuts over another.
-ghost use Rattle.std.specs.Prelude.{◌≡◌, ℕ, ◌+◌, ◌-◌, ◌<◌, ◌≤◌, ◌^◌, ◌||◌, ◌∷◌, Bool, true, min, max, length, drop, take, get_or, List, [], IfOk, OnOk};
+ghost use Rattle.std.specs.Prelude.{◌≡◌, ℕ, ◌+◌, ◌-◌, ◌<◌, ◌≤◌, ◌^◌, ◌||◌, ◌∷◌, ◌++◌, Bool, true, min, max, length, drop, take, get_or, List, [], IfOk, OnOk};
 ghost use Rattle.std.specs.Option.{option_or};
 ghost use Rattle.flat_render.specs.declared.cuts.Cut.{Cut};
-ghost use Rattle.flat_render.specs.Cuts.{shown, seen, AreCuts};
+ghost use Rattle.flat_render.specs.Cuts.{shown, seen, AreCuts, AreApart};
 ghost use Rattle.flat_render.specs.Windows.{between};
 ghost use Rattle.flat_render.specs.Edges.{is_edge, OnlyEdges, edge_count, over_cost, Carves};
 
@@ -131,7 +131,37 @@ fn lay<L: Ledger>(
     Ok(())
 }
 
-/// Puts the back cuts under those of a list. Where one of the two is empty, nothing is carved.
+/// Whether all cuts of one list end before those of another begin.
+#[inline(always)]
+fn are_apart(low: &[Cut], high: &[Cut]) -> bool
+    requires low { AreCuts 0 (2 ^ 64) low.now }
+    requires high { AreCuts 0 (2 ^ 64) high.now }
+    requires some_low { 0 < length low.now }
+    requires some_high { 0 < length high.now }
+    ensures { result ≡ true → AreApart low.now high.now }
+{
+    low[low.len() - 1].range.last < high[0].range.start
+}
+
+/// Puts cuts after those of a list, one step for each.
+fn append<L: Ledger>(
+    low: &mut Vec<Cut>,
+    high: &[Cut],
+    steps: &mut Steps<L>,
+) -> Result<(), AllocError>
+    ensures items { OnOk result (low.new.items ≡ low.old.items ++ high.now) }
+    ensures least { steps.old ≤ steps.new }
+    ensures most { steps.new ≤ steps.old + length high.now }
+{
+    low.extend_from_slice(high)?;
+    for _ in high {
+        steps.tick();
+    }
+    Ok(())
+}
+
+/// Puts the back cuts under those of a list. Where one of the two is empty, nothing is carved; where the one ends before
+/// the other begins, the one is put after the other.
 pub(crate) fn over<L: Ledger>(
     cuts: &mut Vec<Cut>,
     back: Vec<Cut>,
@@ -153,6 +183,17 @@ pub(crate) fn over<L: Ledger>(
     }
     if cuts.is_empty() {
         scratch.give(mem::replace(cuts, back));
+        return Ok(());
+    }
+    if are_apart(cuts.as_slice(), back.as_slice()) {
+        append(cuts, back.as_slice(), steps)?;
+        scratch.give(back);
+        return Ok(());
+    }
+    if are_apart(back.as_slice(), cuts.as_slice()) {
+        let mut low = back;
+        append(&mut low, cuts.as_slice(), steps)?;
+        scratch.give(mem::replace(cuts, low));
         return Ok(());
     }
     let mut both = scratch.take();

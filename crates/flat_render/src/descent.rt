@@ -12,24 +12,29 @@ ghost use Rattle.flat_render.specs.Notes.{IsPath, Matches};
 ghost use Rattle.flat_render.specs.Windows.{in_alias, through};
 ghost use Rattle.flat_render.specs.Rendered.{Renders};
 ghost use Rattle.flat_render.specs.Edges.{Carves};
+ghost use Rattle.flat_render.specs.Descending.{IsDescending};
 ghost use Rattle.flat_render.specs.Ids.{in_child, first_of_ids, weight_of_ids};
+ghost use Rattle.mem_base.specs.lists.Every.{Every};
+ghost use Rattle.region_slots.specs.Slots.{ids_in};
+ghost use Rattle.region_slots.specs.Told.{IsChild};
 
 use crate::carving::over;
 use crate::cuts::Cut;
 use crate::notes::noted;
+use crate::orders::{ascend, descend};
 use crate::placing::put;
 use crate::scratch::Scratch;
 use crate::windows::Window;
 use mem_base::{Attrs, FlatRange, Kind, Node, RegionId};
-use region_tree::Tree;
+use region_tree::{Child, Tree};
 use std::alloc::AllocError;
 use std::sync::ledger::Ledger;
 use step_counter::Steps;
 
-/// So many children at most are put under one list one after another.
-const FEW: usize = 16;
+/// At most this number of children are put under one list one after another.
+const FEW: usize = 8;
 
-/// A longer list of cuts is not put under in place: it is laid over a list of its own.
+/// Under a longer list of cuts, or many children under any, what is rendered is put into a list of its own first.
 const SHORT: usize = 64;
 
 /// From a region, down to this depth.
@@ -113,13 +118,11 @@ fn render_inside<L: Ledger>(
         render_target(tree, depth, target, offset, window, cuts, scratch, steps)?;
         return Ok(());
     }
-    let ids = tree.children(node.id);
+    let children = tree.placed_children(node.id);
+    render_below(tree, depth, children, window, cuts, scratch, steps)?;
     if node.kind.is_container() {
-        render_below(tree, depth, ids, window, cuts, scratch, steps)?;
         return Ok(());
     }
-    let mut part = *window;
-    render_below(tree, depth, ids, &mut part, cuts, scratch, steps)?;
     put_own(tree.is_global(), node, window, cuts, scratch, steps)?;
     Ok(())
 }
@@ -159,63 +162,76 @@ fn render_target<L: Ledger>(
 fn render_below<L: Ledger>(
     tree: &Tree,
     depth: u32,
-    ids: &[RegionId],
-    window: &mut Window,
+    children: &[Child],
+    window: &Window,
     cuts: &mut Vec<Cut>,
     scratch: &mut Scratch,
     steps: &mut Steps<L>,
 ) -> Result<(), AllocError>
-    requires ordered { window.old.first ≤ window.old.last }
+    requires children { Every (IsChild tree.now.nodes) children.now }
+    requires ordered { window.now.first ≤ window.now.last }
     requires cuts { AreCuts 0 (2 ^ 64) cuts.old.items }
-    ensures renders { OnOk result (Renders window.old (first_of_ids tree.now.nodes (found_in tree.now depth) ids.now) (weight_of_ids tree.now.nodes depth ids.now) scratch.old.notes.items scratch.new.notes.items cuts.old.items cuts.new.items) }
-    ensures carves { Carves cuts.old.items (weight_of_ids tree.now.nodes depth ids.now) steps.old steps.new }
+    ensures renders { OnOk result (Renders window.now (first_of_ids tree.now.nodes (found_in tree.now depth) (ids_in children.now)) (weight_of_ids tree.now.nodes depth (ids_in children.now)) scratch.old.notes.items scratch.new.notes.items cuts.old.items cuts.new.items) }
+    ensures carves { Carves cuts.old.items (weight_of_ids tree.now.nodes depth (ids_in children.now)) steps.old steps.new }
 {
-    if ids.is_empty() {
+    if children.is_empty() {
         return Ok(());
     }
-    if cuts.len() <= SHORT {
-        render_ids(tree, depth, ids, window, cuts, scratch, steps)?;
+    if children.len() == 1 {
+        render_child(tree, depth, &children[0], window, cuts, scratch, steps)?;
+        return Ok(());
+    }
+    if cuts.is_empty() || cuts.len() <= SHORT && children.len() <= FEW {
+        render_children(tree, depth, children, window, cuts, scratch, steps)?;
         return Ok(());
     }
     let mut back = scratch.take();
-    render_ids(tree, depth, ids, window, &mut back, scratch, steps)?;
+    render_children(tree, depth, children, window, &mut back, scratch, steps)?;
     over(cuts, back, scratch, steps)?;
     Ok(())
 }
 
-/// These children of a region: a few one after another, many by halves, the first half over the second.
+/// These children of a region: one after another where their addresses ascend or descend, so that each is put after those
+/// before it, or where they are few; else by halves, the first half over the second.
 #[cycle(render)]
-fn render_ids<L: Ledger>(
+fn render_children<L: Ledger>(
     tree: &Tree,
     depth: u32,
-    ids: &[RegionId],
-    window: &mut Window,
+    children: &[Child],
+    window: &Window,
     cuts: &mut Vec<Cut>,
     scratch: &mut Scratch,
     steps: &mut Steps<L>,
 ) -> Result<(), AllocError>
-    requires some { 1 ≤ length ids.now }
-    requires ordered { window.old.first ≤ window.old.last }
+    requires children { Every (IsChild tree.now.nodes) children.now }
+    requires ordered { window.now.first ≤ window.now.last }
     requires cuts { AreCuts 0 (2 ^ 64) cuts.old.items }
-    ensures renders { OnOk result (Renders window.old (first_of_ids tree.now.nodes (found_in tree.now depth) ids.now) (weight_of_ids tree.now.nodes depth ids.now) scratch.old.notes.items scratch.new.notes.items cuts.old.items cuts.new.items) }
-    ensures carves { Carves cuts.old.items (weight_of_ids tree.now.nodes depth ids.now) steps.old steps.new }
+    ensures renders { OnOk result (Renders window.now (first_of_ids tree.now.nodes (found_in tree.now depth) (ids_in children.now)) (weight_of_ids tree.now.nodes depth (ids_in children.now)) scratch.old.notes.items scratch.new.notes.items cuts.old.items cuts.new.items) }
+    ensures carves { Carves cuts.old.items (weight_of_ids tree.now.nodes depth (ids_in children.now)) steps.old steps.new }
 {
-    if ids.len() == 1 {
-        render_child(tree, depth, ids[0], window, cuts, scratch, steps)?;
+    if children.len() <= FEW || ascend(children) {
+        render_forth(tree, depth, children, window, cuts, scratch, steps)?;
         return Ok(());
     }
-    let middle = ids.len() / 2;
-    let mut part = *window;
-    render_ids(tree, depth, &ids[..middle], &mut part, cuts, scratch, steps)?;
-    if ids.len() <= FEW {
-        render_ids(tree, depth, &ids[middle..], window, cuts, scratch, steps)?;
+    if descend(children) {
+        render_back(tree, depth, children, window, cuts, scratch, steps)?;
         return Ok(());
     }
-    let mut back = scratch.take();
-    render_ids(
+    let middle = children.len() / 2;
+    render_children(
         tree,
         depth,
-        &ids[middle..],
+        &children[..middle],
+        window,
+        cuts,
+        scratch,
+        steps,
+    )?;
+    let mut back = scratch.take();
+    render_children(
+        tree,
+        depth,
+        &children[middle..],
         window,
         &mut back,
         scratch,
@@ -225,30 +241,86 @@ fn render_ids<L: Ledger>(
     Ok(())
 }
 
-/// One child of a region.
+/// These children of a region, from the first to the last.
+#[cycle(render)]
+#[inline(always)]
+fn render_forth<L: Ledger>(
+    tree: &Tree,
+    depth: u32,
+    children: &[Child],
+    window: &Window,
+    cuts: &mut Vec<Cut>,
+    scratch: &mut Scratch,
+    steps: &mut Steps<L>,
+) -> Result<(), AllocError>
+    requires children { Every (IsChild tree.now.nodes) children.now }
+    requires ordered { window.now.first ≤ window.now.last }
+    requires cuts { AreCuts 0 (2 ^ 64) cuts.old.items }
+    ensures renders { OnOk result (Renders window.now (first_of_ids tree.now.nodes (found_in tree.now depth) (ids_in children.now)) (weight_of_ids tree.now.nodes depth (ids_in children.now)) scratch.old.notes.items scratch.new.notes.items cuts.old.items cuts.new.items) }
+    ensures carves { Carves cuts.old.items (weight_of_ids tree.now.nodes depth (ids_in children.now)) steps.old steps.new }
+{
+    for child in children {
+        render_child(tree, depth, child, window, cuts, scratch, steps)?;
+    }
+    Ok(())
+}
+
+/// These children of a region, each of which begins after the next one ends, from the last to the first.
+#[cycle(render)]
+#[inline(always)]
+fn render_back<L: Ledger>(
+    tree: &Tree,
+    depth: u32,
+    children: &[Child],
+    window: &Window,
+    cuts: &mut Vec<Cut>,
+    scratch: &mut Scratch,
+    steps: &mut Steps<L>,
+) -> Result<(), AllocError>
+    requires children { Every (IsChild tree.now.nodes) children.now }
+    requires descending { IsDescending children.now }
+    requires ordered { window.now.first ≤ window.now.last }
+    requires cuts { AreCuts 0 (2 ^ 64) cuts.old.items }
+    ensures renders { OnOk result (Renders window.now (first_of_ids tree.now.nodes (found_in tree.now depth) (ids_in children.now)) (weight_of_ids tree.now.nodes depth (ids_in children.now)) scratch.old.notes.items scratch.new.notes.items cuts.old.items cuts.new.items) }
+    ensures carves { Carves cuts.old.items (weight_of_ids tree.now.nodes depth (ids_in children.now)) steps.old steps.new }
+{
+    let mut left = children.len();
+    while left > 0 {
+        left -= 1;
+        let child = &children[left];
+        render_child(tree, depth, child, window, cuts, scratch, steps)?;
+    }
+    Ok(())
+}
+
+/// One child of a region. Where it lies outside the window, the region is not looked at.
 #[cycle(render)]
 #[inline(always)]
 fn render_child<L: Ledger>(
     tree: &Tree,
     depth: u32,
-    id: RegionId,
-    window: &mut Window,
+    child: &Child,
+    window: &Window,
     cuts: &mut Vec<Cut>,
     scratch: &mut Scratch,
     steps: &mut Steps<L>,
 ) -> Result<(), AllocError>
-    requires ordered { window.old.first ≤ window.old.last }
+    requires child { IsChild tree.now.nodes child.now }
+    requires ordered { window.now.first ≤ window.now.last }
     requires cuts { AreCuts 0 (2 ^ 64) cuts.old.items }
-    ensures renders { OnOk result (Renders window.old (in_child (found_in tree.now depth) id (node_of tree.now.nodes id)) (weight_by (steps_of tree.now.nodes) depth id) scratch.old.notes.items scratch.new.notes.items cuts.old.items cuts.new.items) }
-    ensures carves { Carves cuts.old.items (weight_by (steps_of tree.now.nodes) depth id) steps.old steps.new }
+    ensures renders { OnOk result (Renders window.now (in_child (found_in tree.now depth) child.now.id (node_of tree.now.nodes child.now.id)) (weight_by (steps_of tree.now.nodes) depth child.now.id) scratch.old.notes.items scratch.new.notes.items cuts.old.items cuts.new.items) }
+    ensures carves { Carves cuts.old.items (weight_by (steps_of tree.now.nodes) depth child.now.id) steps.old steps.new }
 {
-    let Some(child) = tree.node(id) else {
+    let Some(mut part) = window.on_child(child.offset) else {
         return Ok(());
     };
-    if !window.enter(child.offset) {
+    if child.last < part.at {
         return Ok(());
     }
-    render_at(tree, depth, child, window, cuts, scratch, steps)?;
+    let Some(node) = tree.node(child.id) else {
+        return Ok(());
+    };
+    render_at(tree, depth, node, &mut part, cuts, scratch, steps)?;
     Ok(())
 }
 

@@ -20,6 +20,7 @@ mod carving;
 mod cuts;
 mod descent;
 mod notes;
+mod orders;
 mod pieces;
 mod placing;
 mod scratch;

@@ -31,6 +31,16 @@ fn before(cuts: &[Cut], addr: u64) -> usize
     low
 }
 
+/// Whether all cuts end before an address.
+#[inline(always)]
+fn end_before(cuts: &[Cut], addr: u64) -> bool
+    requires cuts { AreCuts 0 (2 ^ 64) cuts.now }
+    requires some { 0 < length cuts.now }
+    ensures { result ≡ true → AreCuts 0 addr cuts.now }
+{
+    cuts[cuts.len() - 1].range.last < addr
+}
+
 /// Whether the cuts from an index on begin after an address.
 #[inline(always)]
 fn is_free(cuts: &[Cut], at: usize, last: u64) -> bool
@@ -76,6 +86,11 @@ pub(crate) fn put<L: Ledger>(
 {
     if cuts.is_empty() {
         cuts.push(cut)?;
+        return Ok(());
+    }
+    if end_before(cuts.as_slice(), cut.range.start) {
+        cuts.push(cut)?;
+        steps.tick();
         return Ok(());
     }
     let at = before(cuts.as_slice(), cut.range.start);

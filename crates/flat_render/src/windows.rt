@@ -1,5 +1,5 @@
 // Windows of addresses on regions.
-ghost use Rattle.std.specs.Prelude.{◌≡◌, ℕ, ◌+◌, ◌-◌, ◌<◌, ◌≤◌, ◌^◌, ◌∷◌, ◌++◌, [], true, false, List, None, option_map};
+ghost use Rattle.std.specs.Prelude.{◌≡◌, ℕ, ◌+◌, ◌-◌, ◌<◌, ◌≤◌, ◌^◌, ◌∷◌, ◌++◌, [], true, false, List, None, option_map, IfSome, IfNone};
 ghost use Rattle.mem_base.specs.declared.map.ids.RegionId.{RegionId};
 ghost use Rattle.mem_base.specs.map.Search.{passed};
 ghost use Rattle.flat_render.specs.Windows.{Offsets, through, below_size, in_container, in_alias, Sees, SeesNothing};
@@ -76,26 +76,39 @@ impl Window {
         self.note = note;
     }
 
-    /// Goes on to a child at this offset in the region, and says whether any of the child is seen.
+    /// The window on a child at this offset in the region, if any address from the child's first on is seen.
     #[inline(always)]
-    pub(crate) fn enter(&mut self, offset: u64) -> bool
-        requires ordered { self.old.first ≤ self.old.last }
-        ensures some { result ≡ true → Sees self.new self.old (in_container offset) }
-        ensures none { result ≡ false → SeesNothing self.old (in_container offset) }
-        ensures ordered { self.new.first ≤ self.new.last }
-        ensures note { self.new.note ≡ self.old.note }
+    pub(crate) fn on_child(&self, offset: u64) -> Option<Window>
+        requires ordered { self.now.first ≤ self.now.last }
+        ensures some { IfSome result (λ part. Sees part self.now (in_container offset)) }
+        ensures none { IfNone result (SeesNothing self.now (in_container offset)) }
+        ensures ordered { IfSome result (λ part. part.first ≤ part.last) }
+        ensures note { IfSome result (λ part. part.note ≡ self.now.note) }
     {
         if offset <= self.at {
-            self.at -= offset;
-            return true;
+            return Some(self.moved(self.first, self.at - offset));
         }
         let skipped = offset - self.at;
         if self.last - self.first < skipped {
-            return false;
+            return None;
         }
-        self.first += skipped;
-        self.at = 0;
-        true
+        Some(self.moved(self.first + skipped, 0))
+    }
+
+    /// The window with another first address and another offset.
+    #[inline(always)]
+    fn moved(&self, first: u64, at: u64) -> Window
+        ensures { result ≡ record self.now { first = first; at = at } }
+    {
+        Window {
+            first,
+            last: self.last,
+            at,
+            readonly: self.readonly,
+            nonvolatile: self.nonvolatile,
+            unmergeable: self.unmergeable,
+            note: self.note,
+        }
     }
 
     /// Goes on to the target of an alias that begins at this offset in it, and says whether any of the target is
