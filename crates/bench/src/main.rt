@@ -1,14 +1,16 @@
 //! How long the memory map takes: all calls that build a map, moves, look-ups of one address, a view, its atlas, and a
-//! walk to the next view.
+//! walk to the next view; and how long the text of a script takes to be read and printed (`scripts`).
 //!
 //! Standard output has a line for each map, which is the same in every run: how many calls it takes, how many of them
-//! were refused, how many ranges its view has, and a sum over what the look-ups found. Standard error has the times,
+//! were refused, how many ranges its view has, and a sum over what the look-ups found; and one for each text: its bytes,
+//! its commands, the bytes printed of them, and the line at fault, 0 where none is. Standard error has the times,
 //! the least of some rounds. With the word `full` the maps have their full sizes, as in docs/SPEED.md; with no word
 //! they are small.
 #![tactic(auto)]
 
 mod maps;
 mod rounds;
+mod scripts;
 mod views;
 
 use crate::maps::{Map, aliases, chains, flat, generated, heavy, zigzag};
@@ -26,6 +28,7 @@ struct Sizes {
     zigzag: u32,
     aliases: u32,
     heavy: u32,
+    text: usize,
     rounds: u32,
     views: u32,
 }
@@ -38,6 +41,7 @@ static SMALL: Sizes = Sizes {
     zigzag: 100,
     aliases: 100,
     heavy: 20,
+    text: 1000,
     rounds: 1,
     views: 1,
 };
@@ -50,6 +54,7 @@ static FULL: Sizes = Sizes {
     zigzag: 2000,
     aliases: 4000,
     heavy: 1000,
+    text: 1_048_576,
     rounds: 5,
     views: 60,
 };
@@ -105,5 +110,6 @@ fn all(rt: HostRuntime, sizes: Sizes) -> Result<(), Failed> {
     )?;
     let third = generated(rt.alloc(), sizes.generated[2])?;
     run_views(rt, &third, sizes.rounds)?;
+    scripts::all(rt, sizes.text, sizes.rounds)?;
     Ok(())
 }

@@ -85,6 +85,7 @@ pub(crate) fn run(rt: HostRuntime, map: &Map, rounds: u32, views: u32) -> Result
     Ok(())
 }
 
+/// The nanoseconds of a time.
 pub(crate) fn nanos(time: Duration) -> u64 {
     u64::try_from(time.as_nanos()).unwrap_or(u64::MAX)
 }

@@ -1,5 +1,6 @@
 -- Tokens that are written one after another.
-use Rattle.std.proofs.Common.{◌≡◌, List, [], ◌∷◌, ◌++◌, append_assoc, drop, refl, sym, ap, ◌∙◌}
+use Rattle.std.proofs.Common.{◌≡◌, ◌+◌, ℕ, List, [], ◌∷◌, ◌++◌, append_assoc, length, take, drop, refl, sym, ap, ◌∙◌}
+use Rattle.std.proofs.Math.Seq.{drop-append-add, take-append_seam}
 use Rattle.mem_base.specs.script.Spelling.{Text}
 use Rattle.mem_base.specs.script.Printing.{spaced}
 use Rattle.script_lines.specs.Tokens.{after_spaces}
@@ -35,3 +36,12 @@ spaced_tokens t (u ∷ us) = ap (λ v. t ++ 32 ∷ v) (spaced_tokens u us)
 pub spaced_drop : (ts : List Text) → drop 1 (after_spaces ts) ≡ spaced ts
 spaced_drop [] = refl
 spaced_drop (t ∷ ts) = sym (spaced_tokens t ts)
+
+-- a text and tokens after it, without the space before the first
+pub without_space : (text new : Text) (tokens : List Text) (start : ℕ) → start ≡ length text → new ≡ text ++ after_spaces tokens
+    → take start new ++ drop (start + 1) new ≡ text ++ spaced tokens
+without_space text new tokens start at is =
+    ap (λ n. take n new ++ drop (n + 1) new) at
+    ∙ ap (λ t. take (length text) t ++ drop (length text + 1) t) is
+    ∙ ap (λ t. t ++ drop (length text + 1) (text ++ after_spaces tokens)) (take-append_seam text (after_spaces tokens))
+    ∙ ap (λ t. text ++ t) (drop-append-add text (after_spaces tokens) 1 ∙ spaced_drop tokens)

@@ -4,8 +4,9 @@ ghost use Rattle.mem_base.specs.script.Printing.{bytes_text, pass_text};
 ghost use Rattle.mem_base.specs.script.Output.{dirty_line, dma_line, do_line, enter_line, entered_text, leave_line, notified_line, page_list, pages_text, published_text, read_line, released_line, result_text, write_line};
 ghost use Rattle.script_names.specs.Tables.{printed_names};
 
-use crate::commands::{client_text, push_bytes};
+use crate::commands::client_text;
 use crate::line::Line;
+use crate::numbers::push_bytes;
 use mem_base::{Access, Client, PassId, RegionId, TxResult};
 use script_names::Names;
 use std::alloc::{AllocError, Global};

@@ -9,6 +9,7 @@ mod commands;
 mod line;
 mod lines;
 mod listeners;
+mod numbers;
 mod refusals;
 mod spots;
 

@@ -1,17 +1,16 @@
 // The parts of a line that is to be written.
-ghost use Rattle.std.specs.Prelude.{◌≡◌, ◌++◌, ◌≤◌, [], List, ℕ, OnOk, decimal, drop};
+ghost use Rattle.std.specs.Prelude.{◌≡◌, ◌++◌, [], List, ℕ, OnOk, decimal};
 ghost use Rattle.mem_base.specs.script.RefusalLines.{hex, line_feed};
 ghost use Rattle.mem_base.specs.script.Printing.{bytes_text};
 ghost use Rattle.mem_base.specs.script.Output.{signed_hex};
 
-use crate::commands::{glyph, push_bytes};
+use crate::numbers::{push_bytes, push_decimal, push_hex};
 use std::alloc::{AllocError, Global};
 use std::marker::Model;
 
 /// A line, as far as it is made.
 #[derive(Drop)]
 pub struct Line {
-    alloc: Global,
     bytes: Vec<u8>,
 }
 
@@ -21,31 +20,12 @@ impl Model for Line {
     ghost view = { λ l. l.bytes.items };
 }
 
-// Writes the digits of a number at the end of a buffer, and gives where they begin.
-fn fill_hex(number: u128, digits: &mut [u8; 64]) -> usize
-    ensures bound { result ≤ 64 }
-    ensures value { drop result digits.new ≡ hex number }
-{
-    let mut start = 64;
-    let mut rest = number;
-    while start > 0 {
-        start -= 1;
-        digits[start] = glyph((rest % 16) as u8);
-        rest /= 16;
-        if rest == 0 {
-            break;
-        }
-    }
-    start
-}
-
 impl Line {
     /// An empty line.
     pub fn new(alloc: Global) -> Line
         ensures { result ≡ [] }
     {
         Line {
-            alloc,
             bytes: Vec::new(alloc),
         }
     }
@@ -76,16 +56,14 @@ impl Line {
     pub fn decimal(&mut self, number: u64) -> Result<(), AllocError>
         ensures { OnOk result (self.new ≡ self.old ++ decimal number) }
     {
-        let digits = number.to_string(self.alloc)?;
-        self.bytes(digits.as_bytes())
+        push_decimal(&mut self.bytes, number)
     }
 
     /// A number in hexadecimal after it.
     pub fn hex(&mut self, number: u64) -> Result<(), AllocError>
         ensures { OnOk result (self.new ≡ self.old ++ hex number) }
     {
-        let digits = format!(in self.alloc; "{number:x}")?;
-        self.bytes(digits.as_bytes())
+        push_hex(&mut self.bytes, u128::from(number))
     }
 
     /// Bytes after it, two hexadecimal digits each.
@@ -99,9 +77,7 @@ impl Line {
     fn wide_hex(&mut self, number: u128) -> Result<(), AllocError>
         ensures { OnOk result (self.new ≡ self.old ++ hex number) }
     {
-        let mut digits = [0u8; 64];
-        let start = fill_hex(number, &mut digits);
-        self.bytes(&digits[start..])
+        push_hex(&mut self.bytes, number)
     }
 
     /// A number in hexadecimal after it, with `-` before a negative one.

@@ -14,7 +14,7 @@ fn text_of(alloc: Global, commands: &[Command]) -> Result<Vec<u8>, AllocError>
 {
     let mut text = Vec::new(alloc);
     for command in commands {
-        push_command(alloc, &mut text, command)?;
+        push_command(&mut text, command)?;
     }
     Ok(text)
 }

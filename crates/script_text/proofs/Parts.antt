@@ -1,13 +1,8 @@
 -- The commands of a text, from its first line on.
-use Rattle.std.proofs.Common.{◌≡◌, ◌==◌, ◌<◌, ◌≤◌, ◌+◌, ℕ, List, [], ◌∷◌, ◌++◌, Bool, true, false, cond, length, take, drop, position, refl, sym, ap, ◌∙◌, arith, None, Some, Ok, Err, append_assoc}
+use Rattle.std.proofs.Common.{◌≡◌, ◌==◌, ◌<◌, ◌+◌, ℕ, List, [], ◌∷◌, ◌++◌, Bool, length, take, drop, position, refl, sym, ap, ◌∙◌, arith, None, Some, Ok, Err, append_assoc}
 use Rattle.std.specs.declared.option.Option.{Option}
-use Rattle.std.specs.List.{slice_split, position_or_len}
-use Rattle.std.proofs.lemmas.Bool.{ltb-true, ltb-false}
-use Rattle.std.proofs.lemmas.Option.{cond_some}
-use Rattle.std.proofs.lemmas.List.Elements.{All-from_get_or}
-use Rattle.std.proofs.lemmas.List.Sums.{fails_before_first}
-use Rattle.std.proofs.lemmas.List.Splits.{slice_split_first, slice_split_none, length-slice_split}
-use Rattle.std.proofs.Math.Dec.{ltb}
+use Rattle.std.specs.List.{slice_split}
+use Rattle.std.proofs.lemmas.List.Splits.{length-slice_split}
 use Rattle.mem_base.specs.declared.script.faults.BadScript.{BadScript}
 use Rattle.script_text.specs.declared.faults.ParseFault.{ParseFault}
 use Rattle.script_text.specs.declared.faults.ParseFault.TheVariants.{Bad, Memory}
@@ -15,6 +10,7 @@ use Rattle.mem_base.specs.declared.script.places.Section.{Section}
 use Rattle.mem_base.specs.script.Lines.{line_of, without_return}
 use Rattle.mem_base.specs.script.Scripts.{Line, Meaning, ends_at, line_then, script_from, with_line}
 use Rattle.script_text.specs.Parses.{FailsBy, Steps, prepend}
+use Rattle.script_text.proofs.Cuts.{split_first, split_none}
 
 more : (section : Section) (line : ℕ) (part : List ℕ) (parts : List (List ℕ)) → 0 < length parts
     → script_from section line (part ∷ parts) ≡ line_then section line (line_of (without_return part)) (λ s. script_from s (line + 1) parts)
@@ -27,24 +23,13 @@ pub first_line : (section : Section) (line k : ℕ) (text : List ℕ) → positi
     ≡ line_then section line (line_of (without_return (take k text))) (λ s. script_from s (line + 1) (slice_split (λ b. b == 10) (drop (k + 1) text)))
 first_line section line k text e =
     let p : ℕ → Bool = λ b. b == 10 in
-    let at = cond_some (ltb (position_or_len p text) (length text)) (position_or_len p text) k e in
-    let within : position_or_len p text < length text = ltb-true _ _ at.0 in
-    let parts : slice_split p text ≡ take k text ∷ slice_split p (drop (k + 1) text) =
-    slice_split_first p text 0 within ∙ ap (λ n. take n text ∷ slice_split p (drop (n + 1) text)) at.1 in
-    ap (script_from section line) parts
+    ap (script_from section line) (split_first p k text e)
     ∙ more section line (take k text) (slice_split p (drop (k + 1) text)) (omega (arith, length-slice_split p (drop (k + 1) text)))
-
-none_is_false : (b : Bool) (n : ℕ) → cond b (Some n) None ≡ None → b ≡ false
-none_is_false true n e = cc
-none_is_false false n e = refl
 
 -- the last line, which has no line feed
 pub last_line : (section : Section) (line : ℕ) (text : List ℕ) → position (λ b. b == 10) text ≡ None
     → script_from section line (slice_split (λ b. b == 10) text) ≡ line_then section line (line_of text) ends_at
-last_line section line text e =
-    let p : ℕ → Bool = λ b. b == 10 in
-    let beyond : length text ≤ position_or_len p text = ltb-false _ _ (none_is_false (ltb (position_or_len p text) (length text)) (position_or_len p text) e) in
-    ap (script_from section line) (slice_split_none p text (All-from_get_or (λ x. p x ≡ false) text 0 (λ i h. fails_before_first p text i 0 (omega arith))))
+last_line section line text e = ap (script_from section line) (split_none (λ b. b == 10) text e)
 
 pub prepend_more : (front : List Line) (l : Line) (rest : Meaning)
     → prepend front (with_line l rest) ≡ prepend (front ++ l ∷ []) rest

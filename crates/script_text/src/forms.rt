@@ -1,7 +1,8 @@
 // A line's command, by its first token.
-ghost use Rattle.std.specs.Prelude.{◌∷◌, map, option_map};
+ghost use Rattle.std.specs.Prelude.{◌∷◌, option_map};
 ghost use Rattle.mem_base.specs.script.Spelling.{pass_of};
 ghost use Rattle.mem_base.specs.script.Forms.{command};
+ghost use Rattle.mem_base.specs.script.Lines.{tokens_of};
 ghost use Rattle.mem_base.specs.script.PassForms.{pass_line};
 ghost use Rattle.script_text.specs.Reads.{Reads, chosen};
 
@@ -23,9 +24,9 @@ fn of_pass(alloc: Global, word: &[u8], tokens: &mut Tokens) -> Result<Command, L
     }
 }
 
-/// The command of a line's tokens.
-pub fn command(alloc: Global, word: &[u8], rest: &[&[u8]]) -> Result<Command, LineStop>
-    ensures { Reads result (command (word.now ∷ map (λ x. x.now) rest.now)) }
+/// The command of a line's first token and of what stands after it.
+pub fn command(alloc: Global, word: &[u8], rest: &[u8]) -> Result<Command, LineStop>
+    ensures { Reads result (command (word.now ∷ tokens_of rest.now)) }
 {
     match desk_named(alloc, word, &mut Tokens::new(rest)) {
         Ok(Some(command)) => Ok(command),

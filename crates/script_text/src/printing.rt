@@ -17,7 +17,7 @@ fn print_lines(alloc: Global, lines: &[(u32, Command)]) -> Result<Vec<u8>, Alloc
 {
     let mut text = Vec::new(alloc);
     for (_, command) in lines {
-        push_command(alloc, &mut text, command)?;
+        push_command(&mut text, command)?;
     }
     Ok(text)
 }

@@ -1,5 +1,6 @@
 // The tokens of a line, each operand taken from the front.
-ghost use Rattle.std.specs.Prelude.{◌≡◌, ◌≤◌, ◌^◌, List, ℕ, [], ◌∷◌, Ok, Err, Some, None, map, IfOk, MatchResult, MatchOption, IsTrue, nat_lt, length, if◌then◌else◌, codes};
+ghost use Rattle.std.specs.Prelude.{◌≡◌, ◌<◌, List, ℕ, [], ◌∷◌, Ok, Err, IfOk, IfSome, MatchResult, MatchOption, IsTrue, nat_lt, length, position, if◌then◌else◌, codes};
+ghost use Rattle.mem_base.specs.script.Lines.{is_gap, tokens_of};
 ghost use Rattle.mem_base.specs.script.Operands.{address, bytes, client, decimal_number, flag, keyword, last_data, last_priority, len, memory_size, name, notifier, perm, range, size, switch, optional};
 ghost use Rattle.mem_base.specs.script.RegionForms.{device_kind};
 ghost use Rattle.mem_base.specs.declared.script.faults.Cause.TheVariants.{Count, Word};
@@ -21,34 +22,64 @@ pub fn new_name(alloc: Global, token: &[u8]) -> Result<Name, AllocError>
     Ok(Name::new(token.to_vec(alloc)?))
 }
 
+// Where the first space or tab stands.
+fn gap_of(text: &[u8]) -> Option<usize>
+    ensures value { result ≡ position is_gap text.now }
+    ensures bound { IfSome result (λ i. i < length text.now) }
+{
+    text.iter().position(|byte| *byte == b' ' || *byte == b'\t')
+}
+
+/// The first token of a text, and what stands after it.
+pub fn first_token(text: &[u8]) -> Option<(&[u8], &[u8])>
+    ensures { MatchOption result (tokens_of text.now ≡ []) (λ p. tokens_of text.now ≡ p.0.now ∷ tokens_of p.1.now) }
+{
+    let mut left = text;
+    while let Some(end) = gap_of(left) {
+        let (token, after) = left.split_at(end);
+        let rest = after.split_at(1).1;
+        if end > 0 {
+            return Some((token, rest));
+        }
+        left = rest;
+    }
+    if left.is_empty() {
+        None
+    } else {
+        Some(left.split_at(left.len()))
+    }
+}
+
 /// The tokens of a line that are left to read.
 #[derive(Drop)]
 pub struct Tokens<'a> {
-    rest: &'a [&'a [u8]],
+    rest: &'a [u8],
 }
 
 impl<'a> Model for Tokens<'a> {
     ghost Value = { List (List ℕ) };
 
-    ghost view = { λ t. map (λ x. x.now) t.rest.now };
+    ghost view = { λ t. tokens_of t.rest.now };
 }
 
 impl<'a> Tokens<'a> {
-    pub fn new(rest: &'a [&'a [u8]]) -> Self
-        ensures { result ≡ map (λ x. x.now) rest.now }
+    /// The tokens of a text.
+    pub fn new(rest: &'a [u8]) -> Self
+        ensures { result ≡ tokens_of rest.now }
     {
         Tokens { rest }
     }
 
+    /// The next token, which is then passed over.
     pub fn next(&mut self) -> Option<&'a [u8]>
         ensures { MatchOption result ((self.old ≡ []) × (self.new ≡ [])) (λ t. self.old ≡ t.now ∷ self.new) }
     {
-        match self.rest {
-            [first, rest @ ..] => {
+        match first_token(self.rest) {
+            Some((token, rest)) => {
                 self.rest = rest;
-                Some(first)
+                Some(token)
             }
-            [] => None,
+            None => None,
         }
     }
 
@@ -204,8 +235,8 @@ impl<'a> Tokens<'a> {
     pub fn flag(&mut self, keyword: &str) -> bool
         ensures { flag keyword.now self.old ≡ Ok (result, self.new) }
     {
-        match self.rest {
-            [first, rest @ ..] if *first == keyword.as_bytes() => {
+        match first_token(self.rest) {
+            Some((first, rest)) if first == keyword.as_bytes() => {
                 self.rest = rest;
                 true
             }
@@ -218,8 +249,8 @@ impl<'a> Tokens<'a> {
         ensures { MatchResult result (λ n. optional (codes "regs") (decimal_number 65535) 1 self.old ≡ Ok (n, self.new))
             (λ e. optional (codes "regs") (decimal_number 65535) 1 self.old ≡ Err e) }
     {
-        match self.rest {
-            [first, rest @ ..] if *first == b"regs".as_slice() => {
+        match first_token(self.rest) {
+            Some((first, rest)) if first == b"regs".as_slice() => {
                 self.rest = rest;
                 let regs = self.regs()?;
                 Ok(regs)
@@ -233,8 +264,8 @@ impl<'a> Tokens<'a> {
         ensures { MatchResult result (λ r. optional keyword.now range (1, 4) self.old ≡ Ok (r, self.new))
             (λ e. optional keyword.now range (1, 4) self.old ≡ Err e) }
     {
-        match self.rest {
-            [first, rest @ ..] if *first == keyword.as_bytes() => {
+        match first_token(self.rest) {
+            Some((first, rest)) if first == keyword.as_bytes() => {
                 self.rest = rest;
                 let range = self.range()?;
                 Ok(range)
