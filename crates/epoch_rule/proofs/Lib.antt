@@ -1,0 +1,12 @@
+pub mod Histories
+pub mod Shelves
+pub mod Stepping
+pub mod Moving
+pub mod Seats
+pub mod Touching
+pub mod Passing
+pub mod Parts
+pub mod Reaching
+pub mod Sweeps
+pub mod Publishes
+pub mod Opens

@@ -1,0 +1,105 @@
+-- The rule holds of a new table.
+use Rattle.std.proofs.Common.{◌≡◌, ◌≢◌, ℕ, zero, suc, ◌+◌, ◌*◌, ◌%◌, ◌<◌, false, List, [], ◌∷◌, length, map, replicate, get_or, sym, refl, ap, ◌∙◌, subst, ⊎_elim, arith, Option, Some, None}
+use mathlib.Core.Option.{some, none, some-ne-none}
+use mathlib.Core.Option as maybe
+use lib.ListN.{get_elem?, get_or-replicate, length-map}
+use Rattle.atomic_table.specs.Table.{opening}
+use Rattle.std.specs.Arc.{arc_value}
+use Rattle.std.specs.declared.sync.Arc.{Arc}
+use Rattle.std.proofs.Common.{◌++◌, length-append}
+use mathlib.Core.Logic.{dite}
+use native.Mathlib.Decide.{ℕ_discrete}
+use Rattle.epoch_rule.specs.Opening.{IsShelf, AreShelves}
+use Rattle.atomic_table.proofs.Lists.{at_set, at_map, at_last, at_longer, some_there}
+use Rattle.mem_base.specs.map.Calls.{empty}
+use Rattle.mem_base.specs.machine.Passes.{PassState, idle}
+use Rattle.mem_base.specs.machine.Generations.{Generation, PassTrack, nothing_known, pin_word}
+use Rattle.epoch_rule.specs.declared.views.Sizes.{Sizes}
+use Rattle.epoch_rule.specs.declared.views.View.{View}
+use Rattle.mem_base.specs.machine.Actors.{first_generation}
+use Rattle.epoch_rule.specs.Ruled.{Has, Shelf, Fits, Ruled}
+use Rattle.epoch_rule.specs.Plays.{newcomer}
+use Rattle.view_laws.proofs.Tests.{same_number}
+
+module _ {S : Type 0} (Copy : ℕ → Generation → S → Type 0) (z : Sizes) where
+  first_shelf : (homes : List (maybe.Option S)) (v : ℕ) → Has homes (8 * v) (Copy 0 first_generation) → ((j : ℕ) → j < 8 → Has homes (8 * v + j) (λ y. Unit {0}))
+      → Shelf Copy 0 (first_generation ∷ []) nothing_known None 0 first_generation homes v
+  first_shelf homes v copy all = record {
+    kept = λ g low high out. let none : 0 ≡ g = omega arith in subst (λ (x : ℕ). Has homes (8 * v + x % 8) (Copy x (get_or (first_generation ∷ []) x first_generation))) none
+        (subst (λ (i : ℕ). Has homes i (Copy 0 first_generation)) {x = 8 * v} {y = 8 * v + 0} (omega arith) copy);
+    placed = λ e. absurd (grind arith);
+    home = λ j l a b. all j l;
+    clear = λ e. absurd (omega arith);
+  }
+
+  alone : (j : ℕ) (v : View) → j ≢ 0 → get_elem? (newcomer z ∷ []) j ≡ some v → ⊥
+  alone zero v other e = other refl
+  alone (suc j) v other e = some-ne-none v (sym e)
+
+  pub opens : (words : List ℕ) (slots : List S) → length words ≡ z.passes + 1 + z.words → ((i : ℕ) → get_or words i 0 ≡ 0) → length slots ≡ 8 * z.passes
+      → ((v : ℕ) → v < z.passes → (y : S) × (get_elem? slots (8 * v) ≡ some y) × Copy 0 first_generation y) → Ruled Copy z (opening words slots (newcomer z))
+  opens words slots wide blank deep copies = record {
+    log = [];
+    lawful = tt;
+    shown = record {
+      wide = wide;
+      current = blank 0;
+      small = omega arith;
+      pins = λ v l. blank (v + 1) ∙ ap (λ (h : PassState). pin_word h.announced) (sym (get_or-replicate z.passes v idle idle l));
+      pool = λ i l. blank (z.passes + 1 + i) ∙ sym (get_or-replicate z.words i 0 0 l);
+    };
+    roomy = (tt, tt);
+    owner = λ _. 0;
+    out = replicate z.passes false;
+    rest = λ p l. refl;
+    held = 0;
+    next = record { forest = empty; places = [] };
+    slots = record {
+      deep = length-map slots some ∙ deep;
+      each = λ v l. subst (λ (x : PassTrack × PassState). Shelf Copy 0 (first_generation ∷ []) x.0 x.1.entered 0 first_generation (map some slots) v) (λ i. (sym (get_or-replicate z.passes v nothing_known nothing_known l) i, sym (get_or-replicate z.passes v idle idle l) i))
+          (first_shelf (map some slots) v (let c = copies v l in (c.0, at_map some slots (8 * v) c.0 c.1, c.2)) (λ j s. let h = some_there slots (8 * v + j) (omega arith) in (h.0, h.1, tt)));
+    };
+    seats = λ j v e. ⊎_elim (λ (t : (j ≡ 0) × (newcomer z ≡ v)). subst (λ (y : ℕ × View). Fits z [] (λ _. 0) (replicate z.passes false) 0 (record { forest = empty; places = [] }) y.0 y.1) (λ i. (sym t.0 i, t.1 i)) record {
+      knows = λ a is. refl;
+      begins = ([], refl);
+      was = ([], refl);
+      told = ([], refl);
+      quiet = λ a is. refl;
+      fresh = λ new p is. absurd (grind arith);
+      sits = λ a is. refl;
+      all = λ a is. refl;
+      goes = λ p is. absurd (let q = same_number 0 (p + 1) is in omega arith);
+      counts = λ is. (refl, refl, refl);
+      home = λ is p l. refl;
+    })
+        (λ (t : (j ≢ 0) × (get_elem? (newcomer z ∷ []) j ≡ some v)). absurd (alone j v t.0 t.1))
+        (at_set (newcomer z ∷ []) 0 j (newcomer z) v e);
+  }
+
+-- the slots as they are made
+module _ {E Z : Type 0} (e : E) where
+  pub no_shelves : AreShelves {E = E} {Z = Z} e 0 []
+  no_shelves = record { long = refl; each = λ v l. absurd (omega arith) }
+
+  pub more_shelves : (n : ℕ) (old new : List (Option (Arc E Z))) → AreShelves e n old → IsShelf e old new → AreShelves e (n + 1) new
+  more_shelves n old new s h = record {
+    long = ap length h.2.2 ∙ (length-append (old ++ Some h.0 ∷ []) h.2.0 ∙ (let a = length-append old (Some h.0 ∷ []) in let b = s.long in let c = h.2.1 in omega arith));
+    each = λ v l. dite (ℕ_discrete v n)
+        (λ same. subst (λ (x : ℕ). (a : Arc E Z) × (get_elem? new (8 * x) ≡ some (Some a)) × (arc_value a ≡ e)) (sym same)
+        (h.0, ap (λ l. get_elem? l (8 * n)) h.2.2 ∙ at_longer (old ++ Some h.0 ∷ []) h.2.0 (8 * n) (Some h.0) (at_last old (Some h.0) (8 * n) s.long), h.1))
+        (λ other. let t = s.each v (omega arith) in (t.0, ap (λ l. get_elem? l (8 * v)) h.2.2 ∙ at_longer (old ++ Some h.0 ∷ []) h.2.0 (8 * v) (Some t.0) (at_longer old (Some h.0 ∷ []) (8 * v) (Some t.0) t.1), t.2));
+  }
+
+pub zero_at : (n i : ℕ) → get_or (replicate {A = ℕ} n 0) i 0 ≡ 0
+zero_at zero i = refl
+zero_at (suc n) zero = refl
+zero_at (suc n) (suc i) = zero_at n i
+
+pub map_replicate : {A B : Type 0} (f : A → B) (n : ℕ) (x : A) → map f (replicate n x) ≡ replicate n (f x)
+map_replicate f zero x = refl
+map_replicate f (suc n) x = ap (λ l. f x ∷ l) (map_replicate f n x)
+
+pub unplaced_first : (n v : ℕ) → (get_or (replicate n nothing_known) v nothing_known).placed ≡ false
+unplaced_first zero v = refl
+unplaced_first (suc n) zero = refl
+unplaced_first (suc n) (suc v) = unplaced_first n v

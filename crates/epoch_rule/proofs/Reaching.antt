@@ -1,0 +1,261 @@
+-- What an actor may touch, and what its touch shows.
+use Rattle.std.proofs.Common.{◌≡◌, ◌⊎◌, ℕ, ◌+◌, ◌<◌, ◌≤◌, eqb, Bool, true, false, ◌&&◌, ◌||◌, List, [], ◌∷◌, length, map, sym, refl, ap, ◌∙◌, subst, ⊎_elim, inl, inr, append-nil, arith, Some}
+use Rattle.std.specs.Prelude.{MatchBool, nat_lt}
+use Rattle.std.specs.List.{list_any}
+use Rattle.std.proofs.lemmas.Bool.{lt-ltb, le-leb, eqb-true, eq-eqb}
+use mathlib.Core.List.{IsPrefix}
+use lib.ListN.{length-replicate, get_or-replicate}
+use Rattle.mem_base.specs.declared.map.forests.Forest.{Forest}
+use Rattle.mem_base.specs.declared.machine.events.Hand.{Hand}
+use Rattle.mem_base.specs.declared.machine.events.Hand.TheVariants as hands
+use Rattle.mem_base.specs.declared.access.cells.Place.{Place}
+use Rattle.mem_base.specs.declared.access.cells.WordStep.{WordStep}
+use Rattle.mem_base.specs.declared.access.cells.WordStep.TheVariants as steps
+use Rattle.mem_base.specs.declared.machine.events.Event.{Event}
+use Rattle.mem_base.specs.declared.machine.events.Event.TheVariants as events
+use Rattle.mem_base.specs.declared.machine.events.Carried.TheVariants.{At}
+use Rattle.mem_base.specs.declared.machine.events.HistoryEntry.{HistoryEntry}
+use Rattle.mem_base.specs.lists.Every.{Every}
+use Rattle.mem_base.specs.access.EditionPlaces.{IsRegionPlace, IsNotifiersPlace, IsEdition}
+use Rattle.mem_base.specs.views.Naming.{names}
+use Rattle.mem_base.specs.access.Places.{past, pages_in, is_data_or_register, notifiers_place, is_notifiers}
+use Rattle.mem_base.specs.access.Cells.{cell}
+use Rattle.mem_base.specs.machine.Passes.{PassState, idle, pass_of, pass_after}
+use Rattle.mem_base.specs.machine.Generations.{Generation, generation, Generations, known_of, entered_generation}
+use Rattle.mem_base.specs.machine.Guards.{is_notifier, may_reach, may_mark}
+use Rattle.mem_base.specs.machine.SharedHistory.{Shared, shared_opening, shared_possible, is_same_place}
+use Rattle.epoch_rule.specs.declared.views.Sizes.{Sizes}
+use Rattle.epoch_rule.specs.declared.views.View.{View}
+use Rattle.epoch_rule.specs.declared.touches.Touch.{Touch}
+use Rattle.epoch_rule.specs.declared.touches.Touch.TheVariants as touches
+use Rattle.mem_base.specs.machine.Passes.{pass_id}
+use Rattle.mem_base.specs.machine.Turns.{history_entry}
+use Rattle.mem_base.specs.machine.Actors.{actor_of, actor_of_hand, own_entries, pass_after_all}
+use Rattle.epoch_rule.specs.Ruled.{state_of, Lawful, pass_seen, generations_seen, Adds, HoldsOn}
+use Rattle.epoch_rule.specs.Copies.{shown_by, StandsIn}
+use Rattle.epoch_rule.specs.Touches.{Touching, IsReady, IsTouch, Told, ToldStep, event_of, touch_at}
+use Rattle.epoch_rule.specs.Shown.{Wrote, PassMay, WriterMay, ShownStep, Shown}
+use Rattle.atomic_table.specs.Seated.{TableId}
+use Rattle.atomic_table.specs.Table.{Me}
+use Rattle.epoch_rule.specs.declared.writers.Found.{Found}
+use Rattle.epoch_rule.specs.Writing.{IsWriting, stored}
+use Rattle.view_laws.proofs.Tests.{both, both_of, or_left, or_right}
+use Rattle.epoch_rule.proofs.Histories.{pass_owns}
+use Rattle.history_laws.proofs.NumberLaws.{sound}
+use Rattle.epoch_rule.proofs.Moving.{generation_stays}
+use Rattle.epoch_rule.proofs.Passing.{own_added, begins_added, pass_added, generations_added, suits_on}
+use Rattle.epoch_rule.proofs.Touching.{entered_is}
+
+all_same : (p q : Place) → is_same_place p q ≡ true → q ≡ p
+all_same p q h =
+    let a = both_of _ _ h in let b = both_of _ _ a.0 in let c = both_of _ _ b.0 in let d = both_of _ _ c.0 in
+    let e0 : q.region.0 ≡ p.region.0 = sym (eqb-true _ _ d.0) in
+    let e1 : q.start ≡ p.start = sym (eqb-true _ _ d.1) in
+    let e2 : q.words ≡ p.words = sym (eqb-true _ _ c.1) in
+    let e3 : q.bytes ≡ p.bytes = sym (eqb-true _ _ b.1) in
+    let e4 : q.regs ≡ p.regs = sym (eqb-true _ _ a.1) in
+    λ i. record { region = record { 0 = e0 i }; start = e1 i; words = e2 i; bytes = e3 i; regs = e4 i }
+
+pub one_of : (P : Place → Type 0) (p : Place) (qs : List Place) → Every P qs → list_any (is_same_place p) qs ≡ true → P p
+one_of P p [] k h = absurd (grind arith)
+one_of P p (q ∷ qs) k h = go (is_same_place p q) refl (one_of P p qs k.1) h
+  where
+    go : (b : Bool) → is_same_place p q ≡ b → (list_any (is_same_place p) qs ≡ true → P p) → (b || list_any (is_same_place p) qs) ≡ true → P p
+    go true e rest h = subst P (all_same p q e) k.0
+    go false e rest h = rest h
+
+itself : (n : ℕ) → eqb n n ≡ true
+itself n = eq-eqb n n refl
+
+-- a pass that is entered in a generation may reach the words of the places that it carries
+reaches : (f : Forest) (ps : List Place) (p : Place) (word : ℕ) → IsEdition f ps → list_any (is_same_place p) ps ≡ true → is_data_or_register p word ≡ true
+    → may_reach (Some (generation f ps)) p (cell p.region word) ≡ true
+reaches f ps p word k there inside = ⊎_elim
+    (λ (h : IsRegionPlace k.pool_words f p). or_left (names f p.region && is_data_or_register p word) (is_notifier (cell p.region word))
+    (both _ _ h.named inside))
+    (λ (h : IsNotifiersPlace k.pool_words f p). or_right (names f p.region && is_data_or_register p word) (is_notifier (cell p.region word))
+    (both _ _ (ap (λ (q : Place). is_notifiers q.region) h.1) (notified h.1)))
+    (one_of (λ q. IsRegionPlace k.pool_words f q ⊎ IsNotifiersPlace k.pool_words f q) p ps k.places_of.each there)
+  where
+    notified : p ≡ notifiers_place k.pool_words → nat_lt word 64 ≡ true
+    notified e = ap (λ (q : Place). is_data_or_register q word) (sym e) ∙ inside
+
+marks : (f : Forest) (ps : List Place) (p : Place) (page : ℕ) → IsEdition f ps → list_any (is_same_place p) ps ≡ true → page < pages_in p
+    → may_mark (Some (generation f ps)) p p.region page ≡ true
+marks f ps p page k there near = ⊎_elim
+    (λ (h : IsRegionPlace k.pool_words f p). both _ _ h.named (lt-ltb _ _ near))
+    (λ (h : IsNotifiersPlace k.pool_words f p). absurd (let z : pages_in p ≡ 0 = ap pages_in h.1 in omega arith))
+    (one_of (λ q. IsRegionPlace k.pool_words f q ⊎ IsNotifiersPlace k.pool_words f q) p ps k.places_of.each there)
+
+-- the steps on words that may be, where the pass is entered in such a generation
+pass_steps : (s : Shared) (v : ℕ) (f : Forest) (ps : List Place) (p : Place) (word : ℕ) (touch : Touch) → IsEdition f ps → entered_generation s.generations s.passes (pass_id v) ≡ Some (generation f ps)
+    → IsTouch (hands.Pass (pass_id v)) p word touch → PassMay ps p word touch → shared_possible s (event_of (hands.Pass (pass_id v)) p word touch) (At p) ≡ true
+pass_steps s v f ps p word touches.Look k is kind may = rw is (both _ _ (both _ _ (itself p.region.0) (reaches f ps p word k may.0 may.2)) may.0)
+pass_steps s v f ps p word (touches.Step step) k is kind may = rw is (both _ _ (both _ _ (itself p.region.0) (reaches f ps p word k may.0 may.2)) may.0)
+pass_steps s v f ps p word (touches.Try old first bytes value) k is kind may = rw is (both _ _ (both _ _ (itself p.region.0) (reaches f ps p word k may.0 may.2)) may.0)
+pass_steps s v f ps p word touches.Fill k is kind may = absurd kind
+pass_steps s v f ps p word (touches.Mark client page) k is kind may = rw is (both _ _ (both _ _ (itself p.region.0) (marks f ps p page k may.0 may.2)) may.0)
+pass_steps s v f ps p word (touches.Harvest client index) k is kind may = absurd kind.0
+
+-- the kind of a touch
+pub kinds : (hand : Hand) (p : Place) (word : ℕ) (touch : Touch) → IsTouch hand p word touch → Touching (actor_of_hand hand) (event_of hand p word touch) p (touch_at (event_of hand p word touch) p)
+kinds hand p word touches.Look k = record { mine = refl; is = refl; generations = λ g r. refl; passes = λ ps r. refl; published = λ gs. refl }
+kinds hand p word (touches.Step step) k = record { mine = refl; is = refl; generations = λ g r. refl; passes = λ ps r. refl; published = λ gs. refl }
+kinds hand p word (touches.Try old first bytes value) k = record { mine = refl; is = refl; generations = λ g r. refl; passes = λ ps r. refl; published = λ gs. refl }
+kinds hands.Writer p word touches.Fill k = record { mine = refl; is = refl; generations = λ g r. refl; passes = λ ps r. refl; published = λ gs. refl }
+kinds (hands.Pass v) p word touches.Fill k = absurd k
+kinds (hands.Pass v) p word (touches.Mark client page) k = record { mine = refl; is = refl; generations = λ g r. refl; passes = λ ps r. refl; published = λ gs. refl }
+kinds hands.Writer p word (touches.Mark client page) k = absurd k.0
+kinds hands.Writer p word (touches.Harvest client index) k = record { mine = refl; is = refl; generations = λ g r. refl; passes = λ ps r. refl; published = λ gs. refl }
+kinds (hands.Pass v) p word (touches.Harvest client index) k = absurd k.0
+
+pub word_is : (hand : Hand) (p : Place) (word : ℕ) (touch : Touch) → IsTouch hand p word touch → (touch_at (event_of hand p word touch) p).word ≡ p.start + word
+word_is hand p word touches.Look k = refl
+word_is hand p word (touches.Step step) k = refl
+word_is hand p word (touches.Try old first bytes value) k = refl
+word_is hand p word touches.Fill k = refl
+word_is hand p word (touches.Mark client page) k = ap (λ (n : ℕ). p.start + n) (sym k.1)
+word_is hand p word (touches.Harvest client index) k = ap (λ (n : ℕ). p.start + n) (sym k.1)
+
+-- a pass is ready
+
+entered_seen : {E : Type 0} (number : E → ℕ) (forest : E → Forest) (places : E → List Place) (z : Sizes) (log : List HistoryEntry) (p : ℕ) (v : View) (e : E) → Lawful z log → p < z.passes → IsPrefix v.seen log → own_entries (p + 1) v.seen ≡ own_entries (p + 1) log
+    → StandsIn number forest places p v e → entered_generation (state_of z log).generations (state_of z log).passes (pass_id p) ≡ Some (shown_by forest places e)
+entered_seen number forest places z log p v e l near begins same s =
+    let knows : pass_of (state_of z log).passes (pass_id p) ≡ pass_seen p v = pass_owns log (shared_opening z.words z.passes) p (subst (λ (m : ℕ). p < m) (sym (length-replicate z.passes idle)) near)
+    ∙ (ap (λ h. pass_after_all h (own_entries (p + 1) log)) (get_or-replicate z.passes p idle idle near) ∙ ap (pass_after_all idle) (sym same)) in
+    entered_is z log l p near (number e) (ap (λ (h : PassState). h.entered) knows ∙ s.entered)
+    ∙ ap (λ (x : Generation). Some x) (generation_stays v.seen log begins (number e) s.published ∙ sym s.shows)
+
+pub ready_pass : {E : Type 0} (number : E → ℕ) (forest : E → Forest) (places : E → List Place) (z : Sizes) (p : ℕ) (v : View) (e : E) (at : Place) (word : ℕ) (touch : Touch) → IsEdition (forest e) (places e)
+    → v.role ≡ Some (p + 1) → p < z.passes → StandsIn number forest places p v e → at.start + word < z.words
+    → IsTouch (hands.Pass (pass_id p)) at word touch → PassMay (places e) at word touch → IsReady z v (hands.Pass (pass_id p)) at word touch
+ready_pass number forest places z p v e at word touch law role near s room kind may = record {
+  kind = kinds (hands.Pass (pass_id p)) at word touch kind;
+  role = role;
+  inside = subst (λ (n : ℕ). n < z.words) (sym (word_is (hands.Pass (pass_id p)) at word touch kind)) room;
+  may = λ log same l begins own_same. pass_steps (state_of z log) p (forest e) (places e) at word touch law (entered_seen number forest places z log p v e l near begins own_same s) kind may;
+}
+
+-- the writer is ready
+
+writer_steps : (s : Shared) (p : Place) (word : ℕ) (touch : Touch) → IsTouch hands.Writer p word touch → word < p.words → past p ≤ length s.words → shared_possible s (event_of hands.Writer p word touch) (At p) ≡ true
+writer_steps s p word touches.Look kind l m = both _ _ (itself p.region.0) (both _ _ (lt-ltb _ _ l) (le-leb _ _ m))
+writer_steps s p word (touches.Step step) kind l m = both _ _ (itself p.region.0) (both _ _ (lt-ltb _ _ l) (le-leb _ _ m))
+writer_steps s p word (touches.Try old first bytes value) kind l m = both _ _ (itself p.region.0) (both _ _ (lt-ltb _ _ l) (le-leb _ _ m))
+writer_steps s p word touches.Fill kind l m = both _ _ (itself p.region.0) (both _ _ (lt-ltb _ _ l) (le-leb _ _ m))
+writer_steps s p word (touches.Mark client page) kind l m = absurd kind.0
+writer_steps s p word (touches.Harvest client index) kind l m = both _ _ (itself p.region.0) (both _ _ (lt-ltb _ _ (subst (λ (n : ℕ). n < p.words) kind.1 l)) (le-leb _ _ m))
+
+pub ready_writer : (z : Sizes) (v : View) (at : Place) (word : ℕ) (touch : Touch) → v.role ≡ Some 0 → IsTouch hands.Writer at word touch → WriterMay z at word → IsReady z v hands.Writer at word touch
+ready_writer z v at word touch role kind may = record {
+  kind = kinds hands.Writer at word touch kind;
+  role = role;
+  inside = subst (λ (n : ℕ). n < z.words) (sym (word_is hands.Writer at word touch kind)) (let a = may.0 in let b = may.1 in omega arith);
+  may = λ log same l begins own_same. let ok = sound z.words z.passes log l in writer_steps (state_of z log) at word touch kind may.0 (let a = may.1 in let w = ok.wide in omega arith);
+}
+
+-- what a touch told, as the caller sees it
+
+wrote : (hand : Hand) (v : View) (e : Event) (p : Place) (r : ℕ) (w : View) → actor_of e ≡ actor_of_hand hand → Adds (actor_of_hand hand) v e (At p) r w → Wrote hand v.sizes v.seen (history_entry e (At p) r ∷ []) w.seen
+wrote hand v e p r w mine h = record { begins = begins_added (actor_of_hand hand) v e (At p) r w h; lawful = h.lawful; events = own_added (actor_of_hand hand) v e (At p) r w mine h }
+
+shown_step : (hand : Hand) (p : Place) (word : ℕ) (s : WordStep) (v : View) (r : ℕ) (w : View) → ToldStep hand p word s v r w → ShownStep hand v.sizes p word s v.seen r w.seen
+shown_step hand p word steps.Load v r w h = wrote hand v _ p r w refl h
+shown_step hand p word (steps.Replace first bytes value) v r w h = (h.0, (h.1.0, wrote hand v _ p h.1.0 w refl h.1.1))
+shown_step hand p word steps.AddOne v r w h = wrote hand v _ p r w refl h
+shown_step hand p word (steps.Or bits) v r w h = wrote hand v _ p r w refl h
+shown_step hand p word steps.Take v r w h = wrote hand v _ p r w refl h
+
+pub shown : (hand : Hand) (p : Place) (word : ℕ) (touch : Touch) (v : View) (r : ℕ) (w : View) → IsTouch hand p word touch → Told hand p word touch v r w → Shown hand v.sizes p word touch v.seen r w.seen
+shown hand p word touches.Look v r w k h = ap (λ (x : View). x.seen) h
+shown hand p word (touches.Step step) v r w k h = shown_step hand p word step v r w h
+shown hand p word (touches.Try old first bytes value) v r w k h = go (eqb r old) h
+  where
+    go : (b : Bool) → MatchBool b (Adds (actor_of_hand hand) v (events.Word hand (cell p.region word) (steps.Replace first bytes value)) (At p) r w) (w ≡ v)
+        → MatchBool b (Wrote hand v.sizes v.seen (history_entry (events.Word hand (cell p.region word) (steps.Replace first bytes value)) (At p) r ∷ []) w.seen) (w.seen ≡ v.seen)
+    go true h = wrote hand v _ p r w refl h
+    go false h = ap (λ (x : View). x.seen) h
+shown hands.Writer p word touches.Fill v r w k h = (h.0, wrote hands.Writer v _ p 0 w refl h.1)
+shown (hands.Pass u) p word touches.Fill v r w k h = absurd k
+shown (hands.Pass u) p word (touches.Mark client page) v r w k h = wrote (hands.Pass u) v _ p 0 w refl h
+shown hands.Writer p word (touches.Mark client page) v r w k h = absurd k.0
+shown hands.Writer p word (touches.Harvest client index) v r w k h = wrote hands.Writer v _ p r w refl h
+shown (hands.Pass u) p word (touches.Harvest client index) v r w k h = absurd k.0
+
+-- what a touch leaves of its actor's part
+
+-- a touch showed nothing, or its event
+told_either : (hand : Hand) (p : Place) (word : ℕ) (touch : Touch) (v : View) (r : ℕ) (w : View) → IsTouch hand p word touch → Told hand p word touch v r w
+    → (w ≡ v) ⊎ ((q : ℕ) × Adds (actor_of_hand hand) v (event_of hand p word touch) (At p) q w)
+told_either hand p word touches.Look v r w k h = inl h
+told_either hand p word (touches.Step steps.Load) v r w k h = inr (r, h)
+told_either hand p word (touches.Step (steps.Replace first bytes value)) v r w k h = inr h.1
+told_either hand p word (touches.Step steps.AddOne) v r w k h = inr (r, h)
+told_either hand p word (touches.Step (steps.Or bits)) v r w k h = inr (r, h)
+told_either hand p word (touches.Step steps.Take) v r w k h = inr (r, h)
+told_either hand p word (touches.Try old first bytes value) v r w k h = go (eqb r old) h
+  where
+    go : (b : Bool) → MatchBool b (Adds (actor_of_hand hand) v (events.Word hand (cell p.region word) (steps.Replace first bytes value)) (At p) r w) (w ≡ v)
+        → (w ≡ v) ⊎ ((q : ℕ) × Adds (actor_of_hand hand) v (events.Word hand (cell p.region word) (steps.Replace first bytes value)) (At p) q w)
+    go true h = inr (r, h)
+    go false h = inl h
+told_either hands.Writer p word touches.Fill v r w k h = inr (0, h.1)
+told_either (hands.Pass u) p word touches.Fill v r w k h = absurd k
+told_either (hands.Pass u) p word (touches.Mark client page) v r w k h = inr (0, h)
+told_either hands.Writer p word (touches.Mark client page) v r w k h = absurd k.0
+told_either hands.Writer p word (touches.Harvest client index) v r w k h = inr (r, h)
+told_either (hands.Pass u) p word (touches.Harvest client index) v r w k h = absurd k.0
+
+pub record Kept (v w : View) : Type 0 where
+  pub role : w.role ≡ v.role
+  pub out : w.out ≡ v.out
+  pub sizes : w.sizes ≡ v.sizes
+  pub begins : IsPrefix v.seen w.seen
+  pub lawful : Lawful v.sizes v.seen → Lawful w.sizes w.seen
+
+pub kept : (hand : Hand) (p : Place) (word : ℕ) (touch : Touch) (v : View) (r : ℕ) (w : View) → IsTouch hand p word touch → Told hand p word touch v r w → Kept v w
+kept hand p word touch v r w k h = ⊎_elim
+    (λ (e : w ≡ v). record { role = ap (λ (x : View). x.role) e; out = ap (λ (x : View). x.out) e; sizes = ap (λ (x : View). x.sizes) e; begins = ([], append-nil v.seen ∙ ap (λ (x : View). x.seen) (sym e)); lawful = λ l. subst (λ (x : View). Lawful x.sizes x.seen) (sym e) l })
+    (λ (t : (q : ℕ) × Adds (actor_of_hand hand) v (event_of hand p word touch) (At p) q w). let a = t.1 in
+    record { role = a.role; out = a.out; sizes = a.sizes; begins = begins_added (actor_of_hand hand) v (event_of hand p word touch) (At p) t.0 w a; lawful = λ l. subst (λ (z : Sizes). Lawful z w.seen) (sym a.sizes) a.lawful })
+    (told_either hand p word touch v r w k h)
+
+still_pass : (hand : Hand) (p : Place) (word : ℕ) (touch : Touch) (s : PassState) (q : ℕ) → pass_after s (event_of hand p word touch) q ≡ s
+still_pass hand p word touches.Look s q = refl
+still_pass hand p word (touches.Step step) s q = refl
+still_pass hand p word (touches.Try old first bytes value) s q = refl
+still_pass hand p word touches.Fill s q = refl
+still_pass hand p word (touches.Mark client page) s q = refl
+still_pass hand p word (touches.Harvest client index) s q = refl
+
+pub pass_kept : (u : ℕ) (p : Place) (word : ℕ) (touch : Touch) (v : View) (r : ℕ) (w : View) → IsTouch (hands.Pass (pass_id u)) p word touch → Told (hands.Pass (pass_id u)) p word touch v r w → pass_seen u w ≡ pass_seen u v
+pass_kept u p word touch v r w k h = let hand : Hand = hands.Pass (pass_id u) in ⊎_elim
+    (λ (e : w ≡ v). ap (pass_seen u) e)
+    (λ (t : (q : ℕ) × Adds (u + 1) v (event_of hand p word touch) (At p) q w).
+    pass_added u v (event_of hand p word touch) (At p) t.0 w (kinds hand p word touch k).mine t.1 ∙ still_pass hand p word touch (pass_seen u v) t.0)
+    (told_either hand p word touch v r w k h)
+
+pub generations_kept : (p : Place) (word : ℕ) (touch : Touch) (v : View) (r : ℕ) (w : View) → IsTouch hands.Writer p word touch → Told hands.Writer p word touch v r w → generations_seen w ≡ generations_seen v
+generations_kept p word touch v r w k h = let kind = kinds hands.Writer p word touch k in ⊎_elim
+    (λ (e : w ≡ v). ap generations_seen e)
+    (λ (t : (q : ℕ) × Adds 0 v (event_of hands.Writer p word touch) (At p) q w).
+    generations_added v (event_of hands.Writer p word touch) (At p) t.0 w kind.mine t.1 ∙ kind.generations (generations_seen v) t.0)
+    (told_either hands.Writer p word touch v r w k h)
+
+-- the writer's seat after a step that changes no generation
+pub writing_kept : {S : Type 0} (t t' : TableId) (me new : Me S View) (current : ℕ) (known : List Found) (out : List Bool) → t' ≡ t → new.1 ≡ me.1 → HoldsOn me.0 new.0 → Kept me.0 new.0 → generations_seen new.0 ≡ generations_seen me.0
+    → IsWriting t me current known out → IsWriting t' new current known out
+writing_kept t t' me new current known out table bare holds k same w = record {
+  role = k.role ∙ w.role;
+  free = holds.0 ∙ w.free;
+  bare = bare ∙ w.bare;
+  suits = suits_on t t' me.0.sizes new.0.sizes (sym table) (sym k.sizes) w.suits;
+  is_current = w.is_current ∙ ap (λ (g : Generations). g.current) (sym same);
+  is_known = w.is_known ∙ ap (λ (g : Generations). map stored g.passes) (sym same);
+  many = ap (λ (g : Generations). length g.passes) same ∙ (w.many ∙ ap (λ (z : Sizes). z.passes) (sym k.sizes));
+  unplaced = λ v. ap (λ (g : Generations). (known_of g (pass_id v)).placed) same ∙ w.unplaced v;
+  is_out = w.is_out ∙ sym k.out;
+  outs = w.outs ∙ ap (λ (z : Sizes). z.passes) (sym k.sizes);
+  lawful = k.lawful w.lawful;
+}

@@ -1,0 +1,306 @@
+-- Opening a table, splitting a seat, joining two, and looks that show no event.
+use Rattle.std.proofs.Common.{◌≡◌, ◌≢◌, ◌⊎◌, ℕ, zero, suc, ◌+◌, ◌-◌, ◌<◌, ◌≤◌, eqb, Bool, true, false, List, [], ◌∷◌, ◌++◌, length, get_or, set, sym, refl, ap, ◌∙◌, subst, ⊎_elim, inl, inr, arith, get_or-set_other, get_or-set_same, eq-eqb, ne_eqb, if◌then◌else◌, append_assoc, append-nil, Option, Some, None}
+use Rattle.std.proofs.lemmas.List.{append_cancel_left}
+use Rattle.std.proofs.lemmas.Bool.{both_ways, ltb-true, ltb-false}
+use Rattle.std.specs.Option.{unwrap_or}
+use mathlib.Core.Logic.{dite}
+use mathlib.Core.Option.{some, some-injective, some-ne-none}
+use mathlib.Core.List.{IsPrefix}
+use native.Mathlib.Decide.{ℕ_discrete}
+use lib.ListN.{get_elem?}
+use lib.Seq.{set-get_or}
+use base.Growing.{prefix_refl}
+use Rattle.std.specs.Prelude.{nat_lt}
+use Rattle.atomic_table.specs.Table.{State, Me, keeps, Allows, Splits, Joins}
+use Rattle.atomic_table.proofs.Lists.{at_set, at_snoc, set_again}
+use Rattle.mem_base.specs.declared.machine.events.HistoryEntry.{HistoryEntry}
+use Rattle.mem_base.specs.machine.Generations.{Generation}
+use Rattle.mem_base.specs.machine.SharedHistory.{IsSharedLegal, shared_opening}
+use Rattle.epoch_rule.specs.declared.views.Sizes.{Sizes}
+use Rattle.epoch_rule.specs.declared.views.Picked.{Picked}
+use Rattle.epoch_rule.specs.declared.views.View.{View}
+use Rattle.mem_base.specs.machine.Passes.{idle}
+use Rattle.mem_base.specs.machine.Actors.{own_entries, actor_of, pass_after_all}
+use Rattle.epoch_rule.specs.Ruled.{Lawful, pass_seen, Fits, Ruled}
+use Rattle.epoch_rule.specs.Plays.{longer, noted, nobody, informed, first_free, less_one, next_pass, taken_in, settles}
+use Rattle.view_laws.proofs.Tests.{none_is_no_number, same_number}
+use Rattle.epoch_rule.proofs.Histories.{own_append, legal_start}
+
+module _ {A : Type 0} where
+  abbrev tail : List A → List A
+  tail [] = []
+  tail (x ∷ xs) = xs
+
+  abbrev head : A → List A → A
+  head d [] = d
+  head d (x ∷ xs) = x
+
+  pub shorter_begins : (p q l : List A) → IsPrefix p l → IsPrefix q l → length p ≤ length q → IsPrefix p q
+  shorter_begins [] q l h k le = (q, refl)
+  shorter_begins (x ∷ p) [] l h k le = absurd (omega arith)
+  shorter_begins (x ∷ p) (y ∷ q) l h k le = let t = shorter_begins p q (tail l) (h.0, ap tail h.1) (k.0, ap tail k.1) (omega arith) in let e : x ≡ y = ap (head x) (h.1 ∙ sym k.1) in (t.0, λ i. e i ∷ t.1 i)
+
+  pub at_end : (l : List A) (a b : A) (j : ℕ) → get_elem? (l ++ a ∷ []) j ≡ some b → (get_elem? l j ≡ some b) ⊎ ((j ≡ length l) × (a ≡ b))
+  at_end [] a b zero e = inr (refl, some-injective a b e)
+  at_end [] a b (suc j) e = absurd (some-ne-none b (sym e))
+  at_end (x ∷ xs) a b zero e = inl e
+  at_end (x ∷ xs) a b (suc j) e = ⊎_elim (λ t. inl t) (λ t. inr (ap suc t.0, t.1)) (at_end xs a b j e)
+
+  pub nothing_after : (xs ys : List A) → xs ++ ys ≡ [] → ys ≡ []
+  nothing_after [] ys e = e
+  nothing_after (x ∷ xs) ys e = absurd (omega (arith, ap length e))
+
+-- a longer beginning of the history has as many events of the actor
+pub squeezed : (a : ℕ) (xs ys log : List HistoryEntry) → IsPrefix xs ys → IsPrefix ys log → own_entries a xs ≡ own_entries a log → own_entries a ys ≡ own_entries a log
+squeezed a xs ys log h k e =
+    let inner : own_entries a xs ++ own_entries a h.0 ≡ own_entries a ys = sym (own_append a xs h.0) ∙ ap (own_entries a) h.1 in
+    let outer : own_entries a ys ++ own_entries a k.0 ≡ own_entries a log = sym (own_append a ys k.0) ∙ ap (own_entries a) k.1 in
+    let none_left : own_entries a k.0 ≡ [] = nothing_after (own_entries a h.0) (own_entries a k.0)
+    (append_cancel_left (own_entries a xs) (own_entries a h.0 ++ own_entries a k.0) [] (sym (append_assoc (own_entries a xs) (own_entries a h.0) (own_entries a k.0)) ∙ (ap (λ z. z ++ own_entries a k.0) inner ∙ (outer ∙ (sym e ∙ sym (append-nil (own_entries a xs))))))) in
+    sym (append-nil (own_entries a ys)) ∙ (ap (λ z. own_entries a ys ++ z) (sym none_left) ∙ outer)
+
+pub longer_cases : (P : List HistoryEntry → Type 0) (xs ys : List HistoryEntry) → (length xs < length ys → P ys) → (length ys ≤ length xs → P xs) → P (longer xs ys)
+longer_cases P xs ys one two = go (nat_lt (length xs) (length ys)) refl
+  where
+    go : (b : Bool) → nat_lt (length xs) (length ys) ≡ b → P (if b then ys else xs)
+    go true e = one (ltb-true _ _ e)
+    go false e = two (ltb-false _ _ e)
+
+pub longer_first : (xs ys log : List HistoryEntry) → IsPrefix xs log → IsPrefix ys log → IsPrefix xs (longer xs ys)
+longer_first xs ys log h k = longer_cases (λ z. IsPrefix xs z) xs ys (λ l. shorter_begins xs ys log h k (omega arith)) (λ l. prefix_refl xs)
+
+pub longer_second : (xs ys log : List HistoryEntry) → IsPrefix xs log → IsPrefix ys log → IsPrefix ys (longer xs ys)
+longer_second xs ys log h k = longer_cases (λ z. IsPrefix ys z) xs ys (λ l. prefix_refl ys) (λ l. shorter_begins ys xs log k h l)
+
+pub longer_begins : (xs ys log : List HistoryEntry) → IsPrefix xs log → IsPrefix ys log → IsPrefix (longer xs ys) log
+longer_begins xs ys log h k = longer_cases (λ z. IsPrefix z log) xs ys (λ l. k) (λ l. h)
+
+-- where the rest of the views stays
+there : (views : List View) (id other : ℕ) (both w : View) → ¬ (other ≡ id) → get_elem? (set views id both) other ≡ some w → get_elem? views other ≡ some w
+there views id other both w apart e = ⊎_elim (λ (t : (other ≡ id) × (both ≡ w)). absurd (apart t.0)) (λ (t : (other ≢ id) × (get_elem? views other ≡ some w)). t.1) (at_set views id other both w e)
+
+abbrev put : (ℕ → ℕ) → ℕ → ℕ → ℕ → ℕ
+put f a x b = if eqb b a then x else f b
+
+put_here : (f : ℕ → ℕ) (a x : ℕ) → put f a x a ≡ x
+put_here f a x = rw (eq-eqb a a refl) refl
+
+put_else : (f : ℕ → ℕ) (a x b : ℕ) → b ≢ a → put f a x b ≡ f b
+put_else f a x b other = rw (ne_eqb b a other) refl
+
+first_is : (bs : List Bool) → get_or bs (first_free bs) false ≡ false
+first_is [] = refl
+first_is (true ∷ bs) = first_is bs
+first_is (false ∷ bs) = refl
+
+set_free : (out : List Bool) (f p : ℕ) (b : Bool) → p ≢ f → get_or (set out f b) p false ≡ get_or out p false
+set_free out f p b other = get_or-set_other out f p b false other
+
+module _ {S : Type 0} (Copy : ℕ → Generation → S → Type 0) (z : Sizes) where
+  -- the rule where the views alone change
+  reseat : (s : State S View) (k : Ruled Copy z s) (views' : List View) (owner : ℕ → ℕ) (out : List Bool) → ((p : ℕ) → get_or out p false ≡ false → pass_after_all idle (own_entries (p + 1) k.log) ≡ idle) → ((j : ℕ) (v : View) → get_elem? views' j ≡ some v → Fits z k.log owner out k.held k.next j v)
+      → Ruled Copy z record { words = s.words; homes = s.homes; views = views' }
+  reseat s k views' owner out rest seats = record { log = k.log; lawful = k.lawful; shown = k.shown; roomy = k.roomy; owner = owner; out = out; rest = rest; held = k.held; next = k.next; slots = k.slots; seats = seats }
+
+  idles : (log : List HistoryEntry) (owner : ℕ → ℕ) (out : List Bool) (h : ℕ) (x : Picked) (j : ℕ) (v : View) → v.role ≡ None → IsPrefix v.seen log → IsPrefix v.was v.seen → IsPrefix v.told v.seen → Fits z log owner out h x j v
+  idles log owner out h x j v r b was told = record {
+    knows = λ a is. absurd (none_is_no_number a (sym r ∙ is));
+    begins = b;
+    was = was;
+    told = told;
+    quiet = λ a is. absurd (none_is_no_number a (sym r ∙ is));
+    fresh = λ new p is. absurd (none_is_no_number (p + 1) (sym r ∙ is));
+    sits = λ a is. absurd (none_is_no_number a (sym r ∙ is));
+    all = λ a is. absurd (none_is_no_number a (sym r ∙ is));
+    goes = λ p is. absurd (none_is_no_number (p + 1) (sym r ∙ is));
+    counts = λ is. absurd (none_is_no_number 0 (sym r ∙ is));
+    home = λ is. absurd (none_is_no_number 0 (sym r ∙ is));
+  }
+
+  pub tells : (id : ℕ) (v : View) → Splits (Ruled Copy z) id v v (noted v)
+  tells id v s k at = reseat s k (set s.views id v ++ noted v ∷ []) k.owner k.out k.rest
+      (λ j w e. ⊎_elim (λ t. k.seats j w (subst (λ l. get_elem? l j ≡ some w) (set_again s.views id v at) t))
+      (λ t. subst (λ (y : View). Fits z k.log k.owner k.out k.held k.next j y) t (let f = k.seats id v at in idles k.log k.owner k.out k.held k.next j (noted v) refl f.begins f.was f.told)) (at_snoc (set s.views id v) (noted v) w j e))
+
+  -- a view that has met a note
+  merged : (log : List HistoryEntry) (owner : ℕ → ℕ) (out : List Bool) (h : ℕ) (x : Picked) (j : ℕ) (v w : View) → Fits z log owner out h x j v → IsPrefix w.seen log → Fits z log owner out h x j (informed v w)
+  merged log owner out h x j v w f g =
+      let first = longer_first v.seen w.seen log f.begins g in
+      let second = longer_second v.seen w.seen log f.begins g in
+      let whole = longer_begins v.seen w.seen log f.begins g in record {
+        knows = f.knows;
+        begins = whole;
+        was = first;
+        told = second;
+        quiet = λ a is. f.all a is ∙ sym (squeezed a v.seen (longer v.seen w.seen) log first whole (f.all a is));
+        fresh = λ new p is. absurd (grind arith);
+        sits = f.sits;
+        all = λ a is. squeezed a v.seen (longer v.seen w.seen) log first whole (f.all a is);
+        goes = f.goes;
+        counts = f.counts;
+        home = λ is p l. squeezed (p + 1) v.seen (longer v.seen w.seen) log first whole (f.home is p l);
+      }
+
+  pub learns : (id : ℕ) (v : View) (other : ℕ) (w : View) → Joins (Ruled Copy z) id v other w (informed v w) nobody
+  learns id v other w s k at apart e =
+      let f = k.seats id v at in
+      let g = k.seats other w (there s.views id other (informed v w) w apart e) in
+      let both = merged k.log k.owner k.out k.held k.next id v w f g.begins in
+      reseat s k (set (set s.views id (informed v w)) other nobody) k.owner k.out k.rest
+      (λ j u e'. ⊎_elim (λ (t : (j ≡ other) × (nobody ≡ u)). subst (λ (y : View). Fits z k.log k.owner k.out k.held k.next j y) t.1 (idles k.log k.owner k.out k.held k.next j nobody refl (k.log, refl) ([], refl) ([], refl)))
+      (λ (t : (j ≢ other) × (get_elem? (set s.views id (informed v w)) j ≡ some u)). ⊎_elim
+      (λ (q : (j ≡ id) × (informed v w ≡ u)). subst (λ (y : ℕ × View). Fits z k.log k.owner k.out k.held k.next y.0 y.1) (λ i. (sym q.0 i, q.1 i)) both)
+      (λ (q : (j ≢ id) × (get_elem? s.views j ≡ some u)). k.seats j u q.1) (at_set s.views id j (informed v w) u t.1))
+      (at_set (set s.views id (informed v w)) other j nobody u e'))
+
+  pub hands_out : (id : ℕ) (v : View) → v.role ≡ Some 0 → first_free v.out < length v.out → Splits (Ruled Copy z) id v (less_one v) (next_pass v)
+  hands_out id v role room s k at =
+      let f : ℕ = first_free v.out in
+      let mine = k.seats id v at in
+      let out' : List Bool = set k.out f true in
+      let same : v.out ≡ k.out = (mine.counts role).0 in
+      let was : get_or k.out f false ≡ false = subst (λ (o : List Bool). get_or o f false ≡ false) same (first_is v.out) in
+      let now : get_or out' f false ≡ true = get_or-set_same k.out f true false (subst (λ (o : List Bool). f < length o) same room) in
+      let vs : List View = set s.views id (less_one v) in
+      let owner' : ℕ → ℕ = put k.owner (f + 1) (length vs) in
+      let rest : (p : ℕ) → get_or out' p false ≡ false → get_or k.out p false ≡ false = λ p l. dite (ℕ_discrete p f) (λ e. absurd (both_ways _ l (subst (λ (y : ℕ). get_or out' y false ≡ true) (sym e) now))) (λ ne. sym (set_free k.out f p true ne) ∙ l) in
+      let kept : (j : ℕ) (w : View) → Fits z k.log k.owner k.out k.held k.next j w → (o : List Bool) → (w.role ≡ Some 0 → o ≡ out') → Fits z k.log owner' out' k.held k.next j (record w { out = o }) = λ j w g o new. record {
+        knows = g.knows;
+        begins = g.begins;
+        was = g.was;
+        told = g.told;
+        quiet = g.quiet;
+        fresh = g.fresh;
+        sits = λ a is. put_else k.owner (f + 1) (length vs) a (λ q. both_ways _ was (g.goes f (is ∙ ap (λ (y : ℕ). Some y) q))) ∙ g.sits a is;
+        all = g.all;
+        goes = λ p is. set_free k.out f p true (λ q. both_ways _ was (subst (λ (y : ℕ). get_or k.out y false ≡ true) q (g.goes p is))) ∙ g.goes p is;
+        counts = λ is. let c = g.counts is in (new is, c.1, c.2);
+        home = λ is p l. g.home is p (rest p l);
+      } in
+      reseat s k (vs ++ next_pass v ∷ []) owner' out' (λ p l. k.rest p (rest p l))
+      (λ j w e. ⊎_elim
+      (λ t. ⊎_elim
+      (λ (q : (j ≡ id) × (less_one v ≡ w)). subst (λ (y : ℕ × View). Fits z k.log owner' out' k.held k.next y.0 y.1) (λ i. (sym q.0 i, q.1 i)) (kept id v mine (set v.out f true) (λ _. ap (λ (o : List Bool). set o f true) same)))
+      (λ (q : (j ≢ id) × (get_elem? s.views j ≡ some w)). let g = k.seats j w q.1 in kept j w g w.out (λ is. absurd (q.0 (sym (g.sits 0 is) ∙ mine.sits 0 role))))
+      (at_set s.views id j (less_one v) w t))
+      (λ (t : (j ≡ length vs) × (next_pass v ≡ w)). subst (λ (y : ℕ × View). Fits z k.log owner' out' k.held k.next y.0 y.1) (λ i. (sym t.0 i, t.1 i)) record {
+        knows = λ a is. mine.knows 0 role;
+        begins = mine.begins;
+        was = prefix_refl v.seen;
+        told = prefix_refl v.seen;
+        quiet = λ a is. refl;
+        fresh = λ new p is. subst (λ (y : ℕ). pass_after_all idle (own_entries y v.seen) ≡ idle) (same_number (f + 1) (p + 1) is) (ap (pass_after_all idle) (mine.home role f was) ∙ k.rest f was);
+        sits = λ a is. ap owner' (sym (same_number (f + 1) a is)) ∙ put_here k.owner (f + 1) (length vs);
+        all = λ a is. subst (λ (y : ℕ). own_entries y v.seen ≡ own_entries y k.log) (same_number (f + 1) a is) (mine.home role f was);
+        goes = λ p is. let e : f ≡ p = (let q = same_number (f + 1) (p + 1) is in omega arith) in subst (λ (y : ℕ). get_or out' y false ≡ true) e now;
+        counts = λ is. absurd (let q = same_number (f + 1) 0 is in omega arith);
+        home = λ is. absurd (let q = same_number (f + 1) 0 is in omega arith);
+      })
+      (at_end vs (next_pass v) w j e))
+
+  pub takes_in : (id : ℕ) (v : View) (other : ℕ) (w : View) (p : ℕ) → v.role ≡ Some 0 → w.role ≡ Some (p + 1) → pass_seen p w ≡ idle → Joins (Ruled Copy z) id v other w (taken_in v w) nobody
+  takes_in id v other w p role pass still s k at apart e =
+      let mine = k.seats id v at in
+      let theirs = k.seats other w (there s.views id other (taken_in v w) w apart e) in
+      let m : ℕ = unwrap_or w.role 0 - 1 in
+      let is_p : m ≡ p = (let q : unwrap_or w.role 0 ≡ p + 1 = ap (λ (r : Option ℕ). unwrap_or r 0) pass in omega arith) in
+      let out' : List Bool = set k.out m false in
+      let all : List HistoryEntry = longer v.seen w.seen in
+      let first = longer_first v.seen w.seen k.log mine.begins theirs.begins in
+      let second = longer_second v.seen w.seen k.log mine.begins theirs.begins in
+      let whole = longer_begins v.seen w.seen k.log mine.begins theirs.begins in
+      let met = merged k.log k.owner k.out k.held k.next id v w mine theirs.begins in
+      reseat s k (set (set s.views id (taken_in v w)) other nobody) k.owner out'
+      (λ b l. dite (ℕ_discrete b p)
+      (λ same. ap (λ (y : ℕ). pass_after_all idle (own_entries (y + 1) k.log)) same ∙ (ap (pass_after_all idle) (sym (theirs.all (p + 1) pass)) ∙ still))
+      (λ ne. k.rest b (sym (set_free k.out m b false (λ x. ne (x ∙ is_p))) ∙ l)))
+      (λ j u e'. ⊎_elim (λ (t : (j ≡ other) × (nobody ≡ u)). subst (λ (y : View). Fits z k.log k.owner out' k.held k.next j y) t.1 (idles k.log k.owner out' k.held k.next j nobody refl (k.log, refl) ([], refl) ([], refl)))
+      (λ (t : (j ≢ other) × (get_elem? (set s.views id (taken_in v w)) j ≡ some u)). ⊎_elim
+      (λ (q : (j ≡ id) × (taken_in v w ≡ u)). subst (λ (y : ℕ × View). Fits z k.log k.owner out' k.held k.next y.0 y.1) (λ i. (sym q.0 i, q.1 i)) record {
+        knows = met.knows;
+        begins = met.begins;
+        was = met.was;
+        told = met.told;
+        quiet = met.quiet;
+        fresh = met.fresh;
+        sits = met.sits;
+        all = met.all;
+        goes = λ b is. absurd (let x = same_number 0 (b + 1) (sym role ∙ is) in omega arith);
+        counts = λ is. let c = mine.counts role in (ap (λ (o : List Bool). set o m false) c.0, c.1, c.2);
+        home = λ is b l. dite (ℕ_discrete b p)
+            (λ same. squeezed (b + 1) w.seen all k.log second whole (theirs.all (b + 1) (pass ∙ ap (λ (y : ℕ). Some (y + 1)) (sym same))))
+            (λ ne. squeezed (b + 1) v.seen all k.log first whole (mine.home role b (sym (set_free k.out m b false (λ x. ne (x ∙ is_p))) ∙ l)));
+      })
+      (λ (q : (j ≢ id) × (get_elem? s.views j ≡ some u)). let g = k.seats j u q.1 in record {
+        knows = g.knows;
+        begins = g.begins;
+        was = g.was;
+        told = g.told;
+        quiet = g.quiet;
+        fresh = g.fresh;
+        sits = g.sits;
+        all = g.all;
+        goes = λ b is. set_free k.out m b false (λ x. t.0 (sym (g.sits (b + 1) is) ∙ (ap (λ (y : ℕ). k.owner (y + 1)) (x ∙ is_p) ∙ theirs.sits (p + 1) pass))) ∙ g.goes b is;
+        counts = λ is. absurd (q.0 (sym (g.sits 0 is) ∙ mine.sits 0 role));
+        home = λ is. absurd (q.0 (sym (g.sits 0 is) ∙ mine.sits 0 role));
+      })
+      (at_set s.views id j (taken_in v w) u t.1))
+      (at_set (set s.views id (taken_in v w)) other j nobody u e'))
+
+  -- where no pass is out, the writer has seen the whole history
+  pub sees_whole : (s : State S View) (k : Ruled Copy z s) (id : ℕ) (v : View) → get_elem? s.views id ≡ some v → v.role ≡ Some 0 → ((p : ℕ) → get_or v.out p false ≡ false) → v.seen ≡ k.log
+  sees_whole s k id v at role home =
+      let f = k.seats id v at in
+      let none_left : (a : ℕ) → own_entries a f.begins.0 ≡ [] = λ a. append_cancel_left (own_entries a v.seen) (own_entries a f.begins.0) []
+      (sym (own_append a v.seen f.begins.0) ∙ (ap (own_entries a) f.begins.1 ∙ (sym (all a) ∙ sym (append-nil (own_entries a v.seen))))) in
+      sym (append-nil v.seen) ∙ (ap (λ y. v.seen ++ y) (sym (empty f.begins.0 none_left)) ∙ f.begins.1)
+    where
+      all : (a : ℕ) → own_entries a v.seen ≡ own_entries a k.log
+      all zero = (k.seats id v at).all 0 role
+      all (suc p) = subst (λ (y : ℕ). own_entries y v.seen ≡ own_entries y k.log) (omega arith) ((k.seats id v at).home role p (ap (λ (o : List Bool). get_or o p false) (sym ((k.seats id v at).counts role).0) ∙ home p))
+
+      empty : (xs : List HistoryEntry) → ((a : ℕ) → own_entries a xs ≡ []) → xs ≡ []
+      empty [] h = refl
+      empty (x ∷ xs) h = absurd (omega (arith, sym (ap length (h (actor_of x.event))), ap length (first x xs)))
+        where
+          first : (x : HistoryEntry) (xs : List HistoryEntry) → own_entries (actor_of x.event) (x ∷ xs) ≡ x ∷ own_entries (actor_of x.event) xs
+          first x xs = rw (eq-eqb (actor_of x.event) (actor_of x.event) refl) refl
+
+  -- looks that show no event
+
+  pub settle : (slots id : ℕ) (me : Me S View) (i : ℕ) → Allows (Ruled Copy z) slots id me i (λ r. r) (λ r w. settles me w)
+  settle slots id me i s k deep at small =
+      let f = k.seats id me.0 at in (
+        me.0,
+        keeps,
+        tt,
+        subst (λ (y : List ℕ × List View). Ruled Copy z record { words = y.0; homes = s.homes; views = y.1 }) (λ j. (sym (set-get_or s.words i 0) j, sym (set_again s.views id me.0 at) j)) k,
+        (
+          refl,
+          λ a is. record {
+            same = refl;
+            was = f.was;
+            told = f.told;
+            quiet = f.quiet a is;
+            fresh = f.fresh;
+            lawful = subst (λ (y : Sizes). Lawful y me.0.seen) (sym (f.knows a is)) (legal_start me.0.seen f.begins.0 (shared_opening z.words z.passes) (subst (IsSharedLegal z.words z.passes) (sym f.begins.1) k.lawful));
+          },
+        ),
+      )
+
+  pub peek : (slots id : ℕ) (me : Me S View) (i : ℕ) → Allows (Ruled Copy z) slots id me i (λ r. r) (λ r w. w ≡ me)
+  peek slots id me i s k deep at small = (
+    me.0,
+    keeps,
+    tt,
+    subst (λ (y : List ℕ × List View). Ruled Copy z record { words = y.0; homes = s.homes; views = y.1 }) (λ j. (sym (set-get_or s.words i 0) j, sym (set_again s.views id me.0 at) j)) k,
+    refl,
+  )
+
+pub first_most : (bs : List Bool) → first_free bs ≤ length bs
+first_most [] = omega arith
+first_most (true ∷ bs) = let h = first_most bs in omega arith
+first_most (false ∷ bs) = omega arith
+
+pub less_one_more : (n : ℕ) → n + 1 - 1 ≡ n
+less_one_more n = omega arith

@@ -1,0 +1,98 @@
+-- The writer's calls that make an event for each pass.
+use Rattle.std.specs.Prelude.{◌≡◌, ℕ, zero, suc, ◌+◌, ◌-◌, ◌<◌, min, if◌then◌else◌, List, [], ◌∷◌, ◌++◌, length, map, Option, Some, None}
+use mathlib.Core.List.{IsPrefix}
+use Rattle.std.specs.Arc.{arc_value}
+use Rattle.std.specs.declared.sync.Arc.{Arc}
+use Rattle.mem_base.specs.declared.map.forests.Forest.{Forest}
+use Rattle.mem_base.specs.declared.access.cells.Place.{Place}
+use Rattle.mem_base.specs.lists.Every.{Every}
+use Rattle.epoch_rule.specs.declared.views.Picked.{Picked}
+use Rattle.epoch_rule.specs.Copies.{picked}
+use Rattle.mem_base.specs.declared.machine.events.Event.TheVariants as events
+use Rattle.mem_base.specs.declared.machine.events.Carried.TheVariants.{Nothing}
+use Rattle.mem_base.specs.declared.machine.events.HistoryEntry.{HistoryEntry}
+use Rattle.mem_base.specs.machine.Generations.{Generations, number_pinned, first_generations}
+use Rattle.mem_base.specs.declared.map.refusals.Refusal.{Refusal}
+use Rattle.mem_base.specs.declared.map.refusals.Refusal.TheVariants as refusals
+use Rattle.mem_base.specs.declared.machine.events.Hand.TheVariants as hands
+use Rattle.mem_base.specs.declared.machine.events.Carried.{Carried}
+use Rattle.mem_base.specs.machine.Publishing.{holds_up, held_up}
+use Rattle.epoch_rule.specs.Shown.{Wrote}
+use Rattle.epoch_rule.specs.declared.views.Sizes.{Sizes}
+use Rattle.epoch_rule.specs.declared.views.View.{View}
+use Rattle.epoch_rule.specs.declared.writers.Found.{Found}
+use Rattle.epoch_rule.specs.declared.writers.Held.{Held}
+use Rattle.mem_base.specs.machine.Passes.{pass_id}
+use Rattle.mem_base.specs.machine.Turns.{history_entry}
+use Rattle.mem_base.specs.machine.Actors.{own_entries, generations_after_all}
+use Rattle.epoch_rule.specs.Ruled.{Lawful, generations_seen, HoldsOn}
+use Rattle.epoch_rule.specs.Writing.{stored}
+
+-- a sweep of each pass from `first` on, with what it found
+abbrev pub sweeps_of : ℕ → List ℕ → List HistoryEntry
+sweeps_of first [] = []
+sweeps_of first (r ∷ rs) = history_entry (events.Sweep (pass_id first)) Nothing r ∷ sweeps_of (suc first) rs
+
+-- a copy for each of the first passes, so many
+abbrev pub places_of : ℕ → List HistoryEntry
+places_of zero = []
+places_of (suc n) = places_of n ++ history_entry (events.Place (pass_id n)) Nothing 0 ∷ []
+
+-- what the writer's own entries in a history make of the generations
+abbrev pub generations_in_seen : Sizes → List HistoryEntry → Generations
+generations_in_seen z xs = generations_after_all (first_generations z.passes) (own_entries 0 xs)
+
+-- the writer's own entries grew by these, and it holds on to what it held
+pub record Writes (v : View) (es : List HistoryEntry) (w : View) : Type 0 where
+  pub role : w.role ≡ v.role
+  pub out : w.out ≡ v.out
+  pub sizes : w.sizes ≡ v.sizes
+  pub begins : IsPrefix v.seen w.seen
+  pub lawful : Lawful v.sizes w.seen
+  pub events : own_entries 0 w.seen ≡ own_entries 0 v.seen ++ es
+
+-- the first passes were swept, so many, and what was found is stored
+pub record Sweeping (v w : View) (known : List Found) (n : ℕ) : Type 0 where
+  pub rs : List ℕ
+  pub many : length rs ≡ n
+  pub writes : Writes v (sweeps_of 0 rs) w
+  pub holds : HoldsOn v w
+  pub is_known : known ≡ map stored (generations_seen w).passes
+
+-- the least pass that holds a publish up
+abbrev pub held_in : ℕ → ℕ → List Found → Option Held
+held_in current first [] = None
+held_in current first (f ∷ fs) = if holds_up current (number_pinned f.word) then Some (record { pass = pass_id first; number = f.word - 1 }) else held_in current (first + 1) fs
+
+-- copies of one edition
+abbrev pub AreCopies : {E Z : Type 0} → (E → ℕ) → (E → Forest) → (E → List Place) → ℕ → Picked → List (Arc E Z) → Type 0
+AreCopies number forest places g x all = Every (λ a. (number (arc_value a) ≡ g) × (picked forest places (arc_value a) ≡ x)) all
+
+-- the first passes have their copies, so many
+pub record Placing (v w : View) (next : Picked) (n : ℕ) : Type 0 where
+  pub writes : Writes v (places_of n) w
+  pub free : w.held ≡ 0
+  pub is_next : 0 < n → w.next ≡ next
+
+-- what a caller sees of a batch: an edition, and how many copies of it
+pub record BatchValue (E : Type 0) : Type 0 where
+  pub edition : E
+  pub copies : ℕ
+
+-- the name of a refusal for what holds a publish up
+abbrev pub refusal_of : Held → Refusal
+refusal_of h = refusals.Held h.pass h.number
+
+-- a publish was made: a sweep of each pass, which found none too far behind, a copy for each, and the next generation
+-- is current
+abbrev pub Published : Sizes → List HistoryEntry → Carried → ℕ → List HistoryEntry → Type 0
+Published z xs x number ys = (rs : List ℕ) × (length rs ≡ z.passes) × Wrote hands.Writer z xs (sweeps_of 0 rs ++ places_of z.passes ++ history_entry events.Publish x number ∷ []) ys × (held_up (generations_after_all (generations_in_seen z xs) (sweeps_of 0 rs)) ≡ None)
+
+-- it was held up: a sweep of each pass, and then the least pass that was found too far behind
+abbrev pub HeldUp : Sizes → List HistoryEntry → Held → List HistoryEntry → Type 0
+HeldUp z xs h ys = (rs : List ℕ) × (length rs ≡ z.passes) × Wrote hands.Writer z xs (sweeps_of 0 rs) ys × (held_up (generations_in_seen z ys) ≡ Some (refusal_of h))
+
+-- the least number stored, or the current one
+abbrev pub least_in : ℕ → List Found → ℕ
+least_in current [] = current
+least_in current (f ∷ fs) = min f.lowest (least_in current fs)

@@ -1,0 +1,78 @@
+-- Copies of an edition, and what a pass is to its caller.
+use Rattle.std.specs.Prelude.{◌≡◌, ℕ, ◌+◌, ◌*◌, ◌%◌, ◌<◌, List, [], ◌∷◌, ◌++◌, length, Option, Some, None}
+use Rattle.std.specs.Arc.{arc_value}
+use Rattle.std.specs.declared.sync.Arc.{Arc}
+use mathlib.Core.List.{IsPrefix}
+use Rattle.atomic_table.specs.Seated.{TableId}
+use Rattle.atomic_table.specs.Table.{Me, Step}
+use Rattle.mem_base.specs.declared.map.forests.Forest.{Forest}
+use Rattle.mem_base.specs.declared.access.cells.Place.{Place}
+use Rattle.mem_base.specs.declared.machine.events.Event.TheVariants as events
+use Rattle.mem_base.specs.declared.machine.events.Carried.TheVariants.{Nothing}
+use Rattle.mem_base.specs.declared.machine.events.HistoryEntry.{HistoryEntry}
+use Rattle.mem_base.specs.machine.Passes.{idle}
+use Rattle.mem_base.specs.machine.Generations.{Generation, generation}
+use Rattle.epoch_rule.specs.declared.views.Sizes.{Sizes}
+use Rattle.epoch_rule.specs.declared.views.Picked.{Picked}
+use Rattle.epoch_rule.specs.declared.views.View.{View}
+use Rattle.mem_base.specs.machine.Passes.{pass_id}
+use Rattle.mem_base.specs.machine.Actors.{own_entries, generations_published, generation_published}
+use Rattle.epoch_rule.specs.Ruled.{Lawful, pass_seen, IsRoomy, Adds}
+
+-- the table is one for so many passes and words
+abbrev pub Suits : TableId → Sizes → Type 0
+Suits t z = (t.words ≡ z.passes + 1 + z.words) × (t.slots ≡ 8 * z.passes)
+
+-- what an edition shows
+abbrev pub shown_by : {E : Type 0} → (E → Forest) → (E → List Place) → E → Generation
+shown_by forest places e = generation (forest e) (places e)
+
+-- the slot has a copy of the edition g, which shows this generation
+abbrev pub IsCopy : {E Z : Type 0} → (E → ℕ) → (E → Forest) → (E → List Place) → ℕ → Generation → Option (Arc E Z) → Type 0
+IsCopy {E} {Z} number forest places g x y = (a : Arc E Z) × (y ≡ Some a) × (number (arc_value a) ≡ g) × (shown_by forest places (arc_value a) ≡ x)
+
+-- the pass p is entered in an edition, as its own entries say: it shows what the Publish of its number carried
+pub record StandsIn {E : Type 0} (number : E → ℕ) (forest : E → Forest) (places : E → List Place) (p : ℕ) (v : View) (e : E) : Type 0 where
+  pub entered : (pass_seen p v).entered ≡ Some (number e)
+  pub published : number e < length (generations_published v.seen)
+  pub shows : shown_by forest places e ≡ generation_published v.seen (number e)
+  pub roomy : IsRoomy v.sizes.words (shown_by forest places e)
+
+-- a pass that is entered has its edition, out of its slot
+abbrev pub Stands : {E Z : Type 0} → (E → ℕ) → (E → Forest) → (E → List Place) → ℕ → Me (Option (Arc E Z)) View → Option (Arc E Z) → Type 0
+Stands number forest places p me None = (pass_seen p me.0 ≡ idle) × (me.1 ≡ [])
+Stands number forest places p me (Some a) = StandsIn number forest places p me.0 (arc_value a) × (me.1 ≡ (8 * p + number (arc_value a) % 8, None) ∷ [])
+
+-- what the writer picks of an edition
+abbrev pub picked : {E : Type 0} → (E → Forest) → (E → List Place) → E → Picked
+picked forest places e = record { forest = forest e; places = places e }
+
+-- what a caller sees of a pass
+pub record PassValue (E : Type 0) : Type 0 where
+  pub table : TableId
+  pub number : ℕ
+  pub sizes : Sizes
+  pub seen : List HistoryEntry
+  pub edition : Option E
+
+abbrev pub value_in : {E Z : Type 0} → Option (Arc E Z) → Option E
+value_in None = None
+value_in (Some a) = Some (arc_value a)
+
+-- the pass's own entries grew by these, and it has forgotten nothing
+pub record Made {E : Type 0} (v : PassValue E) (es : List HistoryEntry) (w : PassValue E) : Type 0 where
+  pub table : w.table ≡ v.table
+  pub number : w.number ≡ v.number
+  pub sizes : w.sizes ≡ v.sizes
+  pub begins : IsPrefix v.seen w.seen
+  pub lawful : Lawful v.sizes w.seen
+  pub events : own_entries (v.number + 1) w.seen ≡ own_entries (v.number + 1) v.seen ++ es
+
+pub record NoteValue : Type 0 where
+  pub table : TableId
+  pub seen : List HistoryEntry
+
+-- the writer has given back the slot, with a copy of what it picked
+abbrev pub placed_as : {E Z : Type 0} → (E → Forest) → (E → List Place) → Step (Option (Arc E Z)) → Me (Option (Arc E Z)) View → ℕ → Me (Option (Arc E Z)) View → Type 0
+placed_as {E} {Z} forest places st m r w = (i : ℕ) (a : Arc E Z) → m.1 ≡ (i, Some a) ∷ [] → (w.1 ≡ []) × (w.0.held ≡ 0) × (w.0.next ≡ picked forest places (arc_value a))
+    × ((p : ℕ) → st.word ≡ p + 1 → Adds 0 m.0 (events.Place (pass_id p)) Nothing 0 w.0)

@@ -1,0 +1,9 @@
+pub mod Ruled
+pub mod Plays
+pub mod Touches
+pub mod Copies
+pub mod Shown
+pub mod Writing
+pub mod Calls
+pub mod Opening
+pub mod Closing

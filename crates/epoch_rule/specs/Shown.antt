@@ -1,0 +1,58 @@
+-- What an actor's calls show to their caller: how its own entries grew.
+use Rattle.std.specs.Prelude.{◌≡◌, ℕ, ◌<◌, ◌≤◌, ◌==◌, true, MatchBool, List, [], ◌∷◌, ◌++◌}
+use Rattle.std.specs.List.{list_any}
+use mathlib.Core.List.{IsPrefix}
+use Rattle.mem_base.specs.declared.machine.events.Hand.{Hand}
+use Rattle.mem_base.specs.declared.access.cells.Place.{Place}
+use Rattle.mem_base.specs.declared.access.cells.WordStep.{WordStep}
+use Rattle.mem_base.specs.declared.access.cells.WordStep.TheVariants.{Replace}
+use Rattle.mem_base.specs.declared.machine.events.Event.TheVariants as events
+use Rattle.mem_base.specs.declared.machine.events.Carried.TheVariants.{At}
+use Rattle.mem_base.specs.declared.machine.events.HistoryEntry.{HistoryEntry}
+use Rattle.mem_base.specs.access.Places.{past, pages_in, is_data_or_register}
+use Rattle.mem_base.specs.access.Cells.{cell}
+use Rattle.mem_base.specs.machine.SharedHistory.{is_same_place}
+use Rattle.epoch_rule.specs.declared.views.Sizes.{Sizes}
+use Rattle.epoch_rule.specs.declared.touches.Touch.{Touch}
+use Rattle.epoch_rule.specs.declared.touches.Touch.TheVariants as touches
+use Rattle.mem_base.specs.machine.Turns.{history_entry}
+use Rattle.mem_base.specs.machine.Actors.{own_entries, actor_of_hand}
+use Rattle.epoch_rule.specs.Ruled.{Lawful}
+use Rattle.epoch_rule.specs.Touches.{pass_of_hand}
+
+-- an actor's own entries grew by these, and it has forgotten nothing
+pub record Wrote (hand : Hand) (z : Sizes) (xs es ys : List HistoryEntry) : Type 0 where
+  pub begins : IsPrefix xs ys
+  pub lawful : Lawful z ys
+  pub events : own_entries (actor_of_hand hand) ys ≡ own_entries (actor_of_hand hand) xs ++ es
+
+-- what a pass may touch: a word of the data, a register or a notifier, or for a Mark a page of the place
+abbrev pub IsReach : Place → ℕ → Touch → Type 0
+IsReach p word touches.Look = is_data_or_register p word ≡ true
+IsReach p word (touches.Step step) = is_data_or_register p word ≡ true
+IsReach p word (touches.Try old first bytes value) = is_data_or_register p word ≡ true
+IsReach p word touches.Fill = is_data_or_register p word ≡ true
+IsReach p word (touches.Mark client page) = page < pages_in p
+IsReach p word (touches.Harvest client index) = is_data_or_register p word ≡ true
+
+-- a pass may touch a word of a place that its generation carries
+abbrev pub PassMay : List Place → Place → ℕ → Touch → Type 0
+PassMay places p word touch = (list_any (is_same_place p) places ≡ true) × (word < p.words) × IsReach p word touch
+
+-- the writer may touch each word of a place that ends within the cabinet's words
+abbrev pub WriterMay : Sizes → Place → ℕ → Type 0
+WriterMay z p word = (word < p.words) × (past p ≤ z.words)
+
+abbrev pub ShownStep : Hand → Sizes → Place → ℕ → WordStep → List HistoryEntry → ℕ → List HistoryEntry → Type 0
+ShownStep hand z p word (Replace first bytes value) xs r ys = (r ≡ 0) × ((old : ℕ) × Wrote hand z xs (history_entry (events.Word hand (cell p.region word) (Replace first bytes value)) (At p) old ∷ []) ys)
+ShownStep hand z p word s xs r ys = Wrote hand z xs (history_entry (events.Word hand (cell p.region word) s) (At p) r ∷ []) ys
+
+-- what a touch shows: its event, with its place and the reply that stands in the history
+abbrev pub Shown : Hand → Sizes → Place → ℕ → Touch → List HistoryEntry → ℕ → List HistoryEntry → Type 0
+Shown hand z p word touches.Look xs r ys = ys ≡ xs
+Shown hand z p word (touches.Step step) xs r ys = ShownStep hand z p word step xs r ys
+Shown hand z p word (touches.Try old first bytes value) xs r ys =
+    MatchBool (r == old) (Wrote hand z xs (history_entry (events.Word hand (cell p.region word) (Replace first bytes value)) (At p) r ∷ []) ys) (ys ≡ xs)
+Shown hand z p word touches.Fill xs r ys = (r ≡ 0) × Wrote hand z xs (history_entry (events.Fill (cell p.region word)) (At p) 0 ∷ []) ys
+Shown hand z p word (touches.Mark client page) xs r ys = Wrote hand z xs (history_entry (events.Mark (pass_of_hand hand) p.region client page) (At p) 0 ∷ []) ys
+Shown hand z p word (touches.Harvest client index) xs r ys = Wrote hand z xs (history_entry (events.Harvest p.region client index) (At p) r ∷ []) ys

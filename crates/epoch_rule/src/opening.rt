@@ -1,0 +1,89 @@
+// How a cabinet is made.
+ghost use Rattle.std.specs.Prelude.{◌≡◌, ℕ, ◌+◌, ◌*◌, ◌^◌, ◌<◌, ◌≤◌, [], ◌∷◌, ◌++◌, length, IfOk, false, replicate, List, Some};
+ghost use Rattle.std.specs.Arc.{arc_value};
+ghost use Rattle.std.specs.declared.sync.Arc.{Arc};
+ghost use Rattle.mem_base.specs.map.Calls.{empty};
+ghost use Rattle.epoch_rule.specs.Opening.{IsShelf, AreShelves};
+
+use crate::board::{Copy, Law};
+use crate::cabinet::Cabinet;
+use crate::views::{Sizes, View};
+use crate::writers::{Found, WriterSeat};
+use atomic_table::Table;
+use mem_base::Edition;
+use std::alloc::{AllocError, Global};
+use std::sync::Arc;
+
+/// A filled list.
+fn filled<T: Clone + std::marker::Copy + Drop>(
+    alloc: Global,
+    count: usize,
+    value: T,
+) -> Result<Vec<T>, AllocError>
+    ensures { IfOk result (λ v. v.items ≡ replicate count value) }
+{
+    let mut items = Vec::new(alloc);
+    items.resize(count, value)?;
+    Ok(items)
+}
+
+/// The slots of one pass: a copy of the edition 0, and seven empty ones.
+fn add_shelf<E: Edition + Drop>(
+    slots: &mut Vec<Copy<E>>,
+    first: &Arc<E, Global>,
+) -> Result<(), AllocError>
+    ensures { IfOk result (λ _. IsShelf (arc_value first.now) slots.old.items slots.new.items) }
+{
+    let copy = Arc::try_clone(first)?;
+    slots.push(Some(copy))?;
+    for _ in 0..7usize {
+        slots.push(None)?;
+    }
+    Ok(())
+}
+
+fn shelves<E: Edition + Drop>(
+    alloc: Global,
+    passes: u32,
+    first: &Arc<E, Global>,
+) -> Result<Vec<Copy<E>>, AllocError>
+    ensures { IfOk result (λ v. AreShelves (arc_value first.now) passes v.items) }
+{
+    let mut slots = Vec::new(alloc);
+    for _ in 0..passes {
+        add_shelf(&mut slots, first)?;
+    }
+    Ok(slots)
+}
+
+impl<E: Edition + Drop> Cabinet<E> {
+    /// A cabinet of so many passes and words, all 0. Its first edition has number 0 and shows nothing.
+    pub fn new(
+        alloc: Global,
+        passes: u32,
+        words: usize,
+        first: Arc<E, Global>,
+    ) -> Result<(Cabinet<E>, WriterSeat<E>), AllocError>
+        requires count { (0 < passes) × (passes ≤ 16) × (words ≤ 2 ^ 26 + 64) }
+        requires first { (E.counted (arc_value first) ≡ 0) × (E.forest (arc_value first) ≡ empty) × (E.places (arc_value first) ≡ []) }
+        ensures { IfOk result (λ r. (r.1.table ≡ r.0.table.shared.table_id) × (r.1.sizes.passes ≡ passes) × (r.1.sizes.words ≡ words) × (r.1.seen ≡ []) × (r.1.out ≡ replicate passes false)) }
+    {
+        let none = Found { word: 0, lowest: 0 };
+        let known = filled(alloc, passes as usize, none)?;
+        let out = filled(alloc, passes as usize, false)?;
+        let blank = filled(alloc, passes as usize + 1 + words, 0u64)?;
+        let slots = shelves(alloc, passes, &first)?;
+        let sizes = Sizes { passes, words };
+        let Ok((table, chair)) = Table::new(alloc, blank.as_slice(), slots, &sizes) else {
+            return Err(AllocError);
+        };
+        let cabinet = Cabinet { table, passes };
+        let writer = WriterSeat {
+            chair,
+            current: 0,
+            known,
+            out,
+        };
+        Ok((cabinet, writer))
+    }
+}

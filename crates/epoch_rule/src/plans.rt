@@ -1,0 +1,184 @@
+// Single steps on a word of the cabinet, each as the event that the caller plans.
+ghost use Rattle.std.specs.Prelude.{◌≡◌, ℕ, ◌+◌, ◌%◌, ◌<◌, ◌^◌, ◌==◌, bit_or, MatchBool};
+ghost use Rattle.mem_base.specs.declared.access.cells.WordStep.TheVariants.{Load, AddOne, Or, Take};
+ghost use Rattle.mem_base.specs.access.Words.{word_after};
+ghost use Rattle.epoch_rule.specs.Ruled.{Adds, HoldsOn};
+ghost use Rattle.epoch_rule.specs.Copies.{Suits};
+ghost use Rattle.epoch_rule.specs.Touches.{Ready, touched};
+
+use crate::board::{Chair, Copy, Top};
+use crate::views::View;
+use atomic_table::Play;
+use mem_base::{Edition, Event, Place};
+use std::marker::{Brand, PhantomData};
+
+/// The event that a step is to make. Each call picks it.
+pub trait Plan {
+    ghost use Rattle.std.specs.Prelude.{ℕ};
+    ghost use Rattle.mem_base.specs.declared.machine.events.Event.{Event};
+    ghost use Rattle.mem_base.specs.declared.access.cells.Place.{Place};
+    ghost use Rattle.mem_base.specs.machine.SharedHistory.{PoolTouch};
+
+    ghost actor: { ℕ };
+
+    ghost event: { Event };
+
+    ghost place: { Place };
+
+    ghost touch: { PoolTouch };
+}
+
+impl Plan for Brand {
+    ghost use Rattle.mem_base.specs.declared.machine.events.Event.TheVariants.{Reap};
+    ghost use Rattle.mem_base.specs.access.Places.{notifiers_place};
+    ghost use Rattle.epoch_rule.specs.Touches.{no_touch};
+
+    ghost actor = { 0 };
+
+    ghost event = { Reap };
+
+    ghost place = { notifiers_place 0 };
+
+    ghost touch = { no_touch };
+}
+
+/// A step that tells the word before it.
+pub(crate) struct Touches<J: Plan> {
+    of: PhantomData<J>,
+}
+
+impl<E: Edition, J: Plan> Play<Copy<E>, View> for Touches<J> {
+    ghost use Rattle.epoch_rule.specs.Touches.{touched};
+
+    ghost then = { λ st m r w. touched J.actor J.event J.place J.touch m r w };
+}
+
+/// A store, which tells nothing.
+pub(crate) struct Stores<J: Plan> {
+    of: PhantomData<J>,
+}
+
+impl<E: Edition, J: Plan> Play<Copy<E>, View> for Stores<J> {
+    ghost use Rattle.std.specs.Prelude.{ℕ};
+    ghost use Rattle.epoch_rule.specs.Touches.{touched};
+
+    ghost then = { λ st m r w. (old : ℕ) × touched J.actor J.event J.place J.touch m old w };
+}
+
+/// A compare-exchange, which shows its event where it stands.
+pub(crate) struct Tries<J: Plan> {
+    of: PhantomData<J>,
+}
+
+impl<E: Edition, J: Plan> Play<Copy<E>, View> for Tries<J> {
+    ghost use Rattle.std.specs.Prelude.{◌≡◌, ◌==◌, MatchBool};
+    ghost use Rattle.epoch_rule.specs.Touches.{touched};
+
+    ghost then = { λ st m r w. MatchBool (r == st.first) (touched J.actor J.event J.place J.touch m r w) (w ≡ m) };
+}
+
+pub(crate) fn load_as<E: Edition + Drop, J: Plan>(
+    top: &Top<E>,
+    chair: &mut Chair<E>,
+    index: usize,
+    event: Event,
+    place: &Place,
+) -> u64
+    requires table { (chair.old.table_id ≡ top.now.table_id) × Suits top.now.table_id top.now.key }
+    requires ready { Ready top.now.key chair.old.me.0 J.actor J.event J.place J.touch }
+    requires index { index ≡ top.now.key.passes + 1 + J.touch.word }
+    requires step { J.touch.touch.step ≡ Load }
+    ensures table { chair.new.table_id ≡ chair.old.table_id }
+    ensures told { touched J.actor J.event J.place J.touch chair.old.me result chair.new.me }
+{
+    top.load::<Touches<J>>(chair, index)
+}
+
+pub(crate) fn add_as<E: Edition + Drop, J: Plan>(
+    top: &Top<E>,
+    chair: &mut Chair<E>,
+    index: usize,
+    event: Event,
+    place: &Place,
+) -> u64
+    requires table { (chair.old.table_id ≡ top.now.table_id) × Suits top.now.table_id top.now.key }
+    requires ready { Ready top.now.key chair.old.me.0 J.actor J.event J.place J.touch }
+    requires index { index ≡ top.now.key.passes + 1 + J.touch.word }
+    requires step { J.touch.touch.step ≡ AddOne }
+    ensures table { chair.new.table_id ≡ chair.old.table_id }
+    ensures told { touched J.actor J.event J.place J.touch chair.old.me result chair.new.me }
+{
+    top.fetch_add::<Touches<J>>(chair, index, 1)
+}
+
+pub(crate) fn or_as<E: Edition + Drop, J: Plan>(
+    top: &Top<E>,
+    chair: &mut Chair<E>,
+    index: usize,
+    bits: u64,
+    event: Event,
+    place: &Place,
+) -> u64
+    requires table { (chair.old.table_id ≡ top.now.table_id) × Suits top.now.table_id top.now.key }
+    requires ready { Ready top.now.key chair.old.me.0 J.actor J.event J.place J.touch }
+    requires index { index ≡ top.now.key.passes + 1 + J.touch.word }
+    requires step { J.touch.touch.step ≡ Or bits }
+    ensures table { chair.new.table_id ≡ chair.old.table_id }
+    ensures told { touched J.actor J.event J.place J.touch chair.old.me result chair.new.me }
+{
+    top.fetch_or::<Touches<J>>(chair, index, bits)
+}
+
+pub(crate) fn take_as<E: Edition + Drop, J: Plan>(
+    top: &Top<E>,
+    chair: &mut Chair<E>,
+    index: usize,
+    event: Event,
+    place: &Place,
+) -> u64
+    requires table { (chair.old.table_id ≡ top.now.table_id) × Suits top.now.table_id top.now.key }
+    requires ready { Ready top.now.key chair.old.me.0 J.actor J.event J.place J.touch }
+    requires index { index ≡ top.now.key.passes + 1 + J.touch.word }
+    requires step { J.touch.touch.step ≡ Take }
+    ensures table { chair.new.table_id ≡ chair.old.table_id }
+    ensures told { touched J.actor J.event J.place J.touch chair.old.me result chair.new.me }
+{
+    top.swap::<Touches<J>>(chair, index, 0)
+}
+
+pub(crate) fn store_as<E: Edition + Drop, J: Plan>(
+    top: &Top<E>,
+    chair: &mut Chair<E>,
+    index: usize,
+    value: u64,
+    event: Event,
+    place: &Place,
+)
+    requires table { (chair.old.table_id ≡ top.now.table_id) × Suits top.now.table_id top.now.key }
+    requires ready { Ready top.now.key chair.old.me.0 J.actor J.event J.place J.touch }
+    requires index { index ≡ top.now.key.passes + 1 + J.touch.word }
+    requires step { (n : ℕ) → n < 2 ^ 64 → value % 2 ^ 64 ≡ word_after J.touch.touch.step n }
+    ensures table { chair.new.table_id ≡ chair.old.table_id }
+    ensures told { (old : ℕ) × touched J.actor J.event J.place J.touch chair.old.me old chair.new.me }
+{
+    top.store::<Stores<J>>(chair, index, value);
+}
+
+pub(crate) fn try_as<E: Edition + Drop, J: Plan>(
+    top: &Top<E>,
+    chair: &mut Chair<E>,
+    index: usize,
+    old: u64,
+    new: u64,
+    event: Event,
+    place: &Place,
+) -> u64
+    requires table { (chair.old.table_id ≡ top.now.table_id) × Suits top.now.table_id top.now.key }
+    requires ready { Ready top.now.key chair.old.me.0 J.actor J.event J.place J.touch }
+    requires index { index ≡ top.now.key.passes + 1 + J.touch.word }
+    requires step { new ≡ word_after J.touch.touch.step old }
+    ensures table { chair.new.table_id ≡ chair.old.table_id }
+    ensures told { MatchBool (result == old) (touched J.actor J.event J.place J.touch chair.old.me result chair.new.me) (chair.new.me ≡ chair.old.me) }
+{
+    top.compare_exchange::<Tries<J>>(chair, index, old, new)
+}

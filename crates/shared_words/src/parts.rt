@@ -1,0 +1,60 @@
+// The step on a part of a word.
+ghost use Rattle.std.specs.Prelude.{◌≡◌, ℕ, ◌+◌, ◌*◌, ◌^◌, ◌<◌, ◌≤◌, [], ◌∷◌, length};
+ghost use Rattle.mem_base.specs.declared.access.cells.WordStep.TheVariants as steps;
+ghost use Rattle.mem_base.specs.declared.machine.events.Event.TheVariants as events;
+ghost use Rattle.mem_base.specs.declared.machine.events.Carried.TheVariants.{At};
+ghost use Rattle.mem_base.specs.access.Words.{little_endian};
+ghost use Rattle.mem_base.specs.access.Cells.{cell};
+ghost use Rattle.epoch_rule.specs.declared.touches.Touch.TheVariants.{Look};
+ghost use Rattle.mem_base.specs.machine.Turns.{history_entry};
+ghost use Rattle.epoch_rule.specs.Shown.{Wrote};
+
+use epoch_rule::{Cabinet, Hand, Touch};
+use mem_base::{Edition, Place};
+use std::sync::Wait;
+
+/// The number whose bytes these are, the lowest first.
+fn number(bytes: &[u8]) -> u64
+    requires { length bytes.now ≤ 8 }
+    ensures number { result ≡ little_endian bytes.now }
+    ensures small { result < 256 ^ length bytes.now }
+{
+    match bytes {
+        [] => 0,
+        [byte, rest @ ..] => *byte as u64 + 256 * number(rest),
+    }
+}
+
+/// Replaces so many bytes of the word from byte `first` on. It tries again until its exchange stands.
+pub fn store_part<E: Edition + Drop, H: Hand<E>, R: Wait>(
+    rt: &R,
+    cabinet: &Cabinet<E>,
+    hand: &mut H,
+    place: &Place,
+    word: usize,
+    first: u32,
+    bytes: &[u8],
+)
+    requires own { H.table hand.old ≡ cabinet.now.table.shared.table_id }
+    requires part { (0 < length bytes.now) × (first + length bytes.now ≤ 8) }
+    requires may { H.may hand.old place.now word Look }
+    ensures wrote { (old : ℕ) × Wrote (H.actor hand.old) (H.sizes hand.old) (H.seen hand.old) (history_entry (events.Word (H.actor hand.old) (cell place.now.region word) (steps.Replace first (length bytes.now) (little_endian bytes.now))) (At place.now) old ∷ []) (H.seen hand.new) }
+    ensures stays { H.stays hand.old hand.new }
+{
+    let value = number(bytes);
+    let count = bytes.len() as u32;
+    let mut old = cabinet.touch(hand, place, word, Touch::Look);
+    for _ in rt.forever() {
+        let touch = Touch::Try {
+            old,
+            first,
+            bytes: count,
+            value,
+        };
+        let found = cabinet.touch(hand, place, word, touch);
+        if found == old {
+            break;
+        }
+        old = found;
+    }
+}
