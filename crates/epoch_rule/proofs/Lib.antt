@@ -10,3 +10,5 @@ pub mod Reaching
 pub mod Sweeps
 pub mod Publishes
 pub mod Opens
+pub mod SlotLaws
+pub mod Least

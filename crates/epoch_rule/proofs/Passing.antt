@@ -1,5 +1,5 @@
 -- What a seat's own entries make of its view.
-use Rattle.std.proofs.Common.{◌≡◌, ℕ, ◌+◌, ◌*◌, ◌%◌, ◌<◌, Bool, true, false, List, [], ◌∷◌, ◌++◌, length, sym, ap, ◌∙◌, subst, arith, eq-eqb, if◌then◌else◌, append_assoc, append-nil, Option, Some, None}
+use Rattle.std.proofs.Common.{◌≡◌, ℕ, ◌+◌, ◌*◌, ◌%◌, ◌<◌, Bool, true, false, List, [], ◌∷◌, ◌++◌, length, sym, refl, ap, ◌∙◌, subst, arith, eq-eqb, if◌then◌else◌, append_assoc, append-nil, Option, Some, None}
 use mathlib.Core.List.{IsPrefix}
 use base.Growing.{prefix_trans}
 use Rattle.std.specs.Arc.{arc_value}
@@ -25,6 +25,8 @@ use Rattle.mem_base.specs.machine.Actors.{actor_of, own_entries, pass_after_all,
 use Rattle.epoch_rule.specs.Ruled.{state_of, Lawful, pass_seen, generations_seen, IsRoomy, Adds}
 use Rattle.epoch_rule.specs.Copies.{Suits, shown_by, IsCopy, StandsIn, Stands, value_in}
 use Rattle.epoch_rule.proofs.Histories.{own_append, pass_by_append, generations_by_append, published_append, legal_start, last_reply}
+use Rattle.mem_base.specs.machine.Histories.{last_of}
+use Rattle.epoch_rule.specs.Wrote.{EndsWith}
 use Rattle.history_laws.proofs.NumberLaws.{sound}
 use Rattle.epoch_rule.proofs.Moving.{generation_stays, published_more}
 
@@ -35,6 +37,15 @@ own_added a v e x r w mine h = ap (own_entries a) h.seen ∙ (own_append a (v.se
 
 pub begins_added : (a : ℕ) (v : View) (e : Event) (x : Carried) (r : ℕ) (w : View) → Adds a v e x r w → IsPrefix v.seen w.seen
 begins_added a v e x r w h = (h.between ++ history_entry e x r ∷ [], sym (append_assoc v.seen h.between (history_entry e x r ∷ [])) ∙ sym h.seen)
+
+-- the last of a list
+last_snoc : (xs : List HistoryEntry) (y : HistoryEntry) → last_of (xs ++ y ∷ []) ≡ Some y
+last_snoc [] y = refl
+last_snoc (x ∷ []) y = refl
+last_snoc (x ∷ u ∷ xs) y = last_snoc (u ∷ xs) y
+
+pub ends_added : (a : ℕ) (v : View) (e : Event) (x : Carried) (r : ℕ) (w : View) → Adds a v e x r w → (before : List HistoryEntry) → EndsWith (before ++ history_entry e x r ∷ []) w.seen
+ends_added a v e x r w h before y is = ap last_of h.seen ∙ (last_snoc (v.seen ++ h.between) (history_entry e x r) ∙ (sym (last_snoc before (history_entry e x r)) ∙ is))
 
 pub pass_added : (p : ℕ) (v : View) (e : Event) (x : Carried) (r : ℕ) (w : View) → actor_of e ≡ p + 1 → Adds (p + 1) v e x r w → pass_seen p w ≡ pass_after (pass_seen p v) e r
 pass_added p v e x r w mine h = ap (pass_after_all idle) (own_added (p + 1) v e x r w mine h) ∙ pass_by_append (own_entries (p + 1) v.seen) (history_entry e x r ∷ []) idle

@@ -25,15 +25,15 @@ use Rattle.mem_base.specs.machine.Passes.{pass_id}
 use Rattle.mem_base.specs.machine.Actors.{own_entries, generations_after_all}
 use Rattle.epoch_rule.specs.Ruled.{Lawful, generations_seen, carried_pick, HoldsOn, Adds}
 use Rattle.epoch_rule.specs.Copies.{picked}
-use Rattle.epoch_rule.specs.Shown.{Wrote}
+use Rattle.epoch_rule.specs.Wrote.{Wrote, EndsWith}
 use Rattle.epoch_rule.specs.Writing.{IsWriting, stored}
 use Rattle.epoch_rule.specs.Calls.{sweeps_of, Writes, Sweeping, Placing, AreCopies, held_in, least_in, refusal_of}
 use Rattle.history_laws.proofs.NumberLaws.{none_placed}
 use Rattle.epoch_rule.proofs.Passing.{generations_added, suits_on}
 use Rattle.epoch_rule.proofs.Sweeps.{found_pin, sweeping_current, all_free, placing_generations, places_current, places_done, places_stored, unplaced_stored, all_from, writes_generations}
 
-pub wrote_of : (v : View) (es : List HistoryEntry) (w : View) → Writes v es w → Wrote hands.Writer v.sizes v.seen es w.seen
-wrote_of v es w h = record { begins = h.begins; lawful = h.lawful; events = h.events }
+pub wrote_of : (v : View) (es : List HistoryEntry) (w : View) → Writes v es w → EndsWith es w.seen → Wrote hands.Writer v.sizes v.seen es w.seen
+wrote_of v es w h ends = record { begins = h.begins; lawful = h.lawful; events = h.events; ends = ends }
 
 pub writes_both : (v : View) (es : List HistoryEntry) (w : View) (fs : List HistoryEntry) (u : View) → Writes v es w → Writes w fs u → Writes v (es ++ fs) u
 writes_both v es w fs u h k = record {

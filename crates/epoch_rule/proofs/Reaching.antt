@@ -34,7 +34,8 @@ use Rattle.mem_base.specs.machine.Actors.{actor_of, actor_of_hand, own_entries, 
 use Rattle.epoch_rule.specs.Ruled.{state_of, Lawful, pass_seen, generations_seen, Adds, HoldsOn}
 use Rattle.epoch_rule.specs.Copies.{shown_by, StandsIn}
 use Rattle.epoch_rule.specs.Touches.{Touching, IsReady, IsTouch, Told, ToldStep, event_of, touch_at}
-use Rattle.epoch_rule.specs.Shown.{Wrote, PassMay, WriterMay, ShownStep, Shown}
+use Rattle.epoch_rule.specs.Wrote.{Wrote}
+use Rattle.epoch_rule.specs.Shown.{PassMay, WriterMay, ShownStep, Shown}
 use Rattle.atomic_table.specs.Seated.{TableId}
 use Rattle.atomic_table.specs.Table.{Me}
 use Rattle.epoch_rule.specs.declared.writers.Found.{Found}
@@ -43,7 +44,7 @@ use Rattle.view_laws.proofs.Tests.{both, both_of, or_left, or_right}
 use Rattle.epoch_rule.proofs.Histories.{pass_owns}
 use Rattle.history_laws.proofs.NumberLaws.{sound}
 use Rattle.epoch_rule.proofs.Moving.{generation_stays}
-use Rattle.epoch_rule.proofs.Passing.{own_added, begins_added, pass_added, generations_added, suits_on}
+use Rattle.epoch_rule.proofs.Passing.{own_added, begins_added, ends_added, pass_added, generations_added, suits_on}
 use Rattle.epoch_rule.proofs.Touching.{entered_is}
 
 all_same : (p q : Place) → is_same_place p q ≡ true → q ≡ p
@@ -158,7 +159,7 @@ ready_writer z v at word touch role kind may = record {
 -- what a touch told, as the caller sees it
 
 wrote : (hand : Hand) (v : View) (e : Event) (p : Place) (r : ℕ) (w : View) → actor_of e ≡ actor_of_hand hand → Adds (actor_of_hand hand) v e (At p) r w → Wrote hand v.sizes v.seen (history_entry e (At p) r ∷ []) w.seen
-wrote hand v e p r w mine h = record { begins = begins_added (actor_of_hand hand) v e (At p) r w h; lawful = h.lawful; events = own_added (actor_of_hand hand) v e (At p) r w mine h }
+wrote hand v e p r w mine h = record { begins = begins_added (actor_of_hand hand) v e (At p) r w h; lawful = h.lawful; events = own_added (actor_of_hand hand) v e (At p) r w mine h; ends = ends_added (actor_of_hand hand) v e (At p) r w h [] }
 
 shown_step : (hand : Hand) (p : Place) (word : ℕ) (s : WordStep) (v : View) (r : ℕ) (w : View) → ToldStep hand p word s v r w → ShownStep hand v.sizes p word s v.seen r w.seen
 shown_step hand p word steps.Load v r w h = wrote hand v _ p r w refl h

@@ -22,7 +22,8 @@ use Rattle.epoch_rule.specs.declared.views.View.{View}
 use Rattle.mem_base.specs.machine.Passes.{idle}
 use Rattle.mem_base.specs.machine.Actors.{own_entries, actor_of, pass_after_all}
 use Rattle.epoch_rule.specs.Ruled.{Lawful, pass_seen, Fits, Ruled}
-use Rattle.epoch_rule.specs.Plays.{longer, noted, nobody, informed, first_free, less_one, next_pass, taken_in, settles}
+use Rattle.epoch_rule.specs.Wrote.{longer}
+use Rattle.epoch_rule.specs.Plays.{noted, nobody, informed, first_free, less_one, next_pass, taken_in, settles}
 use Rattle.view_laws.proofs.Tests.{none_is_no_number, same_number}
 use Rattle.epoch_rule.proofs.Histories.{own_append, legal_start}
 

@@ -31,7 +31,8 @@ use Rattle.epoch_rule.specs.declared.views.Picked.{Picked}
 use Rattle.epoch_rule.specs.Calls.{sweeps_of, places_of, Writes, Sweeping, Placing, AreCopies, held_in}
 use Rattle.view_laws.proofs.Tests.{none_is_no_number, same_number, none_is_not_some, both}
 use Rattle.epoch_rule.proofs.Histories.{generations_by_append}
-use Rattle.epoch_rule.proofs.Passing.{own_added, begins_added, generations_added}
+use Rattle.epoch_rule.specs.Wrote.{EndsWith}
+use Rattle.epoch_rule.proofs.Passing.{own_added, begins_added, ends_added, generations_added}
 
 pub no_sweep : Found
 no_sweep = record { word = 0; lowest = 0 }
@@ -75,7 +76,7 @@ writes_more v es w e x r u mine h a = record {
 }
 
 pub sweeping_first : (v : View) (known : List Found) → Lawful v.sizes v.seen → known ≡ map stored (generations_seen v).passes → Sweeping v v known 0
-sweeping_first v known l is = record { rs = []; many = refl; writes = writes_nothing v l; holds = (refl, refl); is_known = is }
+sweeping_first v known l is = record { rs = []; many = refl; writes = writes_nothing v l; ends = λ x none. none_is_not_some x none; holds = (refl, refl); is_known = is }
 
 pub sweeping_current : (v w : View) (known : List Found) (n : ℕ) → Sweeping v w known n → ((generations_seen w).current ≡ (generations_seen v).current) × (length (generations_seen w).passes ≡ length (generations_seen v).passes)
 sweeping_current v w known n s = let h = sweeps_current s.rs 0 (generations_seen v) in let e = writes_generations v (sweeps_of 0 s.rs) w s.writes in
@@ -92,6 +93,8 @@ sweeping_next v w u known known' n r f s a holds is set_is =
       many = length-append s.rs (r ∷ []) ∙ ap (λ (m : ℕ). m + 1) s.many;
       writes = subst (λ l. Writes v l u) (ap (λ (m : ℕ). sweeps_of 0 s.rs ++ history_entry (events.Sweep (pass_id m)) Nothing r ∷ []) (sym s.many ∙ omega arith) ∙ sym (sweeps_snoc s.rs 0 r))
           (writes_more v (sweeps_of 0 s.rs) w (events.Sweep (pass_id n)) Nothing r u refl s.writes a);
+      ends = subst (λ l. EndsWith l u.seen) (ap (λ (m : ℕ). sweeps_of 0 s.rs ++ history_entry (events.Sweep (pass_id m)) Nothing r ∷ []) (sym s.many ∙ omega arith) ∙ sym (sweeps_snoc s.rs 0 r))
+          (ends_added 0 w (events.Sweep (pass_id n)) Nothing r u a (sweeps_of 0 s.rs));
       holds = (holds.0 ∙ s.holds.0, holds.1 ∙ s.holds.1);
       is_known = set_is ∙ ((λ i. set (s.is_known i) n ((is ∙ ap (λ (c : ℕ). stored (known_after_sweep c (known_of g (pass_id n)) r)) (sym now)) i)) ∙ (sym (map_set stored g.passes n k) ∙ ap (λ (h : Generations). map stored h.passes) (sym after)));
     }

@@ -1,8 +1,9 @@
 -- The writer's calls that make an event for each pass.
-use Rattle.std.specs.Prelude.{◌≡◌, ℕ, zero, suc, ◌+◌, ◌-◌, ◌<◌, min, if◌then◌else◌, List, [], ◌∷◌, ◌++◌, length, map, Option, Some, None}
+use Rattle.std.specs.Prelude.{◌≡◌, ◌≢◌, ◌==◌, ℕ, zero, suc, ◌+◌, ◌-◌, ◌<◌, min, if◌then◌else◌, List, [], ◌∷◌, ◌++◌, length, map, Option, Some, None}
 use mathlib.Core.List.{IsPrefix}
 use Rattle.std.specs.Arc.{arc_value}
 use Rattle.std.specs.declared.sync.Arc.{Arc}
+use Rattle.mem_base.specs.declared.map.ids.PassId.{PassId}
 use Rattle.mem_base.specs.declared.map.forests.Forest.{Forest}
 use Rattle.mem_base.specs.declared.access.cells.Place.{Place}
 use Rattle.mem_base.specs.lists.Every.{Every}
@@ -11,13 +12,13 @@ use Rattle.epoch_rule.specs.Copies.{picked}
 use Rattle.mem_base.specs.declared.machine.events.Event.TheVariants as events
 use Rattle.mem_base.specs.declared.machine.events.Carried.TheVariants.{Nothing}
 use Rattle.mem_base.specs.declared.machine.events.HistoryEntry.{HistoryEntry}
-use Rattle.mem_base.specs.machine.Generations.{Generations, number_pinned, first_generations}
+use Rattle.mem_base.specs.machine.Generations.{Generations, known_of, number_pinned, first_generations}
 use Rattle.mem_base.specs.declared.map.refusals.Refusal.{Refusal}
 use Rattle.mem_base.specs.declared.map.refusals.Refusal.TheVariants as refusals
 use Rattle.mem_base.specs.declared.machine.events.Hand.TheVariants as hands
 use Rattle.mem_base.specs.declared.machine.events.Carried.{Carried}
 use Rattle.mem_base.specs.machine.Publishing.{holds_up, held_up}
-use Rattle.epoch_rule.specs.Shown.{Wrote}
+use Rattle.epoch_rule.specs.Wrote.{Wrote, EndsWith}
 use Rattle.epoch_rule.specs.declared.views.Sizes.{Sizes}
 use Rattle.epoch_rule.specs.declared.views.View.{View}
 use Rattle.epoch_rule.specs.declared.writers.Found.{Found}
@@ -56,6 +57,7 @@ pub record Sweeping (v w : View) (known : List Found) (n : ℕ) : Type 0 where
   pub rs : List ℕ
   pub many : length rs ≡ n
   pub writes : Writes v (sweeps_of 0 rs) w
+  pub ends : EndsWith (sweeps_of 0 rs) w.seen
   pub holds : HoldsOn v w
   pub is_known : known ≡ map stored (generations_seen w).passes
 
@@ -74,11 +76,6 @@ pub record Placing (v w : View) (next : Picked) (n : ℕ) : Type 0 where
   pub free : w.held ≡ 0
   pub is_next : 0 < n → w.next ≡ next
 
--- what a caller sees of a batch: an edition, and how many copies of it
-pub record BatchValue (E : Type 0) : Type 0 where
-  pub edition : E
-  pub copies : ℕ
-
 -- the name of a refusal for what holds a publish up
 abbrev pub refusal_of : Held → Refusal
 refusal_of h = refusals.Held h.pass h.number
@@ -91,6 +88,17 @@ Published z xs x number ys = (rs : List ℕ) × (length rs ≡ z.passes) × Wrot
 -- it was held up: a sweep of each pass, and then the least pass that was found too far behind
 abbrev pub HeldUp : Sizes → List HistoryEntry → Held → List HistoryEntry → Type 0
 HeldUp z xs h ys = (rs : List ℕ) × (length rs ≡ z.passes) × Wrote hands.Writer z xs (sweeps_of 0 rs) ys × (held_up (generations_in_seen z ys) ≡ Some (refusal_of h))
+
+-- the pass is the least one that has this lowest number
+pub record IsLeastPassAt (g : Generations) (lowest : ℕ) (pass : PassId) : Type 0 where
+  pub inside : pass.0 < length g.passes
+  pub has : (known_of g pass).lowest ≡ lowest
+  pub least : (v : ℕ) → v < pass.0 → (known_of g (pass_id v)).lowest ≢ lowest
+
+-- the first of those stored with this lowest number; their count where none has it
+abbrev pub first_at : ℕ → List Found → ℕ
+first_at lowest [] = 0
+first_at lowest (f ∷ fs) = if f.lowest == lowest then 0 else suc (first_at lowest fs)
 
 -- the least number stored, or the current one
 abbrev pub least_in : ℕ → List Found → ℕ

@@ -47,30 +47,10 @@ Stands number forest places p me (Some a) = StandsIn number forest places p me.0
 abbrev pub picked : {E : Type 0} → (E → Forest) → (E → List Place) → E → Picked
 picked forest places e = record { forest = forest e; places = places e }
 
--- what a caller sees of a pass
-pub record PassValue (E : Type 0) : Type 0 where
-  pub table : TableId
-  pub number : ℕ
-  pub sizes : Sizes
-  pub seen : List HistoryEntry
-  pub edition : Option E
-
+-- the edition of a pass, as a caller sees it
 abbrev pub value_in : {E Z : Type 0} → Option (Arc E Z) → Option E
 value_in None = None
 value_in (Some a) = Some (arc_value a)
-
--- the pass's own entries grew by these, and it has forgotten nothing
-pub record Made {E : Type 0} (v : PassValue E) (es : List HistoryEntry) (w : PassValue E) : Type 0 where
-  pub table : w.table ≡ v.table
-  pub number : w.number ≡ v.number
-  pub sizes : w.sizes ≡ v.sizes
-  pub begins : IsPrefix v.seen w.seen
-  pub lawful : Lawful v.sizes w.seen
-  pub events : own_entries (v.number + 1) w.seen ≡ own_entries (v.number + 1) v.seen ++ es
-
-pub record NoteValue : Type 0 where
-  pub table : TableId
-  pub seen : List HistoryEntry
 
 -- the writer has given back the slot, with a copy of what it picked
 abbrev pub placed_as : {E Z : Type 0} → (E → Forest) → (E → List Place) → Step (Option (Arc E Z)) → Me (Option (Arc E Z)) View → ℕ → Me (Option (Arc E Z)) View → Type 0

@@ -1,9 +1,12 @@
 pub mod Ruled
+pub mod Copies
+pub mod Values
+pub mod Wrote
 pub mod Plays
 pub mod Touches
-pub mod Copies
 pub mod Shown
 pub mod Writing
 pub mod Calls
 pub mod Opening
 pub mod Closing
+pub mod SlotLaw

@@ -14,6 +14,7 @@ use Rattle.epoch_rule.specs.declared.views.Picked.{Picked}
 use Rattle.epoch_rule.specs.declared.views.View.{View}
 use Rattle.mem_base.specs.machine.Passes.{pass_id}
 use Rattle.mem_base.specs.machine.Actors.{own_entries, generation_published}
+use Rattle.epoch_rule.specs.Wrote.{longer}
 use Rattle.epoch_rule.specs.Ruled.{Lawful, carried_pick, generations_seen, pass_seen, IsRoomy, Adds, HoldsOn}
 
 module _ {S : Type 0} (Copy : ℕ → Generation → S → Type 0) where
@@ -48,10 +49,6 @@ module _ {S : Type 0} (Copy : ℕ → Generation → S → Type 0) where
 
   abbrev pub publishes : Step S → Me S View → ℕ → Me S View → Type 0
   publishes st m r w = (w.1 ≡ m.1) × HoldsOn m.0 w.0 × Adds 0 m.0 events.Publish (carried_pick m.0.next) r w.0
-
--- the longer of two beginnings of one history
-abbrev pub longer : List HistoryEntry → List HistoryEntry → List HistoryEntry
-longer xs ys = if nat_lt (length xs) (length ys) then ys else xs
 
 -- the view of a note, and of a seat that is spent
 abbrev pub noted : View → View

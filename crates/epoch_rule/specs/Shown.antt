@@ -17,14 +17,8 @@ use Rattle.epoch_rule.specs.declared.touches.Touch.{Touch}
 use Rattle.epoch_rule.specs.declared.touches.Touch.TheVariants as touches
 use Rattle.mem_base.specs.machine.Turns.{history_entry}
 use Rattle.mem_base.specs.machine.Actors.{own_entries, actor_of_hand}
-use Rattle.epoch_rule.specs.Ruled.{Lawful}
+use Rattle.epoch_rule.specs.Wrote.{Wrote}
 use Rattle.epoch_rule.specs.Touches.{pass_of_hand}
-
--- an actor's own entries grew by these, and it has forgotten nothing
-pub record Wrote (hand : Hand) (z : Sizes) (xs es ys : List HistoryEntry) : Type 0 where
-  pub begins : IsPrefix xs ys
-  pub lawful : Lawful z ys
-  pub events : own_entries (actor_of_hand hand) ys ≡ own_entries (actor_of_hand hand) xs ++ es
 
 -- what a pass may touch: a word of the data, a register or a notifier, or for a Mark a page of the place
 abbrev pub IsReach : Place → ℕ → Touch → Type 0

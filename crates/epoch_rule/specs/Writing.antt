@@ -1,4 +1,4 @@
--- What the writer's seat is to its owner and to its caller.
+-- What is kept in the writer's seat.
 use Rattle.std.specs.Prelude.{◌≡◌, ℕ, false, List, [], length, map, Bool, Some}
 use Rattle.atomic_table.specs.Seated.{TableId}
 use Rattle.atomic_table.specs.Table.{Me}
@@ -28,10 +28,3 @@ pub record IsWriting {S : Type 0} (t : TableId) (me : Me S View) (current : ℕ)
   pub is_out : out ≡ me.0.out
   pub outs : length out ≡ me.0.sizes.passes
   pub lawful : Lawful me.0.sizes me.0.seen
-
--- what a caller sees of the writer's seat
-pub record WriterValue : Type 0 where
-  pub table : TableId
-  pub sizes : Sizes
-  pub seen : List HistoryEntry
-  pub out : List Bool

@@ -18,7 +18,7 @@ impl<E: Edition + Drop> Model for Batch<E> {
     ghost use Rattle.std.specs.Prelude.{◌≡◌, length};
     ghost use Rattle.std.specs.Arc.{arc_value};
     ghost use Rattle.mem_base.specs.lists.Every.{Every};
-    ghost use Rattle.epoch_rule.specs.Calls.{BatchValue};
+    ghost use Rattle.epoch_rule.specs.Values.{BatchValue};
 
     ghost Value = { BatchValue E };
 
@@ -28,7 +28,7 @@ impl<E: Edition + Drop> Model for Batch<E> {
 }
 
 impl<E: Edition + Drop> Batch<E> {
-    /// So many copies of an edition.
+    /// A batch of `copies` copies of an edition, or out of memory.
     pub fn new(alloc: Global, next: &Arc<E, Global>, copies: u32) -> Result<Batch<E>, AllocError>
         ensures { IfOk result (λ b. (b.edition ≡ arc_value next.now) × (b.copies ≡ copies)) }
     {

@@ -1,17 +1,17 @@
 // The cabinet, and the calls of a pass.
-ghost use Rattle.std.specs.Prelude.{◌≡◌, ℕ, ◌+◌, ◌*◌, ◌≤◌, ◌<◌, ◌^◌, [], ◌∷◌, ◌++◌, length, Some, None, MatchBool};
+ghost use Rattle.std.specs.Prelude.{◌≡◌, ℕ, ◌≤◌, [], ◌∷◌, Some, None, MatchBool};
 ghost use Rattle.mem_base.specs.declared.machine.events.Event.TheVariants.{Look, Announce, Enter, Leave};
 ghost use Rattle.mem_base.specs.declared.machine.events.Carried.TheVariants.{Nothing};
-ghost use Rattle.mem_base.specs.machine.Turns.{history_entry};
 ghost use Rattle.mem_base.specs.machine.Passes.{pass_id};
-ghost use Rattle.mem_base.specs.machine.Actors.{generations_published, generation_published};
-ghost use Rattle.epoch_rule.specs.Plays.{longer};
-ghost use Rattle.epoch_rule.specs.Copies.{Made, Suits, shown_by};
+ghost use Rattle.mem_base.specs.machine.Turns.{history_entry};
+ghost use Rattle.mem_base.specs.machine.Actors.{number_seen, generation_published};
+ghost use Rattle.epoch_rule.specs.Copies.{shown_by};
+ghost use Rattle.epoch_rule.specs.Wrote.{Made, longer};
 ghost use Rattle.epoch_rule.specs.Touches.{IsTouch};
 ghost use Rattle.epoch_rule.specs.Shown.{Shown};
 ghost use mathlib.Core.List.{IsPrefix};
 
-use crate::board::{Announces, Copy, Enters, Law, Leaves, Looks, Meets, Settles, Tells};
+use crate::board::{Announces, Enters, Law, Leaves, Looks, Meets, Settles, Slot, Tells};
 use crate::hands::Hand;
 use crate::passes::{Note, Pass};
 use crate::touches::Touch;
@@ -19,59 +19,68 @@ use crate::views::{Sizes, View};
 use atomic_table::Table;
 use mem_base::{Edition, Place};
 use std::alloc::Global;
+use std::marker::Model;
 
-/// The words and slots that the passes and the writer share.
+/// The words and slots that the passes and the writer share. Contracts see which cabinet it is, and its sizes.
 #[derive(Drop)]
 pub struct Cabinet<E: Edition + Drop> {
-    pub table: Table<Copy<E>, View, Sizes, Law, Global>,
+    pub(crate) table: Table<Slot<E>, View, Sizes, Law, Global>,
     pub(crate) passes: u32,
-    ghost suits: { Suits table.shared.table_id table.shared.key },
-    ghost some: { 0 < table.shared.key.passes },
-    ghost few: { (table.shared.key.passes < 2 ^ 32) × (table.shared.key.words < 2 ^ 32) },
-    ghost counts: { passes ≡ table.shared.key.passes },
+}
+
+impl<E: Edition + Drop> Model for Cabinet<E> {
+    ghost use Rattle.epoch_rule.specs.Values.{CabinetValue, IsCabinet};
+
+    ghost Value = { CabinetValue };
+
+    ghost view = { λ c. record { id = c.table.shared.table_id; sizes = c.table.shared.key } };
+
+    ghost invariant = { λ c. IsCabinet c.table.shared.table_id c.table.shared.key c.passes };
 }
 
 impl<E: Edition + Drop> Cabinet<E> {
-    /// Enters the generation that is current at the call's Enter, and answers its number.
+    /// Enters the generation that is current at the call's last step, and answers its number, which is at least every
+    /// number that the pass had seen. The pass must be of this cabinet, and not entered.
     pub fn enter(&self, pass: &mut Pass<E>) -> u64
-        requires own { pass.old.table ≡ self.now.table.shared.table_id }
+        requires own { pass.old.cabinet ≡ self.now.id }
         requires out { pass.old.edition ≡ None }
-        ensures events { (q : ℕ) × Made pass.old (history_entry (Look (pass_id pass.old.number)) Nothing q ∷ history_entry (Announce (pass_id pass.old.number)) Nothing 0 ∷ history_entry (Enter (pass_id pass.old.number)) Nothing result ∷ []) pass.new }
-        ensures current { length (generations_published pass.new.seen) ≡ result + 1 }
-        ensures newest { length (generations_published pass.old.seen) ≤ result + 1 }
+        ensures events { (looked : ℕ) × Made pass.old (history_entry (Look (pass_id pass.old.number)) Nothing looked ∷ history_entry (Announce (pass_id pass.old.number)) Nothing 0 ∷ history_entry (Enter (pass_id pass.old.number)) Nothing result ∷ []) pass.new }
+        ensures current { result ≡ number_seen pass.new.seen }
+        ensures newest { number_seen pass.old.seen ≤ result }
         ensures edition { (e : E) × (pass.new.edition ≡ Some e) × (E.counted e ≡ result) × (shown_by E.forest E.places e ≡ generation_published pass.new.seen result) }
     {
-        let top = &self.table.shared;
-        let looked = top.load::<Looks>(&mut pass.chair, 0);
-        top.store::<Announces>(&mut pass.chair, pass.number as usize + 1, looked + 1);
-        let number = top.load::<Enters>(&mut pass.chair, 0);
+        let shared = &self.table.shared;
+        let looked = shared.load::<Looks>(&mut pass.seat, 0);
+        shared.store::<Announces>(&mut pass.seat, pass.number as usize + 1, looked + 1);
+        let number = shared.load::<Enters>(&mut pass.seat, 0);
         let slot = 8 * pass.number as usize + (number % 8) as usize;
-        pass.edition = top.exchange(&mut pass.chair, slot, None);
+        pass.edition = shared.exchange(&mut pass.seat, slot, None);
         number
     }
 
-    /// Leaves the generation that the pass is entered in.
+    /// Leaves the generation that the pass is entered in. The pass must be of this cabinet, and entered.
     pub fn leave(&self, pass: &mut Pass<E>)
-        requires own { pass.old.table ≡ self.now.table.shared.table_id }
+        requires own { pass.old.cabinet ≡ self.now.id }
         requires entered { (e : E) × (pass.old.edition ≡ Some e) }
         ensures events { Made pass.old (history_entry (Leave (pass_id pass.old.number)) Nothing 0 ∷ []) pass.new }
         ensures out { pass.new.edition ≡ None }
     {
-        let top = &self.table.shared;
+        let shared = &self.table.shared;
         if let Some(edition) = pass.edition.take() {
             let slot = 8 * pass.number as usize + (edition.number() % 8) as usize;
-            top.exchange(&mut pass.chair, slot, Some(edition));
-            top.store::<Leaves>(&mut pass.chair, pass.number as usize + 1, 0);
+            shared.exchange(&mut pass.seat, slot, Some(edition));
+            shared.store::<Leaves>(&mut pass.seat, pass.number as usize + 1, 0);
         }
     }
 
+    /// Whether the pass is entered in a generation.
     pub fn entered(&self, pass: &Pass<E>) -> bool
         ensures { MatchBool result ((e : E) × (pass.now.edition ≡ Some e)) (pass.now.edition ≡ None) }
     {
         pass.edition.is_some()
     }
 
-    /// The edition that the pass is entered in.
+    /// The edition that the pass is entered in. The pass must be entered.
     pub fn generation<'a>(&self, pass: &'a Pass<E>) -> &'a E
         requires { (e : E) × (pass.now.edition ≡ Some e) }
         ensures { pass.now.edition ≡ Some result.now }
@@ -82,34 +91,37 @@ impl<E: Edition + Drop> Cabinet<E> {
         }
     }
 
-    /// A note of what the pass has seen.
+    /// A note of what the pass has seen, for the writer to hear. The pass may be entered.
     pub fn tell(&self, pass: &mut Pass<E>) -> Note<E>
-        requires { pass.old.table ≡ self.now.table.shared.table_id }
+        requires own { pass.old.cabinet ≡ self.now.id }
         ensures same { pass.new ≡ pass.old }
-        ensures note { (result.table ≡ pass.old.table) × (result.seen ≡ pass.old.seen) }
+        ensures note { (result.cabinet ≡ pass.old.cabinet) × (result.seen ≡ pass.old.seen) }
     {
         Note {
-            chair: self.table.shared.split_seat::<Tells>(&mut pass.chair),
+            seat: self.table.shared.split_seat::<Tells>(&mut pass.seat),
         }
     }
 
-    /// The pass has then seen what the note tells of, too.
+    /// The pass has then seen all that the note tells of. It may be entered, and then stays in its generation; the next
+    /// one that it enters is no older than the note.
     pub fn meet(&self, pass: &mut Pass<E>, note: Note<E>)
-        requires { (pass.old.table ≡ self.now.table.shared.table_id) × (note.table ≡ pass.old.table) }
+        requires own { (pass.old.cabinet ≡ self.now.id) × (note.cabinet ≡ self.now.id) }
         ensures longer { pass.new.seen ≡ longer pass.old.seen note.seen }
         ensures seen { IsPrefix note.seen pass.new.seen }
         ensures events { Made pass.old [] pass.new }
         ensures edition { pass.new.edition ≡ pass.old.edition }
     {
-        let top = &self.table.shared;
-        let Note { chair } = note;
-        top.join_seat::<Meets>(&mut pass.chair, chair);
-        top.load::<Settles>(&mut pass.chair, 0);
+        let shared = &self.table.shared;
+        let Note { seat } = note;
+        shared.join_seat::<Meets>(&mut pass.seat, seat);
+        shared.load::<Settles>(&mut pass.seat, 0);
     }
 
-    /// One atomic step on a word of a place: the value that the word had, or 0 where the step is a store.
+    /// One atomic step on word `word` of a place, by a pass or the writer: the value that the word had, or 0 where the step
+    /// is a store. A pass may step on the data, registers and notifiers of the places that its generation carries, and the
+    /// writer on all words of a place that ends within the cabinet's words.
     pub fn touch<H: Hand<E>>(&self, hand: &mut H, place: &Place, word: usize, touch: Touch) -> u64
-        requires own { H.table hand.old ≡ self.now.table.shared.table_id }
+        requires own { H.made_by hand.old ≡ self.now.id }
         requires kind { IsTouch (H.actor hand.old) place.now word touch }
         requires may { H.may hand.old place.now word touch }
         ensures shown { Shown (H.actor hand.old) (H.sizes hand.old) place.now word touch (H.seen hand.old) result (H.seen hand.new) }

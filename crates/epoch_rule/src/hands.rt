@@ -19,11 +19,12 @@ use crate::touches::{Touch, touch_word};
 use crate::writers::WriterSeat;
 use mem_base::{Edition, Hand as Actor, PassId, Place};
 
-/// A pass or the writer.
+/// Who may touch the cabinet's words: `Pass` and `WriterSeat`, and no others.
 pub trait Hand<E: Edition + Drop> {
-    /// The cabinet's table.
-    ghost table: { Self → TableId };
+    /// The cabinet that made it.
+    ghost made_by: { Self → TableId };
 
+    /// How many passes and words that cabinet has.
     ghost sizes: { Self → Sizes };
 
     /// Who it is.
@@ -32,22 +33,24 @@ pub trait Hand<E: Edition + Drop> {
     /// What it has seen of the history.
     ghost seen: { Self → List HistoryEntry };
 
-    /// It may touch such a word so.
+    /// It may touch this word of a place in this way.
     ghost may: { Self → Place → ℕ → Touch → Type 0 };
 
     /// All but what was seen is as it was.
     ghost stays: { Self → Self → Type 0 };
 
+    /// The step of `Cabinet::touch`.
     fn touch_in(&mut self, cabinet: &Cabinet<E>, place: &Place, word: usize, touch: Touch) -> u64
-        requires own { table self.old ≡ cabinet.now.table.shared.table_id }
+        requires own { made_by self.old ≡ cabinet.now.id }
         requires kind { IsTouch (actor self.old) place.now word touch }
         requires may { may self.old place.now word touch }
         ensures shown { Shown (actor self.old) (sizes self.old) place.now word touch (seen self.old) result (seen self.new) }
         ensures stays { stays self.old self.new };
 
     /// Where all but what was seen is as it was, it may do what it might.
-    ghost lasts: { (x y : Self) → stays x y → (table y ≡ table x) × (sizes y ≡ sizes x) × (actor y ≡ actor x) × ((p : Place) (word : ℕ) (t : Touch) → may x p word t → may y p word t) };
+    ghost lasts: { (x y : Self) → stays x y → (made_by y ≡ made_by x) × (sizes y ≡ sizes x) × (actor y ≡ actor x) × ((p : Place) (word : ℕ) (t : Touch) → may x p word t → may y p word t) };
 
+    /// What stays over two calls stays over both.
     ghost joins: { (x y z : Self) → stays x y → stays y z → stays x z };
 
     /// Who may look at a word may try to replace bytes of it.
@@ -55,7 +58,7 @@ pub trait Hand<E: Edition + Drop> {
 }
 
 impl<E: Edition + Drop> Hand<E> for Pass<E> {
-    ghost table = { λ p. p.table };
+    ghost made_by = { λ p. p.cabinet };
 
     ghost sizes = { λ p. p.sizes };
 
@@ -65,7 +68,7 @@ impl<E: Edition + Drop> Hand<E> for Pass<E> {
 
     ghost may = { λ p place word touch. (e : E) × (p.edition ≡ Some e) × PassMay (E.places e) place word touch };
 
-    ghost stays = { λ p q. (q.table ≡ p.table) × (q.number ≡ p.number) × (q.sizes ≡ p.sizes) × (q.edition ≡ p.edition) };
+    ghost stays = { λ p q. (q.cabinet ≡ p.cabinet) × (q.number ≡ p.number) × (q.sizes ≡ p.sizes) × (q.edition ≡ p.edition) };
 
     ghost lasts = { λ x y s. (s.0, s.2, ap (λ n. Pass (pass_id n)) s.1, λ p word t m. (m.0, s.3 ∙ m.1, m.2)) };
 
@@ -77,11 +80,12 @@ impl<E: Edition + Drop> Hand<E> for Pass<E> {
         let Some(edition) = &self.edition else {
             unreachable!()
         };
+        // Its contract tells that its places are those of its forest.
         edition.number();
         let actor = Actor::Pass(PassId(self.number));
         touch_word(
             &cabinet.table.shared,
-            &mut self.chair,
+            &mut self.seat,
             cabinet.passes,
             actor,
             place,
@@ -92,7 +96,7 @@ impl<E: Edition + Drop> Hand<E> for Pass<E> {
 }
 
 impl<E: Edition + Drop> Hand<E> for WriterSeat<E> {
-    ghost table = { λ w. w.table };
+    ghost made_by = { λ w. w.cabinet };
 
     ghost sizes = { λ w. w.sizes };
 
@@ -102,7 +106,7 @@ impl<E: Edition + Drop> Hand<E> for WriterSeat<E> {
 
     ghost may = { λ w place word touch. WriterMay w.sizes place word };
 
-    ghost stays = { λ w v. (v.table ≡ w.table) × (v.sizes ≡ w.sizes) × (v.out ≡ w.out) };
+    ghost stays = { λ w v. (v.cabinet ≡ w.cabinet) × (v.sizes ≡ w.sizes) × (v.out ≡ w.out) };
 
     ghost lasts = { λ x y s. (s.0, s.1, refl, λ p word t m. subst (λ z. WriterMay z p word) (sym s.1) m) };
 
@@ -113,7 +117,7 @@ impl<E: Edition + Drop> Hand<E> for WriterSeat<E> {
     fn touch_in(&mut self, cabinet: &Cabinet<E>, place: &Place, word: usize, touch: Touch) -> u64 {
         touch_word(
             &cabinet.table.shared,
-            &mut self.chair,
+            &mut self.seat,
             cabinet.passes,
             Actor::Writer,
             place,

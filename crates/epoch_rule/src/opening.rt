@@ -5,7 +5,7 @@ ghost use Rattle.std.specs.declared.sync.Arc.{Arc};
 ghost use Rattle.mem_base.specs.map.Calls.{empty};
 ghost use Rattle.epoch_rule.specs.Opening.{IsShelf, AreShelves};
 
-use crate::board::{Copy, Law};
+use crate::board::{Law, Slot};
 use crate::cabinet::Cabinet;
 use crate::views::{Sizes, View};
 use crate::writers::{Found, WriterSeat};
@@ -14,7 +14,7 @@ use mem_base::Edition;
 use std::alloc::{AllocError, Global};
 use std::sync::Arc;
 
-/// A filled list.
+/// A list of `count` equal values.
 fn filled<T: Clone + std::marker::Copy + Drop>(
     alloc: Global,
     count: usize,
@@ -27,9 +27,9 @@ fn filled<T: Clone + std::marker::Copy + Drop>(
     Ok(items)
 }
 
-/// The slots of one pass: a copy of the edition 0, and seven empty ones.
+/// Appends the slots of one pass: a copy of edition 0, and seven empty ones.
 fn add_shelf<E: Edition + Drop>(
-    slots: &mut Vec<Copy<E>>,
+    slots: &mut Vec<Slot<E>>,
     first: &Arc<E, Global>,
 ) -> Result<(), AllocError>
     ensures { IfOk result (λ _. IsShelf (arc_value first.now) slots.old.items slots.new.items) }
@@ -42,11 +42,12 @@ fn add_shelf<E: Edition + Drop>(
     Ok(())
 }
 
+/// The slots of all passes.
 fn shelves<E: Edition + Drop>(
     alloc: Global,
     passes: u32,
     first: &Arc<E, Global>,
-) -> Result<Vec<Copy<E>>, AllocError>
+) -> Result<Vec<Slot<E>>, AllocError>
     ensures { IfOk result (λ v. AreShelves (arc_value first.now) passes v.items) }
 {
     let mut slots = Vec::new(alloc);
@@ -57,7 +58,9 @@ fn shelves<E: Edition + Drop>(
 }
 
 impl<E: Edition + Drop> Cabinet<E> {
-    /// A cabinet of so many passes and words, all 0. Its first edition has number 0 and shows nothing.
+    /// A cabinet of `passes` passes and `words` words of 8 bytes, all 0, with generation 0 current, and the writer's seat;
+    /// or out of memory. There are 1 to 16 passes and at most 2^26 + 64 words; the first edition has number 0, the empty
+    /// forest and no places.
     pub fn new(
         alloc: Global,
         passes: u32,
@@ -66,7 +69,7 @@ impl<E: Edition + Drop> Cabinet<E> {
     ) -> Result<(Cabinet<E>, WriterSeat<E>), AllocError>
         requires count { (0 < passes) × (passes ≤ 16) × (words ≤ 2 ^ 26 + 64) }
         requires first { (E.counted (arc_value first) ≡ 0) × (E.forest (arc_value first) ≡ empty) × (E.places (arc_value first) ≡ []) }
-        ensures { IfOk result (λ r. (r.1.table ≡ r.0.table.shared.table_id) × (r.1.sizes.passes ≡ passes) × (r.1.sizes.words ≡ words) × (r.1.seen ≡ []) × (r.1.out ≡ replicate passes false)) }
+        ensures { IfOk result (λ r. (r.1.cabinet ≡ r.0.id) × (r.0.sizes ≡ r.1.sizes) × (r.1.sizes.passes ≡ passes) × (r.1.sizes.words ≡ words) × (r.1.seen ≡ []) × (r.1.out ≡ replicate passes false)) }
     {
         let none = Found { word: 0, lowest: 0 };
         let known = filled(alloc, passes as usize, none)?;
@@ -74,12 +77,12 @@ impl<E: Edition + Drop> Cabinet<E> {
         let blank = filled(alloc, passes as usize + 1 + words, 0u64)?;
         let slots = shelves(alloc, passes, &first)?;
         let sizes = Sizes { passes, words };
-        let Ok((table, chair)) = Table::new(alloc, blank.as_slice(), slots, &sizes) else {
+        let Ok((table, seat)) = Table::new(alloc, blank.as_slice(), slots, &sizes) else {
             return Err(AllocError);
         };
         let cabinet = Cabinet { table, passes };
         let writer = WriterSeat {
-            chair,
+            seat,
             current: 0,
             known,
             out,

@@ -6,7 +6,7 @@ ghost use Rattle.epoch_rule.specs.Ruled.{Adds, HoldsOn};
 ghost use Rattle.epoch_rule.specs.Copies.{Suits};
 ghost use Rattle.epoch_rule.specs.Touches.{Ready, touched};
 
-use crate::board::{Chair, Copy, Top};
+use crate::board::{SharedTable, Slot, TableSeat};
 use crate::views::View;
 use atomic_table::Play;
 use mem_base::{Edition, Event, Place};
@@ -47,7 +47,7 @@ pub(crate) struct Touches<J: Plan> {
     of: PhantomData<J>,
 }
 
-impl<E: Edition, J: Plan> Play<Copy<E>, View> for Touches<J> {
+impl<E: Edition, J: Plan> Play<Slot<E>, View> for Touches<J> {
     ghost use Rattle.epoch_rule.specs.Touches.{touched};
 
     ghost then = { λ st m r w. touched J.actor J.event J.place J.touch m r w };
@@ -58,7 +58,7 @@ pub(crate) struct Stores<J: Plan> {
     of: PhantomData<J>,
 }
 
-impl<E: Edition, J: Plan> Play<Copy<E>, View> for Stores<J> {
+impl<E: Edition, J: Plan> Play<Slot<E>, View> for Stores<J> {
     ghost use Rattle.std.specs.Prelude.{ℕ};
     ghost use Rattle.epoch_rule.specs.Touches.{touched};
 
@@ -70,7 +70,7 @@ pub(crate) struct Tries<J: Plan> {
     of: PhantomData<J>,
 }
 
-impl<E: Edition, J: Plan> Play<Copy<E>, View> for Tries<J> {
+impl<E: Edition, J: Plan> Play<Slot<E>, View> for Tries<J> {
     ghost use Rattle.std.specs.Prelude.{◌≡◌, ◌==◌, MatchBool};
     ghost use Rattle.epoch_rule.specs.Touches.{touched};
 
@@ -78,107 +78,107 @@ impl<E: Edition, J: Plan> Play<Copy<E>, View> for Tries<J> {
 }
 
 pub(crate) fn load_as<E: Edition + Drop, J: Plan>(
-    top: &Top<E>,
-    chair: &mut Chair<E>,
+    shared: &SharedTable<E>,
+    seat: &mut TableSeat<E>,
     index: usize,
     event: Event,
     place: &Place,
 ) -> u64
-    requires table { (chair.old.table_id ≡ top.now.table_id) × Suits top.now.table_id top.now.key }
-    requires ready { Ready top.now.key chair.old.me.0 J.actor J.event J.place J.touch }
-    requires index { index ≡ top.now.key.passes + 1 + J.touch.word }
+    requires table { (seat.old.table_id ≡ shared.now.table_id) × Suits shared.now.table_id shared.now.key }
+    requires ready { Ready shared.now.key seat.old.me.0 J.actor J.event J.place J.touch }
+    requires index { index ≡ shared.now.key.passes + 1 + J.touch.word }
     requires step { J.touch.touch.step ≡ Load }
-    ensures table { chair.new.table_id ≡ chair.old.table_id }
-    ensures told { touched J.actor J.event J.place J.touch chair.old.me result chair.new.me }
+    ensures table { seat.new.table_id ≡ seat.old.table_id }
+    ensures told { touched J.actor J.event J.place J.touch seat.old.me result seat.new.me }
 {
-    top.load::<Touches<J>>(chair, index)
+    shared.load::<Touches<J>>(seat, index)
 }
 
 pub(crate) fn add_as<E: Edition + Drop, J: Plan>(
-    top: &Top<E>,
-    chair: &mut Chair<E>,
+    shared: &SharedTable<E>,
+    seat: &mut TableSeat<E>,
     index: usize,
     event: Event,
     place: &Place,
 ) -> u64
-    requires table { (chair.old.table_id ≡ top.now.table_id) × Suits top.now.table_id top.now.key }
-    requires ready { Ready top.now.key chair.old.me.0 J.actor J.event J.place J.touch }
-    requires index { index ≡ top.now.key.passes + 1 + J.touch.word }
+    requires table { (seat.old.table_id ≡ shared.now.table_id) × Suits shared.now.table_id shared.now.key }
+    requires ready { Ready shared.now.key seat.old.me.0 J.actor J.event J.place J.touch }
+    requires index { index ≡ shared.now.key.passes + 1 + J.touch.word }
     requires step { J.touch.touch.step ≡ AddOne }
-    ensures table { chair.new.table_id ≡ chair.old.table_id }
-    ensures told { touched J.actor J.event J.place J.touch chair.old.me result chair.new.me }
+    ensures table { seat.new.table_id ≡ seat.old.table_id }
+    ensures told { touched J.actor J.event J.place J.touch seat.old.me result seat.new.me }
 {
-    top.fetch_add::<Touches<J>>(chair, index, 1)
+    shared.fetch_add::<Touches<J>>(seat, index, 1)
 }
 
 pub(crate) fn or_as<E: Edition + Drop, J: Plan>(
-    top: &Top<E>,
-    chair: &mut Chair<E>,
+    shared: &SharedTable<E>,
+    seat: &mut TableSeat<E>,
     index: usize,
     bits: u64,
     event: Event,
     place: &Place,
 ) -> u64
-    requires table { (chair.old.table_id ≡ top.now.table_id) × Suits top.now.table_id top.now.key }
-    requires ready { Ready top.now.key chair.old.me.0 J.actor J.event J.place J.touch }
-    requires index { index ≡ top.now.key.passes + 1 + J.touch.word }
+    requires table { (seat.old.table_id ≡ shared.now.table_id) × Suits shared.now.table_id shared.now.key }
+    requires ready { Ready shared.now.key seat.old.me.0 J.actor J.event J.place J.touch }
+    requires index { index ≡ shared.now.key.passes + 1 + J.touch.word }
     requires step { J.touch.touch.step ≡ Or bits }
-    ensures table { chair.new.table_id ≡ chair.old.table_id }
-    ensures told { touched J.actor J.event J.place J.touch chair.old.me result chair.new.me }
+    ensures table { seat.new.table_id ≡ seat.old.table_id }
+    ensures told { touched J.actor J.event J.place J.touch seat.old.me result seat.new.me }
 {
-    top.fetch_or::<Touches<J>>(chair, index, bits)
+    shared.fetch_or::<Touches<J>>(seat, index, bits)
 }
 
 pub(crate) fn take_as<E: Edition + Drop, J: Plan>(
-    top: &Top<E>,
-    chair: &mut Chair<E>,
+    shared: &SharedTable<E>,
+    seat: &mut TableSeat<E>,
     index: usize,
     event: Event,
     place: &Place,
 ) -> u64
-    requires table { (chair.old.table_id ≡ top.now.table_id) × Suits top.now.table_id top.now.key }
-    requires ready { Ready top.now.key chair.old.me.0 J.actor J.event J.place J.touch }
-    requires index { index ≡ top.now.key.passes + 1 + J.touch.word }
+    requires table { (seat.old.table_id ≡ shared.now.table_id) × Suits shared.now.table_id shared.now.key }
+    requires ready { Ready shared.now.key seat.old.me.0 J.actor J.event J.place J.touch }
+    requires index { index ≡ shared.now.key.passes + 1 + J.touch.word }
     requires step { J.touch.touch.step ≡ Take }
-    ensures table { chair.new.table_id ≡ chair.old.table_id }
-    ensures told { touched J.actor J.event J.place J.touch chair.old.me result chair.new.me }
+    ensures table { seat.new.table_id ≡ seat.old.table_id }
+    ensures told { touched J.actor J.event J.place J.touch seat.old.me result seat.new.me }
 {
-    top.swap::<Touches<J>>(chair, index, 0)
+    shared.swap::<Touches<J>>(seat, index, 0)
 }
 
 pub(crate) fn store_as<E: Edition + Drop, J: Plan>(
-    top: &Top<E>,
-    chair: &mut Chair<E>,
+    shared: &SharedTable<E>,
+    seat: &mut TableSeat<E>,
     index: usize,
     value: u64,
     event: Event,
     place: &Place,
 )
-    requires table { (chair.old.table_id ≡ top.now.table_id) × Suits top.now.table_id top.now.key }
-    requires ready { Ready top.now.key chair.old.me.0 J.actor J.event J.place J.touch }
-    requires index { index ≡ top.now.key.passes + 1 + J.touch.word }
+    requires table { (seat.old.table_id ≡ shared.now.table_id) × Suits shared.now.table_id shared.now.key }
+    requires ready { Ready shared.now.key seat.old.me.0 J.actor J.event J.place J.touch }
+    requires index { index ≡ shared.now.key.passes + 1 + J.touch.word }
     requires step { (n : ℕ) → n < 2 ^ 64 → value % 2 ^ 64 ≡ word_after J.touch.touch.step n }
-    ensures table { chair.new.table_id ≡ chair.old.table_id }
-    ensures told { (old : ℕ) × touched J.actor J.event J.place J.touch chair.old.me old chair.new.me }
+    ensures table { seat.new.table_id ≡ seat.old.table_id }
+    ensures told { (old : ℕ) × touched J.actor J.event J.place J.touch seat.old.me old seat.new.me }
 {
-    top.store::<Stores<J>>(chair, index, value);
+    shared.store::<Stores<J>>(seat, index, value);
 }
 
 pub(crate) fn try_as<E: Edition + Drop, J: Plan>(
-    top: &Top<E>,
-    chair: &mut Chair<E>,
+    shared: &SharedTable<E>,
+    seat: &mut TableSeat<E>,
     index: usize,
     old: u64,
     new: u64,
     event: Event,
     place: &Place,
 ) -> u64
-    requires table { (chair.old.table_id ≡ top.now.table_id) × Suits top.now.table_id top.now.key }
-    requires ready { Ready top.now.key chair.old.me.0 J.actor J.event J.place J.touch }
-    requires index { index ≡ top.now.key.passes + 1 + J.touch.word }
+    requires table { (seat.old.table_id ≡ shared.now.table_id) × Suits shared.now.table_id shared.now.key }
+    requires ready { Ready shared.now.key seat.old.me.0 J.actor J.event J.place J.touch }
+    requires index { index ≡ shared.now.key.passes + 1 + J.touch.word }
     requires step { new ≡ word_after J.touch.touch.step old }
-    ensures table { chair.new.table_id ≡ chair.old.table_id }
-    ensures told { MatchBool (result == old) (touched J.actor J.event J.place J.touch chair.old.me result chair.new.me) (chair.new.me ≡ chair.old.me) }
+    ensures table { seat.new.table_id ≡ seat.old.table_id }
+    ensures told { MatchBool (result == old) (touched J.actor J.event J.place J.touch seat.old.me result seat.new.me) (seat.new.me ≡ seat.old.me) }
 {
-    top.compare_exchange::<Tries<J>>(chair, index, old, new)
+    shared.compare_exchange::<Tries<J>>(seat, index, old, new)
 }

@@ -8,10 +8,10 @@ ghost use Rattle.mem_base.specs.machine.Passes.{pass_id};
 ghost use Rattle.epoch_rule.specs.Ruled.{Adds, HoldsOn, IsRoomy, Lawful, carried_pick, generation_of_pick, generations_seen};
 ghost use Rattle.epoch_rule.specs.Writing.{stored};
 ghost use Rattle.epoch_rule.specs.declared.views.Picked.{Picked};
-ghost use Rattle.epoch_rule.specs.Calls.{AreCopies, Placing, Sweeping, held_in, least_in};
+ghost use Rattle.epoch_rule.specs.Calls.{AreCopies, Placing, Sweeping, first_at as first_at_in, held_in, least_in};
 ghost use Rattle.epoch_rule.specs.Copies.{Suits, picked};
 
-use crate::board::{Chair, Places, Publishes, Reaches, Sweeps, Top};
+use crate::board::{Places, Publishes, Reaches, SharedTable, Sweeps, TableSeat};
 use crate::writers::{Found, Held};
 use mem_base::{Edition, PassId};
 use std::alloc::Global;
@@ -19,52 +19,60 @@ use std::cmp::{max, min};
 use std::sync::Arc;
 
 /// Looks at what the pass has announced: 0, or that number plus one.
-pub(crate) fn sweep<E: Edition + Drop>(top: &Top<E>, chair: &mut Chair<E>, pass: u32) -> u64
-    requires table { (chair.old.table_id ≡ top.now.table_id) × Suits top.now.table_id top.now.key × (pass < top.now.key.passes) }
-    requires writer { chair.old.me.0.role ≡ Some 0 }
-    ensures chair { (chair.new.table_id ≡ chair.old.table_id) × (chair.new.me.1 ≡ chair.old.me.1) × HoldsOn chair.old.me.0 chair.new.me.0 }
-    ensures adds { Adds 0 chair.old.me.0 (Sweep (pass_id pass)) Nothing result chair.new.me.0 }
+pub(crate) fn sweep<E: Edition + Drop>(
+    shared: &SharedTable<E>,
+    seat: &mut TableSeat<E>,
+    pass: u32,
+) -> u64
+    requires table { (seat.old.table_id ≡ shared.now.table_id) × Suits shared.now.table_id shared.now.key × (pass < shared.now.key.passes) }
+    requires writer { seat.old.me.0.role ≡ Some 0 }
+    ensures seat { (seat.new.table_id ≡ seat.old.table_id) × (seat.new.me.1 ≡ seat.old.me.1) × HoldsOn seat.old.me.0 seat.new.me.0 }
+    ensures adds { Adds 0 seat.old.me.0 (Sweep (pass_id pass)) Nothing result seat.new.me.0 }
 {
-    top.load::<Sweeps>(chair, pass as usize + 1)
+    shared.load::<Sweeps>(seat, pass as usize + 1)
 }
 
 /// Gives the pass its copy of the next generation. The slot that it takes is of no generation that the pass may use.
 pub(crate) fn place<E: Edition + Drop>(
-    top: &Top<E>,
-    chair: &mut Chair<E>,
+    shared: &SharedTable<E>,
+    seat: &mut TableSeat<E>,
     pass: u32,
     next: u64,
     copy: Arc<E, Global>,
 )
-    requires table { (chair.old.table_id ≡ top.now.table_id) × Suits top.now.table_id top.now.key × (pass < top.now.key.passes) }
-    requires writer { (chair.old.me.0.role ≡ Some 0) × (chair.old.me.0.held ≡ 0) × (chair.old.me.1 ≡ []) }
-    requires next { next ≡ (generations_seen chair.old.me.0).current + 1 }
-    requires near { (generations_seen chair.old.me.0).current ≤ (known_of (generations_seen chair.old.me.0) (pass_id pass)).lowest + 6 }
-    requires free { (known_of (generations_seen chair.old.me.0) (pass_id pass)).placed ≡ false }
-    requires copy { (E.counted (arc_value copy) ≡ next) × ((v : ℕ) → (known_of (generations_seen chair.old.me.0) (pass_id v)).placed ≡ true → chair.old.me.0.next ≡ picked E.forest E.places (arc_value copy)) }
-    ensures chair { (chair.new.table_id ≡ chair.old.table_id) × (chair.new.me.1 ≡ []) × (chair.new.me.0.held ≡ 0) × (chair.new.me.0.next ≡ picked E.forest E.places (arc_value copy)) }
-    ensures adds { Adds 0 chair.old.me.0 (Place (pass_id pass)) Nothing 0 chair.new.me.0 }
+    requires table { (seat.old.table_id ≡ shared.now.table_id) × Suits shared.now.table_id shared.now.key × (pass < shared.now.key.passes) }
+    requires writer { (seat.old.me.0.role ≡ Some 0) × (seat.old.me.0.held ≡ 0) × (seat.old.me.1 ≡ []) }
+    requires next { next ≡ (generations_seen seat.old.me.0).current + 1 }
+    requires near { (generations_seen seat.old.me.0).current ≤ (known_of (generations_seen seat.old.me.0) (pass_id pass)).lowest + 6 }
+    requires free { (known_of (generations_seen seat.old.me.0) (pass_id pass)).placed ≡ false }
+    requires copy { (E.counted (arc_value copy) ≡ next) × ((v : ℕ) → (known_of (generations_seen seat.old.me.0) (pass_id v)).placed ≡ true → seat.old.me.0.next ≡ picked E.forest E.places (arc_value copy)) }
+    ensures seat { (seat.new.table_id ≡ seat.old.table_id) × (seat.new.me.1 ≡ []) × (seat.new.me.0.held ≡ 0) × (seat.new.me.0.next ≡ picked E.forest E.places (arc_value copy)) }
+    ensures adds { Adds 0 seat.old.me.0 (Place (pass_id pass)) Nothing 0 seat.new.me.0 }
 {
-    top.load::<Reaches>(chair, pass as usize + 1);
+    shared.load::<Reaches>(seat, pass as usize + 1);
     let slot = 8 * pass as usize + (next % 8) as usize;
-    drop(top.exchange(chair, slot, Some(copy)));
-    top.load::<Places>(chair, pass as usize + 1);
+    drop(shared.exchange(seat, slot, Some(copy)));
+    shared.load::<Places>(seat, pass as usize + 1);
 }
 
 /// Makes the next generation the current one.
-pub(crate) fn publish<E: Edition + Drop>(top: &Top<E>, chair: &mut Chair<E>, next: u64)
-    requires table { (chair.old.table_id ≡ top.now.table_id) × Suits top.now.table_id top.now.key }
-    requires writer { chair.old.me.0.role ≡ Some 0 }
-    requires next { (next ≡ (generations_seen chair.old.me.0).current + 1) × (next + 1 < 2 ^ 64) }
-    requires placed { all_placed (generations_seen chair.old.me.0).passes ≡ true }
-    requires roomy { IsRoomy top.now.key.words (generation_of_pick chair.old.me.0.next) }
-    ensures chair { (chair.new.table_id ≡ chair.old.table_id) × (chair.new.me.1 ≡ chair.old.me.1) × HoldsOn chair.old.me.0 chair.new.me.0 }
-    ensures adds { Adds 0 chair.old.me.0 Publish (carried_pick chair.old.me.0.next) next chair.new.me.0 }
+pub(crate) fn publish<E: Edition + Drop>(
+    shared: &SharedTable<E>,
+    seat: &mut TableSeat<E>,
+    next: u64,
+)
+    requires table { (seat.old.table_id ≡ shared.now.table_id) × Suits shared.now.table_id shared.now.key }
+    requires writer { seat.old.me.0.role ≡ Some 0 }
+    requires next { (next ≡ (generations_seen seat.old.me.0).current + 1) × (next + 1 < 2 ^ 64) }
+    requires placed { all_placed (generations_seen seat.old.me.0).passes ≡ true }
+    requires roomy { IsRoomy shared.now.key.words (generation_of_pick seat.old.me.0.next) }
+    ensures seat { (seat.new.table_id ≡ seat.old.table_id) × (seat.new.me.1 ≡ seat.old.me.1) × HoldsOn seat.old.me.0 seat.new.me.0 }
+    ensures adds { Adds 0 seat.old.me.0 Publish (carried_pick seat.old.me.0.next) next seat.new.me.0 }
 {
-    top.store::<Publishes>(chair, 0, next)
+    shared.store::<Publishes>(seat, 0, next)
 }
 
-/// What is stored of a pass once a sweep found this word.
+/// What is kept of a pass after a sweep that found this word.
 fn found_after(found: Found, current: u64, word: u64) -> Found
     ensures { (k : PassTrack) → found ≡ stored k → result ≡ stored (known_after_sweep current k word) }
 {
@@ -83,23 +91,23 @@ fn found_after(found: Found, current: u64, word: u64) -> Found
 
 /// One sweep of each pass.
 pub(crate) fn sweep_all<E: Edition + Drop>(
-    top: &Top<E>,
-    chair: &mut Chair<E>,
+    shared: &SharedTable<E>,
+    seat: &mut TableSeat<E>,
     passes: u32,
     current: u64,
     known: &mut Vec<Found>,
 )
-    requires table { (chair.old.table_id ≡ top.now.table_id) × Suits top.now.table_id top.now.key × (passes ≡ top.now.key.passes) }
-    requires writer { chair.old.me.0.role ≡ Some 0 }
-    requires current { current ≡ (generations_seen chair.old.me.0).current }
-    requires many { length (generations_seen chair.old.me.0).passes ≡ passes }
-    requires known { known.old.items ≡ map stored (generations_seen chair.old.me.0).passes }
-    requires lawful { Lawful chair.old.me.0.sizes chair.old.me.0.seen }
-    ensures chair { (chair.new.table_id ≡ chair.old.table_id) × (chair.new.me.1 ≡ chair.old.me.1) }
-    ensures swept { Sweeping chair.old.me.0 chair.new.me.0 known.new.items passes }
+    requires table { (seat.old.table_id ≡ shared.now.table_id) × Suits shared.now.table_id shared.now.key × (passes ≡ shared.now.key.passes) }
+    requires writer { seat.old.me.0.role ≡ Some 0 }
+    requires current { current ≡ (generations_seen seat.old.me.0).current }
+    requires many { length (generations_seen seat.old.me.0).passes ≡ passes }
+    requires known { known.old.items ≡ map stored (generations_seen seat.old.me.0).passes }
+    requires lawful { Lawful seat.old.me.0.sizes seat.old.me.0.seen }
+    ensures seat { (seat.new.table_id ≡ seat.old.table_id) × (seat.new.me.1 ≡ seat.old.me.1) }
+    ensures swept { Sweeping seat.old.me.0 seat.new.me.0 known.new.items passes }
 {
     for pass in 0..passes {
-        let word = sweep(top, chair, pass);
+        let word = sweep(shared, seat, pass);
         let index = pass as usize;
         known[index] = found_after(known[index], current, word);
     }
@@ -124,32 +132,32 @@ pub(crate) fn held(known: &[Found], current: u64) -> Option<Held>
 
 /// A copy for each pass.
 pub(crate) fn place_all<E: Edition + Drop>(
-    top: &Top<E>,
-    chair: &mut Chair<E>,
+    shared: &SharedTable<E>,
+    seat: &mut TableSeat<E>,
     passes: u32,
     next: u64,
     mut copies: Vec<Arc<E, Global>>,
 )
-    requires table { (chair.old.table_id ≡ top.now.table_id) × Suits top.now.table_id top.now.key × (passes ≡ top.now.key.passes) }
-    requires writer { (chair.old.me.0.role ≡ Some 0) × (chair.old.me.0.held ≡ 0) × (chair.old.me.1 ≡ []) }
-    requires next { next ≡ (generations_seen chair.old.me.0).current + 1 }
-    requires near { (v : ℕ) → v < passes → (generations_seen chair.old.me.0).current ≤ (known_of (generations_seen chair.old.me.0) (pass_id v)).lowest + 6 }
-    requires free { (v : ℕ) → (known_of (generations_seen chair.old.me.0) (pass_id v)).placed ≡ false }
+    requires table { (seat.old.table_id ≡ shared.now.table_id) × Suits shared.now.table_id shared.now.key × (passes ≡ shared.now.key.passes) }
+    requires writer { (seat.old.me.0.role ≡ Some 0) × (seat.old.me.0.held ≡ 0) × (seat.old.me.1 ≡ []) }
+    requires next { next ≡ (generations_seen seat.old.me.0).current + 1 }
+    requires near { (v : ℕ) → v < passes → (generations_seen seat.old.me.0).current ≤ (known_of (generations_seen seat.old.me.0) (pass_id v)).lowest + 6 }
+    requires free { (v : ℕ) → (known_of (generations_seen seat.old.me.0) (pass_id v)).placed ≡ false }
     requires copies { (x : Picked) × AreCopies E.counted E.forest E.places next x copies.items }
     requires many { length copies.items ≡ passes }
-    requires lawful { Lawful chair.old.me.0.sizes chair.old.me.0.seen }
-    ensures chair { (chair.new.table_id ≡ chair.old.table_id) × (chair.new.me.1 ≡ []) }
-    ensures placed { (x : Picked) → AreCopies E.counted E.forest E.places next x copies.items → Placing chair.old.me.0 chair.new.me.0 x passes }
+    requires lawful { Lawful seat.old.me.0.sizes seat.old.me.0.seen }
+    ensures seat { (seat.new.table_id ≡ seat.old.table_id) × (seat.new.me.1 ≡ []) }
+    ensures placed { (x : Picked) → AreCopies E.counted E.forest E.places next x copies.items → Placing seat.old.me.0 seat.new.me.0 x passes }
 {
     for pass in 0..passes {
         let Some(copy) = copies.pop() else {
             unreachable!()
         };
-        place(top, chair, pass, next, copy);
+        place(shared, seat, pass, next, copy);
     }
 }
 
-/// The least number that a pass may still use, or the current one.
+/// The least number that a pass may still use, and the current one where there is none.
 pub(crate) fn least(known: &[Found], current: u64) -> u64
     ensures { result ≡ least_in current known.now }
 {
@@ -158,4 +166,16 @@ pub(crate) fn least(known: &[Found], current: u64) -> u64
         lowest = min(found.lowest, lowest);
     }
     lowest
+}
+
+/// The first pass with this lowest number; where there is none, the number of passes.
+pub(crate) fn first_at(known: &[Found], lowest: u64) -> usize
+    ensures { result ≡ first_at_in lowest known.now }
+{
+    for i in 0..known.len() {
+        if known[i].lowest == lowest {
+            return i;
+        }
+    }
+    known.len()
 }

@@ -8,7 +8,7 @@ ghost use Rattle.epoch_rule.specs.Ruled.{HoldsOn};
 ghost use Rattle.epoch_rule.specs.Copies.{Suits};
 ghost use Rattle.epoch_rule.specs.Touches.{IsReady, IsTouch, IsWholeStep, Told, ToldStep};
 
-use crate::board::{Chair, Peeks, Top};
+use crate::board::{Peeks, SharedTable, TableSeat};
 use crate::plans::{add_as, load_as, or_as, store_as, take_as, try_as};
 use mem_base::{Cell, Client, Edition, Event, Hand, PassId, Place, WordStep};
 use std::marker::Brand;
@@ -73,21 +73,21 @@ fn with_bytes(old: u64, first: u32, bytes: u32, value: u64) -> u64
 }
 
 fn step_word<E: Edition + Drop>(
-    top: &Top<E>,
-    chair: &mut Chair<E>,
+    shared: &SharedTable<E>,
+    seat: &mut TableSeat<E>,
     index: usize,
     hand: Hand,
     place: &Place,
     word: usize,
     step: WordStep,
 ) -> u64
-    requires table { (chair.old.table_id ≡ top.now.table_id) × Suits top.now.table_id top.now.key }
-    requires ready { IsReady top.now.key chair.old.me.0 hand place.now word (Step step) }
-    requires index { index ≡ top.now.key.passes + 1 + (place.now.start + word) }
+    requires table { (seat.old.table_id ≡ shared.now.table_id) × Suits shared.now.table_id shared.now.key }
+    requires ready { IsReady shared.now.key seat.old.me.0 hand place.now word (Step step) }
+    requires index { index ≡ shared.now.key.passes + 1 + (place.now.start + word) }
     requires whole { IsWholeStep step }
-    ensures table { chair.new.table_id ≡ chair.old.table_id }
-    ensures chair { (chair.new.me.1 ≡ chair.old.me.1) × HoldsOn chair.old.me.0 chair.new.me.0 }
-    ensures told { ToldStep hand place.now word step chair.old.me.0 result chair.new.me.0 }
+    ensures table { seat.new.table_id ≡ seat.old.table_id }
+    ensures seat { (seat.new.me.1 ≡ seat.old.me.1) × HoldsOn seat.old.me.0 seat.new.me.0 }
+    ensures told { ToldStep hand place.now word step seat.old.me.0 result seat.new.me.0 }
 {
     let cell = Cell {
         region: place.region,
@@ -95,20 +95,20 @@ fn step_word<E: Edition + Drop>(
     };
     let event = Event::Word { hand, cell, step };
     match step {
-        WordStep::Load => load_as::<E, Brand>(top, chair, index, event, place),
+        WordStep::Load => load_as::<E, Brand>(shared, seat, index, event, place),
         WordStep::Replace { value, .. } => {
-            store_as::<E, Brand>(top, chair, index, value, event, place);
+            store_as::<E, Brand>(shared, seat, index, value, event, place);
             0
         }
-        WordStep::AddOne => add_as::<E, Brand>(top, chair, index, event, place),
-        WordStep::Or { bits } => or_as::<E, Brand>(top, chair, index, bits, event, place),
-        WordStep::Take => take_as::<E, Brand>(top, chair, index, event, place),
+        WordStep::AddOne => add_as::<E, Brand>(shared, seat, index, event, place),
+        WordStep::Or { bits } => or_as::<E, Brand>(shared, seat, index, bits, event, place),
+        WordStep::Take => take_as::<E, Brand>(shared, seat, index, event, place),
     }
 }
 
 fn try_word<E: Edition + Drop>(
-    top: &Top<E>,
-    chair: &mut Chair<E>,
+    shared: &SharedTable<E>,
+    seat: &mut TableSeat<E>,
     index: usize,
     hand: Hand,
     place: &Place,
@@ -118,13 +118,13 @@ fn try_word<E: Edition + Drop>(
     bytes: u32,
     value: u64,
 ) -> u64
-    requires table { (chair.old.table_id ≡ top.now.table_id) × Suits top.now.table_id top.now.key }
-    requires ready { IsReady top.now.key chair.old.me.0 hand place.now word (Try old first bytes value) }
-    requires index { index ≡ top.now.key.passes + 1 + (place.now.start + word) }
+    requires table { (seat.old.table_id ≡ shared.now.table_id) × Suits shared.now.table_id shared.now.key }
+    requires ready { IsReady shared.now.key seat.old.me.0 hand place.now word (Try old first bytes value) }
+    requires index { index ≡ shared.now.key.passes + 1 + (place.now.start + word) }
     requires part { first + bytes ≤ 8 }
-    ensures table { chair.new.table_id ≡ chair.old.table_id }
-    ensures chair { (chair.new.me.1 ≡ chair.old.me.1) × HoldsOn chair.old.me.0 chair.new.me.0 }
-    ensures told { Told hand place.now word (Try old first bytes value) chair.old.me.0 result chair.new.me.0 }
+    ensures table { seat.new.table_id ≡ seat.old.table_id }
+    ensures seat { (seat.new.me.1 ≡ seat.old.me.1) × HoldsOn seat.old.me.0 seat.new.me.0 }
+    ensures told { Told hand place.now word (Try old first bytes value) seat.old.me.0 result seat.new.me.0 }
 {
     let cell = Cell {
         region: place.region,
@@ -137,12 +137,12 @@ fn try_word<E: Edition + Drop>(
     };
     let event = Event::Word { hand, cell, step };
     let new = with_bytes(old, first, bytes, value);
-    try_as::<E, Brand>(top, chair, index, old, new, event, place)
+    try_as::<E, Brand>(shared, seat, index, old, new, event, place)
 }
 
 fn mark_page<E: Edition + Drop>(
-    top: &Top<E>,
-    chair: &mut Chair<E>,
+    shared: &SharedTable<E>,
+    seat: &mut TableSeat<E>,
     index: usize,
     pass: PassId,
     place: &Place,
@@ -150,13 +150,13 @@ fn mark_page<E: Edition + Drop>(
     client: Client,
     page: u64,
 ) -> u64
-    requires table { (chair.old.table_id ≡ top.now.table_id) × Suits top.now.table_id top.now.key }
-    requires ready { IsReady top.now.key chair.old.me.0 (Pass pass) place.now word (Mark client page) }
-    requires index { index ≡ top.now.key.passes + 1 + (place.now.start + word) }
+    requires table { (seat.old.table_id ≡ shared.now.table_id) × Suits shared.now.table_id shared.now.key }
+    requires ready { IsReady shared.now.key seat.old.me.0 (Pass pass) place.now word (Mark client page) }
+    requires index { index ≡ shared.now.key.passes + 1 + (place.now.start + word) }
     requires word { word ≡ word_of_page place.now client page }
-    ensures table { chair.new.table_id ≡ chair.old.table_id }
-    ensures chair { (chair.new.me.1 ≡ chair.old.me.1) × HoldsOn chair.old.me.0 chair.new.me.0 }
-    ensures told { Told (Pass pass) place.now word (Mark client page) chair.old.me.0 result chair.new.me.0 }
+    ensures table { seat.new.table_id ≡ seat.old.table_id }
+    ensures seat { (seat.new.me.1 ≡ seat.old.me.1) × HoldsOn seat.old.me.0 seat.new.me.0 }
+    ensures told { Told (Pass pass) place.now word (Mark client page) seat.old.me.0 result seat.new.me.0 }
 {
     let event = Event::Mark {
         pass,
@@ -164,103 +164,103 @@ fn mark_page<E: Edition + Drop>(
         client,
         page,
     };
-    or_as::<E, Brand>(top, chair, index, 1 << (page % 64), event, place)
+    or_as::<E, Brand>(shared, seat, index, 1 << (page % 64), event, place)
 }
 
 fn harvest_word<E: Edition + Drop>(
-    top: &Top<E>,
-    chair: &mut Chair<E>,
+    shared: &SharedTable<E>,
+    seat: &mut TableSeat<E>,
     at: usize,
     place: &Place,
     word: usize,
     client: Client,
     index: usize,
 ) -> u64
-    requires table { (chair.old.table_id ≡ top.now.table_id) × Suits top.now.table_id top.now.key }
-    requires ready { IsReady top.now.key chair.old.me.0 Writer place.now word (Harvest client index) }
-    requires index { at ≡ top.now.key.passes + 1 + (place.now.start + word) }
+    requires table { (seat.old.table_id ≡ shared.now.table_id) × Suits shared.now.table_id shared.now.key }
+    requires ready { IsReady shared.now.key seat.old.me.0 Writer place.now word (Harvest client index) }
+    requires index { at ≡ shared.now.key.passes + 1 + (place.now.start + word) }
     requires word { word ≡ mark_word place.now client index }
-    ensures table { chair.new.table_id ≡ chair.old.table_id }
-    ensures chair { (chair.new.me.1 ≡ chair.old.me.1) × HoldsOn chair.old.me.0 chair.new.me.0 }
-    ensures told { Told Writer place.now word (Harvest client index) chair.old.me.0 result chair.new.me.0 }
+    ensures table { seat.new.table_id ≡ seat.old.table_id }
+    ensures seat { (seat.new.me.1 ≡ seat.old.me.1) × HoldsOn seat.old.me.0 seat.new.me.0 }
+    ensures told { Told Writer place.now word (Harvest client index) seat.old.me.0 result seat.new.me.0 }
 {
     let event = Event::Harvest {
         region: place.region,
         client,
         index,
     };
-    take_as::<E, Brand>(top, chair, at, event, place)
+    take_as::<E, Brand>(shared, seat, at, event, place)
 }
 
 fn fill_word<E: Edition + Drop>(
-    top: &Top<E>,
-    chair: &mut Chair<E>,
+    shared: &SharedTable<E>,
+    seat: &mut TableSeat<E>,
     index: usize,
     place: &Place,
     word: usize,
 ) -> u64
-    requires table { (chair.old.table_id ≡ top.now.table_id) × Suits top.now.table_id top.now.key }
-    requires ready { IsReady top.now.key chair.old.me.0 Writer place.now word Fill }
-    requires index { index ≡ top.now.key.passes + 1 + (place.now.start + word) }
-    ensures table { chair.new.table_id ≡ chair.old.table_id }
-    ensures chair { (chair.new.me.1 ≡ chair.old.me.1) × HoldsOn chair.old.me.0 chair.new.me.0 }
-    ensures told { Told Writer place.now word Fill chair.old.me.0 result chair.new.me.0 }
+    requires table { (seat.old.table_id ≡ shared.now.table_id) × Suits shared.now.table_id shared.now.key }
+    requires ready { IsReady shared.now.key seat.old.me.0 Writer place.now word Fill }
+    requires index { index ≡ shared.now.key.passes + 1 + (place.now.start + word) }
+    ensures table { seat.new.table_id ≡ seat.old.table_id }
+    ensures seat { (seat.new.me.1 ≡ seat.old.me.1) × HoldsOn seat.old.me.0 seat.new.me.0 }
+    ensures told { Told Writer place.now word Fill seat.old.me.0 result seat.new.me.0 }
 {
     let cell = Cell {
         region: place.region,
         word,
     };
     let event = Event::Fill { cell };
-    store_as::<E, Brand>(top, chair, index, 0, event, place);
+    store_as::<E, Brand>(shared, seat, index, 0, event, place);
     0
 }
 
 /// A load that shows no event.
-fn look<E: Edition + Drop>(top: &Top<E>, chair: &mut Chair<E>, index: usize) -> u64
-    requires { (chair.old.table_id ≡ top.now.table_id) × (index < top.now.table_id.words) }
-    ensures { (chair.new.table_id ≡ chair.old.table_id) × (chair.new.me ≡ chair.old.me) }
+fn look<E: Edition + Drop>(shared: &SharedTable<E>, seat: &mut TableSeat<E>, index: usize) -> u64
+    requires { (seat.old.table_id ≡ shared.now.table_id) × (index < shared.now.table_id.words) }
+    ensures { (seat.new.table_id ≡ seat.old.table_id) × (seat.new.me ≡ seat.old.me) }
 {
-    top.load::<Peeks>(chair, index)
+    shared.load::<Peeks>(seat, index)
 }
 
 /// One touch of a word of the cabinet.
 pub(crate) fn touch_word<E: Edition + Drop>(
-    top: &Top<E>,
-    chair: &mut Chair<E>,
+    shared: &SharedTable<E>,
+    seat: &mut TableSeat<E>,
     passes: u32,
     hand: Hand,
     place: &Place,
     word: usize,
     touch: Touch,
 ) -> u64
-    requires table { (chair.old.table_id ≡ top.now.table_id) × Suits top.now.table_id top.now.key × (passes ≡ top.now.key.passes) }
-    requires small { top.now.key.words < 2 ^ 32 }
+    requires table { (seat.old.table_id ≡ shared.now.table_id) × Suits shared.now.table_id shared.now.key × (passes ≡ shared.now.key.passes) }
+    requires small { shared.now.key.words < 2 ^ 32 }
     requires kind { IsTouch hand place.now word touch }
-    requires ready { IsReady top.now.key chair.old.me.0 hand place.now word touch }
-    requires room { place.now.start + word < top.now.key.words }
-    ensures table { chair.new.table_id ≡ chair.old.table_id }
-    ensures chair { (chair.new.me.1 ≡ chair.old.me.1) × HoldsOn chair.old.me.0 chair.new.me.0 }
-    ensures told { Told hand place.now word touch chair.old.me.0 result chair.new.me.0 }
+    requires ready { IsReady shared.now.key seat.old.me.0 hand place.now word touch }
+    requires room { place.now.start + word < shared.now.key.words }
+    ensures table { seat.new.table_id ≡ seat.old.table_id }
+    ensures seat { (seat.new.me.1 ≡ seat.old.me.1) × HoldsOn seat.old.me.0 seat.new.me.0 }
+    ensures told { Told hand place.now word touch seat.old.me.0 result seat.new.me.0 }
 {
     let index = passes as usize + 1 + (place.start + word);
     match touch {
-        Touch::Look => look(top, chair, index),
-        Touch::Step(step) => step_word(top, chair, index, hand, place, word, step),
+        Touch::Look => look(shared, seat, index),
+        Touch::Step(step) => step_word(shared, seat, index, hand, place, word, step),
         Touch::Try {
             old,
             first,
             bytes,
             value,
         } => try_word(
-            top, chair, index, hand, place, word, old, first, bytes, value,
+            shared, seat, index, hand, place, word, old, first, bytes, value,
         ),
-        Touch::Fill => fill_word(top, chair, index, place, word),
+        Touch::Fill => fill_word(shared, seat, index, place, word),
         Touch::Mark { client, page } => match hand {
-            Hand::Pass(pass) => mark_page(top, chair, index, pass, place, word, client, page),
+            Hand::Pass(pass) => mark_page(shared, seat, index, pass, place, word, client, page),
             Hand::Writer => unreachable!(),
         },
         Touch::Harvest { client, index: at } => {
-            harvest_word(top, chair, index, place, word, client, at)
+            harvest_word(shared, seat, index, place, word, client, at)
         }
     }
 }

@@ -35,7 +35,7 @@ pub fn store_part<E: Edition + Drop, H: Hand<E>, R: Wait>(
     first: u32,
     bytes: &[u8],
 )
-    requires own { H.table hand.old ≡ cabinet.now.table.shared.table_id }
+    requires own { H.made_by hand.old ≡ cabinet.now.id }
     requires part { (0 < length bytes.now) × (first + length bytes.now ≤ 8) }
     requires may { H.may hand.old place.now word Look }
     ensures wrote { (old : ℕ) × Wrote (H.actor hand.old) (H.sizes hand.old) (H.seen hand.old) (history_entry (events.Word (H.actor hand.old) (cell place.now.region word) (steps.Replace first (length bytes.now) (little_endian bytes.now))) (At place.now) old ∷ []) (H.seen hand.new) }

@@ -22,7 +22,7 @@ pub fn load<E: Edition + Drop, H: Hand<E>>(
     place: &Place,
     word: usize,
 ) -> u64
-    requires own { H.table hand.old ≡ cabinet.now.table.shared.table_id }
+    requires own { H.made_by hand.old ≡ cabinet.now.id }
     requires may { H.may hand.old place.now word (Step steps.Load) }
     ensures wrote { Wrote (H.actor hand.old) (H.sizes hand.old) (H.seen hand.old) (history_entry (events.Word (H.actor hand.old) (cell place.now.region word) steps.Load) (At place.now) result ∷ []) (H.seen hand.new) }
     ensures stays { H.stays hand.old hand.new }
@@ -38,7 +38,7 @@ pub fn store8<E: Edition + Drop, H: Hand<E>>(
     word: usize,
     value: u64,
 )
-    requires own { H.table hand.old ≡ cabinet.now.table.shared.table_id }
+    requires own { H.made_by hand.old ≡ cabinet.now.id }
     requires may { H.may hand.old place.now word (Step (steps.Replace 0 8 value)) }
     ensures wrote { (old : ℕ) × Wrote (H.actor hand.old) (H.sizes hand.old) (H.seen hand.old) (history_entry (events.Word (H.actor hand.old) (cell place.now.region word) (steps.Replace 0 8 value)) (At place.now) old ∷ []) (H.seen hand.new) }
     ensures stays { H.stays hand.old hand.new }
@@ -58,7 +58,7 @@ pub fn add<E: Edition + Drop, H: Hand<E>>(
     place: &Place,
     word: usize,
 ) -> u64
-    requires own { H.table hand.old ≡ cabinet.now.table.shared.table_id }
+    requires own { H.made_by hand.old ≡ cabinet.now.id }
     requires may { H.may hand.old place.now word (Step steps.AddOne) }
     ensures wrote { Wrote (H.actor hand.old) (H.sizes hand.old) (H.seen hand.old) (history_entry (events.Word (H.actor hand.old) (cell place.now.region word) steps.AddOne) (At place.now) result ∷ []) (H.seen hand.new) }
     ensures stays { H.stays hand.old hand.new }
@@ -74,7 +74,7 @@ pub fn or<E: Edition + Drop, H: Hand<E>>(
     word: usize,
     bits: u64,
 ) -> u64
-    requires own { H.table hand.old ≡ cabinet.now.table.shared.table_id }
+    requires own { H.made_by hand.old ≡ cabinet.now.id }
     requires may { H.may hand.old place.now word (Step (steps.Or bits)) }
     ensures wrote { Wrote (H.actor hand.old) (H.sizes hand.old) (H.seen hand.old) (history_entry (events.Word (H.actor hand.old) (cell place.now.region word) (steps.Or bits)) (At place.now) result ∷ []) (H.seen hand.new) }
     ensures stays { H.stays hand.old hand.new }
@@ -89,7 +89,7 @@ pub fn take<E: Edition + Drop, H: Hand<E>>(
     place: &Place,
     word: usize,
 ) -> u64
-    requires own { H.table hand.old ≡ cabinet.now.table.shared.table_id }
+    requires own { H.made_by hand.old ≡ cabinet.now.id }
     requires may { H.may hand.old place.now word (Step steps.Take) }
     ensures wrote { Wrote (H.actor hand.old) (H.sizes hand.old) (H.seen hand.old) (history_entry (events.Word (H.actor hand.old) (cell place.now.region word) steps.Take) (At place.now) result ∷ []) (H.seen hand.new) }
     ensures stays { H.stays hand.old hand.new }
@@ -106,7 +106,7 @@ pub fn mark<E: Edition + Drop>(
     client: Client,
     page: u64,
 )
-    requires own { pass.old.table ≡ cabinet.now.table.shared.table_id }
+    requires own { pass.old.cabinet ≡ cabinet.now.id }
     requires word { word ≡ word_of_page place.now client page }
     requires may { (e : E) × (pass.old.edition ≡ Some e) × PassMay (E.places e) place.now word (Mark client page) }
     ensures wrote { Wrote (hands.Pass (pass_id pass.old.number)) pass.old.sizes pass.old.seen (history_entry (events.Mark (pass_id pass.old.number) place.now.region client page) (At place.now) 0 ∷ []) pass.new.seen }
@@ -124,7 +124,7 @@ pub fn harvest<E: Edition + Drop>(
     client: Client,
     index: usize,
 ) -> u64
-    requires own { writer.old.table ≡ cabinet.now.table.shared.table_id }
+    requires own { writer.old.cabinet ≡ cabinet.now.id }
     requires word { word ≡ mark_word place.now client index }
     requires may { WriterMay writer.old.sizes place.now word }
     ensures wrote { Wrote hands.Writer writer.old.sizes writer.old.seen (history_entry (events.Harvest place.now.region client index) (At place.now) result ∷ []) writer.new.seen }

@@ -13,7 +13,7 @@ use Rattle.epoch_rule.proofs.steps.place.Goals as goal
 pub load-requires : goal.load-requires
 load-requires g c =
     let num = g.E.Edition.counted in let forest = g.E.Edition.forest in let places = g.E.Edition.places in
-    let v : View = c.args.chair.now.me.0 in
+    let v : View = c.args.seat.now.me.0 in
     let p : ℕ = c.args.pass in
     let t = c.requires.table in let a = t.1.0 in let b = t.2 in
     let writer = c.requires.writer in
@@ -22,7 +22,7 @@ load-requires g c =
 pub exchange-requires : goal.exchange-requires
 exchange-requires g c =
     let num = g.E.Edition.counted in let forest = g.E.Edition.forest in let places = g.E.Edition.places in
-    let v : View = c.args.chair.now.me.0 in
+    let v : View = c.args.seat.now.me.0 in
     let p : ℕ = c.args.pass in
     let t = c.requires.table in let a = t.1.0 in let b = t.2 in
     let writer = c.requires.writer in
@@ -34,7 +34,7 @@ exchange-requires g c =
 pub load-requires-2 : goal.load-requires-2
 load-requires-2 g c =
     let num = g.E.Edition.counted in let forest = g.E.Edition.forest in let places = g.E.Edition.places in
-    let v : View = c.args.chair.now.me.0 in
+    let v : View = c.args.seat.now.me.0 in
     let p : ℕ = c.args.pass in
     let t = c.requires.table in let a = t.1.0 in let b = t.2 in
     let writer = c.requires.writer in
@@ -54,10 +54,10 @@ load-requires-2 g c =
           (λ u placed. ap (λ w. w.next) view ∙ c.requires.copy.1 u (ap (λ (w : View). (known_of (generations_seen w) (pass_id u)).placed) (sym view) ∙ placed)),
     )
 
-pub returns-clause-chair : goal.returns-clause-chair
-returns-clause-chair g c =
+pub returns-clause-seat : goal.returns-clause-seat
+returns-clause-seat g c =
     let num = g.E.Edition.counted in let forest = g.E.Edition.forest in let places = g.E.Edition.places in
-    let v : View = c.args.chair.now.me.0 in
+    let v : View = c.args.seat.now.me.0 in
     let p : ℕ = c.args.pass in
     let t = c.requires.table in let a = t.1.0 in let b = t.2 in
     let writer = c.requires.writer in
@@ -72,7 +72,7 @@ returns-clause-chair g c =
 pub returns-clause-adds : goal.returns-clause-adds
 returns-clause-adds g c =
     let num = g.E.Edition.counted in let forest = g.E.Edition.forest in let places = g.E.Edition.places in
-    let v : View = c.args.chair.now.me.0 in
+    let v : View = c.args.seat.now.me.0 in
     let p : ℕ = c.args.pass in
     let t = c.requires.table in let a = t.1.0 in let b = t.2 in
     let writer = c.requires.writer in

@@ -10,8 +10,8 @@ use Rattle.epoch_rule.proofs.steps.place_all.Goals as goal
 pub place-requires-clause-writer : goal.place-requires-clause-writer
 place-requires-clause-writer g c =
     let inv = c.loop-pass.invariant in
-    let v : View = c.args.chair.now.me.0 in
-    let w : View = c.loop-pass.chair.me.0 in
+    let v : View = c.args.seat.now.me.0 in
+    let w : View = c.loop-pass.seat.me.0 in
     let n : ℕ = c.loop-pass.pass in
     let h = inv.3 c.requires.copies.0 c.requires.copies.1 in
     let p = h.1 in
@@ -22,8 +22,8 @@ place-requires-clause-writer g c =
 pub place-requires-clause-next : goal.place-requires-clause-next
 place-requires-clause-next g c =
     let inv = c.loop-pass.invariant in
-    let v : View = c.args.chair.now.me.0 in
-    let w : View = c.loop-pass.chair.me.0 in
+    let v : View = c.args.seat.now.me.0 in
+    let w : View = c.loop-pass.seat.me.0 in
     let n : ℕ = c.loop-pass.pass in
     let h = inv.3 c.requires.copies.0 c.requires.copies.1 in
     let p = h.1 in
@@ -34,8 +34,8 @@ place-requires-clause-next g c =
 pub place-requires-clause-near : goal.place-requires-clause-near
 place-requires-clause-near g c =
     let inv = c.loop-pass.invariant in
-    let v : View = c.args.chair.now.me.0 in
-    let w : View = c.loop-pass.chair.me.0 in
+    let v : View = c.args.seat.now.me.0 in
+    let w : View = c.loop-pass.seat.me.0 in
     let n : ℕ = c.loop-pass.pass in
     let h = inv.3 c.requires.copies.0 c.requires.copies.1 in
     let p = h.1 in
@@ -47,8 +47,8 @@ place-requires-clause-near g c =
 pub place-requires-clause-free : goal.place-requires-clause-free
 place-requires-clause-free g c =
     let inv = c.loop-pass.invariant in
-    let v : View = c.args.chair.now.me.0 in
-    let w : View = c.loop-pass.chair.me.0 in
+    let v : View = c.args.seat.now.me.0 in
+    let w : View = c.loop-pass.seat.me.0 in
     let n : ℕ = c.loop-pass.pass in
     let h = inv.3 c.requires.copies.0 c.requires.copies.1 in
     let p = h.1 in
@@ -59,8 +59,8 @@ place-requires-clause-free g c =
 pub place-requires-clause-copy : goal.place-requires-clause-copy
 place-requires-clause-copy g c =
     let inv = c.loop-pass.invariant in
-    let v : View = c.args.chair.now.me.0 in
-    let w : View = c.loop-pass.chair.me.0 in
+    let v : View = c.args.seat.now.me.0 in
+    let w : View = c.loop-pass.seat.me.0 in
     let n : ℕ = c.loop-pass.pass in
     let h = inv.3 c.requires.copies.0 c.requires.copies.1 in
     let p = h.1 in
@@ -72,18 +72,18 @@ place-requires-clause-copy g c =
 pub loop-pass-preserved : goal.loop-pass-preserved
 loop-pass-preserved g c =
     let inv = c.loop-pass.invariant in
-    let v : View = c.args.chair.now.me.0 in
+    let v : View = c.args.seat.now.me.0 in
     let n : ℕ = c.loop-pass.pass in
     let len = last_length c.loop-pass.copies.items c.pop.new.self.items c.pop.result c.in-Some.copy c.pop.ensures.items c.in-Some.is in (
-      c.place.ensures.chair.0 ∙ inv.0,
-      c.place.ensures.chair.1,
+      c.place.ensures.seat.0 ∙ inv.0,
+      c.place.ensures.seat.1,
       (let m = inv.2 in omega arith),
       λ x all. let h = inv.3 x all in let last = last_copy g.E.Edition.counted g.E.Edition.forest g.E.Edition.places c.args.next x c.loop-pass.copies.items c.pop.new.self.items c.pop.result c.in-Some.copy c.pop.ensures.items c.in-Some.is h.0 in
-          (last.0, placing_next v c.loop-pass.chair.me.0 c.place.new.chair.me.0 x n h.1 c.place.ensures.adds c.place.ensures.chair.2 (c.place.ensures.chair.3 ∙ last.1.1)),
+          (last.0, placing_next v c.loop-pass.seat.me.0 c.place.new.seat.me.0 x n h.1 c.place.ensures.adds c.place.ensures.seat.2 (c.place.ensures.seat.3 ∙ last.1.1)),
     )
 
 pub returns-clause-placed : goal.returns-clause-placed
 returns-clause-placed g c = λ x all.
     let inv = c.loop-pass.invariant in let m = inv.2 in let f = c.loop-pass-test.false in
     let done : c.loop-pass.pass ≡ c.args.passes = omega arith in
-    subst (Placing c.args.chair.now.me.0 c.loop-pass.chair.me.0 x) done (inv.3 x all).1
+    subst (Placing c.args.seat.now.me.0 c.loop-pass.seat.me.0 x) done (inv.3 x all).1

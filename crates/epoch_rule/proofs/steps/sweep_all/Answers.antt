@@ -10,8 +10,8 @@ use Rattle.epoch_rule.proofs.steps.sweep_all.Goals as goal
 pub loop-pass-preserved : goal.loop-pass-preserved
 loop-pass-preserved g c =
     let inv = c.loop-pass.invariant in
-    let v : View = c.args.chair.now.me.0 in
-    let w : View = c.loop-pass.chair.me.0 in
+    let v : View = c.args.seat.now.me.0 in
+    let w : View = c.loop-pass.seat.me.0 in
     let n : ℕ = c.loop-pass.pass in
     let s = inv.2 in
     let now = sweeping_current v w c.loop-pass.known.items n s in
@@ -19,7 +19,7 @@ loop-pass-preserved g c =
     let below = c.loop-pass-test.true in let long = now.1 in let all = c.requires.many in
     let near : n < length (generations_seen w).passes = omega arith in
     let i = c.index.ensures in (
-      c.sweep-word.ensures.chair.0 ∙ inv.0,
-      c.sweep-word.ensures.chair.1 ∙ inv.1,
-      sweeping_next v w c.sweep-word.new.chair.me.0 c.loop-pass.known.items _ n c.sweep-word.result c.found_after.result s c.sweep-word.ensures.adds c.sweep-word.ensures.chair.2 (c.found_after.ensures k (i ∙ (ap (λ l. get_or l n c.index.result.now) s.is_known ∙ map_get stored (generations_seen w).passes n nothing_known c.index.result.now near)) ∙ ap (λ (x : ℕ). stored (known_after_sweep x k c.sweep-word.result)) c.requires.current) refl,
+      c.sweep-word.ensures.seat.0 ∙ inv.0,
+      c.sweep-word.ensures.seat.1 ∙ inv.1,
+      sweeping_next v w c.sweep-word.new.seat.me.0 c.loop-pass.known.items _ n c.sweep-word.result c.found_after.result s c.sweep-word.ensures.adds c.sweep-word.ensures.seat.2 (c.found_after.ensures k (i ∙ (ap (λ l. get_or l n c.index.result.now) s.is_known ∙ map_get stored (generations_seen w).passes n nothing_known c.index.result.now near)) ∙ ap (λ (x : ℕ). stored (known_after_sweep x k c.sweep-word.result)) c.requires.current) refl,
     )

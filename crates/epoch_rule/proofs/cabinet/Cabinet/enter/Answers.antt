@@ -2,6 +2,9 @@ use Rattle.std.proofs.Common.{arith, List, ◌≡◌, ℕ, ◌+◌, ◌*◌, ◌
 use Rattle.atomic_table.specs.Table.{rest}
 use Rattle.mem_base.specs.declared.machine.events.Event.TheVariants.{Look, Announce}
 use Rattle.mem_base.specs.declared.machine.events.HistoryEntry.{HistoryEntry}
+use Rattle.mem_base.specs.declared.machine.events.Carried.TheVariants.{Nothing}
+use Rattle.mem_base.specs.machine.Histories.{last_of}
+use Rattle.mem_base.specs.machine.Turns.{history_entry}
 use Rattle.mem_base.specs.machine.Passes.{PassState, pass_after}
 use Rattle.epoch_rule.specs.declared.views.Sizes.{Sizes}
 use Rattle.mem_base.specs.machine.Passes.{pass_id}
@@ -9,31 +12,31 @@ use Rattle.mem_base.specs.machine.Actors.{own_entries, generations_published, ge
 use Rattle.epoch_rule.specs.Ruled.{Lawful, pass_seen, IsRoomy}
 use Rattle.epoch_rule.specs.Copies.{IsCopy}
 use Rattle.epoch_rule.proofs.Moving.{look, announce, enter, published_longer}
-use Rattle.epoch_rule.proofs.Passing.{pass_added, entered_counts, stands_out, stands_in, edition_of, three, top_of, suits_on}
+use Rattle.epoch_rule.proofs.Passing.{pass_added, entered_counts, stands_out, stands_in, edition_of, three, top_of, suits_on, ends_added}
 use Rattle.epoch_rule.proofs.cabinet.Cabinet.enter.Goals as goal
 
 pub load-looked-requires : goal.load-looked-requires
 load-looked-requires g c =
     let num = g.E.Edition.counted in let forest = g.E.Edition.forest in let places = g.E.Edition.places in
-    let suits = c.args.self.now.suits in let few = c.args.self.now.few.0 in
+    let suits = c.self.invariant.suits in let few = c.self.invariant.few in
     let inv = c.pass.invariant in let p : ℕ = c.pass.inside.number in
-    let t = ap (λ v. v.table) c.pass.view_is ∙ c.requires.own in
+    let t = ap (λ v. v.cabinet) c.pass.view_is ∙ (c.requires.own ∙ sym (ap (λ w. w.id) c.self.view_is)) in
     let words = ap (λ y. y.words) t in let slots = ap (λ y. y.slots) t in
     let a = suits.0 in let b = suits.1 in let d = inv.1 in let e = inv.2.1 in
-    let near : p < c.args.self.now.table.shared.key.passes = omega arith in
-    let out = stands_out num forest places p c.pass.inside.chair.me c.pass.inside.edition (ap (λ v. v.edition) c.pass.view_is ∙ c.requires.out) inv.3 in
+    let near : p < c.self.inside.table.shared.key.passes = omega arith in
+    let out = stands_out num forest places p c.pass.inside.seat.me c.pass.inside.edition (ap (λ v. v.edition) c.pass.view_is ∙ c.requires.out) inv.3 in
     (t, omega arith, look (IsCopy num forest places) _ _ _ _ p near inv.0 (ap (λ (h : PassState). h.announced) out.0))
 
 pub store-requires : goal.store-requires
 store-requires g c =
     let num = g.E.Edition.counted in let forest = g.E.Edition.forest in let places = g.E.Edition.places in
-    let suits = c.args.self.now.suits in let few = c.args.self.now.few.0 in
+    let suits = c.self.invariant.suits in let few = c.self.invariant.few in
     let inv = c.pass.invariant in let p : ℕ = c.pass.inside.number in
-    let t = ap (λ v. v.table) c.pass.view_is ∙ c.requires.own in
+    let t = ap (λ v. v.cabinet) c.pass.view_is ∙ (c.requires.own ∙ sym (ap (λ w. w.id) c.self.view_is)) in
     let words = ap (λ y. y.words) t in let slots = ap (λ y. y.slots) t in
     let a = suits.0 in let b = suits.1 in let d = inv.1 in let e = inv.2.1 in
-    let near : p < c.args.self.now.table.shared.key.passes = omega arith in
-    let out = stands_out num forest places p c.pass.inside.chair.me c.pass.inside.edition (ap (λ v. v.edition) c.pass.view_is ∙ c.requires.out) inv.3 in
+    let near : p < c.self.inside.table.shared.key.passes = omega arith in
+    let out = stands_out num forest places p c.pass.inside.seat.me c.pass.inside.edition (ap (λ v. v.edition) c.pass.view_is ∙ c.requires.out) inv.3 in
     let looked = c.load-looked.ensures.2.2 p inv.0 in
     let hand = pass_added _ _ _ _ _ _ refl looked in (
       c.load-looked.ensures.0 ∙ t,
@@ -45,13 +48,13 @@ store-requires g c =
 pub load-number-requires : goal.load-number-requires
 load-number-requires g c =
     let num = g.E.Edition.counted in let forest = g.E.Edition.forest in let places = g.E.Edition.places in
-    let suits = c.args.self.now.suits in let few = c.args.self.now.few.0 in
+    let suits = c.self.invariant.suits in let few = c.self.invariant.few in
     let inv = c.pass.invariant in let p : ℕ = c.pass.inside.number in
-    let t = ap (λ v. v.table) c.pass.view_is ∙ c.requires.own in
+    let t = ap (λ v. v.cabinet) c.pass.view_is ∙ (c.requires.own ∙ sym (ap (λ w. w.id) c.self.view_is)) in
     let words = ap (λ y. y.words) t in let slots = ap (λ y. y.slots) t in
     let a = suits.0 in let b = suits.1 in let d = inv.1 in let e = inv.2.1 in
-    let near : p < c.args.self.now.table.shared.key.passes = omega arith in
-    let out = stands_out num forest places p c.pass.inside.chair.me c.pass.inside.edition (ap (λ v. v.edition) c.pass.view_is ∙ c.requires.out) inv.3 in
+    let near : p < c.self.inside.table.shared.key.passes = omega arith in
+    let out = stands_out num forest places p c.pass.inside.seat.me c.pass.inside.edition (ap (λ v. v.edition) c.pass.view_is ∙ c.requires.out) inv.3 in
     let looked = c.load-looked.ensures.2.2 p inv.0 in
     let told = c.store.ensures.2.1 p (looked.role ∙ inv.0) in
     let hand' = pass_added _ _ _ _ _ _ refl told ∙ ap (λ (h : PassState). pass_after h (Announce (pass_id p)) 0) (pass_added _ _ _ _ _ _ refl looked ∙ ap (λ (h : PassState). pass_after h (Look (pass_id p)) c.load-looked.result) out.0) in (
@@ -64,13 +67,13 @@ load-number-requires g c =
 pub exchange-requires : goal.exchange-requires
 exchange-requires g c =
     let num = g.E.Edition.counted in let forest = g.E.Edition.forest in let places = g.E.Edition.places in
-    let suits = c.args.self.now.suits in let few = c.args.self.now.few.0 in
+    let suits = c.self.invariant.suits in let few = c.self.invariant.few in
     let inv = c.pass.invariant in let p : ℕ = c.pass.inside.number in
-    let t = ap (λ v. v.table) c.pass.view_is ∙ c.requires.own in
+    let t = ap (λ v. v.cabinet) c.pass.view_is ∙ (c.requires.own ∙ sym (ap (λ w. w.id) c.self.view_is)) in
     let words = ap (λ y. y.words) t in let slots = ap (λ y. y.slots) t in
     let a = suits.0 in let b = suits.1 in let d = inv.1 in let e = inv.2.1 in
-    let near : p < c.args.self.now.table.shared.key.passes = omega arith in
-    let out = stands_out num forest places p c.pass.inside.chair.me c.pass.inside.edition (ap (λ v. v.edition) c.pass.view_is ∙ c.requires.out) inv.3 in
+    let near : p < c.self.inside.table.shared.key.passes = omega arith in
+    let out = stands_out num forest places p c.pass.inside.seat.me c.pass.inside.edition (ap (λ v. v.edition) c.pass.view_is ∙ c.requires.out) inv.3 in
     let looked = c.load-looked.ensures.2.2 p inv.0 in
     let told = c.store.ensures.2.1 p (looked.role ∙ inv.0) in
     let took = (c.load-number.ensures.2 p (told.role ∙ (looked.role ∙ inv.0))).1 in
@@ -79,13 +82,13 @@ exchange-requires g c =
 pub invariant_of-pass : goal.invariant_of-pass
 invariant_of-pass g c =
     let num = g.E.Edition.counted in let forest = g.E.Edition.forest in let places = g.E.Edition.places in
-    let suits = c.args.self.now.suits in let few = c.args.self.now.few.0 in
+    let suits = c.self.invariant.suits in let few = c.self.invariant.few in
     let inv = c.pass.invariant in let p : ℕ = c.pass.inside.number in
-    let t = ap (λ v. v.table) c.pass.view_is ∙ c.requires.own in
+    let t = ap (λ v. v.cabinet) c.pass.view_is ∙ (c.requires.own ∙ sym (ap (λ w. w.id) c.self.view_is)) in
     let words = ap (λ y. y.words) t in let slots = ap (λ y. y.slots) t in
     let a = suits.0 in let b = suits.1 in let d = inv.1 in let e = inv.2.1 in
-    let near : p < c.args.self.now.table.shared.key.passes = omega arith in
-    let out = stands_out num forest places p c.pass.inside.chair.me c.pass.inside.edition (ap (λ v. v.edition) c.pass.view_is ∙ c.requires.out) inv.3 in
+    let near : p < c.self.inside.table.shared.key.passes = omega arith in
+    let out = stands_out num forest places p c.pass.inside.seat.me c.pass.inside.edition (ap (λ v. v.edition) c.pass.view_is ∙ c.requires.out) inv.3 in
     let looked = c.load-looked.ensures.2.2 p inv.0 in
     let told = c.store.ensures.2.1 p (looked.role ∙ inv.0) in
     let both = c.load-number.ensures.2 p (told.role ∙ (looked.role ∙ inv.0)) in
@@ -96,7 +99,7 @@ invariant_of-pass g c =
     let bare : rest c.load-number.new.seat.me.1 ≡ [] = ap rest took.1 ∙ (c.store.ensures.2.0 ∙ (c.load-looked.ensures.2.0 ∙ out.1)) in
     let same : c.exchange.result ≡ took.0 = ap (top_of took.0) (sym now.2 ∙ took.1) in
     let seen : c.exchange.new.seat.me.0.seen ≡ c.load-number.new.seat.me.0.seen = ap (λ m. m.0.seen) now.3 in
-    let sizes : c.exchange.new.seat.me.0.sizes ≡ c.pass.inside.chair.me.0.sizes = ap (λ m. m.0.sizes) now.3 ∙ (came.sizes ∙ (told.sizes ∙ looked.sizes)) in
+    let sizes : c.exchange.new.seat.me.0.sizes ≡ c.pass.inside.seat.me.0.sizes = ap (λ m. m.0.sizes) now.3 ∙ (came.sizes ∙ (told.sizes ∙ looked.sizes)) in
     let counts : length (generations_published c.exchange.new.seat.me.0.seen) ≡ r + 1 = ap (λ l. length (generations_published l)) seen ∙ entered_counts p _ r _ came in
     let copy : IsCopy num forest places r (generation_published c.exchange.new.seat.me.0.seen r) c.exchange.result =
     (took.2.0, same ∙ took.2.1, took.2.2, took.2.3 ∙ (λ i. generation_published (sym seen i) r)) in
@@ -115,13 +118,13 @@ invariant_of-pass g c =
 pub returns-clause-current : goal.returns-clause-current
 returns-clause-current g c =
     let num = g.E.Edition.counted in let forest = g.E.Edition.forest in let places = g.E.Edition.places in
-    let suits = c.args.self.now.suits in let few = c.args.self.now.few.0 in
+    let suits = c.self.invariant.suits in let few = c.self.invariant.few in
     let inv = c.pass.invariant in let p : ℕ = c.pass.inside.number in
-    let t = ap (λ v. v.table) c.pass.view_is ∙ c.requires.own in
+    let t = ap (λ v. v.cabinet) c.pass.view_is ∙ (c.requires.own ∙ sym (ap (λ w. w.id) c.self.view_is)) in
     let words = ap (λ y. y.words) t in let slots = ap (λ y. y.slots) t in
     let a = suits.0 in let b = suits.1 in let d = inv.1 in let e = inv.2.1 in
-    let near : p < c.args.self.now.table.shared.key.passes = omega arith in
-    let out = stands_out num forest places p c.pass.inside.chair.me c.pass.inside.edition (ap (λ v. v.edition) c.pass.view_is ∙ c.requires.out) inv.3 in
+    let near : p < c.self.inside.table.shared.key.passes = omega arith in
+    let out = stands_out num forest places p c.pass.inside.seat.me c.pass.inside.edition (ap (λ v. v.edition) c.pass.view_is ∙ c.requires.out) inv.3 in
     let looked = c.load-looked.ensures.2.2 p inv.0 in
     let told = c.store.ensures.2.1 p (looked.role ∙ inv.0) in
     let both = c.load-number.ensures.2 p (told.role ∙ (looked.role ∙ inv.0)) in
@@ -132,22 +135,22 @@ returns-clause-current g c =
     let bare : rest c.load-number.new.seat.me.1 ≡ [] = ap rest took.1 ∙ (c.store.ensures.2.0 ∙ (c.load-looked.ensures.2.0 ∙ out.1)) in
     let same : c.exchange.result ≡ took.0 = ap (top_of took.0) (sym now.2 ∙ took.1) in
     let seen : c.exchange.new.seat.me.0.seen ≡ c.load-number.new.seat.me.0.seen = ap (λ m. m.0.seen) now.3 in
-    let sizes : c.exchange.new.seat.me.0.sizes ≡ c.pass.inside.chair.me.0.sizes = ap (λ m. m.0.sizes) now.3 ∙ (came.sizes ∙ (told.sizes ∙ looked.sizes)) in
+    let sizes : c.exchange.new.seat.me.0.sizes ≡ c.pass.inside.seat.me.0.sizes = ap (λ m. m.0.sizes) now.3 ∙ (came.sizes ∙ (told.sizes ∙ looked.sizes)) in
     let counts : length (generations_published c.exchange.new.seat.me.0.seen) ≡ r + 1 = ap (λ l. length (generations_published l)) seen ∙ entered_counts p _ r _ came in
     let copy : IsCopy num forest places r (generation_published c.exchange.new.seat.me.0.seen r) c.exchange.result =
     (took.2.0, same ∙ took.2.1, took.2.2, took.2.3 ∙ (λ i. generation_published (sym seen i) r)) in
-    counts
+    omega arith
 
 pub returns-clause-edition : goal.returns-clause-edition
 returns-clause-edition g c =
     let num = g.E.Edition.counted in let forest = g.E.Edition.forest in let places = g.E.Edition.places in
-    let suits = c.args.self.now.suits in let few = c.args.self.now.few.0 in
+    let suits = c.self.invariant.suits in let few = c.self.invariant.few in
     let inv = c.pass.invariant in let p : ℕ = c.pass.inside.number in
-    let t = ap (λ v. v.table) c.pass.view_is ∙ c.requires.own in
+    let t = ap (λ v. v.cabinet) c.pass.view_is ∙ (c.requires.own ∙ sym (ap (λ w. w.id) c.self.view_is)) in
     let words = ap (λ y. y.words) t in let slots = ap (λ y. y.slots) t in
     let a = suits.0 in let b = suits.1 in let d = inv.1 in let e = inv.2.1 in
-    let near : p < c.args.self.now.table.shared.key.passes = omega arith in
-    let out = stands_out num forest places p c.pass.inside.chair.me c.pass.inside.edition (ap (λ v. v.edition) c.pass.view_is ∙ c.requires.out) inv.3 in
+    let near : p < c.self.inside.table.shared.key.passes = omega arith in
+    let out = stands_out num forest places p c.pass.inside.seat.me c.pass.inside.edition (ap (λ v. v.edition) c.pass.view_is ∙ c.requires.out) inv.3 in
     let looked = c.load-looked.ensures.2.2 p inv.0 in
     let told = c.store.ensures.2.1 p (looked.role ∙ inv.0) in
     let both = c.load-number.ensures.2 p (told.role ∙ (looked.role ∙ inv.0)) in
@@ -158,7 +161,7 @@ returns-clause-edition g c =
     let bare : rest c.load-number.new.seat.me.1 ≡ [] = ap rest took.1 ∙ (c.store.ensures.2.0 ∙ (c.load-looked.ensures.2.0 ∙ out.1)) in
     let same : c.exchange.result ≡ took.0 = ap (top_of took.0) (sym now.2 ∙ took.1) in
     let seen : c.exchange.new.seat.me.0.seen ≡ c.load-number.new.seat.me.0.seen = ap (λ m. m.0.seen) now.3 in
-    let sizes : c.exchange.new.seat.me.0.sizes ≡ c.pass.inside.chair.me.0.sizes = ap (λ m. m.0.sizes) now.3 ∙ (came.sizes ∙ (told.sizes ∙ looked.sizes)) in
+    let sizes : c.exchange.new.seat.me.0.sizes ≡ c.pass.inside.seat.me.0.sizes = ap (λ m. m.0.sizes) now.3 ∙ (came.sizes ∙ (told.sizes ∙ looked.sizes)) in
     let counts : length (generations_published c.exchange.new.seat.me.0.seen) ≡ r + 1 = ap (λ l. length (generations_published l)) seen ∙ entered_counts p _ r _ came in
     let copy : IsCopy num forest places r (generation_published c.exchange.new.seat.me.0.seen r) c.exchange.result =
     (took.2.0, same ∙ took.2.1, took.2.2, took.2.3 ∙ (λ i. generation_published (sym seen i) r)) in
@@ -167,13 +170,13 @@ returns-clause-edition g c =
 pub returns-clause-events : goal.returns-clause-events
 returns-clause-events g c =
     let num = g.E.Edition.counted in let forest = g.E.Edition.forest in let places = g.E.Edition.places in
-    let suits = c.args.self.now.suits in let few = c.args.self.now.few.0 in
+    let suits = c.self.invariant.suits in let few = c.self.invariant.few in
     let inv = c.pass.invariant in let p : ℕ = c.pass.inside.number in
-    let t = ap (λ v. v.table) c.pass.view_is ∙ c.requires.own in
+    let t = ap (λ v. v.cabinet) c.pass.view_is ∙ (c.requires.own ∙ sym (ap (λ w. w.id) c.self.view_is)) in
     let words = ap (λ y. y.words) t in let slots = ap (λ y. y.slots) t in
     let a = suits.0 in let b = suits.1 in let d = inv.1 in let e = inv.2.1 in
-    let near : p < c.args.self.now.table.shared.key.passes = omega arith in
-    let out = stands_out num forest places p c.pass.inside.chair.me c.pass.inside.edition (ap (λ v. v.edition) c.pass.view_is ∙ c.requires.out) inv.3 in
+    let near : p < c.self.inside.table.shared.key.passes = omega arith in
+    let out = stands_out num forest places p c.pass.inside.seat.me c.pass.inside.edition (ap (λ v. v.edition) c.pass.view_is ∙ c.requires.out) inv.3 in
     let looked = c.load-looked.ensures.2.2 p inv.0 in
     let told = c.store.ensures.2.1 p (looked.role ∙ inv.0) in
     let both = c.load-number.ensures.2 p (told.role ∙ (looked.role ∙ inv.0)) in
@@ -184,32 +187,36 @@ returns-clause-events g c =
     let bare : rest c.load-number.new.seat.me.1 ≡ [] = ap rest took.1 ∙ (c.store.ensures.2.0 ∙ (c.load-looked.ensures.2.0 ∙ out.1)) in
     let same : c.exchange.result ≡ took.0 = ap (top_of took.0) (sym now.2 ∙ took.1) in
     let seen : c.exchange.new.seat.me.0.seen ≡ c.load-number.new.seat.me.0.seen = ap (λ m. m.0.seen) now.3 in
-    let sizes : c.exchange.new.seat.me.0.sizes ≡ c.pass.inside.chair.me.0.sizes = ap (λ m. m.0.sizes) now.3 ∙ (came.sizes ∙ (told.sizes ∙ looked.sizes)) in
+    let sizes : c.exchange.new.seat.me.0.sizes ≡ c.pass.inside.seat.me.0.sizes = ap (λ m. m.0.sizes) now.3 ∙ (came.sizes ∙ (told.sizes ∙ looked.sizes)) in
     let counts : length (generations_published c.exchange.new.seat.me.0.seen) ≡ r + 1 = ap (λ l. length (generations_published l)) seen ∙ entered_counts p _ r _ came in
     let copy : IsCopy num forest places r (generation_published c.exchange.new.seat.me.0.seen r) c.exchange.result =
     (took.2.0, same ∙ took.2.1, took.2.2, took.2.3 ∙ (λ i. generation_published (sym seen i) r)) in
-    let all = three p c.pass.inside.chair.me.0 c.load-looked.new.seat.me.0 c.store.new.seat.me.0 c.load-number.new.seat.me.0 _ _ _ _ _ _ _ refl refl refl looked told came in (
+    let all = three p c.pass.inside.seat.me.0 c.load-looked.new.seat.me.0 c.store.new.seat.me.0 c.load-number.new.seat.me.0 _ _ _ _ _ _ _ refl refl refl looked told came in (
       c.load-looked.result,
       rw (sym c.pass.view_is) record {
-        table = now.0 ∙ (c.load-number.ensures.0 ∙ (c.store.ensures.0 ∙ c.load-looked.ensures.0));
+        cabinet = now.0 ∙ (c.load-number.ensures.0 ∙ (c.store.ensures.0 ∙ c.load-looked.ensures.0));
         number = refl;
         sizes = sizes;
-        begins = (all.0.0, all.0.1 ∙ sym seen);
-        lawful = subst (λ (y : Sizes × List HistoryEntry). Lawful y.0 y.1) (λ i. ((told.sizes ∙ looked.sizes) i, sym seen i)) came.lawful;
-        events = ap (own_entries (p + 1)) seen ∙ all.1;
+        wrote = record {
+          begins = (all.0.0, all.0.1 ∙ sym seen);
+          lawful = subst (λ (y : Sizes × List HistoryEntry). Lawful y.0 y.1) (λ i. ((told.sizes ∙ looked.sizes) i, sym seen i)) came.lawful;
+          events = ap (own_entries (p + 1)) seen ∙ all.1;
+          ends = λ x is. ap last_of seen ∙ ends_added (p + 1) _ _ _ _ _ came
+              (history_entry (Look (pass_id p)) Nothing c.load-looked.result ∷ history_entry (Announce (pass_id p)) Nothing 0 ∷ []) x is;
+        };
       },
     )
 
 pub returns-clause-newest : goal.returns-clause-newest
 returns-clause-newest g c =
     let num = g.E.Edition.counted in let forest = g.E.Edition.forest in let places = g.E.Edition.places in
-    let suits = c.args.self.now.suits in let few = c.args.self.now.few.0 in
+    let suits = c.self.invariant.suits in let few = c.self.invariant.few in
     let inv = c.pass.invariant in let p : ℕ = c.pass.inside.number in
-    let t = ap (λ v. v.table) c.pass.view_is ∙ c.requires.own in
+    let t = ap (λ v. v.cabinet) c.pass.view_is ∙ (c.requires.own ∙ sym (ap (λ w. w.id) c.self.view_is)) in
     let words = ap (λ y. y.words) t in let slots = ap (λ y. y.slots) t in
     let a = suits.0 in let b = suits.1 in let d = inv.1 in let e = inv.2.1 in
-    let near : p < c.args.self.now.table.shared.key.passes = omega arith in
-    let out = stands_out num forest places p c.pass.inside.chair.me c.pass.inside.edition (ap (λ v. v.edition) c.pass.view_is ∙ c.requires.out) inv.3 in
+    let near : p < c.self.inside.table.shared.key.passes = omega arith in
+    let out = stands_out num forest places p c.pass.inside.seat.me c.pass.inside.edition (ap (λ v. v.edition) c.pass.view_is ∙ c.requires.out) inv.3 in
     let looked = c.load-looked.ensures.2.2 p inv.0 in
     let told = c.store.ensures.2.1 p (looked.role ∙ inv.0) in
     let both = c.load-number.ensures.2 p (told.role ∙ (looked.role ∙ inv.0)) in
@@ -220,10 +227,10 @@ returns-clause-newest g c =
     let bare : rest c.load-number.new.seat.me.1 ≡ [] = ap rest took.1 ∙ (c.store.ensures.2.0 ∙ (c.load-looked.ensures.2.0 ∙ out.1)) in
     let same : c.exchange.result ≡ took.0 = ap (top_of took.0) (sym now.2 ∙ took.1) in
     let seen : c.exchange.new.seat.me.0.seen ≡ c.load-number.new.seat.me.0.seen = ap (λ m. m.0.seen) now.3 in
-    let sizes : c.exchange.new.seat.me.0.sizes ≡ c.pass.inside.chair.me.0.sizes = ap (λ m. m.0.sizes) now.3 ∙ (came.sizes ∙ (told.sizes ∙ looked.sizes)) in
+    let sizes : c.exchange.new.seat.me.0.sizes ≡ c.pass.inside.seat.me.0.sizes = ap (λ m. m.0.sizes) now.3 ∙ (came.sizes ∙ (told.sizes ∙ looked.sizes)) in
     let counts : length (generations_published c.exchange.new.seat.me.0.seen) ≡ r + 1 = ap (λ l. length (generations_published l)) seen ∙ entered_counts p _ r _ came in
     let copy : IsCopy num forest places r (generation_published c.exchange.new.seat.me.0.seen r) c.exchange.result =
     (took.2.0, same ∙ took.2.1, took.2.2, took.2.3 ∙ (λ i. generation_published (sym seen i) r)) in
-    let all = three p c.pass.inside.chair.me.0 c.load-looked.new.seat.me.0 c.store.new.seat.me.0 c.load-number.new.seat.me.0 _ _ _ _ _ _ _ refl refl refl looked told came in
-    let longer = published_longer c.pass.inside.chair.me.0.seen c.exchange.new.seat.me.0.seen (all.0.0, all.0.1 ∙ sym seen) in
+    let all = three p c.pass.inside.seat.me.0 c.load-looked.new.seat.me.0 c.store.new.seat.me.0 c.load-number.new.seat.me.0 _ _ _ _ _ _ _ refl refl refl looked told came in
+    let longer = published_longer c.pass.inside.seat.me.0.seen c.exchange.new.seat.me.0.seen (all.0.0, all.0.1 ∙ sym seen) in
     rw (sym c.pass.view_is) (omega arith)

@@ -10,24 +10,24 @@ use Rattle.mem_base.specs.machine.Actors.{own_entries, generations_published, ge
 use Rattle.epoch_rule.specs.Ruled.{Lawful, pass_seen}
 use Rattle.epoch_rule.specs.Copies.{IsCopy, Stands}
 use Rattle.epoch_rule.proofs.Moving.{leave, generation_stays}
-use Rattle.epoch_rule.proofs.Passing.{own_added, begins_added, pass_added, stands_at, suits_on}
+use Rattle.epoch_rule.proofs.Passing.{own_added, begins_added, ends_added, pass_added, stands_at, suits_on}
 use Rattle.epoch_rule.proofs.cabinet.Cabinet.leave.Goals as goal
 
 pub store-requires : goal.store-requires
 store-requires g c =
     let num = g.E.Edition.counted in let forest = g.E.Edition.forest in let places = g.E.Edition.places in
-    let suits = c.args.self.now.suits in let few = c.args.self.now.few.0 in
+    let suits = c.self.invariant.suits in let few = c.self.invariant.few in
     let inv = c.pass.invariant in let p : ℕ = c.pass.inside.number in
     let a = c.in-Some.edition in
     let r : ℕ = c.number.result in
-    let st = stands_at num forest places p c.pass.inside.chair.me c.pass.inside.edition a (sym c.take.ensures.value ∙ c.in-Some.is) inv.3 in
+    let st = stands_at num forest places p c.pass.inside.seat.me c.pass.inside.edition a (sym c.take.ensures.value ∙ c.in-Some.is) inv.3 in
     let is : r ≡ num (arc_value a) = c.number.ensures.value ∙ ap num c.deref.ensures in
     let x = c.exchange.ensures in
     let role = ap (λ m. m.0.role) x.3 ∙ inv.0 in
-    let seen : c.exchange.new.seat.me.0.seen ≡ c.pass.inside.chair.me.0.seen = ap (λ m. m.0.seen) x.3 in
-    let sizes : c.exchange.new.seat.me.0.sizes ≡ c.pass.inside.chair.me.0.sizes = ap (λ m. m.0.sizes) x.3 in
-    let t = x.0 ∙ (ap (λ v. v.table) c.pass.view_is ∙ c.requires.own) in
-    let words = ap (λ y. y.words) (ap (λ v. v.table) c.pass.view_is ∙ c.requires.own) in let slots = ap (λ y. y.slots) (ap (λ v. v.table) c.pass.view_is ∙ c.requires.own) in
+    let seen : c.exchange.new.seat.me.0.seen ≡ c.pass.inside.seat.me.0.seen = ap (λ m. m.0.seen) x.3 in
+    let sizes : c.exchange.new.seat.me.0.sizes ≡ c.pass.inside.seat.me.0.sizes = ap (λ m. m.0.sizes) x.3 in
+    let t = x.0 ∙ (ap (λ v. v.cabinet) c.pass.view_is ∙ (c.requires.own ∙ sym (ap (λ w. w.id) c.self.view_is))) in
+    let words = ap (λ y. y.words) (ap (λ v. v.cabinet) c.pass.view_is ∙ (c.requires.own ∙ sym (ap (λ w. w.id) c.self.view_is))) in let slots = ap (λ y. y.slots) (ap (λ v. v.cabinet) c.pass.view_is ∙ (c.requires.own ∙ sym (ap (λ w. w.id) c.self.view_is))) in
     let u = suits.0 in let b = suits.1 in let d = inv.1 in let e = inv.2.1 in (
       t,
       omega arith,
@@ -38,24 +38,24 @@ store-requires g c =
             a,
             refl,
             sym is,
-            st.0.shows ∙ (ap (generation_published c.pass.inside.chair.me.0.seen) (sym is)
-                ∙ sym (generation_stays c.pass.inside.chair.me.0.seen log (begins.0, ap (λ l. l ++ begins.0) (sym seen) ∙ begins.1) r (subst (λ (y : ℕ). y < length (generations_published c.pass.inside.chair.me.0.seen)) (sym is) st.0.published))),
+            st.0.shows ∙ (ap (generation_published c.pass.inside.seat.me.0.seen) (sym is)
+                ∙ sym (generation_stays c.pass.inside.seat.me.0.seen log (begins.0, ap (λ l. l ++ begins.0) (sym seen) ∙ begins.1) r (subst (λ (y : ℕ). y < length (generations_published c.pass.inside.seat.me.0.seen)) (sym is) st.0.published))),
           )),
     )
 
 pub invariant_of-pass : goal.invariant_of-pass
 invariant_of-pass g c =
     let num = g.E.Edition.counted in let forest = g.E.Edition.forest in let places = g.E.Edition.places in
-    let suits = c.args.self.now.suits in let few = c.args.self.now.few.0 in
+    let suits = c.self.invariant.suits in let few = c.self.invariant.few in
     let inv = c.pass.invariant in let p : ℕ = c.pass.inside.number in
     let a = c.in-Some.edition in
     let r : ℕ = c.number.result in
-    let st = stands_at num forest places p c.pass.inside.chair.me c.pass.inside.edition a (sym c.take.ensures.value ∙ c.in-Some.is) inv.3 in
+    let st = stands_at num forest places p c.pass.inside.seat.me c.pass.inside.edition a (sym c.take.ensures.value ∙ c.in-Some.is) inv.3 in
     let is : r ≡ num (arc_value a) = c.number.ensures.value ∙ ap num c.deref.ensures in
     let x = c.exchange.ensures in
     let role = ap (λ m. m.0.role) x.3 ∙ inv.0 in
-    let seen : c.exchange.new.seat.me.0.seen ≡ c.pass.inside.chair.me.0.seen = ap (λ m. m.0.seen) x.3 in
-    let sizes : c.exchange.new.seat.me.0.sizes ≡ c.pass.inside.chair.me.0.sizes = ap (λ m. m.0.sizes) x.3 in
+    let seen : c.exchange.new.seat.me.0.seen ≡ c.pass.inside.seat.me.0.seen = ap (λ m. m.0.seen) x.3 in
+    let sizes : c.exchange.new.seat.me.0.sizes ≡ c.pass.inside.seat.me.0.sizes = ap (λ m. m.0.sizes) x.3 in
     let did = c.store.ensures.2.1 p role in (
       did.role ∙ role,
       subst (λ (y : Sizes). p < y.passes) (sym (did.sizes ∙ sizes)) inv.1,
@@ -66,22 +66,25 @@ invariant_of-pass g c =
 pub returns-in-Some-clause-events : goal.returns-in-Some-clause-events
 returns-in-Some-clause-events g c =
     let num = g.E.Edition.counted in let forest = g.E.Edition.forest in let places = g.E.Edition.places in
-    let suits = c.args.self.now.suits in let few = c.args.self.now.few.0 in
+    let suits = c.self.invariant.suits in let few = c.self.invariant.few in
     let inv = c.pass.invariant in let p : ℕ = c.pass.inside.number in
     let a = c.in-Some.edition in
     let r : ℕ = c.number.result in
-    let st = stands_at num forest places p c.pass.inside.chair.me c.pass.inside.edition a (sym c.take.ensures.value ∙ c.in-Some.is) inv.3 in
+    let st = stands_at num forest places p c.pass.inside.seat.me c.pass.inside.edition a (sym c.take.ensures.value ∙ c.in-Some.is) inv.3 in
     let is : r ≡ num (arc_value a) = c.number.ensures.value ∙ ap num c.deref.ensures in
     let x = c.exchange.ensures in
     let role = ap (λ m. m.0.role) x.3 ∙ inv.0 in
-    let seen : c.exchange.new.seat.me.0.seen ≡ c.pass.inside.chair.me.0.seen = ap (λ m. m.0.seen) x.3 in
-    let sizes : c.exchange.new.seat.me.0.sizes ≡ c.pass.inside.chair.me.0.sizes = ap (λ m. m.0.sizes) x.3 in
+    let seen : c.exchange.new.seat.me.0.seen ≡ c.pass.inside.seat.me.0.seen = ap (λ m. m.0.seen) x.3 in
+    let sizes : c.exchange.new.seat.me.0.sizes ≡ c.pass.inside.seat.me.0.sizes = ap (λ m. m.0.sizes) x.3 in
     let did = c.store.ensures.2.1 p role in let begins = begins_added (p + 1) _ _ _ _ _ did in
     rw (sym c.pass.view_is) record {
-      table = c.store.ensures.0 ∙ x.0;
+      cabinet = c.store.ensures.0 ∙ x.0;
       number = refl;
       sizes = did.sizes ∙ sizes;
-      begins = (begins.0, ap (λ l. l ++ begins.0) (sym seen) ∙ begins.1);
-      lawful = subst (λ (y : Sizes). Lawful y c.store.new.seat.me.0.seen) sizes did.lawful;
-      events = own_added (p + 1) _ _ _ _ _ refl did ∙ ap (λ l. own_entries (p + 1) l ++ history_entry (Leave (pass_id p)) Nothing 0 ∷ []) seen;
+      wrote = record {
+        begins = (begins.0, ap (λ l. l ++ begins.0) (sym seen) ∙ begins.1);
+        lawful = subst (λ (y : Sizes). Lawful y c.store.new.seat.me.0.seen) sizes did.lawful;
+        events = own_added (p + 1) _ _ _ _ _ refl did ∙ ap (λ l. own_entries (p + 1) l ++ history_entry (Leave (pass_id p)) Nothing 0 ∷ []) seen;
+        ends = ends_added (p + 1) _ _ _ _ _ did [];
+      };
     }

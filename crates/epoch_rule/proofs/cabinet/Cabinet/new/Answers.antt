@@ -30,7 +30,7 @@ invariant_of-writer g c =
     let s = c.in_ok-slots.ensures in
     let words = ap (λ t. t.words) k.2 ∙ (k.0 ∙ (ap length (c.as_slice.ensures.value ∙ c.in_ok-blank.ensures) ∙ length-replicate n 0)) in
     let slots = ap (λ t. t.slots) k.2 ∙ (k.1 ∙ s.long) in
-    subst (λ m. IsWriting c.in-Ok.chair.table_id m 0 c.in_ok-known.known.items c.in_ok-out.out.items) (sym k.4) record {
+    subst (λ m. IsWriting c.in-Ok.seat.table_id m 0 c.in_ok-known.known.items c.in_ok-out.out.items) (sym k.4) record {
       role = refl;
       free = refl;
       bare = refl;

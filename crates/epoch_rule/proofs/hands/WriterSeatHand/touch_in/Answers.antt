@@ -7,17 +7,17 @@ use Rattle.epoch_rule.proofs.hands.WriterSeatHand.touch_in.Goals as goal
 
 pub touch_word-requires-clause-ready : goal.touch_word-requires-clause-ready
 touch_word-requires-clause-ready g c =
-    let suits = c.args.cabinet.now.suits in let inv = c.self.invariant in
-    let t = ap (λ v. v.table) c.self.view_is ∙ c.requires.own in
+    let suits = c.cabinet.invariant.suits in let inv = c.self.invariant in
+    let t = ap (λ v. v.cabinet) c.self.view_is ∙ (c.requires.own ∙ sym (ap (λ w. w.id) c.cabinet.view_is)) in
     let words = ap (λ y. y.words) t in let slots = ap (λ y. y.slots) t in
     let a = suits.0 in let b = suits.1 in let e = inv.suits.0 in let f = inv.suits.1 in
     let may = subst (λ (z : Sizes). WriterMay z c.args.place.now c.args.word) (ap (λ v. v.sizes) (sym c.self.view_is)) c.requires.may in let near = may.0 in let fits = may.1 in
-    ready_writer c.args.cabinet.now.table.shared.key c.self.inside.chair.me.0 c.args.place.now c.args.word c.args.touch inv.role c.requires.kind (near, omega arith)
+    ready_writer c.cabinet.inside.table.shared.key c.self.inside.seat.me.0 c.args.place.now c.args.word c.args.touch inv.role c.requires.kind (near, omega arith)
 
 pub touch_word-requires-clause-room : goal.touch_word-requires-clause-room
 touch_word-requires-clause-room g c =
-    let suits = c.args.cabinet.now.suits in let inv = c.self.invariant in
-    let t = ap (λ v. v.table) c.self.view_is ∙ c.requires.own in
+    let suits = c.cabinet.invariant.suits in let inv = c.self.invariant in
+    let t = ap (λ v. v.cabinet) c.self.view_is ∙ (c.requires.own ∙ sym (ap (λ w. w.id) c.cabinet.view_is)) in
     let words = ap (λ y. y.words) t in let slots = ap (λ y. y.slots) t in
     let a = suits.0 in let b = suits.1 in let e = inv.suits.0 in let f = inv.suits.1 in
     let may = subst (λ (z : Sizes). WriterMay z c.args.place.now c.args.word) (ap (λ v. v.sizes) (sym c.self.view_is)) c.requires.may in let near = may.0 in let fits = may.1 in omega arith
@@ -25,15 +25,15 @@ touch_word-requires-clause-room g c =
 pub invariant_of-self : goal.invariant_of-self
 invariant_of-self g c =
     let told = c.touch_word.ensures.told in
-    let k = kept Writer c.args.place.now c.args.word c.args.touch c.self.inside.chair.me.0 c.touch_word.result c.touch_word.new.chair.me.0 c.requires.kind told in
-    let same = generations_kept c.args.place.now c.args.word c.args.touch c.self.inside.chair.me.0 c.touch_word.result c.touch_word.new.chair.me.0 c.requires.kind told in
-    writing_kept _ _ c.self.inside.chair.me c.touch_word.new.chair.me _ _ _ c.touch_word.ensures.table c.touch_word.ensures.chair.0 c.touch_word.ensures.chair.1 k same c.self.invariant
+    let k = kept Writer c.args.place.now c.args.word c.args.touch c.self.inside.seat.me.0 c.touch_word.result c.touch_word.new.seat.me.0 c.requires.kind told in
+    let same = generations_kept c.args.place.now c.args.word c.args.touch c.self.inside.seat.me.0 c.touch_word.result c.touch_word.new.seat.me.0 c.requires.kind told in
+    writing_kept _ _ c.self.inside.seat.me c.touch_word.new.seat.me _ _ _ c.touch_word.ensures.table c.touch_word.ensures.seat.0 c.touch_word.ensures.seat.1 k same c.self.invariant
 
 pub returns-clause-shown : goal.returns-clause-shown
 returns-clause-shown g c =
-    rw (sym c.self.view_is) (shown Writer c.args.place.now c.args.word c.args.touch c.self.inside.chair.me.0 c.touch_word.result c.touch_word.new.chair.me.0 c.requires.kind c.touch_word.ensures.told)
+    rw (sym c.self.view_is) (shown Writer c.args.place.now c.args.word c.args.touch c.self.inside.seat.me.0 c.touch_word.result c.touch_word.new.seat.me.0 c.requires.kind c.touch_word.ensures.told)
 
 pub returns-clause-stays : goal.returns-clause-stays
 returns-clause-stays g c =
-    let k = kept Writer c.args.place.now c.args.word c.args.touch c.self.inside.chair.me.0 c.touch_word.result c.touch_word.new.chair.me.0 c.requires.kind c.touch_word.ensures.told in
+    let k = kept Writer c.args.place.now c.args.word c.args.touch c.self.inside.seat.me.0 c.touch_word.result c.touch_word.new.seat.me.0 c.requires.kind c.touch_word.ensures.told in
     rw (sym c.self.view_is) (c.touch_word.ensures.table, k.sizes, refl)
