@@ -1,4 +1,4 @@
--- The writer's calls that make an event for each pass.
+-- The writer's calls that make an event for each pass, by ascending number: a sweep of all, and a publish.
 use Rattle.std.specs.Prelude.{◌≡◌, ◌≢◌, ◌==◌, ℕ, zero, suc, ◌+◌, ◌-◌, ◌<◌, min, if◌then◌else◌, List, [], ◌∷◌, ◌++◌, length, map, Option, Some, None}
 use mathlib.Core.List.{IsPrefix}
 use Rattle.std.specs.Arc.{arc_value}
@@ -26,7 +26,7 @@ use Rattle.epoch_rule.specs.declared.writers.Held.{Held}
 use Rattle.mem_base.specs.machine.Passes.{pass_id}
 use Rattle.mem_base.specs.machine.Turns.{history_entry}
 use Rattle.mem_base.specs.machine.Actors.{own_entries, generations_after_all}
-use Rattle.epoch_rule.specs.Ruled.{Lawful, generations_seen, HoldsOn}
+use Rattle.epoch_rule.specs.Rule.{IsLegal, generations_seen, KeepsSlot}
 use Rattle.epoch_rule.specs.Writing.{stored}
 
 -- a sweep of each pass from `first` on, with what it found
@@ -34,7 +34,7 @@ abbrev pub sweeps_of : ℕ → List ℕ → List HistoryEntry
 sweeps_of first [] = []
 sweeps_of first (r ∷ rs) = history_entry (events.Sweep (pass_id first)) Nothing r ∷ sweeps_of (suc first) rs
 
--- a copy for each of the first passes, so many
+-- a copy for each of the first `n` passes
 abbrev pub places_of : ℕ → List HistoryEntry
 places_of zero = []
 places_of (suc n) = places_of n ++ history_entry (events.Place (pass_id n)) Nothing 0 ∷ []
@@ -43,22 +43,22 @@ places_of (suc n) = places_of n ++ history_entry (events.Place (pass_id n)) Noth
 abbrev pub generations_in_seen : Sizes → List HistoryEntry → Generations
 generations_in_seen z xs = generations_after_all (first_generations z.passes) (own_entries 0 xs)
 
--- the writer's own entries grew by these, and it holds on to what it held
-pub record Writes (v : View) (es : List HistoryEntry) (w : View) : Type 0 where
+-- the writer's own entries grew by these
+pub record HasWritten (v : View) (es : List HistoryEntry) (w : View) : Type 0 where
   pub role : w.role ≡ v.role
   pub out : w.out ≡ v.out
   pub sizes : w.sizes ≡ v.sizes
   pub begins : IsPrefix v.seen w.seen
-  pub lawful : Lawful v.sizes w.seen
+  pub lawful : IsLegal v.sizes w.seen
   pub events : own_entries 0 w.seen ≡ own_entries 0 v.seen ++ es
 
--- the first passes were swept, so many, and what was found is stored
-pub record Sweeping (v w : View) (known : List Found) (n : ℕ) : Type 0 where
+-- the first `n` passes were swept, and what was found is stored
+pub record HasSwept (v w : View) (known : List Found) (n : ℕ) : Type 0 where
   pub rs : List ℕ
   pub many : length rs ≡ n
-  pub writes : Writes v (sweeps_of 0 rs) w
+  pub writes : HasWritten v (sweeps_of 0 rs) w
   pub ends : EndsWith (sweeps_of 0 rs) w.seen
-  pub holds : HoldsOn v w
+  pub holds : KeepsSlot v w
   pub is_known : known ≡ map stored (generations_seen w).passes
 
 -- the least pass that holds a publish up
@@ -70,9 +70,9 @@ held_in current first (f ∷ fs) = if holds_up current (number_pinned f.word) th
 abbrev pub AreCopies : {E Z : Type 0} → (E → ℕ) → (E → Forest) → (E → List Place) → ℕ → Picked → List (Arc E Z) → Type 0
 AreCopies number forest places g x all = Every (λ a. (number (arc_value a) ≡ g) × (picked forest places (arc_value a) ≡ x)) all
 
--- the first passes have their copies, so many
-pub record Placing (v w : View) (next : Picked) (n : ℕ) : Type 0 where
-  pub writes : Writes v (places_of n) w
+-- the first `n` passes have their copies
+pub record HasPlaced (v w : View) (next : Picked) (n : ℕ) : Type 0 where
+  pub writes : HasWritten v (places_of n) w
   pub free : w.held ≡ 0
   pub is_next : 0 < n → w.next ≡ next
 
@@ -80,12 +80,11 @@ pub record Placing (v w : View) (next : Picked) (n : ℕ) : Type 0 where
 abbrev pub refusal_of : Held → Refusal
 refusal_of h = refusals.Held h.pass h.number
 
--- a publish was made: a sweep of each pass, which found none too far behind, a copy for each, and the next generation
--- is current
+-- a publish was made: a sweep of each pass, none of which held it up, a copy for each, and then the Publish
 abbrev pub Published : Sizes → List HistoryEntry → Carried → ℕ → List HistoryEntry → Type 0
 Published z xs x number ys = (rs : List ℕ) × (length rs ≡ z.passes) × Wrote hands.Writer z xs (sweeps_of 0 rs ++ places_of z.passes ++ history_entry events.Publish x number ∷ []) ys × (held_up (generations_after_all (generations_in_seen z xs) (sweeps_of 0 rs)) ≡ None)
 
--- it was held up: a sweep of each pass, and then the least pass that was found too far behind
+-- it was held up: a sweep of each pass, and this is the least one that was found at the current number less 7 or older
 abbrev pub HeldUp : Sizes → List HistoryEntry → Held → List HistoryEntry → Type 0
 HeldUp z xs h ys = (rs : List ℕ) × (length rs ≡ z.passes) × Wrote hands.Writer z xs (sweeps_of 0 rs) ys × (held_up (generations_in_seen z ys) ≡ Some (refusal_of h))
 

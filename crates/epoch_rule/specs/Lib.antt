@@ -1,4 +1,4 @@
-pub mod Ruled
+pub mod Rule
 pub mod Copies
 pub mod Values
 pub mod Wrote

@@ -1,4 +1,4 @@
--- What an actor's calls show to their caller: how its own entries grew.
+-- Which words an actor may touch, and what a touch adds to what it has seen.
 use Rattle.std.specs.Prelude.{◌≡◌, ℕ, ◌<◌, ◌≤◌, ◌==◌, true, MatchBool, List, [], ◌∷◌, ◌++◌}
 use Rattle.std.specs.List.{list_any}
 use mathlib.Core.List.{IsPrefix}
@@ -29,24 +29,26 @@ IsReach p word touches.Fill = is_data_or_register p word ≡ true
 IsReach p word (touches.Mark client page) = page < pages_in p
 IsReach p word (touches.Harvest client index) = is_data_or_register p word ≡ true
 
--- a pass may touch a word of a place that its generation carries
+-- a pass may touch the words of these places, which its generation carries
 abbrev pub PassMay : List Place → Place → ℕ → Touch → Type 0
-PassMay places p word touch = (list_any (is_same_place p) places ≡ true) × (word < p.words) × IsReach p word touch
+PassMay places p word touch = (list_any (is_same_place p) places ≡ true) × IsReach p word touch
 
 -- the writer may touch each word of a place that ends within the cabinet's words
 abbrev pub WriterMay : Sizes → Place → ℕ → Type 0
 WriterMay z p word = (word < p.words) × (past p ≤ z.words)
 
-abbrev pub ShownStep : Hand → Sizes → Place → ℕ → WordStep → List HistoryEntry → ℕ → List HistoryEntry → Type 0
-ShownStep hand z p word (Replace first bytes value) xs r ys = (r ≡ 0) × ((old : ℕ) × Wrote hand z xs (history_entry (events.Word hand (cell p.region word) (Replace first bytes value)) (At p) old ∷ []) ys)
-ShownStep hand z p word s xs r ys = Wrote hand z xs (history_entry (events.Word hand (cell p.region word) s) (At p) r ∷ []) ys
+-- what a step on a word shows: its event, with its place and the reply that stands in the history, which is the answer,
+-- or 0 where it is a store
+abbrev pub ShowsStep : Hand → Sizes → Place → ℕ → WordStep → List HistoryEntry → ℕ → List HistoryEntry → Type 0
+ShowsStep hand z p word (Replace first bytes value) xs r ys = (r ≡ 0) × ((old : ℕ) × Wrote hand z xs (history_entry (events.Word hand (cell p.region word) (Replace first bytes value)) (At p) old ∷ []) ys)
+ShowsStep hand z p word s xs r ys = Wrote hand z xs (history_entry (events.Word hand (cell p.region word) s) (At p) r ∷ []) ys
 
--- what a touch shows: its event, with its place and the reply that stands in the history
-abbrev pub Shown : Hand → Sizes → Place → ℕ → Touch → List HistoryEntry → ℕ → List HistoryEntry → Type 0
-Shown hand z p word touches.Look xs r ys = ys ≡ xs
-Shown hand z p word (touches.Step step) xs r ys = ShownStep hand z p word step xs r ys
-Shown hand z p word (touches.Try old first bytes value) xs r ys =
+-- what a touch shows: a Look nothing, a Try its event only where it found `old`, and any other its event
+abbrev pub ShowsTouch : Hand → Sizes → Place → ℕ → Touch → List HistoryEntry → ℕ → List HistoryEntry → Type 0
+ShowsTouch hand z p word touches.Look xs r ys = ys ≡ xs
+ShowsTouch hand z p word (touches.Step step) xs r ys = ShowsStep hand z p word step xs r ys
+ShowsTouch hand z p word (touches.Try old first bytes value) xs r ys =
     MatchBool (r == old) (Wrote hand z xs (history_entry (events.Word hand (cell p.region word) (Replace first bytes value)) (At p) r ∷ []) ys) (ys ≡ xs)
-Shown hand z p word touches.Fill xs r ys = (r ≡ 0) × Wrote hand z xs (history_entry (events.Fill (cell p.region word)) (At p) 0 ∷ []) ys
-Shown hand z p word (touches.Mark client page) xs r ys = Wrote hand z xs (history_entry (events.Mark (pass_of_hand hand) p.region client page) (At p) 0 ∷ []) ys
-Shown hand z p word (touches.Harvest client index) xs r ys = Wrote hand z xs (history_entry (events.Harvest p.region client index) (At p) r ∷ []) ys
+ShowsTouch hand z p word touches.Fill xs r ys = (r ≡ 0) × Wrote hand z xs (history_entry (events.Fill (cell p.region word)) (At p) 0 ∷ []) ys
+ShowsTouch hand z p word (touches.Mark client page) xs r ys = Wrote hand z xs (history_entry (events.Mark (pass_of_hand hand) p.region client page) (At p) 0 ∷ []) ys
+ShowsTouch hand z p word (touches.Harvest client index) xs r ys = Wrote hand z xs (history_entry (events.Harvest p.region client index) (At p) r ∷ []) ys

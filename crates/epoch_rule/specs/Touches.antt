@@ -1,4 +1,4 @@
--- Steps on the cabinet's words, one kind for all of them.
+-- Steps on the cabinet's words: their events, and what they tell. One rule serves all of them.
 use Rattle.std.specs.Prelude.{◌≡◌, ℕ, ◌+◌, ◌<◌, ◌≤◌, ◌==◌, true, false, if◌then◌else◌, MatchBool, List, Some}
 use Rattle.std.specs.Option.{unwrap_or}
 use mathlib.Core.List.{IsPrefix}
@@ -24,26 +24,25 @@ use Rattle.epoch_rule.specs.declared.touches.Touch.{Touch}
 use Rattle.epoch_rule.specs.declared.touches.Touch.TheVariants as touches
 use Rattle.mem_base.specs.machine.Passes.{pass_id}
 use Rattle.mem_base.specs.machine.Actors.{actor_of, actor_of_hand, own_entries, published_with}
-use Rattle.epoch_rule.specs.Ruled.{state_of, Lawful, Adds, HoldsOn}
+use Rattle.epoch_rule.specs.Rule.{state_of, IsLegal, ComesNext, KeepsSlot}
 
 -- the event is the actor's, and steps on that word of the cabinet alone
-pub record Touching (a : ℕ) (e : Event) (p : Place) (t : PoolTouch) : Type 0 where
+pub record TouchesWord (a : ℕ) (e : Event) (p : Place) (t : PoolTouch) : Type 0 where
   pub mine : actor_of e ≡ a
   pub is : pool_touch_of e (At p) ≡ Some t
   pub generations : (g : Generations) (r : ℕ) → generations_after g e (At p) r ≡ g
   pub passes : (ps : List PassState) (r : ℕ) → passes_after ps e r ≡ ps
   pub published : (gs : List Generation) → published_with gs e (At p) ≡ gs
 
--- the reply of a step that found this word
+-- the reply in the history of a step that found this word
 abbrev pub told_by : PoolTouch → ℕ → ℕ
 told_by t old = if t.touch.tells then old else 0
 
 -- the seat made the event, which found this word
 abbrev pub touched : {S : Type 0} → ℕ → Event → Place → PoolTouch → Me S View → ℕ → Me S View → Type 0
-touched a e p t m r w = (w.1 ≡ m.1) × HoldsOn m.0 w.0 × Adds a m.0 e (At p) (told_by t r) w.0
+touched a e p t m r w = (w.1 ≡ m.1) × KeepsSlot m.0 w.0 × ComesNext a m.0 e (At p) (told_by t r) w.0
 
--- what a touch shows
-
+-- the pass that a hand is
 abbrev pub pass_of_hand : Hand → PassId
 pass_of_hand (hands.Pass pass) = pass
 pass_of_hand hands.Writer = pass_id 0
@@ -56,6 +55,8 @@ event_of hand p word (touches.Try old first bytes value) = events.Word hand (cel
 event_of hand p word touches.Fill = events.Fill (cell p.region word)
 event_of hand p word (touches.Mark client page) = events.Mark (pass_of_hand hand) p.region client page
 event_of hand p word (touches.Harvest client index) = events.Harvest p.region client index
+
+-- who makes the touch
 
 abbrev pub IsPassHand : Hand → Type 0
 IsPassHand (hands.Pass pass) = Unit {0}
@@ -70,7 +71,8 @@ abbrev pub IsWholeStep : WordStep → Type 0
 IsWholeStep (Replace first bytes value) = (first ≡ 0) × (bytes ≡ 8)
 IsWholeStep s = Unit {0}
 
--- the touch is one that such an actor makes on that word
+-- This actor may make a touch of this kind on this word: a Fill and a Harvest are the writer's and a Mark a pass's, and
+-- marks are in their mark words
 abbrev pub IsTouch : Hand → Place → ℕ → Touch → Type 0
 IsTouch hand p word touches.Look = Unit {0}
 IsTouch hand p word (touches.Step step) = IsWholeStep step
@@ -81,33 +83,34 @@ IsTouch hand p word (touches.Harvest client index) = IsWriterHand hand × (word 
 
 -- what a step on a word tells: the word before it, or 0 where it is a store
 abbrev pub ToldStep : Hand → Place → ℕ → WordStep → View → ℕ → View → Type 0
-ToldStep hand p word (Replace first bytes value) v r w = (r ≡ 0) × ((old : ℕ) × Adds (actor_of_hand hand) v (events.Word hand (cell p.region word) (Replace first bytes value)) (At p) old w)
-ToldStep hand p word s v r w = Adds (actor_of_hand hand) v (events.Word hand (cell p.region word) s) (At p) r w
+ToldStep hand p word (Replace first bytes value) v r w = (r ≡ 0) × ((old : ℕ) × ComesNext (actor_of_hand hand) v (events.Word hand (cell p.region word) (Replace first bytes value)) (At p) old w)
+ToldStep hand p word s v r w = ComesNext (actor_of_hand hand) v (events.Word hand (cell p.region word) s) (At p) r w
 
 -- what a touch tells: its event, with the reply that stands in the history
 abbrev pub Told : Hand → Place → ℕ → Touch → View → ℕ → View → Type 0
 Told hand p word touches.Look v r w = w ≡ v
 Told hand p word (touches.Step step) v r w = ToldStep hand p word step v r w
 Told hand p word (touches.Try old first bytes value) v r w =
-    MatchBool (r == old) (Adds (actor_of_hand hand) v (events.Word hand (cell p.region word) (Replace first bytes value)) (At p) r w) (w ≡ v)
-Told hand p word touches.Fill v r w = (r ≡ 0) × Adds (actor_of_hand hand) v (events.Fill (cell p.region word)) (At p) 0 w
-Told hand p word (touches.Mark client page) v r w = Adds (actor_of_hand hand) v (events.Mark (pass_of_hand hand) p.region client page) (At p) 0 w
-Told hand p word (touches.Harvest client index) v r w = Adds (actor_of_hand hand) v (events.Harvest p.region client index) (At p) r w
+    MatchBool (r == old) (ComesNext (actor_of_hand hand) v (events.Word hand (cell p.region word) (Replace first bytes value)) (At p) r w) (w ≡ v)
+Told hand p word touches.Fill v r w = (r ≡ 0) × ComesNext (actor_of_hand hand) v (events.Fill (cell p.region word)) (At p) 0 w
+Told hand p word (touches.Mark client page) v r w = ComesNext (actor_of_hand hand) v (events.Mark (pass_of_hand hand) p.region client page) (At p) 0 w
+Told hand p word (touches.Harvest client index) v r w = ComesNext (actor_of_hand hand) v (events.Harvest p.region client index) (At p) r w
 
--- all that a step on a word owes, of the seat that makes it
-pub record Ready (z : Sizes) (v : View) (a : ℕ) (e : Event) (p : Place) (t : PoolTouch) : Type 0 where
-  pub kind : Touching a e p t
+-- all that a step on a word needs of the seat that makes it
+pub record IsStepReady (z : Sizes) (v : View) (a : ℕ) (e : Event) (p : Place) (t : PoolTouch) : Type 0 where
+  pub kind : TouchesWord a e p t
   pub role : v.role ≡ Some a
   pub inside : t.word < z.words
-  pub may : (log : List HistoryEntry) → v.sizes ≡ z → Lawful z log → IsPrefix v.seen log → own_entries a v.seen ≡ own_entries a log → shared_possible (state_of z log) e (At p) ≡ true
+  pub may : (log : List HistoryEntry) → v.sizes ≡ z → IsLegal z log → IsPrefix v.seen log → own_entries a v.seen ≡ own_entries a log → shared_possible (state_of z log) e (At p) ≡ true
 
 -- the touch of an event at a place
 abbrev pub no_touch : PoolTouch
 no_touch = record { word = 0; touch = cell_touch 0 Load false }
 
+-- what an event does to a word of the cabinet
 abbrev pub touch_at : Event → Place → PoolTouch
 touch_at e p = unwrap_or (pool_touch_of e (At p)) no_touch
 
--- a touch that is ready
+-- the same of a touch
 abbrev pub IsReady : Sizes → View → Hand → Place → ℕ → Touch → Type 0
-IsReady z v hand p word touch = let e = event_of hand p word touch in Ready z v (actor_of_hand hand) e p (touch_at e p)
+IsReady z v hand p word touch = let e = event_of hand p word touch in IsStepReady z v (actor_of_hand hand) e p (touch_at e p)

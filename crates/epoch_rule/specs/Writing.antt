@@ -8,14 +8,15 @@ use Rattle.epoch_rule.specs.declared.views.Sizes.{Sizes}
 use Rattle.epoch_rule.specs.declared.views.View.{View}
 use Rattle.epoch_rule.specs.declared.writers.Found.{Found}
 use Rattle.mem_base.specs.machine.Passes.{pass_id}
-use Rattle.epoch_rule.specs.Ruled.{Lawful, generations_seen}
+use Rattle.epoch_rule.specs.Rule.{IsLegal, generations_seen}
 use Rattle.epoch_rule.specs.Copies.{Suits}
 
 -- what is stored of a pass
 abbrev pub stored : PassTrack → Found
 stored k = record { word = pin_word k.found; lowest = k.lowest }
 
--- what is stored is what the writer's own entries make
+-- What is stored is what the writer's own entries make of the generations; the writer holds no slot, and no pass has its
+-- copy of the next generation
 pub record IsWriting {S : Type 0} (t : TableId) (me : Me S View) (current : ℕ) (known : List Found) (out : List Bool) : Type 0 where
   pub role : me.0.role ≡ Some 0
   pub free : me.0.held ≡ 0
@@ -27,4 +28,4 @@ pub record IsWriting {S : Type 0} (t : TableId) (me : Me S View) (current : ℕ)
   pub unplaced : (v : ℕ) → (known_of (generations_seen me.0) (pass_id v)).placed ≡ false
   pub is_out : out ≡ me.0.out
   pub outs : length out ≡ me.0.sizes.passes
-  pub lawful : Lawful me.0.sizes me.0.seen
+  pub lawful : IsLegal me.0.sizes me.0.seen

@@ -8,7 +8,7 @@ use Rattle.mem_base.specs.machine.Passes.{pass_id}
 use Rattle.mem_base.specs.machine.Actors.{actor_of_hand, own_entries}
 use Rattle.mem_base.specs.machine.Histories.{last_of}
 use Rattle.epoch_rule.specs.declared.views.Sizes.{Sizes}
-use Rattle.epoch_rule.specs.Ruled.{Lawful}
+use Rattle.epoch_rule.specs.Rule.{IsLegal}
 use Rattle.epoch_rule.specs.Values.{PassValue}
 
 -- where there are new entries, the last of them is the last one seen
@@ -19,7 +19,7 @@ EndsWith new seen = (x : HistoryEntry) → last_of new ≡ Some x → last_of se
 -- seen, is a legal history, and ends with the last of these events
 pub record Wrote (hand : Hand) (z : Sizes) (before new after : List HistoryEntry) : Type 0 where
   pub begins : IsPrefix before after
-  pub lawful : Lawful z after
+  pub lawful : IsLegal z after
   pub events : own_entries (actor_of_hand hand) after ≡ own_entries (actor_of_hand hand) before ++ new
   pub ends : EndsWith new after
 

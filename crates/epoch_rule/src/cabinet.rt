@@ -8,7 +8,7 @@ ghost use Rattle.mem_base.specs.machine.Actors.{number_seen, generation_publishe
 ghost use Rattle.epoch_rule.specs.Copies.{shown_by};
 ghost use Rattle.epoch_rule.specs.Wrote.{Made, longer};
 ghost use Rattle.epoch_rule.specs.Touches.{IsTouch};
-ghost use Rattle.epoch_rule.specs.Shown.{Shown};
+ghost use Rattle.epoch_rule.specs.Shown.{ShowsTouch};
 ghost use mathlib.Core.List.{IsPrefix};
 
 use crate::board::{Announces, Enters, Law, Leaves, Looks, Meets, Settles, Slot, Tells};
@@ -124,7 +124,7 @@ impl<E: Edition + Drop> Cabinet<E> {
         requires own { H.made_by hand.old ≡ self.now.id }
         requires kind { IsTouch (H.actor hand.old) place.now word touch }
         requires may { H.may hand.old place.now word touch }
-        ensures shown { Shown (H.actor hand.old) (H.sizes hand.old) place.now word touch (H.seen hand.old) result (H.seen hand.new) }
+        ensures shown { ShowsTouch (H.actor hand.old) (H.sizes hand.old) place.now word touch (H.seen hand.old) result (H.seen hand.new) }
         ensures stays { H.stays hand.old hand.new }
     {
         hand.touch_in(self, place, word, touch)

@@ -11,7 +11,7 @@ ghost use Rattle.epoch_rule.specs.declared.touches.Touch.{Touch};
 ghost use Rattle.epoch_rule.specs.declared.touches.Touch.TheVariants.{Look, Try};
 ghost use Rattle.mem_base.specs.machine.Passes.{pass_id};
 ghost use Rattle.epoch_rule.specs.Touches.{IsTouch};
-ghost use Rattle.epoch_rule.specs.Shown.{PassMay, Shown, WriterMay};
+ghost use Rattle.epoch_rule.specs.Shown.{PassMay, ShowsTouch, WriterMay};
 
 use crate::cabinet::Cabinet;
 use crate::passes::Pass;
@@ -44,7 +44,7 @@ pub trait Hand<E: Edition + Drop> {
         requires own { made_by self.old ≡ cabinet.now.id }
         requires kind { IsTouch (actor self.old) place.now word touch }
         requires may { may self.old place.now word touch }
-        ensures shown { Shown (actor self.old) (sizes self.old) place.now word touch (seen self.old) result (seen self.new) }
+        ensures shown { ShowsTouch (actor self.old) (sizes self.old) place.now word touch (seen self.old) result (seen self.new) }
         ensures stays { stays self.old self.new };
 
     /// Where all but what was seen is as it was, it may do what it might.

@@ -3,7 +3,7 @@ ghost use Rattle.std.specs.Prelude.{◌≡◌, ℕ, ◌+◌, ◌*◌, ◌^◌, �
 ghost use Rattle.std.specs.Arc.{arc_value};
 ghost use Rattle.std.specs.declared.sync.Arc.{Arc};
 ghost use Rattle.mem_base.specs.map.Calls.{empty};
-ghost use Rattle.epoch_rule.specs.Opening.{IsShelf, AreShelves};
+ghost use Rattle.epoch_rule.specs.Opening.{AddsSlots, AreFirstSlots};
 
 use crate::board::{Law, Slot};
 use crate::cabinet::Cabinet;
@@ -28,11 +28,11 @@ fn filled<T: Clone + std::marker::Copy + Drop>(
 }
 
 /// Appends the slots of one pass: a copy of edition 0, and seven empty ones.
-fn add_shelf<E: Edition + Drop>(
+fn add_slots<E: Edition + Drop>(
     slots: &mut Vec<Slot<E>>,
     first: &Arc<E, Global>,
 ) -> Result<(), AllocError>
-    ensures { IfOk result (λ _. IsShelf (arc_value first.now) slots.old.items slots.new.items) }
+    ensures { IfOk result (λ _. AddsSlots (arc_value first.now) slots.old.items slots.new.items) }
 {
     let copy = Arc::try_clone(first)?;
     slots.push(Some(copy))?;
@@ -43,16 +43,16 @@ fn add_shelf<E: Edition + Drop>(
 }
 
 /// The slots of all passes.
-fn shelves<E: Edition + Drop>(
+fn first_slots<E: Edition + Drop>(
     alloc: Global,
     passes: u32,
     first: &Arc<E, Global>,
 ) -> Result<Vec<Slot<E>>, AllocError>
-    ensures { IfOk result (λ v. AreShelves (arc_value first.now) passes v.items) }
+    ensures { IfOk result (λ v. AreFirstSlots (arc_value first.now) passes v.items) }
 {
     let mut slots = Vec::new(alloc);
     for _ in 0..passes {
-        add_shelf(&mut slots, first)?;
+        add_slots(&mut slots, first)?;
     }
     Ok(slots)
 }
@@ -75,7 +75,7 @@ impl<E: Edition + Drop> Cabinet<E> {
         let known = filled(alloc, passes as usize, none)?;
         let out = filled(alloc, passes as usize, false)?;
         let blank = filled(alloc, passes as usize + 1 + words, 0u64)?;
-        let slots = shelves(alloc, passes, &first)?;
+        let slots = first_slots(alloc, passes, &first)?;
         let sizes = Sizes { passes, words };
         let Ok((table, seat)) = Table::new(alloc, blank.as_slice(), slots, &sizes) else {
             return Err(AllocError);

@@ -2,9 +2,9 @@
 ghost use Rattle.std.specs.Prelude.{◌≡◌, ℕ, ◌+◌, ◌%◌, ◌<◌, ◌^◌, ◌==◌, bit_or, MatchBool};
 ghost use Rattle.mem_base.specs.declared.access.cells.WordStep.TheVariants.{Load, AddOne, Or, Take};
 ghost use Rattle.mem_base.specs.access.Words.{word_after};
-ghost use Rattle.epoch_rule.specs.Ruled.{Adds, HoldsOn};
+ghost use Rattle.epoch_rule.specs.Rule.{ComesNext, KeepsSlot};
 ghost use Rattle.epoch_rule.specs.Copies.{Suits};
-ghost use Rattle.epoch_rule.specs.Touches.{Ready, touched};
+ghost use Rattle.epoch_rule.specs.Touches.{IsStepReady, touched};
 
 use crate::board::{SharedTable, Slot, TableSeat};
 use crate::views::View;
@@ -85,7 +85,7 @@ pub(crate) fn load_as<E: Edition + Drop, J: Plan>(
     place: &Place,
 ) -> u64
     requires table { (seat.old.table_id ≡ shared.now.table_id) × Suits shared.now.table_id shared.now.key }
-    requires ready { Ready shared.now.key seat.old.me.0 J.actor J.event J.place J.touch }
+    requires ready { IsStepReady shared.now.key seat.old.me.0 J.actor J.event J.place J.touch }
     requires index { index ≡ shared.now.key.passes + 1 + J.touch.word }
     requires step { J.touch.touch.step ≡ Load }
     ensures table { seat.new.table_id ≡ seat.old.table_id }
@@ -102,7 +102,7 @@ pub(crate) fn add_as<E: Edition + Drop, J: Plan>(
     place: &Place,
 ) -> u64
     requires table { (seat.old.table_id ≡ shared.now.table_id) × Suits shared.now.table_id shared.now.key }
-    requires ready { Ready shared.now.key seat.old.me.0 J.actor J.event J.place J.touch }
+    requires ready { IsStepReady shared.now.key seat.old.me.0 J.actor J.event J.place J.touch }
     requires index { index ≡ shared.now.key.passes + 1 + J.touch.word }
     requires step { J.touch.touch.step ≡ AddOne }
     ensures table { seat.new.table_id ≡ seat.old.table_id }
@@ -120,7 +120,7 @@ pub(crate) fn or_as<E: Edition + Drop, J: Plan>(
     place: &Place,
 ) -> u64
     requires table { (seat.old.table_id ≡ shared.now.table_id) × Suits shared.now.table_id shared.now.key }
-    requires ready { Ready shared.now.key seat.old.me.0 J.actor J.event J.place J.touch }
+    requires ready { IsStepReady shared.now.key seat.old.me.0 J.actor J.event J.place J.touch }
     requires index { index ≡ shared.now.key.passes + 1 + J.touch.word }
     requires step { J.touch.touch.step ≡ Or bits }
     ensures table { seat.new.table_id ≡ seat.old.table_id }
@@ -137,7 +137,7 @@ pub(crate) fn take_as<E: Edition + Drop, J: Plan>(
     place: &Place,
 ) -> u64
     requires table { (seat.old.table_id ≡ shared.now.table_id) × Suits shared.now.table_id shared.now.key }
-    requires ready { Ready shared.now.key seat.old.me.0 J.actor J.event J.place J.touch }
+    requires ready { IsStepReady shared.now.key seat.old.me.0 J.actor J.event J.place J.touch }
     requires index { index ≡ shared.now.key.passes + 1 + J.touch.word }
     requires step { J.touch.touch.step ≡ Take }
     ensures table { seat.new.table_id ≡ seat.old.table_id }
@@ -155,7 +155,7 @@ pub(crate) fn store_as<E: Edition + Drop, J: Plan>(
     place: &Place,
 )
     requires table { (seat.old.table_id ≡ shared.now.table_id) × Suits shared.now.table_id shared.now.key }
-    requires ready { Ready shared.now.key seat.old.me.0 J.actor J.event J.place J.touch }
+    requires ready { IsStepReady shared.now.key seat.old.me.0 J.actor J.event J.place J.touch }
     requires index { index ≡ shared.now.key.passes + 1 + J.touch.word }
     requires step { (n : ℕ) → n < 2 ^ 64 → value % 2 ^ 64 ≡ word_after J.touch.touch.step n }
     ensures table { seat.new.table_id ≡ seat.old.table_id }
@@ -174,7 +174,7 @@ pub(crate) fn try_as<E: Edition + Drop, J: Plan>(
     place: &Place,
 ) -> u64
     requires table { (seat.old.table_id ≡ shared.now.table_id) × Suits shared.now.table_id shared.now.key }
-    requires ready { Ready shared.now.key seat.old.me.0 J.actor J.event J.place J.touch }
+    requires ready { IsStepReady shared.now.key seat.old.me.0 J.actor J.event J.place J.touch }
     requires index { index ≡ shared.now.key.passes + 1 + J.touch.word }
     requires step { new ≡ word_after J.touch.touch.step old }
     ensures table { seat.new.table_id ≡ seat.old.table_id }

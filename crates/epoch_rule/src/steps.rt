@@ -5,10 +5,10 @@ ghost use Rattle.mem_base.specs.declared.machine.events.Event.TheVariants.{Sweep
 ghost use Rattle.mem_base.specs.declared.machine.events.Carried.TheVariants.{Nothing};
 ghost use Rattle.mem_base.specs.machine.Generations.{PassTrack, all_placed, known_after_sweep, known_of};
 ghost use Rattle.mem_base.specs.machine.Passes.{pass_id};
-ghost use Rattle.epoch_rule.specs.Ruled.{Adds, HoldsOn, IsRoomy, Lawful, carried_pick, generation_of_pick, generations_seen};
+ghost use Rattle.epoch_rule.specs.Rule.{ComesNext, KeepsSlot, PlacesFit, IsLegal, carried_pick, generation_of_pick, generations_seen};
 ghost use Rattle.epoch_rule.specs.Writing.{stored};
 ghost use Rattle.epoch_rule.specs.declared.views.Picked.{Picked};
-ghost use Rattle.epoch_rule.specs.Calls.{AreCopies, Placing, Sweeping, first_at as first_at_in, held_in, least_in};
+ghost use Rattle.epoch_rule.specs.Calls.{AreCopies, HasPlaced, HasSwept, first_at as first_at_in, held_in, least_in};
 ghost use Rattle.epoch_rule.specs.Copies.{Suits, picked};
 
 use crate::board::{Places, Publishes, Reaches, SharedTable, Sweeps, TableSeat};
@@ -26,8 +26,8 @@ pub(crate) fn sweep<E: Edition + Drop>(
 ) -> u64
     requires table { (seat.old.table_id ≡ shared.now.table_id) × Suits shared.now.table_id shared.now.key × (pass < shared.now.key.passes) }
     requires writer { seat.old.me.0.role ≡ Some 0 }
-    ensures seat { (seat.new.table_id ≡ seat.old.table_id) × (seat.new.me.1 ≡ seat.old.me.1) × HoldsOn seat.old.me.0 seat.new.me.0 }
-    ensures adds { Adds 0 seat.old.me.0 (Sweep (pass_id pass)) Nothing result seat.new.me.0 }
+    ensures seat { (seat.new.table_id ≡ seat.old.table_id) × (seat.new.me.1 ≡ seat.old.me.1) × KeepsSlot seat.old.me.0 seat.new.me.0 }
+    ensures adds { ComesNext 0 seat.old.me.0 (Sweep (pass_id pass)) Nothing result seat.new.me.0 }
 {
     shared.load::<Sweeps>(seat, pass as usize + 1)
 }
@@ -47,7 +47,7 @@ pub(crate) fn place<E: Edition + Drop>(
     requires free { (known_of (generations_seen seat.old.me.0) (pass_id pass)).placed ≡ false }
     requires copy { (E.counted (arc_value copy) ≡ next) × ((v : ℕ) → (known_of (generations_seen seat.old.me.0) (pass_id v)).placed ≡ true → seat.old.me.0.next ≡ picked E.forest E.places (arc_value copy)) }
     ensures seat { (seat.new.table_id ≡ seat.old.table_id) × (seat.new.me.1 ≡ []) × (seat.new.me.0.held ≡ 0) × (seat.new.me.0.next ≡ picked E.forest E.places (arc_value copy)) }
-    ensures adds { Adds 0 seat.old.me.0 (Place (pass_id pass)) Nothing 0 seat.new.me.0 }
+    ensures adds { ComesNext 0 seat.old.me.0 (Place (pass_id pass)) Nothing 0 seat.new.me.0 }
 {
     shared.load::<Reaches>(seat, pass as usize + 1);
     let slot = 8 * pass as usize + (next % 8) as usize;
@@ -65,9 +65,9 @@ pub(crate) fn publish<E: Edition + Drop>(
     requires writer { seat.old.me.0.role ≡ Some 0 }
     requires next { (next ≡ (generations_seen seat.old.me.0).current + 1) × (next + 1 < 2 ^ 64) }
     requires placed { all_placed (generations_seen seat.old.me.0).passes ≡ true }
-    requires roomy { IsRoomy shared.now.key.words (generation_of_pick seat.old.me.0.next) }
-    ensures seat { (seat.new.table_id ≡ seat.old.table_id) × (seat.new.me.1 ≡ seat.old.me.1) × HoldsOn seat.old.me.0 seat.new.me.0 }
-    ensures adds { Adds 0 seat.old.me.0 Publish (carried_pick seat.old.me.0.next) next seat.new.me.0 }
+    requires roomy { PlacesFit shared.now.key.words (generation_of_pick seat.old.me.0.next) }
+    ensures seat { (seat.new.table_id ≡ seat.old.table_id) × (seat.new.me.1 ≡ seat.old.me.1) × KeepsSlot seat.old.me.0 seat.new.me.0 }
+    ensures adds { ComesNext 0 seat.old.me.0 Publish (carried_pick seat.old.me.0.next) next seat.new.me.0 }
 {
     shared.store::<Publishes>(seat, 0, next)
 }
@@ -102,9 +102,9 @@ pub(crate) fn sweep_all<E: Edition + Drop>(
     requires current { current ≡ (generations_seen seat.old.me.0).current }
     requires many { length (generations_seen seat.old.me.0).passes ≡ passes }
     requires known { known.old.items ≡ map stored (generations_seen seat.old.me.0).passes }
-    requires lawful { Lawful seat.old.me.0.sizes seat.old.me.0.seen }
+    requires lawful { IsLegal seat.old.me.0.sizes seat.old.me.0.seen }
     ensures seat { (seat.new.table_id ≡ seat.old.table_id) × (seat.new.me.1 ≡ seat.old.me.1) }
-    ensures swept { Sweeping seat.old.me.0 seat.new.me.0 known.new.items passes }
+    ensures swept { HasSwept seat.old.me.0 seat.new.me.0 known.new.items passes }
 {
     for pass in 0..passes {
         let word = sweep(shared, seat, pass);
@@ -145,9 +145,9 @@ pub(crate) fn place_all<E: Edition + Drop>(
     requires free { (v : ℕ) → (known_of (generations_seen seat.old.me.0) (pass_id v)).placed ≡ false }
     requires copies { (x : Picked) × AreCopies E.counted E.forest E.places next x copies.items }
     requires many { length copies.items ≡ passes }
-    requires lawful { Lawful seat.old.me.0.sizes seat.old.me.0.seen }
+    requires lawful { IsLegal seat.old.me.0.sizes seat.old.me.0.seen }
     ensures seat { (seat.new.table_id ≡ seat.old.table_id) × (seat.new.me.1 ≡ []) }
-    ensures placed { (x : Picked) → AreCopies E.counted E.forest E.places next x copies.items → Placing seat.old.me.0 seat.new.me.0 x passes }
+    ensures placed { (x : Picked) → AreCopies E.counted E.forest E.places next x copies.items → HasPlaced seat.old.me.0 seat.new.me.0 x passes }
 {
     for pass in 0..passes {
         let Some(copy) = copies.pop() else {

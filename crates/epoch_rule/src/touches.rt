@@ -4,7 +4,7 @@ ghost use Rattle.mem_base.specs.access.Words.{replaced};
 ghost use Rattle.mem_base.specs.declared.machine.events.Hand.TheVariants.{Pass, Writer};
 ghost use Rattle.mem_base.specs.access.Places.{mark_word, word_of_page};
 ghost use Rattle.epoch_rule.specs.declared.touches.Touch.TheVariants.{Step, Try, Fill, Mark, Harvest};
-ghost use Rattle.epoch_rule.specs.Ruled.{HoldsOn};
+ghost use Rattle.epoch_rule.specs.Rule.{KeepsSlot};
 ghost use Rattle.epoch_rule.specs.Copies.{Suits};
 ghost use Rattle.epoch_rule.specs.Touches.{IsReady, IsTouch, IsWholeStep, Told, ToldStep};
 
@@ -86,7 +86,7 @@ fn step_word<E: Edition + Drop>(
     requires index { index ≡ shared.now.key.passes + 1 + (place.now.start + word) }
     requires whole { IsWholeStep step }
     ensures table { seat.new.table_id ≡ seat.old.table_id }
-    ensures seat { (seat.new.me.1 ≡ seat.old.me.1) × HoldsOn seat.old.me.0 seat.new.me.0 }
+    ensures seat { (seat.new.me.1 ≡ seat.old.me.1) × KeepsSlot seat.old.me.0 seat.new.me.0 }
     ensures told { ToldStep hand place.now word step seat.old.me.0 result seat.new.me.0 }
 {
     let cell = Cell {
@@ -123,7 +123,7 @@ fn try_word<E: Edition + Drop>(
     requires index { index ≡ shared.now.key.passes + 1 + (place.now.start + word) }
     requires part { first + bytes ≤ 8 }
     ensures table { seat.new.table_id ≡ seat.old.table_id }
-    ensures seat { (seat.new.me.1 ≡ seat.old.me.1) × HoldsOn seat.old.me.0 seat.new.me.0 }
+    ensures seat { (seat.new.me.1 ≡ seat.old.me.1) × KeepsSlot seat.old.me.0 seat.new.me.0 }
     ensures told { Told hand place.now word (Try old first bytes value) seat.old.me.0 result seat.new.me.0 }
 {
     let cell = Cell {
@@ -155,7 +155,7 @@ fn mark_page<E: Edition + Drop>(
     requires index { index ≡ shared.now.key.passes + 1 + (place.now.start + word) }
     requires word { word ≡ word_of_page place.now client page }
     ensures table { seat.new.table_id ≡ seat.old.table_id }
-    ensures seat { (seat.new.me.1 ≡ seat.old.me.1) × HoldsOn seat.old.me.0 seat.new.me.0 }
+    ensures seat { (seat.new.me.1 ≡ seat.old.me.1) × KeepsSlot seat.old.me.0 seat.new.me.0 }
     ensures told { Told (Pass pass) place.now word (Mark client page) seat.old.me.0 result seat.new.me.0 }
 {
     let event = Event::Mark {
@@ -181,7 +181,7 @@ fn harvest_word<E: Edition + Drop>(
     requires index { at ≡ shared.now.key.passes + 1 + (place.now.start + word) }
     requires word { word ≡ mark_word place.now client index }
     ensures table { seat.new.table_id ≡ seat.old.table_id }
-    ensures seat { (seat.new.me.1 ≡ seat.old.me.1) × HoldsOn seat.old.me.0 seat.new.me.0 }
+    ensures seat { (seat.new.me.1 ≡ seat.old.me.1) × KeepsSlot seat.old.me.0 seat.new.me.0 }
     ensures told { Told Writer place.now word (Harvest client index) seat.old.me.0 result seat.new.me.0 }
 {
     let event = Event::Harvest {
@@ -203,7 +203,7 @@ fn fill_word<E: Edition + Drop>(
     requires ready { IsReady shared.now.key seat.old.me.0 Writer place.now word Fill }
     requires index { index ≡ shared.now.key.passes + 1 + (place.now.start + word) }
     ensures table { seat.new.table_id ≡ seat.old.table_id }
-    ensures seat { (seat.new.me.1 ≡ seat.old.me.1) × HoldsOn seat.old.me.0 seat.new.me.0 }
+    ensures seat { (seat.new.me.1 ≡ seat.old.me.1) × KeepsSlot seat.old.me.0 seat.new.me.0 }
     ensures told { Told Writer place.now word Fill seat.old.me.0 result seat.new.me.0 }
 {
     let cell = Cell {
@@ -239,7 +239,7 @@ pub(crate) fn touch_word<E: Edition + Drop>(
     requires ready { IsReady shared.now.key seat.old.me.0 hand place.now word touch }
     requires room { place.now.start + word < shared.now.key.words }
     ensures table { seat.new.table_id ≡ seat.old.table_id }
-    ensures seat { (seat.new.me.1 ≡ seat.old.me.1) × HoldsOn seat.old.me.0 seat.new.me.0 }
+    ensures seat { (seat.new.me.1 ≡ seat.old.me.1) × KeepsSlot seat.old.me.0 seat.new.me.0 }
     ensures told { Told hand place.now word touch seat.old.me.0 result seat.new.me.0 }
 {
     let index = passes as usize + 1 + (place.start + word);

@@ -4,7 +4,7 @@ ghost use Rattle.mem_base.specs.declared.machine.events.Hand.TheVariants.{Writer
 ghost use Rattle.mem_base.specs.declared.machine.events.Carried.TheVariants.{Edition as EditionCarried};
 ghost use Rattle.mem_base.specs.machine.Generations.{least_lowest};
 ghost use Rattle.mem_base.specs.machine.Actors.{number_seen};
-ghost use Rattle.epoch_rule.specs.Ruled.{IsRoomy};
+ghost use Rattle.epoch_rule.specs.Rule.{PlacesFit};
 ghost use Rattle.epoch_rule.specs.Copies.{shown_by};
 ghost use Rattle.epoch_rule.specs.Wrote.{Wrote, longer};
 ghost use Rattle.epoch_rule.specs.Calls.{HeldUp, IsLeastPassAt, Published, generations_in_seen, sweeps_of};
@@ -80,7 +80,7 @@ impl<E: Edition + Drop> Cabinet<E> {
         requires copies { next.copies ≡ writer.old.sizes.passes }
         requires next { E.counted next.edition ≡ number_seen writer.old.seen + 1 }
         requires small { E.counted next.edition + 1 < 2 ^ 64 }
-        requires roomy { IsRoomy writer.old.sizes.words (shown_by E.forest E.places next.edition) }
+        requires roomy { PlacesFit writer.old.sizes.words (shown_by E.forest E.places next.edition) }
         ensures done { MatchResult result
             (λ number. (number ≡ E.counted next.edition) × Published writer.old.sizes writer.old.seen (EditionCarried (E.forest next.edition) (E.places next.edition)) number writer.new.seen)
             (λ h. (h.1 ≡ next) × HeldUp writer.old.sizes writer.old.seen h.0 writer.new.seen) }

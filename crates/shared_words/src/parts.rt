@@ -1,4 +1,4 @@
-// The step on a part of a word.
+// Steps on a part of a word.
 ghost use Rattle.std.specs.Prelude.{◌≡◌, ℕ, ◌+◌, ◌*◌, ◌^◌, ◌<◌, ◌≤◌, [], ◌∷◌, length};
 ghost use Rattle.mem_base.specs.declared.access.cells.WordStep.TheVariants as steps;
 ghost use Rattle.mem_base.specs.declared.machine.events.Event.TheVariants as events;
@@ -7,7 +7,7 @@ ghost use Rattle.mem_base.specs.access.Words.{little_endian};
 ghost use Rattle.mem_base.specs.access.Cells.{cell};
 ghost use Rattle.epoch_rule.specs.declared.touches.Touch.TheVariants.{Look};
 ghost use Rattle.mem_base.specs.machine.Turns.{history_entry};
-ghost use Rattle.epoch_rule.specs.Shown.{Wrote};
+ghost use Rattle.epoch_rule.specs.Wrote.{Wrote};
 
 use epoch_rule::{Cabinet, Hand, Touch};
 use mem_base::{Edition, Place};
@@ -25,7 +25,8 @@ fn number(bytes: &[u8]) -> u64
     }
 }
 
-/// Replaces so many bytes of the word from byte `first` on. It tries again until its exchange stands.
+/// Replaces the bytes of a word from byte `first` on, by one exchange; byte 0 is the lowest. It tries again until its exchange
+/// stands, so it may wait. There are 1 to 8 bytes, and they end at byte 8 or before.
 pub fn store_part<E: Edition + Drop, H: Hand<E>, R: Wait>(
     rt: &R,
     cabinet: &Cabinet<E>,

@@ -1,21 +1,18 @@
-// The steps on whole words.
+// Steps on whole words.
 ghost use Rattle.std.specs.Prelude.{◌≡◌, ℕ, ◌+◌, ◌*◌, ◌<◌, [], ◌∷◌};
 ghost use Rattle.mem_base.specs.declared.access.cells.WordStep.TheVariants as steps;
 ghost use Rattle.mem_base.specs.declared.machine.events.Event.TheVariants as events;
 ghost use Rattle.mem_base.specs.declared.machine.events.Carried.TheVariants.{At};
 ghost use Rattle.mem_base.specs.access.Cells.{cell};
-ghost use Rattle.std.specs.Prelude.{Some};
-ghost use Rattle.mem_base.specs.declared.machine.events.Hand.TheVariants as hands;
-ghost use Rattle.mem_base.specs.access.Places.{mark_word, word_of_page};
-ghost use Rattle.epoch_rule.specs.declared.touches.Touch.TheVariants.{Step, Mark};
+ghost use Rattle.epoch_rule.specs.declared.touches.Touch.TheVariants.{Step};
 ghost use Rattle.mem_base.specs.machine.Turns.{history_entry};
-ghost use Rattle.mem_base.specs.machine.Passes.{pass_id};
-ghost use Rattle.epoch_rule.specs.Shown.{PassMay, WriterMay, Wrote};
+ghost use Rattle.epoch_rule.specs.Wrote.{Wrote};
 
-use epoch_rule::{Cabinet, Hand, Pass, Touch, WriterSeat};
-use mem_base::{Client, Edition, Place, WordStep};
+use epoch_rule::{Cabinet, Hand, Touch};
+use mem_base::{Edition, Place, WordStep};
 
-/// The word's value.
+/// The value of a word. As in all calls here, a pass must be entered, its generation must carry the place, and the word be one
+/// of its data, registers or notifiers; for the writer the place must end within the cabinet's words.
 pub fn load<E: Edition + Drop, H: Hand<E>>(
     cabinet: &Cabinet<E>,
     hand: &mut H,
@@ -30,7 +27,7 @@ pub fn load<E: Edition + Drop, H: Hand<E>>(
     cabinet.touch(hand, place, word, Touch::Step(WordStep::Load))
 }
 
-/// Replaces all eight bytes.
+/// Replaces all eight bytes of a word.
 pub fn store8<E: Edition + Drop, H: Hand<E>>(
     cabinet: &Cabinet<E>,
     hand: &mut H,
@@ -51,7 +48,7 @@ pub fn store8<E: Edition + Drop, H: Hand<E>>(
     cabinet.touch(hand, place, word, Touch::Step(step));
 }
 
-/// Adds one, modulo 2^64, and answers the value before.
+/// ComesNext one, modulo 2^64, and answers the value before.
 pub fn add<E: Edition + Drop, H: Hand<E>>(
     cabinet: &Cabinet<E>,
     hand: &mut H,
@@ -66,7 +63,7 @@ pub fn add<E: Edition + Drop, H: Hand<E>>(
     cabinet.touch(hand, place, word, Touch::Step(WordStep::AddOne))
 }
 
-/// Sets the bits, and answers the value before.
+/// Sets these bits of a word, and answers the value before.
 pub fn or<E: Edition + Drop, H: Hand<E>>(
     cabinet: &Cabinet<E>,
     hand: &mut H,
@@ -82,7 +79,7 @@ pub fn or<E: Edition + Drop, H: Hand<E>>(
     cabinet.touch(hand, place, word, Touch::Step(WordStep::Or { bits }))
 }
 
-/// Leaves 0, and answers the value before.
+/// Leaves 0 in a word, by one swap, and answers the value before.
 pub fn take<E: Edition + Drop, H: Hand<E>>(
     cabinet: &Cabinet<E>,
     hand: &mut H,
@@ -95,39 +92,4 @@ pub fn take<E: Edition + Drop, H: Hand<E>>(
     ensures stays { H.stays hand.old hand.new }
 {
     cabinet.touch(hand, place, word, Touch::Step(WordStep::Take))
-}
-
-/// Marks a page of a place for one client.
-pub fn mark<E: Edition + Drop>(
-    cabinet: &Cabinet<E>,
-    pass: &mut Pass<E>,
-    place: &Place,
-    word: usize,
-    client: Client,
-    page: u64,
-)
-    requires own { pass.old.cabinet ≡ cabinet.now.id }
-    requires word { word ≡ word_of_page place.now client page }
-    requires may { (e : E) × (pass.old.edition ≡ Some e) × PassMay (E.places e) place.now word (Mark client page) }
-    ensures wrote { Wrote (hands.Pass (pass_id pass.old.number)) pass.old.sizes pass.old.seen (history_entry (events.Mark (pass_id pass.old.number) place.now.region client page) (At place.now) 0 ∷ []) pass.new.seen }
-    ensures stays { (pass.new.number ≡ pass.old.number) × (pass.new.edition ≡ pass.old.edition) }
-{
-    cabinet.touch(pass, place, word, Touch::Mark { client, page });
-}
-
-/// Takes a mark word of one client, and answers the value before.
-pub fn harvest<E: Edition + Drop>(
-    cabinet: &Cabinet<E>,
-    writer: &mut WriterSeat<E>,
-    place: &Place,
-    word: usize,
-    client: Client,
-    index: usize,
-) -> u64
-    requires own { writer.old.cabinet ≡ cabinet.now.id }
-    requires word { word ≡ mark_word place.now client index }
-    requires may { WriterMay writer.old.sizes place.now word }
-    ensures wrote { Wrote hands.Writer writer.old.sizes writer.old.seen (history_entry (events.Harvest place.now.region client index) (At place.now) result ∷ []) writer.new.seen }
-{
-    cabinet.touch(writer, place, word, Touch::Harvest { client, index })
 }

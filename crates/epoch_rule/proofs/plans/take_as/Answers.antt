@@ -1,7 +1,7 @@
 use Rattle.std.proofs.Common.{arith, sym, ap}
 use Rattle.mem_base.specs.access.Words.{word_after}
 use Rattle.epoch_rule.specs.Copies.{IsCopy}
-use Rattle.epoch_rule.proofs.Touching.{ready_touch}
+use Rattle.epoch_rule.proofs.WordSteps.{ready_touch}
 use Rattle.epoch_rule.proofs.plans.take_as.Goals as goal
 
 pub swap-requires : goal.swap-requires

@@ -5,9 +5,9 @@ use Rattle.mem_base.specs.declared.machine.events.Carried.TheVariants.{Nothing}
 use Rattle.mem_base.specs.machine.Generations.{known_of}
 use Rattle.epoch_rule.specs.declared.views.View.{View}
 use Rattle.mem_base.specs.machine.Passes.{pass_id}
-use Rattle.epoch_rule.specs.Ruled.{Adds, generations_seen}
+use Rattle.epoch_rule.specs.Rule.{ComesNext, generations_seen}
 use Rattle.epoch_rule.specs.Copies.{IsCopy}
-use Rattle.epoch_rule.proofs.Moving.{reach, place_as}
+use Rattle.epoch_rule.proofs.ActorSteps.{reach, place_as}
 use Rattle.epoch_rule.proofs.steps.place.Goals as goal
 
 pub load-requires : goal.load-requires
@@ -83,5 +83,5 @@ returns-clause-adds g c =
     let view : c.exchange.new.seat.me.0 ≡ record v { held = p + 1 } = ap (λ m. m.0) now.3 ∙ went.0 in
     let holds : c.exchange.new.seat.me.1 ≡ (8 * p + c.args.next % 8, Some c.args.copy) ∷ [] = ap (λ m. m.1) now.3 ∙ ap (λ l. (8 * p + c.args.next % 8, Some c.args.copy) ∷ l) (ap rest hand) in
     let did = (c.load-2.ensures.2 _ _ holds).3 p refl in
-    let h : Adds 0 (record v { held = p + 1 }) (Place (pass_id p)) Nothing 0 c.load-2.new.seat.me.0 = subst (λ w. Adds 0 w (Place (pass_id p)) Nothing 0 c.load-2.new.seat.me.0) view did in
+    let h : ComesNext 0 (record v { held = p + 1 }) (Place (pass_id p)) Nothing 0 c.load-2.new.seat.me.0 = subst (λ w. ComesNext 0 w (Place (pass_id p)) Nothing 0 c.load-2.new.seat.me.0) view did in
     record { role = h.role; out = h.out; sizes = h.sizes; lawful = h.lawful; between = h.between; others = h.others; seen = h.seen }

@@ -2,9 +2,9 @@ use Rattle.std.proofs.Common.{arith, ◌≡◌, ℕ, ◌+◌, ◌≤◌, sym, ap
 use Rattle.mem_base.specs.machine.Generations.{Generations, PassTrack, known_of}
 use Rattle.epoch_rule.specs.declared.views.View.{View}
 use Rattle.mem_base.specs.machine.Passes.{pass_id}
-use Rattle.epoch_rule.specs.Ruled.{generations_seen}
-use Rattle.epoch_rule.specs.Calls.{Placing}
-use Rattle.epoch_rule.proofs.Sweeps.{placing_next, placing_generations, places_current, places_later, places_placed, last_copy, last_length}
+use Rattle.epoch_rule.specs.Rule.{generations_seen}
+use Rattle.epoch_rule.specs.Calls.{HasPlaced}
+use Rattle.epoch_rule.proofs.SweepLaws.{placing_next, placing_generations, places_current, places_later, places_placed, last_copy, last_length}
 use Rattle.epoch_rule.proofs.steps.place_all.Goals as goal
 
 pub place-requires-clause-writer : goal.place-requires-clause-writer
@@ -86,4 +86,4 @@ pub returns-clause-placed : goal.returns-clause-placed
 returns-clause-placed g c = λ x all.
     let inv = c.loop-pass.invariant in let m = inv.2 in let f = c.loop-pass-test.false in
     let done : c.loop-pass.pass ≡ c.args.passes = omega arith in
-    subst (Placing c.args.seat.now.me.0 c.loop-pass.seat.me.0 x) done (inv.3 x all).1
+    subst (HasPlaced c.args.seat.now.me.0 c.loop-pass.seat.me.0 x) done (inv.3 x all).1

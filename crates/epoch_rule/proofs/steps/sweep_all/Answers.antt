@@ -2,9 +2,9 @@ use Rattle.std.proofs.Common.{arith, ℕ, ◌<◌, length, get_or, refl, ap, ◌
 use Rattle.mem_base.specs.machine.Generations.{PassTrack, known_after_sweep, known_of, nothing_known}
 use Rattle.epoch_rule.specs.declared.views.View.{View}
 use Rattle.mem_base.specs.machine.Passes.{pass_id}
-use Rattle.epoch_rule.specs.Ruled.{generations_seen}
+use Rattle.epoch_rule.specs.Rule.{generations_seen}
 use Rattle.epoch_rule.specs.Writing.{stored}
-use Rattle.epoch_rule.proofs.Sweeps.{map_get, sweeping_current, sweeping_next}
+use Rattle.epoch_rule.proofs.SweepLaws.{map_get, sweeping_current, sweeping_next}
 use Rattle.epoch_rule.proofs.steps.sweep_all.Goals as goal
 
 pub loop-pass-preserved : goal.loop-pass-preserved

@@ -9,10 +9,10 @@ use Rattle.mem_base.specs.machine.Passes.{PassState, pass_after}
 use Rattle.epoch_rule.specs.declared.views.Sizes.{Sizes}
 use Rattle.mem_base.specs.machine.Passes.{pass_id}
 use Rattle.mem_base.specs.machine.Actors.{own_entries, generations_published, generation_published}
-use Rattle.epoch_rule.specs.Ruled.{Lawful, pass_seen, IsRoomy}
+use Rattle.epoch_rule.specs.Rule.{IsLegal, pass_seen, PlacesFit}
 use Rattle.epoch_rule.specs.Copies.{IsCopy}
-use Rattle.epoch_rule.proofs.Moving.{look, announce, enter, published_longer}
-use Rattle.epoch_rule.proofs.Passing.{pass_added, entered_counts, stands_out, stands_in, edition_of, three, top_of, suits_on, ends_added}
+use Rattle.epoch_rule.proofs.ActorSteps.{look, announce, enter, published_longer}
+use Rattle.epoch_rule.proofs.PassLaws.{pass_added, entered_counts, stands_out, stands_in, edition_of, three, top_of, suits_on, ends_added}
 use Rattle.epoch_rule.proofs.cabinet.Cabinet.enter.Goals as goal
 
 pub load-looked-requires : goal.load-looked-requires
@@ -112,7 +112,7 @@ invariant_of-pass g c =
           (ap (λ m. m.1) now.3 ∙ ap (λ l. (8 * p + r % 8, None) ∷ l) bare)
           (omega arith)
           copy
-          (subst (λ (y : Sizes × List HistoryEntry). IsRoomy y.0.words (generation_published y.1 r)) (λ i. (sym (ap (λ m. m.0.sizes) now.3 ∙ came.sizes) i, sym seen i)) both.2),
+          (subst (λ (y : Sizes × List HistoryEntry). PlacesFit y.0.words (generation_published y.1 r)) (λ i. (sym (ap (λ m. m.0.sizes) now.3 ∙ came.sizes) i, sym seen i)) both.2),
     )
 
 pub returns-clause-current : goal.returns-clause-current
@@ -199,7 +199,7 @@ returns-clause-events g c =
         sizes = sizes;
         wrote = record {
           begins = (all.0.0, all.0.1 ∙ sym seen);
-          lawful = subst (λ (y : Sizes × List HistoryEntry). Lawful y.0 y.1) (λ i. ((told.sizes ∙ looked.sizes) i, sym seen i)) came.lawful;
+          lawful = subst (λ (y : Sizes × List HistoryEntry). IsLegal y.0 y.1) (λ i. ((told.sizes ∙ looked.sizes) i, sym seen i)) came.lawful;
           events = ap (own_entries (p + 1)) seen ∙ all.1;
           ends = λ x is. ap last_of seen ∙ ends_added (p + 1) _ _ _ _ _ came
               (history_entry (Look (pass_id p)) Nothing c.load-looked.result ∷ history_entry (Announce (pass_id p)) Nothing 0 ∷ []) x is;

@@ -2,12 +2,12 @@ use Rattle.std.proofs.Common.{arith, ◌≡◌, sym, refl, ap, ◌∙◌, subst,
 use Rattle.mem_base.specs.machine.Generations.{first_generations}
 use Rattle.epoch_rule.specs.declared.views.View.{View}
 use Rattle.mem_base.specs.machine.Actors.{own_entries, generations_after_all}
-use Rattle.epoch_rule.specs.Ruled.{Lawful}
-use Rattle.epoch_rule.specs.Plays.{informed, Settled}
+use Rattle.epoch_rule.specs.Rule.{IsLegal}
+use Rattle.epoch_rule.specs.Plays.{met_view, IsSettled}
 use Rattle.epoch_rule.specs.Copies.{IsCopy}
 use Rattle.view_laws.proofs.Tests.{none_is_not_some}
-use Rattle.epoch_rule.proofs.Seats.{learns, settle}
-use Rattle.epoch_rule.proofs.Reaching.{writing_kept}
+use Rattle.epoch_rule.proofs.SeatSteps.{learns, settle}
+use Rattle.epoch_rule.proofs.TouchLaws.{writing_kept}
 use Rattle.epoch_rule.proofs.cabinet.Cabinet.hear.Goals as goal
 
 pub join_seat-requires : goal.join_seat-requires
@@ -37,11 +37,11 @@ invariant_of-writer g c =
     let a = suits.0 in
     let j = c.join_seat.ensures in
     let v : View = c.writer.inside.seat.me.0 in
-    let met : View = informed v c.note.inside.seat.me.0 in
-    let h : Settled 0 met c.load.new.seat.me.0 = subst (λ m. Settled 0 m.0 c.load.new.seat.me.0) j.2 (c.load.ensures.2.1 0 (ap (λ m. m.0.role) j.2 ∙ inv.role)) in
+    let met : View = met_view v c.note.inside.seat.me.0 in
+    let h : IsSettled 0 met c.load.new.seat.me.0 = subst (λ m. IsSettled 0 m.0 c.load.new.seat.me.0) j.2 (c.load.ensures.2.1 0 (ap (λ m. m.0.role) j.2 ∙ inv.role)) in
     let seen : c.load.new.seat.me.0.seen ≡ met.seen = ap (λ w. w.seen) h.same in
     writing_kept _ _ c.writer.inside.seat.me c.load.new.seat.me _ _ _ (c.load.ensures.0 ∙ j.0) (c.load.ensures.2.0 ∙ ap (λ m. m.1) j.2) (ap (λ w. w.held) h.same, ap (λ w. w.next) h.same)
-    record { role = ap (λ w. w.role) h.same; out = ap (λ w. w.out) h.same; sizes = ap (λ w. w.sizes) h.same; begins = (h.was.0, h.was.1 ∙ sym seen); lawful = λ l. subst (λ w. Lawful w.sizes w.seen) (sym h.same) h.lawful }
+    record { role = ap (λ w. w.role) h.same; out = ap (λ w. w.out) h.same; sizes = ap (λ w. w.sizes) h.same; begins = (h.was.0, h.was.1 ∙ sym seen); lawful = λ l. subst (λ w. IsLegal w.sizes w.seen) (sym h.same) h.lawful }
     ((λ i. generations_after_all (first_generations (h.same i).sizes.passes) (own_entries 0 (seen i))) ∙ ap (generations_after_all (first_generations v.sizes.passes)) (sym h.quiet)) inv
 
 pub returns-clause-longer : goal.returns-clause-longer
@@ -53,8 +53,8 @@ returns-clause-longer g c =
     let a = suits.0 in
     let j = c.join_seat.ensures in
     let v : View = c.writer.inside.seat.me.0 in
-    let met : View = informed v c.note.inside.seat.me.0 in
-    let h : Settled 0 met c.load.new.seat.me.0 = subst (λ m. Settled 0 m.0 c.load.new.seat.me.0) j.2 (c.load.ensures.2.1 0 (ap (λ m. m.0.role) j.2 ∙ inv.role)) in
+    let met : View = met_view v c.note.inside.seat.me.0 in
+    let h : IsSettled 0 met c.load.new.seat.me.0 = subst (λ m. IsSettled 0 m.0 c.load.new.seat.me.0) j.2 (c.load.ensures.2.1 0 (ap (λ m. m.0.role) j.2 ∙ inv.role)) in
     let seen : c.load.new.seat.me.0.seen ≡ met.seen = ap (λ w. w.seen) h.same in
     rw (sym c.writer.view_is, sym c.note.view_is) seen
 
@@ -67,8 +67,8 @@ returns-clause-seen g c =
     let a = suits.0 in
     let j = c.join_seat.ensures in
     let v : View = c.writer.inside.seat.me.0 in
-    let met : View = informed v c.note.inside.seat.me.0 in
-    let h : Settled 0 met c.load.new.seat.me.0 = subst (λ m. Settled 0 m.0 c.load.new.seat.me.0) j.2 (c.load.ensures.2.1 0 (ap (λ m. m.0.role) j.2 ∙ inv.role)) in
+    let met : View = met_view v c.note.inside.seat.me.0 in
+    let h : IsSettled 0 met c.load.new.seat.me.0 = subst (λ m. IsSettled 0 m.0 c.load.new.seat.me.0) j.2 (c.load.ensures.2.1 0 (ap (λ m. m.0.role) j.2 ∙ inv.role)) in
     let seen : c.load.new.seat.me.0.seen ≡ met.seen = ap (λ w. w.seen) h.same in
     rw (sym c.note.view_is) (h.told.0, h.told.1 ∙ sym seen)
 
@@ -81,10 +81,10 @@ returns-clause-wrote g c =
     let a = suits.0 in
     let j = c.join_seat.ensures in
     let v : View = c.writer.inside.seat.me.0 in
-    let met : View = informed v c.note.inside.seat.me.0 in
-    let h : Settled 0 met c.load.new.seat.me.0 = subst (λ m. Settled 0 m.0 c.load.new.seat.me.0) j.2 (c.load.ensures.2.1 0 (ap (λ m. m.0.role) j.2 ∙ inv.role)) in
+    let met : View = met_view v c.note.inside.seat.me.0 in
+    let h : IsSettled 0 met c.load.new.seat.me.0 = subst (λ m. IsSettled 0 m.0 c.load.new.seat.me.0) j.2 (c.load.ensures.2.1 0 (ap (λ m. m.0.role) j.2 ∙ inv.role)) in
     let seen : c.load.new.seat.me.0.seen ≡ met.seen = ap (λ w. w.seen) h.same in
-    rw (sym c.writer.view_is) record { begins = (h.was.0, h.was.1 ∙ sym seen); lawful = subst (Lawful v.sizes) (sym seen) h.lawful; events = ap (own_entries 0) seen ∙ (sym h.quiet ∙ sym (append-nil _)); ends = λ x none. none_is_not_some x none }
+    rw (sym c.writer.view_is) record { begins = (h.was.0, h.was.1 ∙ sym seen); lawful = subst (IsLegal v.sizes) (sym seen) h.lawful; events = ap (own_entries 0) seen ∙ (sym h.quiet ∙ sym (append-nil _)); ends = λ x none. none_is_not_some x none }
 
 pub returns-clause-same : goal.returns-clause-same
 returns-clause-same g c =
@@ -95,7 +95,7 @@ returns-clause-same g c =
     let a = suits.0 in
     let j = c.join_seat.ensures in
     let v : View = c.writer.inside.seat.me.0 in
-    let met : View = informed v c.note.inside.seat.me.0 in
-    let h : Settled 0 met c.load.new.seat.me.0 = subst (λ m. Settled 0 m.0 c.load.new.seat.me.0) j.2 (c.load.ensures.2.1 0 (ap (λ m. m.0.role) j.2 ∙ inv.role)) in
+    let met : View = met_view v c.note.inside.seat.me.0 in
+    let h : IsSettled 0 met c.load.new.seat.me.0 = subst (λ m. IsSettled 0 m.0 c.load.new.seat.me.0) j.2 (c.load.ensures.2.1 0 (ap (λ m. m.0.role) j.2 ∙ inv.role)) in
     let seen : c.load.new.seat.me.0.seen ≡ met.seen = ap (λ w. w.seen) h.same in
     rw (sym c.writer.view_is) (c.load.ensures.0 ∙ j.0, ap (λ w. w.sizes) h.same, refl)

@@ -7,10 +7,10 @@ use Rattle.epoch_rule.specs.declared.views.Sizes.{Sizes}
 use Rattle.mem_base.specs.machine.Passes.{pass_id}
 use Rattle.mem_base.specs.machine.Turns.{history_entry}
 use Rattle.mem_base.specs.machine.Actors.{own_entries, generations_published, generation_published}
-use Rattle.epoch_rule.specs.Ruled.{Lawful, pass_seen}
-use Rattle.epoch_rule.specs.Copies.{IsCopy, Stands}
-use Rattle.epoch_rule.proofs.Moving.{leave, generation_stays}
-use Rattle.epoch_rule.proofs.Passing.{own_added, begins_added, ends_added, pass_added, stands_at, suits_on}
+use Rattle.epoch_rule.specs.Rule.{IsLegal, pass_seen}
+use Rattle.epoch_rule.specs.Copies.{IsCopy, HasItsEdition}
+use Rattle.epoch_rule.proofs.ActorSteps.{leave, generation_stays}
+use Rattle.epoch_rule.proofs.PassLaws.{own_added, begins_added, ends_added, pass_added, stands_at, suits_on}
 use Rattle.epoch_rule.proofs.cabinet.Cabinet.leave.Goals as goal
 
 pub store-requires : goal.store-requires
@@ -60,7 +60,7 @@ invariant_of-pass g c =
       did.role ∙ role,
       subst (λ (y : Sizes). p < y.passes) (sym (did.sizes ∙ sizes)) inv.1,
       suits_on _ _ _ _ (sym (c.store.ensures.0 ∙ x.0)) (sym (did.sizes ∙ sizes)) inv.2,
-      subst (Stands num forest places p c.store.new.seat.me) (sym c.take.ensures.after) (pass_added p _ _ _ _ _ refl did, c.store.ensures.2.0),
+      subst (HasItsEdition num forest places p c.store.new.seat.me) (sym c.take.ensures.after) (pass_added p _ _ _ _ _ refl did, c.store.ensures.2.0),
     )
 
 pub returns-in-Some-clause-events : goal.returns-in-Some-clause-events
@@ -83,7 +83,7 @@ returns-in-Some-clause-events g c =
       sizes = did.sizes ∙ sizes;
       wrote = record {
         begins = (begins.0, ap (λ l. l ++ begins.0) (sym seen) ∙ begins.1);
-        lawful = subst (λ (y : Sizes). Lawful y c.store.new.seat.me.0.seen) sizes did.lawful;
+        lawful = subst (λ (y : Sizes). IsLegal y c.store.new.seat.me.0.seen) sizes did.lawful;
         events = own_added (p + 1) _ _ _ _ _ refl did ∙ ap (λ l. own_entries (p + 1) l ++ history_entry (Leave (pass_id p)) Nothing 0 ∷ []) seen;
         ends = ends_added (p + 1) _ _ _ _ _ did [];
       };

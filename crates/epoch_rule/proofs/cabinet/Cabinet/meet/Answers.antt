@@ -2,12 +2,12 @@ use Rattle.std.proofs.Common.{arith, ◌≡◌, ℕ, ◌+◌, ◌<◌, sym, refl
 use Rattle.epoch_rule.specs.declared.views.Sizes.{Sizes}
 use Rattle.epoch_rule.specs.declared.views.View.{View}
 use Rattle.mem_base.specs.machine.Actors.{own_entries}
-use Rattle.epoch_rule.specs.Ruled.{Lawful}
-use Rattle.epoch_rule.specs.Plays.{informed, Settled}
+use Rattle.epoch_rule.specs.Rule.{IsLegal}
+use Rattle.epoch_rule.specs.Plays.{met_view, IsSettled}
 use Rattle.epoch_rule.specs.Copies.{IsCopy}
 use Rattle.view_laws.proofs.Tests.{none_is_not_some}
-use Rattle.epoch_rule.proofs.Seats.{learns, settle}
-use Rattle.epoch_rule.proofs.Passing.{stands_more, suits_on}
+use Rattle.epoch_rule.proofs.SeatSteps.{learns, settle}
+use Rattle.epoch_rule.proofs.PassLaws.{stands_more, suits_on}
 use Rattle.epoch_rule.proofs.cabinet.Cabinet.meet.Goals as goal
 
 pub join_seat-requires : goal.join_seat-requires
@@ -37,8 +37,8 @@ invariant_of-pass g c =
     let a = suits.0 in
     let j = c.join_seat.ensures in
     let v : View = c.pass.inside.seat.me.0 in
-    let met : View = informed v c.note.inside.seat.me.0 in
-    let h : Settled (p + 1) met c.load.new.seat.me.0 = subst (λ m. Settled (p + 1) m.0 c.load.new.seat.me.0) j.2 (c.load.ensures.2.1 (p + 1) (ap (λ m. m.0.role) j.2 ∙ inv.0)) in
+    let met : View = met_view v c.note.inside.seat.me.0 in
+    let h : IsSettled (p + 1) met c.load.new.seat.me.0 = subst (λ m. IsSettled (p + 1) m.0 c.load.new.seat.me.0) j.2 (c.load.ensures.2.1 (p + 1) (ap (λ m. m.0.role) j.2 ∙ inv.0)) in
     let seen : c.load.new.seat.me.0.seen ≡ met.seen = ap (λ w. w.seen) h.same in
     let sizes : c.load.new.seat.me.0.sizes ≡ v.sizes = ap (λ w. w.sizes) h.same in (
       ap (λ w. w.role) h.same ∙ inv.0,
@@ -57,8 +57,8 @@ returns-clause-longer g c =
     let a = suits.0 in
     let j = c.join_seat.ensures in
     let v : View = c.pass.inside.seat.me.0 in
-    let met : View = informed v c.note.inside.seat.me.0 in
-    let h : Settled (p + 1) met c.load.new.seat.me.0 = subst (λ m. Settled (p + 1) m.0 c.load.new.seat.me.0) j.2 (c.load.ensures.2.1 (p + 1) (ap (λ m. m.0.role) j.2 ∙ inv.0)) in
+    let met : View = met_view v c.note.inside.seat.me.0 in
+    let h : IsSettled (p + 1) met c.load.new.seat.me.0 = subst (λ m. IsSettled (p + 1) m.0 c.load.new.seat.me.0) j.2 (c.load.ensures.2.1 (p + 1) (ap (λ m. m.0.role) j.2 ∙ inv.0)) in
     let seen : c.load.new.seat.me.0.seen ≡ met.seen = ap (λ w. w.seen) h.same in
     let sizes : c.load.new.seat.me.0.sizes ≡ v.sizes = ap (λ w. w.sizes) h.same in
     rw (sym c.pass.view_is, sym c.note.view_is) seen
@@ -72,8 +72,8 @@ returns-clause-seen g c =
     let a = suits.0 in
     let j = c.join_seat.ensures in
     let v : View = c.pass.inside.seat.me.0 in
-    let met : View = informed v c.note.inside.seat.me.0 in
-    let h : Settled (p + 1) met c.load.new.seat.me.0 = subst (λ m. Settled (p + 1) m.0 c.load.new.seat.me.0) j.2 (c.load.ensures.2.1 (p + 1) (ap (λ m. m.0.role) j.2 ∙ inv.0)) in
+    let met : View = met_view v c.note.inside.seat.me.0 in
+    let h : IsSettled (p + 1) met c.load.new.seat.me.0 = subst (λ m. IsSettled (p + 1) m.0 c.load.new.seat.me.0) j.2 (c.load.ensures.2.1 (p + 1) (ap (λ m. m.0.role) j.2 ∙ inv.0)) in
     let seen : c.load.new.seat.me.0.seen ≡ met.seen = ap (λ w. w.seen) h.same in
     let sizes : c.load.new.seat.me.0.sizes ≡ v.sizes = ap (λ w. w.sizes) h.same in
     rw (sym c.note.view_is) (h.told.0, h.told.1 ∙ sym seen)
@@ -87,8 +87,8 @@ returns-clause-events g c =
     let a = suits.0 in
     let j = c.join_seat.ensures in
     let v : View = c.pass.inside.seat.me.0 in
-    let met : View = informed v c.note.inside.seat.me.0 in
-    let h : Settled (p + 1) met c.load.new.seat.me.0 = subst (λ m. Settled (p + 1) m.0 c.load.new.seat.me.0) j.2 (c.load.ensures.2.1 (p + 1) (ap (λ m. m.0.role) j.2 ∙ inv.0)) in
+    let met : View = met_view v c.note.inside.seat.me.0 in
+    let h : IsSettled (p + 1) met c.load.new.seat.me.0 = subst (λ m. IsSettled (p + 1) m.0 c.load.new.seat.me.0) j.2 (c.load.ensures.2.1 (p + 1) (ap (λ m. m.0.role) j.2 ∙ inv.0)) in
     let seen : c.load.new.seat.me.0.seen ≡ met.seen = ap (λ w. w.seen) h.same in
     let sizes : c.load.new.seat.me.0.sizes ≡ v.sizes = ap (λ w. w.sizes) h.same in
     rw (sym c.pass.view_is) record {
@@ -97,7 +97,7 @@ returns-clause-events g c =
       sizes = sizes;
       wrote = record {
         begins = (h.was.0, h.was.1 ∙ sym seen);
-        lawful = subst (Lawful v.sizes) (sym seen) h.lawful;
+        lawful = subst (IsLegal v.sizes) (sym seen) h.lawful;
         events = ap (own_entries (p + 1)) seen ∙ (sym h.quiet ∙ sym (append-nil _));
         ends = λ x none. none_is_not_some x none;
       };

@@ -4,11 +4,11 @@ use lib.ListN.{length-replicate}
 use Rattle.atomic_table.specs.Table.{opening}
 use Rattle.mem_base.specs.machine.Generations.{generation, nothing_known}
 use Rattle.epoch_rule.specs.declared.views.Sizes.{Sizes}
-use Rattle.epoch_rule.specs.Ruled.{Ruled}
-use Rattle.epoch_rule.specs.Plays.{newcomer}
+use Rattle.epoch_rule.specs.Rule.{IsRuled}
+use Rattle.epoch_rule.specs.Plays.{first_view}
 use Rattle.epoch_rule.specs.Copies.{IsCopy, shown_by}
 use Rattle.epoch_rule.specs.Writing.{IsWriting, stored}
-use Rattle.epoch_rule.proofs.Opens.{opens, zero_at, map_replicate, unplaced_first}
+use Rattle.epoch_rule.proofs.OpeningLaws.{opens, zero_at, map_replicate, unplaced_first}
 use Rattle.epoch_rule.proofs.cabinet.Cabinet.new.Goals as goal
 
 pub new-requires : goal.new-requires
@@ -18,7 +18,7 @@ new-requires g c =
     let n : ℕ = c.args.passes + 1 + c.args.words in
     let s = c.in_ok-slots.ensures in
     let first = c.requires.first in
-    subst (λ ws. Ruled (IsCopy num forest places) z (opening ws c.in_ok-slots.slots.items (newcomer z))) (sym (c.as_slice.ensures.value ∙ c.in_ok-blank.ensures))
+    subst (λ ws. IsRuled (IsCopy num forest places) z (opening ws c.in_ok-slots.slots.items (first_view z))) (sym (c.as_slice.ensures.value ∙ c.in_ok-blank.ensures))
     (opens (IsCopy num forest places) z (replicate n 0) c.in_ok-slots.slots.items (length-replicate n 0) (zero_at n) s.long
     (λ v l. let t = s.each v l in (Some t.0, t.1, (t.0, refl, ap num t.2 ∙ first.0, ap (shown_by forest places) t.2 ∙ (λ i. generation (first.1 i) (first.2 i))))))
 

@@ -7,17 +7,17 @@ use Rattle.epoch_rule.specs.declared.views.Sizes.{Sizes}
 use Rattle.epoch_rule.specs.declared.views.Picked.{Picked}
 use Rattle.epoch_rule.specs.declared.views.View.{View}
 use Rattle.mem_base.specs.machine.Turns.{history_entry}
-use Rattle.epoch_rule.specs.Ruled.{IsRoomy, carried_pick, generation_of_pick, generations_seen}
+use Rattle.epoch_rule.specs.Rule.{PlacesFit, carried_pick, generation_of_pick, generations_seen}
 use Rattle.epoch_rule.specs.Copies.{picked}
 use Rattle.mem_base.specs.machine.Publishing.{held_up}
 use Rattle.mem_base.specs.machine.Actors.{number_seen}
 use Rattle.epoch_rule.specs.Wrote.{Wrote}
 use Rattle.epoch_rule.specs.Writing.{stored}
-use Rattle.epoch_rule.specs.Calls.{generations_in_seen, refusal_of, sweeps_of, places_of, held_in, Sweeping}
-use Rattle.epoch_rule.proofs.Sweeps.{sweeping_current, all_near, all_free, writes_more}
-use Rattle.epoch_rule.proofs.Publishes.{wrote_of, writes_both, swept_writing, placed_all, placed_current, published_writing, held_is, copies_of, held_not}
-use Rattle.epoch_rule.proofs.Passing.{ends_added}
-use Rattle.epoch_rule.proofs.Least.{current_seen}
+use Rattle.epoch_rule.specs.Calls.{generations_in_seen, refusal_of, sweeps_of, places_of, held_in, HasSwept}
+use Rattle.epoch_rule.proofs.SweepLaws.{sweeping_current, all_near, all_free, writes_more}
+use Rattle.epoch_rule.proofs.PublishLaws.{wrote_of, writes_both, swept_writing, placed_all, placed_current, published_writing, held_is, copies_of, held_not}
+use Rattle.epoch_rule.proofs.PassLaws.{ends_added}
+use Rattle.epoch_rule.proofs.LeastLaws.{current_seen}
 use Rattle.epoch_rule.proofs.cabinet.Cabinet.publish.Goals as goal
 
 pub overflow_add-number : goal.overflow_add-number
@@ -139,7 +139,7 @@ place_all-requires-clause-near g c =
     let s = c.sweep_all.ensures.swept in
     let now = sweeping_current v w c.sweep_all.new.known.items n s in
     let none : held_in c.writer.inside.current 0 c.sweep_all.new.known.items ≡ None = ap (held_in c.writer.inside.current 0) (sym c.as_slice.ensures.value) ∙ (sym c.held.ensures ∙ c.in_default.is) in
-    λ q l. all_near v w c.sweep_all.new.known.items c.writer.inside.current (subst (Sweeping v w c.sweep_all.new.known.items) all s) inv.is_current none q (omega arith)
+    λ q l. all_near v w c.sweep_all.new.known.items c.writer.inside.current (subst (HasSwept v w c.sweep_all.new.known.items) all s) inv.is_current none q (omega arith)
 
 pub place_all-requires-clause-free : goal.place_all-requires-clause-free
 place_all-requires-clause-free g c =
@@ -287,9 +287,9 @@ publish-requires-clause-roomy g c =
     let some = c.self.invariant.some in
     let is_next : u.next ≡ x = p.is_next (omega arith) in
     let room : c.writer.inside.seat.me.0.sizes.words ≡ c.self.inside.table.shared.key.words = omega arith in
-    subst (λ (q : Picked). IsRoomy c.self.inside.table.shared.key.words (generation_of_pick q)) (sym is_next)
-    (subst (λ (m : ℕ). IsRoomy m (generation_of_pick x)) room
-    (subst (λ y. IsRoomy y.sizes.words (generation_of_pick x)) (sym c.writer.view_is) (subst (λ y. IsRoomy c.args.writer.now.sizes.words (generation_of_pick (picked forest places y.edition))) (sym c.next.view_is) c.requires.roomy)))
+    subst (λ (q : Picked). PlacesFit c.self.inside.table.shared.key.words (generation_of_pick q)) (sym is_next)
+    (subst (λ (m : ℕ). PlacesFit m (generation_of_pick x)) room
+    (subst (λ y. PlacesFit y.sizes.words (generation_of_pick x)) (sym c.writer.view_is) (subst (λ y. PlacesFit c.args.writer.now.sizes.words (generation_of_pick (picked forest places y.edition))) (sym c.next.view_is) c.requires.roomy)))
 
 pub invariant_of-writer-2 : goal.invariant_of-writer-2
 invariant_of-writer-2 g c =

@@ -1,13 +1,13 @@
 use Rattle.std.proofs.Common.{arith, ◌≡◌, ℕ, length, map, sym, refl, ap, ◌∙◌}
 use Rattle.epoch_rule.specs.declared.views.Sizes.{Sizes}
 use Rattle.epoch_rule.specs.declared.views.View.{View}
-use Rattle.epoch_rule.specs.Ruled.{generations_seen}
+use Rattle.epoch_rule.specs.Rule.{generations_seen}
 use Rattle.epoch_rule.specs.Writing.{stored}
 use Rattle.mem_base.specs.machine.Generations.{least_lowest}
 use Rattle.epoch_rule.specs.Calls.{generations_in_seen, least_in, sweeps_of}
-use Rattle.epoch_rule.proofs.Sweeps.{sweeping_current}
-use Rattle.epoch_rule.proofs.Least.{swept_pass}
-use Rattle.epoch_rule.proofs.Publishes.{wrote_of, swept_writing, least_is}
+use Rattle.epoch_rule.proofs.SweepLaws.{sweeping_current}
+use Rattle.epoch_rule.proofs.LeastLaws.{swept_pass}
+use Rattle.epoch_rule.proofs.PublishLaws.{wrote_of, swept_writing, least_is}
 use Rattle.epoch_rule.proofs.cabinet.Cabinet.sweep.Goals as goal
 
 pub invariant_of-writer : goal.invariant_of-writer

@@ -4,13 +4,13 @@ use Rattle.std.specs.Option.{unwrap_or}
 use Rattle.mem_base.specs.machine.Generations.{first_generations}
 use Rattle.epoch_rule.specs.declared.views.View.{View}
 use Rattle.mem_base.specs.machine.Actors.{own_entries, generations_after_all}
-use Rattle.epoch_rule.specs.Ruled.{Lawful}
-use Rattle.epoch_rule.specs.Plays.{taken_in, Settled}
+use Rattle.epoch_rule.specs.Rule.{IsLegal}
+use Rattle.epoch_rule.specs.Plays.{taken_in, IsSettled}
 use Rattle.epoch_rule.specs.Copies.{IsCopy}
 use Rattle.view_laws.proofs.Tests.{none_is_not_some}
-use Rattle.epoch_rule.proofs.Seats.{less_one_more, takes_in, settle}
-use Rattle.epoch_rule.proofs.Passing.{stands_out}
-use Rattle.epoch_rule.proofs.Publishes.{writing_seat}
+use Rattle.epoch_rule.proofs.SeatSteps.{less_one_more, takes_in, settle}
+use Rattle.epoch_rule.proofs.PassLaws.{stands_out}
+use Rattle.epoch_rule.proofs.PublishLaws.{writing_seat}
 use Rattle.epoch_rule.proofs.cabinet.Cabinet.take_in.Goals as goal
 
 pub join_seat-requires : goal.join_seat-requires
@@ -41,12 +41,12 @@ invariant_of-writer g c =
     let j = c.join_seat.ensures in
     let v : View = c.writer.inside.seat.me.0 in
     let met : View = taken_in v c.pass.inside.seat.me.0 in
-    let h : Settled 0 met c.load.new.seat.me.0 = subst (λ m. Settled 0 m.0 c.load.new.seat.me.0) j.2 (c.load.ensures.2.1 0 (ap (λ m. m.0.role) j.2 ∙ inv.role)) in
+    let h : IsSettled 0 met c.load.new.seat.me.0 = subst (λ m. IsSettled 0 m.0 c.load.new.seat.me.0) j.2 (c.load.ensures.2.1 0 (ap (λ m. m.0.role) j.2 ∙ inv.role)) in
     let seen : c.load.new.seat.me.0.seen ≡ met.seen = ap (λ w. w.seen) h.same in
     let number : unwrap_or c.pass.inside.seat.me.0.role 0 - 1 ≡ p = ap (λ r. unwrap_or r 0 - 1) theirs.0 ∙ less_one_more p in
     writing_seat _ _ c.writer.inside.seat.me c.load.new.seat.me _ _ c.writer.inside.out.items _ (c.load.ensures.0 ∙ j.0) (c.load.ensures.2.0 ∙ ap (λ m. m.1) j.2) (ap (λ w. w.role) h.same) (ap (λ w. w.held) h.same, ap (λ w. w.next) h.same) (ap (λ w. w.sizes) h.same)
     ((λ i. generations_after_all (first_generations (h.same i).sizes.passes) (own_entries 0 (seen i))) ∙ ap (generations_after_all (first_generations v.sizes.passes)) (sym h.quiet))
-    (subst (λ w. Lawful w.sizes w.seen) (sym h.same) h.lawful)
+    (subst (λ w. IsLegal w.sizes w.seen) (sym h.same) h.lawful)
     ((λ i. slice_set (inv.is_out i) (sym number i) false) ∙ sym (ap (λ w. w.out) h.same))
     (length-set c.writer.inside.out.items p false) inv
 
@@ -60,7 +60,7 @@ returns-clause-longer g c =
     let j = c.join_seat.ensures in
     let v : View = c.writer.inside.seat.me.0 in
     let met : View = taken_in v c.pass.inside.seat.me.0 in
-    let h : Settled 0 met c.load.new.seat.me.0 = subst (λ m. Settled 0 m.0 c.load.new.seat.me.0) j.2 (c.load.ensures.2.1 0 (ap (λ m. m.0.role) j.2 ∙ inv.role)) in
+    let h : IsSettled 0 met c.load.new.seat.me.0 = subst (λ m. IsSettled 0 m.0 c.load.new.seat.me.0) j.2 (c.load.ensures.2.1 0 (ap (λ m. m.0.role) j.2 ∙ inv.role)) in
     let seen : c.load.new.seat.me.0.seen ≡ met.seen = ap (λ w. w.seen) h.same in
     rw (sym c.writer.view_is, sym c.pass.view_is) seen
 
@@ -74,7 +74,7 @@ returns-clause-seen g c =
     let j = c.join_seat.ensures in
     let v : View = c.writer.inside.seat.me.0 in
     let met : View = taken_in v c.pass.inside.seat.me.0 in
-    let h : Settled 0 met c.load.new.seat.me.0 = subst (λ m. Settled 0 m.0 c.load.new.seat.me.0) j.2 (c.load.ensures.2.1 0 (ap (λ m. m.0.role) j.2 ∙ inv.role)) in
+    let h : IsSettled 0 met c.load.new.seat.me.0 = subst (λ m. IsSettled 0 m.0 c.load.new.seat.me.0) j.2 (c.load.ensures.2.1 0 (ap (λ m. m.0.role) j.2 ∙ inv.role)) in
     let seen : c.load.new.seat.me.0.seen ≡ met.seen = ap (λ w. w.seen) h.same in
     rw (sym c.pass.view_is) (h.told.0, h.told.1 ∙ sym seen)
 
@@ -88,9 +88,9 @@ returns-clause-wrote g c =
     let j = c.join_seat.ensures in
     let v : View = c.writer.inside.seat.me.0 in
     let met : View = taken_in v c.pass.inside.seat.me.0 in
-    let h : Settled 0 met c.load.new.seat.me.0 = subst (λ m. Settled 0 m.0 c.load.new.seat.me.0) j.2 (c.load.ensures.2.1 0 (ap (λ m. m.0.role) j.2 ∙ inv.role)) in
+    let h : IsSettled 0 met c.load.new.seat.me.0 = subst (λ m. IsSettled 0 m.0 c.load.new.seat.me.0) j.2 (c.load.ensures.2.1 0 (ap (λ m. m.0.role) j.2 ∙ inv.role)) in
     let seen : c.load.new.seat.me.0.seen ≡ met.seen = ap (λ w. w.seen) h.same in
-    rw (sym c.writer.view_is) record { begins = (h.was.0, h.was.1 ∙ sym seen); lawful = subst (Lawful v.sizes) (sym seen) h.lawful; events = ap (own_entries 0) seen ∙ (sym h.quiet ∙ sym (append-nil _)); ends = λ x none. none_is_not_some x none }
+    rw (sym c.writer.view_is) record { begins = (h.was.0, h.was.1 ∙ sym seen); lawful = subst (IsLegal v.sizes) (sym seen) h.lawful; events = ap (own_entries 0) seen ∙ (sym h.quiet ∙ sym (append-nil _)); ends = λ x none. none_is_not_some x none }
 
 pub returns-clause-same : goal.returns-clause-same
 returns-clause-same g c =
@@ -102,6 +102,6 @@ returns-clause-same g c =
     let j = c.join_seat.ensures in
     let v : View = c.writer.inside.seat.me.0 in
     let met : View = taken_in v c.pass.inside.seat.me.0 in
-    let h : Settled 0 met c.load.new.seat.me.0 = subst (λ m. Settled 0 m.0 c.load.new.seat.me.0) j.2 (c.load.ensures.2.1 0 (ap (λ m. m.0.role) j.2 ∙ inv.role)) in
+    let h : IsSettled 0 met c.load.new.seat.me.0 = subst (λ m. IsSettled 0 m.0 c.load.new.seat.me.0) j.2 (c.load.ensures.2.1 0 (ap (λ m. m.0.role) j.2 ∙ inv.role)) in
     let seen : c.load.new.seat.me.0.seen ≡ met.seen = ap (λ w. w.seen) h.same in
     rw (sym c.writer.view_is) (c.load.ensures.0 ∙ j.0, ap (λ w. w.sizes) h.same)

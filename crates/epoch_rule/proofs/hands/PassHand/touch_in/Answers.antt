@@ -7,8 +7,8 @@ use Rattle.epoch_rule.specs.Touches.{IsTouch}
 use Rattle.epoch_rule.specs.Copies.{value_in}
 use Rattle.mem_base.specs.access.EditionPlaces.{IsEdition}
 use Rattle.view_laws.proofs.Tests.{same_some}
-use Rattle.epoch_rule.proofs.Passing.{entered_at, stands_still, suits_on}
-use Rattle.epoch_rule.proofs.Reaching.{one_of, ready_pass, kept, pass_kept, shown}
+use Rattle.epoch_rule.proofs.PassLaws.{entered_at, stands_still, suits_on}
+use Rattle.epoch_rule.proofs.TouchLaws.{one_of, pass_inside, ready_pass, kept, pass_kept, shown}
 use Rattle.epoch_rule.proofs.hands.PassHand.touch_in.Goals as goal
 
 pub touch_word-requires-clause-ready : goal.touch_word-requires-clause-ready
@@ -21,11 +21,12 @@ touch_word-requires-clause-ready g c =
     let may = c.requires.may in
     let s = entered_at num forest places p c.self.inside.seat.me c.self.inside.edition may.0 (ap (λ v. v.edition) c.self.view_is ∙ may.1) inv.3 in
     let fits : past c.args.place.now ≤ c.self.inside.seat.me.0.sizes.words = one_of (λ q. past q ≤ c.self.inside.seat.me.0.sizes.words) c.args.place.now (places may.0) s.roomy may.2.0 in
-    let near = may.2.1 in
     let same = same_some _ _ (sym (ap value_in c.in-Some.is) ∙ (ap (λ v. v.edition) c.self.view_is ∙ may.1)) in
     let law = subst (λ e. IsEdition (forest e) (places e)) (c.deref.ensures ∙ same) c.number.ensures.shown in
+    let kind = subst (λ (n : ℕ). IsTouch (Pass (pass_id n)) c.args.place.now c.args.word c.args.touch) (ap (λ v. v.number) (sym c.self.view_is)) c.requires.kind in
+    let near = pass_inside (forest may.0) (places may.0) c.args.place.now p c.args.word c.args.touch law kind may.2 in
     ready_pass num forest places c.cabinet.inside.table.shared.key p c.self.inside.seat.me.0 may.0 c.args.place.now c.args.word c.args.touch law inv.0 (omega arith) s (omega arith)
-    (subst (λ (n : ℕ). IsTouch (Pass (pass_id n)) c.args.place.now c.args.word c.args.touch) (ap (λ v. v.number) (sym c.self.view_is)) c.requires.kind) may.2
+    kind may.2
 
 pub touch_word-requires-clause-room : goal.touch_word-requires-clause-room
 touch_word-requires-clause-room g c =
@@ -37,7 +38,10 @@ touch_word-requires-clause-room g c =
     let may = c.requires.may in
     let s = entered_at num forest places p c.self.inside.seat.me c.self.inside.edition may.0 (ap (λ v. v.edition) c.self.view_is ∙ may.1) inv.3 in
     let fits : past c.args.place.now ≤ c.self.inside.seat.me.0.sizes.words = one_of (λ q. past q ≤ c.self.inside.seat.me.0.sizes.words) c.args.place.now (places may.0) s.roomy may.2.0 in
-    let near = may.2.1 in omega arith
+    let same = same_some _ _ (sym (ap value_in c.in-Some.is) ∙ (ap (λ v. v.edition) c.self.view_is ∙ may.1)) in
+    let law = subst (λ e. IsEdition (forest e) (places e)) (c.deref.ensures ∙ same) c.number.ensures.shown in
+    let kind = subst (λ (n : ℕ). IsTouch (Pass (pass_id n)) c.args.place.now c.args.word c.args.touch) (ap (λ v. v.number) (sym c.self.view_is)) c.requires.kind in
+    let near = pass_inside (forest may.0) (places may.0) c.args.place.now p c.args.word c.args.touch law kind may.2 in omega arith
 
 pub invariant_of-self : goal.invariant_of-self
 invariant_of-self g c =

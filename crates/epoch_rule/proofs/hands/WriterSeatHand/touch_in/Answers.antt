@@ -2,7 +2,7 @@ use Rattle.std.proofs.Common.{arith, sym, refl, ap, ◌∙◌, subst}
 use Rattle.mem_base.specs.declared.machine.events.Hand.TheVariants.{Writer}
 use Rattle.epoch_rule.specs.declared.views.Sizes.{Sizes}
 use Rattle.epoch_rule.specs.Shown.{WriterMay}
-use Rattle.epoch_rule.proofs.Reaching.{ready_writer, kept, generations_kept, shown, writing_kept}
+use Rattle.epoch_rule.proofs.TouchLaws.{ready_writer, kept, generations_kept, shown, writing_kept}
 use Rattle.epoch_rule.proofs.hands.WriterSeatHand.touch_in.Goals as goal
 
 pub touch_word-requires-clause-ready : goal.touch_word-requires-clause-ready

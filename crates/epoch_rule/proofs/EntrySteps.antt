@@ -24,41 +24,41 @@ use Rattle.mem_base.specs.machine.Passes.{pass_id}
 use Rattle.mem_base.specs.machine.Turns.{history_entry}
 use Rattle.mem_base.specs.machine.Actors.{actor_of, own_entries, pass_after_all, generations_after_all, generations_published, published_with, first_generation}
 use Rattle.history_laws.specs.Numbers.{HasSoundNumbers}
-use Rattle.epoch_rule.specs.Ruled.{state_of, Lawful, generation_of_pick, pass_seen, generations_seen, Shows, IsRoomy, Shelf, ShelfOf, Shelves, Fits, Ruled, Adds}
+use Rattle.epoch_rule.specs.Rule.{state_of, IsLegal, generation_of_pick, pass_seen, generations_seen, WordsShow, PlacesFit, PassSlots, SlotsOfPass, AllSlots, SeatKnows, IsRuled, ComesNext}
 use Rattle.view_laws.proofs.Tests.{same_number}
-use Rattle.epoch_rule.proofs.Histories.{after_append, published_append, legal_snoc, own_append, own_other, pass_owns, generations_own}
+use Rattle.epoch_rule.proofs.HistoryLaws.{after_append, published_append, legal_snoc, own_append, own_other, pass_owns, generations_own}
 use Rattle.history_laws.proofs.NumberLaws.{sound}
-use Rattle.epoch_rule.proofs.Shelves as shelf
+use Rattle.epoch_rule.proofs.SlotSteps as of_slots
 
 -- the view after an entry, with what the writer holds
 abbrev pub grown : View → List HistoryEntry → ℕ → Picked → View
 grown v xs h x = record v { seen = xs; was = xs; told = xs; fresh = false; held = h; next = x }
 
 -- the laws of a history that a rule keeps
-pub good : {S : Type 0} (Copy : ℕ → Generation → S → Type 0) (z : Sizes) (s : State S View) (k : Ruled Copy z s) → HasSoundNumbers z.words z.passes (generations_published k.log) (state_of z k.log)
+pub good : {S : Type 0} (Copy : ℕ → Generation → S → Type 0) (z : Sizes) (s : State S View) (k : IsRuled Copy z s) → HasSoundNumbers z.words z.passes (generations_published k.log) (state_of z k.log)
 good Copy z s k = sound z.words z.passes k.log k.lawful
 
-module _ {S : Type 0} (Copy : ℕ → Generation → S → Type 0) (z : Sizes) (s : State S View) (k : Ruled Copy z s) (id : ℕ) (v : View) (at : get_elem? s.views id ≡ some v) where
+module _ {S : Type 0} (Copy : ℕ → Generation → S → Type 0) (z : Sizes) (s : State S View) (k : IsRuled Copy z s) (id : ℕ) (v : View) (at : get_elem? s.views id ≡ some v) where
   pub extends : (a : ℕ) (e : Event) (x : Carried) (r : ℕ) (words' : List ℕ) (homes' : List (maybe.Option S)) (held' : ℕ) (next' : Picked) (h : ℕ) (q : Picked)
-      → v.role ≡ Some a → actor_of e ≡ a → shared_possible (state_of z k.log) e x ≡ true → r ≡ shared_reply (state_of z k.log) e x → Shows z (after_shared_entry (state_of z k.log) (history_entry e x r)) words'
-      → Every (IsRoomy z.words) (published_with (generations_published k.log) e x)
-      → Shelves Copy z.passes (after_shared_entry (state_of z k.log) (history_entry e x r)) (published_with (generations_published k.log) e x) held' (generation_of_pick next') homes'
+      → v.role ≡ Some a → actor_of e ≡ a → shared_possible (state_of z k.log) e x ≡ true → r ≡ shared_reply (state_of z k.log) e x → WordsShow z (after_shared_entry (state_of z k.log) (history_entry e x r)) words'
+      → Every (PlacesFit z.words) (published_with (generations_published k.log) e x)
+      → AllSlots Copy z.passes (after_shared_entry (state_of z k.log) (history_entry e x r)) (published_with (generations_published k.log) e x) held' (generation_of_pick next') homes'
       → (a ≡ 0 → (h ≡ held') × (q ≡ next')) → (a ≢ 0 → (held' ≡ k.held) × (next' ≡ k.next))
-      → Ruled Copy z record { words = words'; homes = homes'; views = set s.views id (grown v (k.log ++ history_entry e x r ∷ []) h q) }
+      → IsRuled Copy z record { words = words'; homes = homes'; views = set s.views id (grown v (k.log ++ history_entry e x r ∷ []) h q) }
   extends a e x r words' homes' held' next' h q role mine may is shown roomy slots writes keeps' = record {
     log = k.log ++ history_entry e x r ∷ [];
     lawful = legal_snoc k.log (shared_opening z.words z.passes) e x r k.lawful may is;
-    shown = subst (λ (t : Shared). Shows z t words') (sym (after_append k.log (history_entry e x r ∷ []) (shared_opening z.words z.passes))) shown;
-    roomy = subst (λ (t : List Generation). Every (IsRoomy z.words) t) (sym (published_append k.log (history_entry e x r ∷ []) (first_generation ∷ []))) roomy;
+    shown = subst (λ (t : Shared). WordsShow z t words') (sym (after_append k.log (history_entry e x r ∷ []) (shared_opening z.words z.passes))) shown;
+    roomy = subst (λ (t : List Generation). Every (PlacesFit z.words) t) (sym (published_append k.log (history_entry e x r ∷ []) (first_generation ∷ []))) roomy;
     owner = k.owner;
     out = k.out;
     rest = λ p l. ap (pass_after_all idle) (own_other (p + 1) k.log e x r (λ q. both_ways _ l ((k.seats id v at).goes p (role ∙ ap (λ (y : ℕ). Some y) (sym mine ∙ q))))) ∙ k.rest p l;
     held = held';
     next = next';
-    slots = subst (λ (t : Shared × List Generation). Shelves Copy z.passes t.0 t.1 held' (generation_of_pick next') homes')
+    slots = subst (λ (t : Shared × List Generation). AllSlots Copy z.passes t.0 t.1 held' (generation_of_pick next') homes')
         (λ i. (sym (after_append k.log (history_entry e x r ∷ []) (shared_opening z.words z.passes)) i, sym (published_append k.log (history_entry e x r ∷ []) (first_generation ∷ [])) i)) slots;
     seats = λ j w there. let new : View = grown v (k.log ++ history_entry e x r ∷ []) h q in ⊎_elim
-        (λ (t : (j ≡ id) × (new ≡ w)). subst (λ (y : ℕ × View). Fits z (k.log ++ history_entry e x r ∷ []) k.owner k.out held' next' y.0 y.1) (λ i. (sym t.0 i, t.1 i)) (let f = k.seats id v at in record {
+        (λ (t : (j ≡ id) × (new ≡ w)). subst (λ (y : ℕ × View). SeatKnows z (k.log ++ history_entry e x r ∷ []) k.owner k.out held' next' y.0 y.1) (λ i. (sym t.0 i, t.1 i)) (let f = k.seats id v at in record {
           knows = f.knows;
           begins = prefix_refl (k.log ++ history_entry e x r ∷ []);
           was = prefix_refl (k.log ++ history_entry e x r ∷ []);
@@ -88,12 +88,12 @@ module _ {S : Type 0} (Copy : ℕ → Generation → S → Type 0) (z : Sizes) (
         (at_set s.views id j new w there);
   }
 
-  pub adds : (a : ℕ) (e : Event) (x : Carried) (r h : ℕ) (q : Picked) → v.role ≡ Some a → shared_possible (state_of z k.log) e x ≡ true → r ≡ shared_reply (state_of z k.log) e x → Adds a v e x r (grown v (k.log ++ history_entry e x r ∷ []) h q)
+  pub adds : (a : ℕ) (e : Event) (x : Carried) (r h : ℕ) (q : Picked) → v.role ≡ Some a → shared_possible (state_of z k.log) e x ≡ true → r ≡ shared_reply (state_of z k.log) e x → ComesNext a v e x r (grown v (k.log ++ history_entry e x r ∷ []) h q)
   adds a e x r h q role may is = let f = k.seats id v at in record {
     role = refl;
     out = refl;
     sizes = refl;
-    lawful = subst (λ (y : Sizes). Lawful y (k.log ++ history_entry e x r ∷ [])) (sym (f.knows a role)) (legal_snoc k.log (shared_opening z.words z.passes) e x r k.lawful may is);
+    lawful = subst (λ (y : Sizes). IsLegal y (k.log ++ history_entry e x r ∷ [])) (sym (f.knows a role)) (legal_snoc k.log (shared_opening z.words z.passes) e x r k.lawful may is);
     between = f.begins.0;
     others = append_cancel_left (own_entries a v.seen) (own_entries a f.begins.0) [] (sym (own_append a v.seen f.begins.0) ∙ (ap (own_entries a) f.begins.1 ∙ (sym (f.all a role) ∙ sym (append-nil (own_entries a v.seen)))));
     seen = ap (λ l. l ++ history_entry e x r ∷ []) (sym f.begins.1);
@@ -111,8 +111,8 @@ module _ {S : Type 0} (Copy : ℕ → Generation → S → Type 0) (z : Sizes) (
   inside p near = let m = (good Copy z s k).many in omega arith
 
 -- the words after a step of the pass u
-pub shows_moved : (z : Sizes) (s : Shared) (words : List ℕ) (h : Shows z s words) (u : ℕ) (p : PassState) (x : ℕ) → length s.passes ≡ z.passes → u < z.passes → x ≡ pin_word p.announced
-    → Shows z (shared s.generations (set s.passes u p) s.words) (set words (u + 1) x)
+pub shows_moved : (z : Sizes) (s : Shared) (words : List ℕ) (h : WordsShow z s words) (u : ℕ) (p : PassState) (x : ℕ) → length s.passes ≡ z.passes → u < z.passes → x ≡ pin_word p.announced
+    → WordsShow z (shared s.generations (set s.passes u p) s.words) (set words (u + 1) x)
 shows_moved z s words h u p x many near is = record {
   wide = length-set words (u + 1) x ∙ h.wide;
   current = get_or-set_other words (u + 1) 0 x 0 (λ q. omega arith) ∙ h.current;
@@ -125,8 +125,8 @@ shows_moved z s words h u p x many near is = record {
 }
 
 -- the words after a step on a word of the cabinet
-pub shows_touched : (z : Sizes) (s : Shared) (words : List ℕ) (h : Shows z s words) (t x : ℕ) → length s.words ≡ z.words → t < z.words
-    → Shows z (shared s.generations s.passes (set s.words t x)) (set words (z.passes + 1 + t) x)
+pub shows_touched : (z : Sizes) (s : Shared) (words : List ℕ) (h : WordsShow z s words) (t x : ℕ) → length s.words ≡ z.words → t < z.words
+    → WordsShow z (shared s.generations s.passes (set s.words t x)) (set words (z.passes + 1 + t) x)
 shows_touched z s words h t x wide near = record {
   wide = length-set words (z.passes + 1 + t) x ∙ h.wide;
   current = get_or-set_other words (z.passes + 1 + t) 0 x 0 (λ q. omega arith) ∙ h.current;
@@ -139,30 +139,30 @@ shows_touched z s words h t x wide near = record {
 }
 
 module _ {S : Type 0} (Copy : ℕ → Generation → S → Type 0) where
-  -- the shelves after a step of the pass u, which changes its own slots alone
-  pub shelves_moved : (n : ℕ) (s : Shared) (gs : List Generation) (held : ℕ) (next : Generation) (homes homes' : List (maybe.Option S)) (u : ℕ) (p : PassState) → u < length s.passes → Shelves Copy n s gs held next homes → length homes' ≡ length homes
+  -- the first_slots after a step of the pass u, which changes its own slots alone
+  pub slots_moved : (n : ℕ) (s : Shared) (gs : List Generation) (held : ℕ) (next : Generation) (homes homes' : List (maybe.Option S)) (u : ℕ) (p : PassState) → u < length s.passes → AllSlots Copy n s gs held next homes → length homes' ≡ length homes
       → ((v j : ℕ) → v ≢ u → j < 8 → get_elem? homes' (8 * v + j) ≡ get_elem? homes (8 * v + j))
-      → Shelf Copy s.generations.current gs (known_of s.generations (pass_id u)) p.entered held next homes' u → Shelves Copy n (shared s.generations (set s.passes u p) s.words) gs held next homes'
-  shelves_moved n s gs held next homes homes' u p near k deep away here = record {
+      → PassSlots Copy s.generations.current gs (known_of s.generations (pass_id u)) p.entered held next homes' u → AllSlots Copy n (shared s.generations (set s.passes u p) s.words) gs held next homes'
+  slots_moved n s gs held next homes homes' u p near k deep away here = record {
     deep = deep ∙ k.deep;
     each = λ v l. dite (ℕ_discrete v u)
-        (λ same. subst (λ (y : ℕ). ShelfOf Copy (shared s.generations (set s.passes u p) s.words) gs held next homes' y) (sym same)
-        (subst (λ (h : PassState). Shelf Copy s.generations.current gs (known_of s.generations (pass_id u)) h.entered held next homes' u) (sym (get_or-set_same s.passes u p idle near)) here))
-        (λ other. subst (λ (h : PassState). Shelf Copy s.generations.current gs (known_of s.generations (pass_id v)) h.entered held next homes' v) (sym (get_or-set_other s.passes u v p idle other))
-        (shelf.stays Copy s.generations.current gs (known_of s.generations (pass_id v)) (pass_of s.passes (pass_id v)).entered held held next next homes homes' v (λ j l'. away v j other l') (λ q. q) (λ q. q) (λ _. refl) (k.each v l)));
+        (λ same. subst (λ (y : ℕ). SlotsOfPass Copy (shared s.generations (set s.passes u p) s.words) gs held next homes' y) (sym same)
+        (subst (λ (h : PassState). PassSlots Copy s.generations.current gs (known_of s.generations (pass_id u)) h.entered held next homes' u) (sym (get_or-set_same s.passes u p idle near)) here))
+        (λ other. subst (λ (h : PassState). PassSlots Copy s.generations.current gs (known_of s.generations (pass_id v)) h.entered held next homes' v) (sym (get_or-set_other s.passes u v p idle other))
+        (of_slots.stays Copy s.generations.current gs (known_of s.generations (pass_id v)) (pass_of s.passes (pass_id v)).entered held held next next homes homes' v (λ j l'. away v j other l') (λ q. q) (λ q. q) (λ _. refl) (k.each v l)));
   }
 
-  -- the shelves after a step of the writer about the pass u
-  pub shelves_known : (n : ℕ) (s : Shared) (gs : List Generation) (held held' : ℕ) (next next' : Generation) (homes homes' : List (maybe.Option S)) (u : ℕ) (f : PassTrack) → u < length s.generations.passes → Shelves Copy n s gs held next homes → length homes' ≡ length homes
+  -- the first_slots after a step of the writer about the pass u
+  pub slots_known : (n : ℕ) (s : Shared) (gs : List Generation) (held held' : ℕ) (next next' : Generation) (homes homes' : List (maybe.Option S)) (u : ℕ) (f : PassTrack) → u < length s.generations.passes → AllSlots Copy n s gs held next homes → length homes' ≡ length homes
       → ((v j : ℕ) → v ≢ u → j < 8 → get_elem? homes' (8 * v + j) ≡ get_elem? homes (8 * v + j))
       → ((v : ℕ) → v ≢ u → v < n → (held' ≡ v + 1 → held ≡ v + 1) × (held ≡ v + 1 → held' ≡ v + 1) × ((known_of s.generations (pass_id v)).placed ≡ true → next' ≡ next))
-      → Shelf Copy s.generations.current gs f (pass_of s.passes (pass_id u)).entered held' next' homes' u
-      → Shelves Copy n (shared (with_known s.generations (pass_id u) f) s.passes s.words) gs held' next' homes'
-  shelves_known n s gs held held' next next' homes homes' u f near k deep away told here = record {
+      → PassSlots Copy s.generations.current gs f (pass_of s.passes (pass_id u)).entered held' next' homes' u
+      → AllSlots Copy n (shared (with_known s.generations (pass_id u) f) s.passes s.words) gs held' next' homes'
+  slots_known n s gs held held' next next' homes homes' u f near k deep away told here = record {
     deep = deep ∙ k.deep;
     each = λ v l. dite (ℕ_discrete v u)
-        (λ same. subst (λ (y : ℕ). Shelf Copy s.generations.current gs (get_or (set s.generations.passes u f) y nothing_known) (pass_of s.passes (pass_id y)).entered held' next' homes' y) (sym same)
-        (subst (λ (g : PassTrack). Shelf Copy s.generations.current gs g (pass_of s.passes (pass_id u)).entered held' next' homes' u) (sym (get_or-set_same s.generations.passes u f nothing_known near)) here))
-        (λ other. let t = told v other l in subst (λ (g : PassTrack). Shelf Copy s.generations.current gs g (pass_of s.passes (pass_id v)).entered held' next' homes' v) (sym (get_or-set_other s.generations.passes u v f nothing_known other))
-        (shelf.stays Copy s.generations.current gs (known_of s.generations (pass_id v)) (pass_of s.passes (pass_id v)).entered held held' next next' homes homes' v (λ j l'. away v j other l') t.0 t.1 t.2 (k.each v l)));
+        (λ same. subst (λ (y : ℕ). PassSlots Copy s.generations.current gs (get_or (set s.generations.passes u f) y nothing_known) (pass_of s.passes (pass_id y)).entered held' next' homes' y) (sym same)
+        (subst (λ (g : PassTrack). PassSlots Copy s.generations.current gs g (pass_of s.passes (pass_id u)).entered held' next' homes' u) (sym (get_or-set_same s.generations.passes u f nothing_known near)) here))
+        (λ other. let t = told v other l in subst (λ (g : PassTrack). PassSlots Copy s.generations.current gs g (pass_of s.passes (pass_id v)).entered held' next' homes' v) (sym (get_or-set_other s.generations.passes u v f nothing_known other))
+        (of_slots.stays Copy s.generations.current gs (known_of s.generations (pass_id v)) (pass_of s.passes (pass_id v)).entered held held' next next' homes homes' v (λ j l'. away v j other l') t.0 t.1 t.2 (k.each v l)));
   }

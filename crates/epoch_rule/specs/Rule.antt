@@ -1,6 +1,7 @@
--- The rule of the cabinet's table, and what each step tells.
--- Word 0 is the current number, word v + 1 shows what the pass v has announced, and behind these lie the cabinet's words.
--- The slot 8 v + k is the pass v's for the generations g with g % 8 ≡ k.
+-- The rule of the cabinet's table, which holds between any two steps of any threads, and what a step adds to it.
+-- Word 0 is the current number, word v + 1 shows what pass v has announced, and after these come the cabinet's words.
+-- Slot 8 v + k is pass v's, for the generations g with g % 8 ≡ k.
+-- This project's own rule, in place of the RCU of QEMU's core.
 use Rattle.std.specs.Prelude.{◌≡◌, ◌≢◌, ℕ, ◌+◌, ◌*◌, ◌%◌, ◌<◌, ◌≤◌, Bool, true, false, List, [], ◌∷◌, ◌++◌, length, slice_index, slice_index_or, Option, Some}
 use mathlib.Core.Option.{some}
 use mathlib.Core.Option as maybe
@@ -23,11 +24,13 @@ use Rattle.mem_base.specs.machine.Passes.{pass_id}
 use Rattle.mem_base.specs.machine.Turns.{history_entry}
 use Rattle.mem_base.specs.machine.Actors.{own_entries, pass_after_all, generations_after_all, generations_published, first_generation}
 
+-- the shared part of the machine after a history
 abbrev pub state_of : Sizes → List HistoryEntry → Shared
 state_of z log = after_shared_entries (shared_opening z.words z.passes) log
 
-abbrev pub Lawful : Sizes → List HistoryEntry → Type 0
-Lawful z log = IsSharedLegal z.words z.passes log
+-- the history is legal by its shared part
+abbrev pub IsLegal : Sizes → List HistoryEntry → Type 0
+IsLegal z log = IsSharedLegal z.words z.passes log
 
 -- what the writer picks of an edition to publish
 abbrev pub generation_of_pick : Picked → Generation
@@ -43,41 +46,46 @@ pass_seen v w = pass_after_all idle (own_entries (v + 1) w.seen)
 abbrev pub generations_seen : View → Generations
 generations_seen w = generations_after_all (first_generations w.sizes.passes) (own_entries 0 w.seen)
 
--- the words show the state of the history
-pub record Shows (z : Sizes) (s : Shared) (words : List ℕ) : Type 0 where
+-- the table's words show the state of the history
+pub record WordsShow (z : Sizes) (s : Shared) (words : List ℕ) : Type 0 where
   pub wide : length words ≡ z.passes + 1 + z.words
   pub current : slice_index words 0 ≡ s.generations.current
   pub small : s.generations.current + 1 < 18446744073709551616
+  -- the word of a pass shows what it has announced
   pub pins : (v : ℕ) → v < z.passes → slice_index words (v + 1) ≡ pin_word (pass_of s.passes (pass_id v)).announced
   -- each word of the cabinet has what the events that touched it leave
   pub pool : (i : ℕ) → i < z.words → slice_index words (z.passes + 1 + i) ≡ slice_index s.words i
 
 -- the places of a generation end within the cabinet's words
-abbrev pub IsRoomy : ℕ → Generation → Type 0
-IsRoomy words x = Every (λ p. past p ≤ words) x.places
+abbrev pub PlacesFit : ℕ → Generation → Type 0
+PlacesFit words x = Every (λ p. past p ≤ words) x.places
 
 module _ {S : Type 0} where
-  -- the slot is at home, with such a value
-  abbrev pub Has : List (maybe.Option S) → ℕ → (S → Type 0) → Type 0
-  Has homes i P = (y : S) × (get_elem? homes i ≡ some (some y)) × P y
+  -- the slot is at home, with a value of which this holds
+  abbrev pub HasAt : List (maybe.Option S) → ℕ → (S → Type 0) → Type 0
+  HasAt homes i P = (y : S) × (get_elem? homes i ≡ some (some y)) × P y
 
-  -- What the slots of the pass v contain. The current number is c, the generations `gs` were published, the pass is
-  -- entered in `inside`, and the writer holds a slot of the pass `held - 1`, if any, for the generation `next`
-  pub record Shelf (Copy : ℕ → Generation → S → Type 0) (c : ℕ) (gs : List Generation) (k : PassTrack) (inside : Option ℕ) (held : ℕ) (next : Generation) (homes : List (maybe.Option S)) (v : ℕ) : Type 0 where
-    pub kept : (g : ℕ) → k.lowest ≤ g → g ≤ c → inside ≢ Some g → Has homes (8 * v + g % 8) (Copy g (slice_index_or gs g first_generation))
-    pub placed : k.placed ≡ true → Has homes (8 * v + (c + 1) % 8) (Copy (c + 1) next)
-    pub home : (j : ℕ) → j < 8 → ((g : ℕ) → inside ≡ Some g → j ≢ g % 8) → (held ≡ v + 1 → j ≢ (c + 1) % 8) → Has homes (8 * v + j) (λ y. Unit {0})
+  -- What the slots of pass v contain. The current number is c, the generations `gs` were published, the pass is entered
+  -- in `inside`, and the writer holds a slot of pass `held - 1` for the generation `next`, or none where `held` is 0
+  pub record PassSlots (Copy : ℕ → Generation → S → Type 0) (c : ℕ) (gs : List Generation) (k : PassTrack) (inside : Option ℕ) (held : ℕ) (next : Generation) (homes : List (maybe.Option S)) (v : ℕ) : Type 0 where
+    -- each generation that the pass may still use is in its slot, but for the one that it is entered in
+    pub kept : (g : ℕ) → k.lowest ≤ g → g ≤ c → inside ≢ Some g → HasAt homes (8 * v + g % 8) (Copy g (slice_index_or gs g first_generation))
+    -- the next generation is in its slot where the pass has its copy
+    pub placed : k.placed ≡ true → HasAt homes (8 * v + (c + 1) % 8) (Copy (c + 1) next)
+    -- each slot is at home that neither the pass nor the writer holds
+    pub home : (j : ℕ) → j < 8 → ((g : ℕ) → inside ≡ Some g → j ≢ g % 8) → (held ≡ v + 1 → j ≢ (c + 1) % 8) → HasAt homes (8 * v + j) (λ y. Unit {0})
+    -- the writer holds a slot of the pass only for the next generation, and where the pass has no copy of it yet
     pub clear : held ≡ v + 1 → (c ≤ k.lowest + 6) × (k.placed ≡ false)
 
-  abbrev pub ShelfOf : (ℕ → Generation → S → Type 0) → Shared → List Generation → ℕ → Generation → List (maybe.Option S) → ℕ → Type 0
-  ShelfOf Copy s gs held next homes v = Shelf Copy s.generations.current gs (known_of s.generations (pass_id v)) (pass_of s.passes (pass_id v)).entered held next homes v
+  abbrev pub SlotsOfPass : (ℕ → Generation → S → Type 0) → Shared → List Generation → ℕ → Generation → List (maybe.Option S) → ℕ → Type 0
+  SlotsOfPass Copy s gs held next homes v = PassSlots Copy s.generations.current gs (known_of s.generations (pass_id v)) (pass_of s.passes (pass_id v)).entered held next homes v
 
-  pub record Shelves (Copy : ℕ → Generation → S → Type 0) (n : ℕ) (s : Shared) (gs : List Generation) (held : ℕ) (next : Generation) (homes : List (maybe.Option S)) : Type 0 where
+  pub record AllSlots (Copy : ℕ → Generation → S → Type 0) (n : ℕ) (s : Shared) (gs : List Generation) (held : ℕ) (next : Generation) (homes : List (maybe.Option S)) : Type 0 where
     pub deep : length homes ≡ 8 * n
-    pub each : (v : ℕ) → v < n → ShelfOf Copy s gs held next homes v
+    pub each : (v : ℕ) → v < n → SlotsOfPass Copy s gs held next homes v
 
--- what the seat j knows
-pub record Fits (z : Sizes) (log : List HistoryEntry) (owner : ℕ → ℕ) (out : List Bool) (held : ℕ) (next : Picked) (j : ℕ) (v : View) : Type 0 where
+-- what seat j knows, where each actor's seat is the one that `owner` gives, and these passes are out
+pub record SeatKnows (z : Sizes) (log : List HistoryEntry) (owner : ℕ → ℕ) (out : List Bool) (held : ℕ) (next : Picked) (j : ℕ) (v : View) : Type 0 where
   pub knows : (a : ℕ) → v.role ≡ Some a → v.sizes ≡ z
   pub begins : IsPrefix v.seen log
   -- what it had seen, and what it was told of, when it last met a note
@@ -94,31 +102,33 @@ pub record Fits (z : Sizes) (log : List HistoryEntry) (owner : ℕ → ℕ) (out
   -- and the writer has seen all that the passes did which are not out
   pub home : v.role ≡ Some 0 → (p : ℕ) → slice_index_or out p false ≡ false → own_entries (p + 1) v.seen ≡ own_entries (p + 1) log
 
--- there is one legal history
-pub record Ruled {S : Type 0} (Copy : ℕ → Generation → S → Type 0) (z : Sizes) (s : State S View) : Type 0 where
+-- There is one legal history. The table's words and slots show what it leaves, and what each seat has seen is a first
+-- part of it
+pub record IsRuled {S : Type 0} (Copy : ℕ → Generation → S → Type 0) (z : Sizes) (s : State S View) : Type 0 where
   pub log : List HistoryEntry
-  pub lawful : Lawful z log
-  pub shown : Shows z (state_of z log) s.words
-  pub roomy : Every (IsRoomy z.words) (generations_published log)
+  pub lawful : IsLegal z log
+  pub shown : WordsShow z (state_of z log) s.words
+  pub roomy : Every (PlacesFit z.words) (generations_published log)
   pub owner : ℕ → ℕ
   pub out : List Bool
   -- a pass that is not out is idle
   pub rest : (p : ℕ) → slice_index_or out p false ≡ false → pass_after_all idle (own_entries (p + 1) log) ≡ idle
   pub held : ℕ
   pub next : Picked
-  pub slots : Shelves Copy z.passes (state_of z log) (generations_published log) held (generation_of_pick next) s.homes
-  pub seats : (j : ℕ) (v : View) → get_elem? s.views j ≡ some v → Fits z log owner out held next j v
+  pub slots : AllSlots Copy z.passes (state_of z log) (generations_published log) held (generation_of_pick next) s.homes
+  pub seats : (j : ℕ) (v : View) → get_elem? s.views j ≡ some v → SeatKnows z log owner out held next j v
 
--- The actor's event came next in a legal history that begins with all that its seat had seen. What came between is of others
-pub record Adds (a : ℕ) (v : View) (e : Event) (x : Carried) (reply : ℕ) (w : View) : Type 0 where
+-- The actor's event came next in a legal history that begins with all that its seat had seen. What came between is of
+-- other actors
+pub record ComesNext (a : ℕ) (v : View) (e : Event) (x : Carried) (reply : ℕ) (w : View) : Type 0 where
   pub role : w.role ≡ v.role
   pub out : w.out ≡ v.out
   pub sizes : w.sizes ≡ v.sizes
-  pub lawful : Lawful v.sizes w.seen
+  pub lawful : IsLegal v.sizes w.seen
   pub between : List HistoryEntry
   pub others : own_entries a between ≡ []
   pub seen : w.seen ≡ (v.seen ++ between) ++ history_entry e x reply ∷ []
 
--- the writer holds the same slot for the same generation
-abbrev pub HoldsOn : View → View → Type 0
-HoldsOn v w = (w.held ≡ v.held) × (w.next ≡ v.next)
+-- the writer holds the same slot, if any, for the same generation
+abbrev pub KeepsSlot : View → View → Type 0
+KeepsSlot v w = (w.held ≡ v.held) × (w.next ≡ v.next)

@@ -21,11 +21,11 @@ use Rattle.epoch_rule.specs.declared.views.Picked.{Picked}
 use Rattle.epoch_rule.specs.declared.views.View.{View}
 use Rattle.mem_base.specs.machine.Passes.{idle}
 use Rattle.mem_base.specs.machine.Actors.{own_entries, actor_of, pass_after_all}
-use Rattle.epoch_rule.specs.Ruled.{Lawful, pass_seen, Fits, Ruled}
+use Rattle.epoch_rule.specs.Rule.{IsLegal, pass_seen, SeatKnows, IsRuled}
 use Rattle.epoch_rule.specs.Wrote.{longer}
-use Rattle.epoch_rule.specs.Plays.{noted, nobody, informed, first_free, less_one, next_pass, taken_in, settles}
+use Rattle.epoch_rule.specs.Plays.{note_view, spent_view, met_view, first_free, with_least_out, next_pass, taken_in, settles}
 use Rattle.view_laws.proofs.Tests.{none_is_no_number, same_number}
-use Rattle.epoch_rule.proofs.Histories.{own_append, legal_start}
+use Rattle.epoch_rule.proofs.HistoryLaws.{own_append, legal_start}
 
 module _ {A : Type 0} where
   abbrev tail : List A → List A
@@ -99,11 +99,11 @@ set_free out f p b other = get_or-set_other out f p b false other
 
 module _ {S : Type 0} (Copy : ℕ → Generation → S → Type 0) (z : Sizes) where
   -- the rule where the views alone change
-  reseat : (s : State S View) (k : Ruled Copy z s) (views' : List View) (owner : ℕ → ℕ) (out : List Bool) → ((p : ℕ) → get_or out p false ≡ false → pass_after_all idle (own_entries (p + 1) k.log) ≡ idle) → ((j : ℕ) (v : View) → get_elem? views' j ≡ some v → Fits z k.log owner out k.held k.next j v)
-      → Ruled Copy z record { words = s.words; homes = s.homes; views = views' }
+  reseat : (s : State S View) (k : IsRuled Copy z s) (views' : List View) (owner : ℕ → ℕ) (out : List Bool) → ((p : ℕ) → get_or out p false ≡ false → pass_after_all idle (own_entries (p + 1) k.log) ≡ idle) → ((j : ℕ) (v : View) → get_elem? views' j ≡ some v → SeatKnows z k.log owner out k.held k.next j v)
+      → IsRuled Copy z record { words = s.words; homes = s.homes; views = views' }
   reseat s k views' owner out rest seats = record { log = k.log; lawful = k.lawful; shown = k.shown; roomy = k.roomy; owner = owner; out = out; rest = rest; held = k.held; next = k.next; slots = k.slots; seats = seats }
 
-  idles : (log : List HistoryEntry) (owner : ℕ → ℕ) (out : List Bool) (h : ℕ) (x : Picked) (j : ℕ) (v : View) → v.role ≡ None → IsPrefix v.seen log → IsPrefix v.was v.seen → IsPrefix v.told v.seen → Fits z log owner out h x j v
+  idles : (log : List HistoryEntry) (owner : ℕ → ℕ) (out : List Bool) (h : ℕ) (x : Picked) (j : ℕ) (v : View) → v.role ≡ None → IsPrefix v.seen log → IsPrefix v.was v.seen → IsPrefix v.told v.seen → SeatKnows z log owner out h x j v
   idles log owner out h x j v r b was told = record {
     knows = λ a is. absurd (none_is_no_number a (sym r ∙ is));
     begins = b;
@@ -118,13 +118,13 @@ module _ {S : Type 0} (Copy : ℕ → Generation → S → Type 0) (z : Sizes) w
     home = λ is. absurd (none_is_no_number 0 (sym r ∙ is));
   }
 
-  pub tells : (id : ℕ) (v : View) → Splits (Ruled Copy z) id v v (noted v)
-  tells id v s k at = reseat s k (set s.views id v ++ noted v ∷ []) k.owner k.out k.rest
+  pub tells : (id : ℕ) (v : View) → Splits (IsRuled Copy z) id v v (note_view v)
+  tells id v s k at = reseat s k (set s.views id v ++ note_view v ∷ []) k.owner k.out k.rest
       (λ j w e. ⊎_elim (λ t. k.seats j w (subst (λ l. get_elem? l j ≡ some w) (set_again s.views id v at) t))
-      (λ t. subst (λ (y : View). Fits z k.log k.owner k.out k.held k.next j y) t (let f = k.seats id v at in idles k.log k.owner k.out k.held k.next j (noted v) refl f.begins f.was f.told)) (at_snoc (set s.views id v) (noted v) w j e))
+      (λ t. subst (λ (y : View). SeatKnows z k.log k.owner k.out k.held k.next j y) t (let f = k.seats id v at in idles k.log k.owner k.out k.held k.next j (note_view v) refl f.begins f.was f.told)) (at_snoc (set s.views id v) (note_view v) w j e))
 
   -- a view that has met a note
-  merged : (log : List HistoryEntry) (owner : ℕ → ℕ) (out : List Bool) (h : ℕ) (x : Picked) (j : ℕ) (v w : View) → Fits z log owner out h x j v → IsPrefix w.seen log → Fits z log owner out h x j (informed v w)
+  merged : (log : List HistoryEntry) (owner : ℕ → ℕ) (out : List Bool) (h : ℕ) (x : Picked) (j : ℕ) (v w : View) → SeatKnows z log owner out h x j v → IsPrefix w.seen log → SeatKnows z log owner out h x j (met_view v w)
   merged log owner out h x j v w f g =
       let first = longer_first v.seen w.seen log f.begins g in
       let second = longer_second v.seen w.seen log f.begins g in
@@ -142,19 +142,19 @@ module _ {S : Type 0} (Copy : ℕ → Generation → S → Type 0) (z : Sizes) w
         home = λ is p l. squeezed (p + 1) v.seen (longer v.seen w.seen) log first whole (f.home is p l);
       }
 
-  pub learns : (id : ℕ) (v : View) (other : ℕ) (w : View) → Joins (Ruled Copy z) id v other w (informed v w) nobody
+  pub learns : (id : ℕ) (v : View) (other : ℕ) (w : View) → Joins (IsRuled Copy z) id v other w (met_view v w) spent_view
   learns id v other w s k at apart e =
       let f = k.seats id v at in
-      let g = k.seats other w (there s.views id other (informed v w) w apart e) in
+      let g = k.seats other w (there s.views id other (met_view v w) w apart e) in
       let both = merged k.log k.owner k.out k.held k.next id v w f g.begins in
-      reseat s k (set (set s.views id (informed v w)) other nobody) k.owner k.out k.rest
-      (λ j u e'. ⊎_elim (λ (t : (j ≡ other) × (nobody ≡ u)). subst (λ (y : View). Fits z k.log k.owner k.out k.held k.next j y) t.1 (idles k.log k.owner k.out k.held k.next j nobody refl (k.log, refl) ([], refl) ([], refl)))
-      (λ (t : (j ≢ other) × (get_elem? (set s.views id (informed v w)) j ≡ some u)). ⊎_elim
-      (λ (q : (j ≡ id) × (informed v w ≡ u)). subst (λ (y : ℕ × View). Fits z k.log k.owner k.out k.held k.next y.0 y.1) (λ i. (sym q.0 i, q.1 i)) both)
-      (λ (q : (j ≢ id) × (get_elem? s.views j ≡ some u)). k.seats j u q.1) (at_set s.views id j (informed v w) u t.1))
-      (at_set (set s.views id (informed v w)) other j nobody u e'))
+      reseat s k (set (set s.views id (met_view v w)) other spent_view) k.owner k.out k.rest
+      (λ j u e'. ⊎_elim (λ (t : (j ≡ other) × (spent_view ≡ u)). subst (λ (y : View). SeatKnows z k.log k.owner k.out k.held k.next j y) t.1 (idles k.log k.owner k.out k.held k.next j spent_view refl (k.log, refl) ([], refl) ([], refl)))
+      (λ (t : (j ≢ other) × (get_elem? (set s.views id (met_view v w)) j ≡ some u)). ⊎_elim
+      (λ (q : (j ≡ id) × (met_view v w ≡ u)). subst (λ (y : ℕ × View). SeatKnows z k.log k.owner k.out k.held k.next y.0 y.1) (λ i. (sym q.0 i, q.1 i)) both)
+      (λ (q : (j ≢ id) × (get_elem? s.views j ≡ some u)). k.seats j u q.1) (at_set s.views id j (met_view v w) u t.1))
+      (at_set (set s.views id (met_view v w)) other j spent_view u e'))
 
-  pub hands_out : (id : ℕ) (v : View) → v.role ≡ Some 0 → first_free v.out < length v.out → Splits (Ruled Copy z) id v (less_one v) (next_pass v)
+  pub hands_out : (id : ℕ) (v : View) → v.role ≡ Some 0 → first_free v.out < length v.out → Splits (IsRuled Copy z) id v (with_least_out v) (next_pass v)
   hands_out id v role room s k at =
       let f : ℕ = first_free v.out in
       let mine = k.seats id v at in
@@ -162,10 +162,10 @@ module _ {S : Type 0} (Copy : ℕ → Generation → S → Type 0) (z : Sizes) w
       let same : v.out ≡ k.out = (mine.counts role).0 in
       let was : get_or k.out f false ≡ false = subst (λ (o : List Bool). get_or o f false ≡ false) same (first_is v.out) in
       let now : get_or out' f false ≡ true = get_or-set_same k.out f true false (subst (λ (o : List Bool). f < length o) same room) in
-      let vs : List View = set s.views id (less_one v) in
+      let vs : List View = set s.views id (with_least_out v) in
       let owner' : ℕ → ℕ = put k.owner (f + 1) (length vs) in
       let rest : (p : ℕ) → get_or out' p false ≡ false → get_or k.out p false ≡ false = λ p l. dite (ℕ_discrete p f) (λ e. absurd (both_ways _ l (subst (λ (y : ℕ). get_or out' y false ≡ true) (sym e) now))) (λ ne. sym (set_free k.out f p true ne) ∙ l) in
-      let kept : (j : ℕ) (w : View) → Fits z k.log k.owner k.out k.held k.next j w → (o : List Bool) → (w.role ≡ Some 0 → o ≡ out') → Fits z k.log owner' out' k.held k.next j (record w { out = o }) = λ j w g o new. record {
+      let kept : (j : ℕ) (w : View) → SeatKnows z k.log k.owner k.out k.held k.next j w → (o : List Bool) → (w.role ≡ Some 0 → o ≡ out') → SeatKnows z k.log owner' out' k.held k.next j (record w { out = o }) = λ j w g o new. record {
         knows = g.knows;
         begins = g.begins;
         was = g.was;
@@ -181,10 +181,10 @@ module _ {S : Type 0} (Copy : ℕ → Generation → S → Type 0) (z : Sizes) w
       reseat s k (vs ++ next_pass v ∷ []) owner' out' (λ p l. k.rest p (rest p l))
       (λ j w e. ⊎_elim
       (λ t. ⊎_elim
-      (λ (q : (j ≡ id) × (less_one v ≡ w)). subst (λ (y : ℕ × View). Fits z k.log owner' out' k.held k.next y.0 y.1) (λ i. (sym q.0 i, q.1 i)) (kept id v mine (set v.out f true) (λ _. ap (λ (o : List Bool). set o f true) same)))
+      (λ (q : (j ≡ id) × (with_least_out v ≡ w)). subst (λ (y : ℕ × View). SeatKnows z k.log owner' out' k.held k.next y.0 y.1) (λ i. (sym q.0 i, q.1 i)) (kept id v mine (set v.out f true) (λ _. ap (λ (o : List Bool). set o f true) same)))
       (λ (q : (j ≢ id) × (get_elem? s.views j ≡ some w)). let g = k.seats j w q.1 in kept j w g w.out (λ is. absurd (q.0 (sym (g.sits 0 is) ∙ mine.sits 0 role))))
-      (at_set s.views id j (less_one v) w t))
-      (λ (t : (j ≡ length vs) × (next_pass v ≡ w)). subst (λ (y : ℕ × View). Fits z k.log owner' out' k.held k.next y.0 y.1) (λ i. (sym t.0 i, t.1 i)) record {
+      (at_set s.views id j (with_least_out v) w t))
+      (λ (t : (j ≡ length vs) × (next_pass v ≡ w)). subst (λ (y : ℕ × View). SeatKnows z k.log owner' out' k.held k.next y.0 y.1) (λ i. (sym t.0 i, t.1 i)) record {
         knows = λ a is. mine.knows 0 role;
         begins = mine.begins;
         was = prefix_refl v.seen;
@@ -199,7 +199,7 @@ module _ {S : Type 0} (Copy : ℕ → Generation → S → Type 0) (z : Sizes) w
       })
       (at_end vs (next_pass v) w j e))
 
-  pub takes_in : (id : ℕ) (v : View) (other : ℕ) (w : View) (p : ℕ) → v.role ≡ Some 0 → w.role ≡ Some (p + 1) → pass_seen p w ≡ idle → Joins (Ruled Copy z) id v other w (taken_in v w) nobody
+  pub takes_in : (id : ℕ) (v : View) (other : ℕ) (w : View) (p : ℕ) → v.role ≡ Some 0 → w.role ≡ Some (p + 1) → pass_seen p w ≡ idle → Joins (IsRuled Copy z) id v other w (taken_in v w) spent_view
   takes_in id v other w p role pass still s k at apart e =
       let mine = k.seats id v at in
       let theirs = k.seats other w (there s.views id other (taken_in v w) w apart e) in
@@ -211,13 +211,13 @@ module _ {S : Type 0} (Copy : ℕ → Generation → S → Type 0) (z : Sizes) w
       let second = longer_second v.seen w.seen k.log mine.begins theirs.begins in
       let whole = longer_begins v.seen w.seen k.log mine.begins theirs.begins in
       let met = merged k.log k.owner k.out k.held k.next id v w mine theirs.begins in
-      reseat s k (set (set s.views id (taken_in v w)) other nobody) k.owner out'
+      reseat s k (set (set s.views id (taken_in v w)) other spent_view) k.owner out'
       (λ b l. dite (ℕ_discrete b p)
       (λ same. ap (λ (y : ℕ). pass_after_all idle (own_entries (y + 1) k.log)) same ∙ (ap (pass_after_all idle) (sym (theirs.all (p + 1) pass)) ∙ still))
       (λ ne. k.rest b (sym (set_free k.out m b false (λ x. ne (x ∙ is_p))) ∙ l)))
-      (λ j u e'. ⊎_elim (λ (t : (j ≡ other) × (nobody ≡ u)). subst (λ (y : View). Fits z k.log k.owner out' k.held k.next j y) t.1 (idles k.log k.owner out' k.held k.next j nobody refl (k.log, refl) ([], refl) ([], refl)))
+      (λ j u e'. ⊎_elim (λ (t : (j ≡ other) × (spent_view ≡ u)). subst (λ (y : View). SeatKnows z k.log k.owner out' k.held k.next j y) t.1 (idles k.log k.owner out' k.held k.next j spent_view refl (k.log, refl) ([], refl) ([], refl)))
       (λ (t : (j ≢ other) × (get_elem? (set s.views id (taken_in v w)) j ≡ some u)). ⊎_elim
-      (λ (q : (j ≡ id) × (taken_in v w ≡ u)). subst (λ (y : ℕ × View). Fits z k.log k.owner out' k.held k.next y.0 y.1) (λ i. (sym q.0 i, q.1 i)) record {
+      (λ (q : (j ≡ id) × (taken_in v w ≡ u)). subst (λ (y : ℕ × View). SeatKnows z k.log k.owner out' k.held k.next y.0 y.1) (λ i. (sym q.0 i, q.1 i)) record {
         knows = met.knows;
         begins = met.begins;
         was = met.was;
@@ -246,10 +246,10 @@ module _ {S : Type 0} (Copy : ℕ → Generation → S → Type 0) (z : Sizes) w
         home = λ is. absurd (q.0 (sym (g.sits 0 is) ∙ mine.sits 0 role));
       })
       (at_set s.views id j (taken_in v w) u t.1))
-      (at_set (set s.views id (taken_in v w)) other j nobody u e'))
+      (at_set (set s.views id (taken_in v w)) other j spent_view u e'))
 
   -- where no pass is out, the writer has seen the whole history
-  pub sees_whole : (s : State S View) (k : Ruled Copy z s) (id : ℕ) (v : View) → get_elem? s.views id ≡ some v → v.role ≡ Some 0 → ((p : ℕ) → get_or v.out p false ≡ false) → v.seen ≡ k.log
+  pub sees_whole : (s : State S View) (k : IsRuled Copy z s) (id : ℕ) (v : View) → get_elem? s.views id ≡ some v → v.role ≡ Some 0 → ((p : ℕ) → get_or v.out p false ≡ false) → v.seen ≡ k.log
   sees_whole s k id v at role home =
       let f = k.seats id v at in
       let none_left : (a : ℕ) → own_entries a f.begins.0 ≡ [] = λ a. append_cancel_left (own_entries a v.seen) (own_entries a f.begins.0) []
@@ -269,13 +269,13 @@ module _ {S : Type 0} (Copy : ℕ → Generation → S → Type 0) (z : Sizes) w
 
   -- looks that show no event
 
-  pub settle : (slots id : ℕ) (me : Me S View) (i : ℕ) → Allows (Ruled Copy z) slots id me i (λ r. r) (λ r w. settles me w)
+  pub settle : (slots id : ℕ) (me : Me S View) (i : ℕ) → Allows (IsRuled Copy z) slots id me i (λ r. r) (λ r w. settles me w)
   settle slots id me i s k deep at small =
       let f = k.seats id me.0 at in (
         me.0,
         keeps,
         tt,
-        subst (λ (y : List ℕ × List View). Ruled Copy z record { words = y.0; homes = s.homes; views = y.1 }) (λ j. (sym (set-get_or s.words i 0) j, sym (set_again s.views id me.0 at) j)) k,
+        subst (λ (y : List ℕ × List View). IsRuled Copy z record { words = y.0; homes = s.homes; views = y.1 }) (λ j. (sym (set-get_or s.words i 0) j, sym (set_again s.views id me.0 at) j)) k,
         (
           refl,
           λ a is. record {
@@ -284,17 +284,17 @@ module _ {S : Type 0} (Copy : ℕ → Generation → S → Type 0) (z : Sizes) w
             told = f.told;
             quiet = f.quiet a is;
             fresh = f.fresh;
-            lawful = subst (λ (y : Sizes). Lawful y me.0.seen) (sym (f.knows a is)) (legal_start me.0.seen f.begins.0 (shared_opening z.words z.passes) (subst (IsSharedLegal z.words z.passes) (sym f.begins.1) k.lawful));
+            lawful = subst (λ (y : Sizes). IsLegal y me.0.seen) (sym (f.knows a is)) (legal_start me.0.seen f.begins.0 (shared_opening z.words z.passes) (subst (IsSharedLegal z.words z.passes) (sym f.begins.1) k.lawful));
           },
         ),
       )
 
-  pub peek : (slots id : ℕ) (me : Me S View) (i : ℕ) → Allows (Ruled Copy z) slots id me i (λ r. r) (λ r w. w ≡ me)
+  pub peek : (slots id : ℕ) (me : Me S View) (i : ℕ) → Allows (IsRuled Copy z) slots id me i (λ r. r) (λ r w. w ≡ me)
   peek slots id me i s k deep at small = (
     me.0,
     keeps,
     tt,
-    subst (λ (y : List ℕ × List View). Ruled Copy z record { words = y.0; homes = s.homes; views = y.1 }) (λ j. (sym (set-get_or s.words i 0) j, sym (set_again s.views id me.0 at) j)) k,
+    subst (λ (y : List ℕ × List View). IsRuled Copy z record { words = y.0; homes = s.homes; views = y.1 }) (λ j. (sym (set-get_or s.words i 0) j, sym (set_again s.views id me.0 at) j)) k,
     refl,
   )
 

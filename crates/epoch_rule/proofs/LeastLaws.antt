@@ -11,13 +11,13 @@ use Rattle.mem_base.specs.machine.Actors.{own_entries, generations_after_all, nu
 use Rattle.history_laws.proofs.NumberLaws.{sound}
 use Rattle.epoch_rule.specs.declared.views.Sizes.{Sizes}
 use Rattle.epoch_rule.specs.declared.writers.Found.{Found}
-use Rattle.epoch_rule.specs.Ruled.{Lawful}
+use Rattle.epoch_rule.specs.Rule.{IsLegal}
 use Rattle.epoch_rule.specs.Writing.{stored}
 use Rattle.epoch_rule.specs.Calls.{first_at, IsLeastPassAt, generations_in_seen}
-use Rattle.epoch_rule.proofs.Histories.{generations_own}
+use Rattle.epoch_rule.proofs.HistoryLaws.{generations_own}
 
 -- the current number is that of the last Publish
-pub current_seen : (z : Sizes) (xs : List HistoryEntry) → Lawful z xs → (generations_in_seen z xs).current ≡ number_seen xs
+pub current_seen : (z : Sizes) (xs : List HistoryEntry) → IsLegal z xs → (generations_in_seen z xs).current ≡ number_seen xs
 current_seen z xs legal =
     let k = sound z.words z.passes xs legal in let count = k.counted in
     ap (λ (g : Generations). g.current) (sym (generations_own xs (shared_opening z.words z.passes))) ∙ omega arith
@@ -74,7 +74,7 @@ inside_where c (k ∷ ks) some low = ⊎_elim
     (some_has c (k ∷ ks))
 
 -- after a legal history
-pub least_pass : (z : Sizes) (xs : List HistoryEntry) → Lawful z xs → 0 < z.passes →
+pub least_pass : (z : Sizes) (xs : List HistoryEntry) → IsLegal z xs → 0 < z.passes →
     let g = generations_in_seen z xs in let low = least_lowest g.current g.passes in IsLeastPassAt g low (pass_id (first_at low (map stored g.passes)))
 least_pass z xs legal some =
     let g : Generations = generations_in_seen z xs in
@@ -89,7 +89,7 @@ least_pass z xs legal some =
     }
 
 -- of what is stored of the passes
-pub swept_pass : (z : Sizes) (xs : List HistoryEntry) → Lawful z xs → 0 < z.passes → (known : List Found) → known ≡ map stored (generations_in_seen z xs).passes → (low n : ℕ)
+pub swept_pass : (z : Sizes) (xs : List HistoryEntry) → IsLegal z xs → 0 < z.passes → (known : List Found) → known ≡ map stored (generations_in_seen z xs).passes → (low n : ℕ)
     → low ≡ least_lowest (generations_in_seen z xs).current (generations_in_seen z xs).passes → n ≡ first_at low known
     → IsLeastPassAt (generations_in_seen z xs) low (pass_id n) × (n < z.passes)
 swept_pass z xs legal some known is low n low_is n_is =

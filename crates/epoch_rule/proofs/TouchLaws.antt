@@ -1,11 +1,15 @@
 -- What an actor may touch, and what its touch shows.
-use Rattle.std.proofs.Common.{◌≡◌, ◌⊎◌, ℕ, ◌+◌, ◌<◌, ◌≤◌, eqb, Bool, true, false, ◌&&◌, ◌||◌, List, [], ◌∷◌, length, map, sym, refl, ap, ◌∙◌, subst, ⊎_elim, inl, inr, append-nil, arith, Some}
-use Rattle.std.specs.Prelude.{MatchBool, nat_lt}
+use Rattle.std.proofs.Common.{◌≡◌, ◌⊎◌, ℕ, ◌+◌, ◌<◌, ◌≤◌, eqb, Bool, true, false, ◌&&◌, ◌||◌, List, [], ◌∷◌, length, map, sym, refl, ap, ◌∙◌, subst, ⊎_elim, inl, inr, append-nil, arith, Option, Some, None}
+use Rattle.std.specs.Prelude.{MatchBool, nat_lt, IsSomeAnd}
 use Rattle.std.specs.List.{list_any}
-use Rattle.std.proofs.lemmas.Bool.{lt-ltb, le-leb, eqb-true, eq-eqb}
+use Rattle.std.proofs.lemmas.Bool.{lt-ltb, ltb-true, le-leb, eqb-true, eq-eqb}
 use mathlib.Core.List.{IsPrefix}
 use lib.ListN.{length-replicate, get_or-replicate}
 use Rattle.mem_base.specs.declared.map.forests.Forest.{Forest}
+use Rattle.mem_base.specs.declared.map.forests.Node.{Node}
+use Rattle.mem_base.specs.declared.map.kinds.Client.{Client}
+use Rattle.mem_base.specs.declared.map.kinds.Client.TheVariants as clients
+use Rattle.mem_base.specs.map.Region.{node_of}
 use Rattle.mem_base.specs.declared.machine.events.Hand.{Hand}
 use Rattle.mem_base.specs.declared.machine.events.Hand.TheVariants as hands
 use Rattle.mem_base.specs.declared.access.cells.Place.{Place}
@@ -18,7 +22,7 @@ use Rattle.mem_base.specs.declared.machine.events.HistoryEntry.{HistoryEntry}
 use Rattle.mem_base.specs.lists.Every.{Every}
 use Rattle.mem_base.specs.access.EditionPlaces.{IsRegionPlace, IsNotifiersPlace, IsEdition}
 use Rattle.mem_base.specs.views.Naming.{names}
-use Rattle.mem_base.specs.access.Places.{past, pages_in, is_data_or_register, notifiers_place, is_notifiers}
+use Rattle.mem_base.specs.access.Places.{extent, extent_of, words_of, place_from, past, pages_in, is_data_or_register, word_of_page, notifiers_place, is_notifiers}
 use Rattle.mem_base.specs.access.Cells.{cell}
 use Rattle.mem_base.specs.machine.Passes.{PassState, idle, pass_of, pass_after}
 use Rattle.mem_base.specs.machine.Generations.{Generation, generation, Generations, known_of, entered_generation}
@@ -31,21 +35,21 @@ use Rattle.epoch_rule.specs.declared.touches.Touch.TheVariants as touches
 use Rattle.mem_base.specs.machine.Passes.{pass_id}
 use Rattle.mem_base.specs.machine.Turns.{history_entry}
 use Rattle.mem_base.specs.machine.Actors.{actor_of, actor_of_hand, own_entries, pass_after_all}
-use Rattle.epoch_rule.specs.Ruled.{state_of, Lawful, pass_seen, generations_seen, Adds, HoldsOn}
-use Rattle.epoch_rule.specs.Copies.{shown_by, StandsIn}
-use Rattle.epoch_rule.specs.Touches.{Touching, IsReady, IsTouch, Told, ToldStep, event_of, touch_at}
+use Rattle.epoch_rule.specs.Rule.{state_of, IsLegal, pass_seen, generations_seen, ComesNext, KeepsSlot}
+use Rattle.epoch_rule.specs.Copies.{shown_by, IsEnteredIn}
+use Rattle.epoch_rule.specs.Touches.{TouchesWord, IsReady, IsTouch, Told, ToldStep, event_of, touch_at}
 use Rattle.epoch_rule.specs.Wrote.{Wrote}
-use Rattle.epoch_rule.specs.Shown.{PassMay, WriterMay, ShownStep, Shown}
+use Rattle.epoch_rule.specs.Shown.{IsReach, PassMay, WriterMay, ShowsStep, ShowsTouch}
 use Rattle.atomic_table.specs.Seated.{TableId}
 use Rattle.atomic_table.specs.Table.{Me}
 use Rattle.epoch_rule.specs.declared.writers.Found.{Found}
 use Rattle.epoch_rule.specs.Writing.{IsWriting, stored}
 use Rattle.view_laws.proofs.Tests.{both, both_of, or_left, or_right}
-use Rattle.epoch_rule.proofs.Histories.{pass_owns}
+use Rattle.epoch_rule.proofs.HistoryLaws.{pass_owns}
 use Rattle.history_laws.proofs.NumberLaws.{sound}
-use Rattle.epoch_rule.proofs.Moving.{generation_stays}
-use Rattle.epoch_rule.proofs.Passing.{own_added, begins_added, ends_added, pass_added, generations_added, suits_on}
-use Rattle.epoch_rule.proofs.Touching.{entered_is}
+use Rattle.epoch_rule.proofs.ActorSteps.{generation_stays}
+use Rattle.epoch_rule.proofs.PassLaws.{own_added, begins_added, ends_added, pass_added, generations_added, suits_on}
+use Rattle.epoch_rule.proofs.WordSteps.{entered_is}
 
 all_same : (p q : Place) → is_same_place p q ≡ true → q ≡ p
 all_same p q h =
@@ -88,18 +92,54 @@ marks f ps p page k there near = ⊎_elim
     (λ (h : IsNotifiersPlace k.pool_words f p). absurd (let z : pages_in p ≡ 0 = ap pages_in h.1 in omega arith))
     (one_of (λ q. IsRegionPlace k.pool_words f q ⊎ IsNotifiersPlace k.pool_words f q) p ps k.places_of.each there)
 
+-- such a place has the words of its bytes and registers
+fits_extent : (f : Forest) (ps : List Place) (p : Place) → IsEdition f ps → list_any (is_same_place p) ps ≡ true
+    → p.words ≡ words_of (extent p.bytes p.regs)
+fits_extent f ps p k there = ⊎_elim
+    (λ (h : IsRegionPlace k.pool_words f p). region_fits (node_of f.nodes p.region) h.fits)
+    (λ (h : IsNotifiersPlace k.pool_words f p). subst (λ (q : Place). q.words ≡ words_of (extent q.bytes q.regs)) (sym h.1) refl)
+    (one_of (λ q. IsRegionPlace k.pool_words f q ⊎ IsNotifiersPlace k.pool_words f q) p ps k.places_of.each there)
+  where
+    region_fits : (o : Option Node) → IsSomeAnd o (λ n. p ≡ place_from p.region p.start (extent_of n.kind n.size)) → p.words ≡ words_of (extent p.bytes p.regs)
+    region_fits None h = absurd h
+    region_fits (Some n) h = ap (λ (q : Place). q.words) h ∙ ap (λ (q : Place). words_of (extent q.bytes q.regs)) (sym h)
+
+marks_inside : (p : Place) (client : Client) (page : ℕ) → p.words ≡ words_of (extent p.bytes p.regs) → page < pages_in p → word_of_page p client page < p.words
+marks_inside p clients.Vga page fits near = omega arith
+marks_inside p clients.Code page fits near = omega arith
+marks_inside p clients.Migration page fits near = omega arith
+
+-- what a pass may touch is a word of the place
+reach_inside : (p : Place) (v word : ℕ) (touch : Touch) → p.words ≡ words_of (extent p.bytes p.regs) → IsTouch (hands.Pass (pass_id v)) p word touch
+    → IsReach p word touch → word < p.words
+reach_inside p v word touches.Look fits kind reach = let l = ltb-true _ _ reach in omega arith
+reach_inside p v word (touches.Step step) fits kind reach = let l = ltb-true _ _ reach in omega arith
+reach_inside p v word (touches.Try old first bytes value) fits kind reach = let l = ltb-true _ _ reach in omega arith
+reach_inside p v word touches.Fill fits kind reach = absurd kind
+reach_inside p v word (touches.Mark client page) fits kind reach = let l = marks_inside p client page fits reach in let same = kind.1 in omega arith
+reach_inside p v word (touches.Harvest client index) fits kind reach = absurd kind.0
+
+pub pass_inside : (f : Forest) (ps : List Place) (p : Place) (v word : ℕ) (touch : Touch) → IsEdition f ps → IsTouch (hands.Pass (pass_id v)) p word touch
+    → PassMay ps p word touch → word < p.words
+pass_inside f ps p v word touch k kind may = reach_inside p v word touch (fits_extent f ps p k may.0) kind may.1
+
 -- the steps on words that may be, where the pass is entered in such a generation
-pass_steps : (s : Shared) (v : ℕ) (f : Forest) (ps : List Place) (p : Place) (word : ℕ) (touch : Touch) → IsEdition f ps → entered_generation s.generations s.passes (pass_id v) ≡ Some (generation f ps)
-    → IsTouch (hands.Pass (pass_id v)) p word touch → PassMay ps p word touch → shared_possible s (event_of (hands.Pass (pass_id v)) p word touch) (At p) ≡ true
-pass_steps s v f ps p word touches.Look k is kind may = rw is (both _ _ (both _ _ (itself p.region.0) (reaches f ps p word k may.0 may.2)) may.0)
-pass_steps s v f ps p word (touches.Step step) k is kind may = rw is (both _ _ (both _ _ (itself p.region.0) (reaches f ps p word k may.0 may.2)) may.0)
-pass_steps s v f ps p word (touches.Try old first bytes value) k is kind may = rw is (both _ _ (both _ _ (itself p.region.0) (reaches f ps p word k may.0 may.2)) may.0)
+pass_steps : (s : Shared) (v : ℕ) (f : Forest) (ps : List Place) (p : Place) (word : ℕ) (touch : Touch) → IsEdition f ps
+    → entered_generation s.generations s.passes (pass_id v) ≡ Some (generation f ps) → IsTouch (hands.Pass (pass_id v)) p word touch
+    → PassMay ps p word touch → shared_possible s (event_of (hands.Pass (pass_id v)) p word touch) (At p) ≡ true
+pass_steps s v f ps p word touches.Look k is kind may =
+    rw is (both _ _ (both _ _ (itself p.region.0) (reaches f ps p word k may.0 may.1)) may.0)
+pass_steps s v f ps p word (touches.Step step) k is kind may =
+    rw is (both _ _ (both _ _ (itself p.region.0) (reaches f ps p word k may.0 may.1)) may.0)
+pass_steps s v f ps p word (touches.Try old first bytes value) k is kind may =
+    rw is (both _ _ (both _ _ (itself p.region.0) (reaches f ps p word k may.0 may.1)) may.0)
 pass_steps s v f ps p word touches.Fill k is kind may = absurd kind
-pass_steps s v f ps p word (touches.Mark client page) k is kind may = rw is (both _ _ (both _ _ (itself p.region.0) (marks f ps p page k may.0 may.2)) may.0)
+pass_steps s v f ps p word (touches.Mark client page) k is kind may =
+    rw is (both _ _ (both _ _ (itself p.region.0) (marks f ps p page k may.0 may.1)) may.0)
 pass_steps s v f ps p word (touches.Harvest client index) k is kind may = absurd kind.0
 
 -- the kind of a touch
-pub kinds : (hand : Hand) (p : Place) (word : ℕ) (touch : Touch) → IsTouch hand p word touch → Touching (actor_of_hand hand) (event_of hand p word touch) p (touch_at (event_of hand p word touch) p)
+pub kinds : (hand : Hand) (p : Place) (word : ℕ) (touch : Touch) → IsTouch hand p word touch → TouchesWord (actor_of_hand hand) (event_of hand p word touch) p (touch_at (event_of hand p word touch) p)
 kinds hand p word touches.Look k = record { mine = refl; is = refl; generations = λ g r. refl; passes = λ ps r. refl; published = λ gs. refl }
 kinds hand p word (touches.Step step) k = record { mine = refl; is = refl; generations = λ g r. refl; passes = λ ps r. refl; published = λ gs. refl }
 kinds hand p word (touches.Try old first bytes value) k = record { mine = refl; is = refl; generations = λ g r. refl; passes = λ ps r. refl; published = λ gs. refl }
@@ -120,8 +160,8 @@ word_is hand p word (touches.Harvest client index) k = ap (λ (n : ℕ). p.start
 
 -- a pass is ready
 
-entered_seen : {E : Type 0} (number : E → ℕ) (forest : E → Forest) (places : E → List Place) (z : Sizes) (log : List HistoryEntry) (p : ℕ) (v : View) (e : E) → Lawful z log → p < z.passes → IsPrefix v.seen log → own_entries (p + 1) v.seen ≡ own_entries (p + 1) log
-    → StandsIn number forest places p v e → entered_generation (state_of z log).generations (state_of z log).passes (pass_id p) ≡ Some (shown_by forest places e)
+entered_seen : {E : Type 0} (number : E → ℕ) (forest : E → Forest) (places : E → List Place) (z : Sizes) (log : List HistoryEntry) (p : ℕ) (v : View) (e : E) → IsLegal z log → p < z.passes → IsPrefix v.seen log → own_entries (p + 1) v.seen ≡ own_entries (p + 1) log
+    → IsEnteredIn number forest places p v e → entered_generation (state_of z log).generations (state_of z log).passes (pass_id p) ≡ Some (shown_by forest places e)
 entered_seen number forest places z log p v e l near begins same s =
     let knows : pass_of (state_of z log).passes (pass_id p) ≡ pass_seen p v = pass_owns log (shared_opening z.words z.passes) p (subst (λ (m : ℕ). p < m) (sym (length-replicate z.passes idle)) near)
     ∙ (ap (λ h. pass_after_all h (own_entries (p + 1) log)) (get_or-replicate z.passes p idle idle near) ∙ ap (pass_after_all idle) (sym same)) in
@@ -129,7 +169,7 @@ entered_seen number forest places z log p v e l near begins same s =
     ∙ ap (λ (x : Generation). Some x) (generation_stays v.seen log begins (number e) s.published ∙ sym s.shows)
 
 pub ready_pass : {E : Type 0} (number : E → ℕ) (forest : E → Forest) (places : E → List Place) (z : Sizes) (p : ℕ) (v : View) (e : E) (at : Place) (word : ℕ) (touch : Touch) → IsEdition (forest e) (places e)
-    → v.role ≡ Some (p + 1) → p < z.passes → StandsIn number forest places p v e → at.start + word < z.words
+    → v.role ≡ Some (p + 1) → p < z.passes → IsEnteredIn number forest places p v e → at.start + word < z.words
     → IsTouch (hands.Pass (pass_id p)) at word touch → PassMay (places e) at word touch → IsReady z v (hands.Pass (pass_id p)) at word touch
 ready_pass number forest places z p v e at word touch law role near s room kind may = record {
   kind = kinds (hands.Pass (pass_id p)) at word touch kind;
@@ -158,22 +198,22 @@ ready_writer z v at word touch role kind may = record {
 
 -- what a touch told, as the caller sees it
 
-wrote : (hand : Hand) (v : View) (e : Event) (p : Place) (r : ℕ) (w : View) → actor_of e ≡ actor_of_hand hand → Adds (actor_of_hand hand) v e (At p) r w → Wrote hand v.sizes v.seen (history_entry e (At p) r ∷ []) w.seen
+wrote : (hand : Hand) (v : View) (e : Event) (p : Place) (r : ℕ) (w : View) → actor_of e ≡ actor_of_hand hand → ComesNext (actor_of_hand hand) v e (At p) r w → Wrote hand v.sizes v.seen (history_entry e (At p) r ∷ []) w.seen
 wrote hand v e p r w mine h = record { begins = begins_added (actor_of_hand hand) v e (At p) r w h; lawful = h.lawful; events = own_added (actor_of_hand hand) v e (At p) r w mine h; ends = ends_added (actor_of_hand hand) v e (At p) r w h [] }
 
-shown_step : (hand : Hand) (p : Place) (word : ℕ) (s : WordStep) (v : View) (r : ℕ) (w : View) → ToldStep hand p word s v r w → ShownStep hand v.sizes p word s v.seen r w.seen
+shown_step : (hand : Hand) (p : Place) (word : ℕ) (s : WordStep) (v : View) (r : ℕ) (w : View) → ToldStep hand p word s v r w → ShowsStep hand v.sizes p word s v.seen r w.seen
 shown_step hand p word steps.Load v r w h = wrote hand v _ p r w refl h
 shown_step hand p word (steps.Replace first bytes value) v r w h = (h.0, (h.1.0, wrote hand v _ p h.1.0 w refl h.1.1))
 shown_step hand p word steps.AddOne v r w h = wrote hand v _ p r w refl h
 shown_step hand p word (steps.Or bits) v r w h = wrote hand v _ p r w refl h
 shown_step hand p word steps.Take v r w h = wrote hand v _ p r w refl h
 
-pub shown : (hand : Hand) (p : Place) (word : ℕ) (touch : Touch) (v : View) (r : ℕ) (w : View) → IsTouch hand p word touch → Told hand p word touch v r w → Shown hand v.sizes p word touch v.seen r w.seen
+pub shown : (hand : Hand) (p : Place) (word : ℕ) (touch : Touch) (v : View) (r : ℕ) (w : View) → IsTouch hand p word touch → Told hand p word touch v r w → ShowsTouch hand v.sizes p word touch v.seen r w.seen
 shown hand p word touches.Look v r w k h = ap (λ (x : View). x.seen) h
 shown hand p word (touches.Step step) v r w k h = shown_step hand p word step v r w h
 shown hand p word (touches.Try old first bytes value) v r w k h = go (eqb r old) h
   where
-    go : (b : Bool) → MatchBool b (Adds (actor_of_hand hand) v (events.Word hand (cell p.region word) (steps.Replace first bytes value)) (At p) r w) (w ≡ v)
+    go : (b : Bool) → MatchBool b (ComesNext (actor_of_hand hand) v (events.Word hand (cell p.region word) (steps.Replace first bytes value)) (At p) r w) (w ≡ v)
         → MatchBool b (Wrote hand v.sizes v.seen (history_entry (events.Word hand (cell p.region word) (steps.Replace first bytes value)) (At p) r ∷ []) w.seen) (w.seen ≡ v.seen)
     go true h = wrote hand v _ p r w refl h
     go false h = ap (λ (x : View). x.seen) h
@@ -188,7 +228,7 @@ shown (hands.Pass u) p word (touches.Harvest client index) v r w k h = absurd k.
 
 -- a touch showed nothing, or its event
 told_either : (hand : Hand) (p : Place) (word : ℕ) (touch : Touch) (v : View) (r : ℕ) (w : View) → IsTouch hand p word touch → Told hand p word touch v r w
-    → (w ≡ v) ⊎ ((q : ℕ) × Adds (actor_of_hand hand) v (event_of hand p word touch) (At p) q w)
+    → (w ≡ v) ⊎ ((q : ℕ) × ComesNext (actor_of_hand hand) v (event_of hand p word touch) (At p) q w)
 told_either hand p word touches.Look v r w k h = inl h
 told_either hand p word (touches.Step steps.Load) v r w k h = inr (r, h)
 told_either hand p word (touches.Step (steps.Replace first bytes value)) v r w k h = inr h.1
@@ -197,8 +237,8 @@ told_either hand p word (touches.Step (steps.Or bits)) v r w k h = inr (r, h)
 told_either hand p word (touches.Step steps.Take) v r w k h = inr (r, h)
 told_either hand p word (touches.Try old first bytes value) v r w k h = go (eqb r old) h
   where
-    go : (b : Bool) → MatchBool b (Adds (actor_of_hand hand) v (events.Word hand (cell p.region word) (steps.Replace first bytes value)) (At p) r w) (w ≡ v)
-        → (w ≡ v) ⊎ ((q : ℕ) × Adds (actor_of_hand hand) v (events.Word hand (cell p.region word) (steps.Replace first bytes value)) (At p) q w)
+    go : (b : Bool) → MatchBool b (ComesNext (actor_of_hand hand) v (events.Word hand (cell p.region word) (steps.Replace first bytes value)) (At p) r w) (w ≡ v)
+        → (w ≡ v) ⊎ ((q : ℕ) × ComesNext (actor_of_hand hand) v (events.Word hand (cell p.region word) (steps.Replace first bytes value)) (At p) q w)
     go true h = inr (r, h)
     go false h = inl h
 told_either hands.Writer p word touches.Fill v r w k h = inr (0, h.1)
@@ -213,13 +253,13 @@ pub record Kept (v w : View) : Type 0 where
   pub out : w.out ≡ v.out
   pub sizes : w.sizes ≡ v.sizes
   pub begins : IsPrefix v.seen w.seen
-  pub lawful : Lawful v.sizes v.seen → Lawful w.sizes w.seen
+  pub lawful : IsLegal v.sizes v.seen → IsLegal w.sizes w.seen
 
 pub kept : (hand : Hand) (p : Place) (word : ℕ) (touch : Touch) (v : View) (r : ℕ) (w : View) → IsTouch hand p word touch → Told hand p word touch v r w → Kept v w
 kept hand p word touch v r w k h = ⊎_elim
-    (λ (e : w ≡ v). record { role = ap (λ (x : View). x.role) e; out = ap (λ (x : View). x.out) e; sizes = ap (λ (x : View). x.sizes) e; begins = ([], append-nil v.seen ∙ ap (λ (x : View). x.seen) (sym e)); lawful = λ l. subst (λ (x : View). Lawful x.sizes x.seen) (sym e) l })
-    (λ (t : (q : ℕ) × Adds (actor_of_hand hand) v (event_of hand p word touch) (At p) q w). let a = t.1 in
-    record { role = a.role; out = a.out; sizes = a.sizes; begins = begins_added (actor_of_hand hand) v (event_of hand p word touch) (At p) t.0 w a; lawful = λ l. subst (λ (z : Sizes). Lawful z w.seen) (sym a.sizes) a.lawful })
+    (λ (e : w ≡ v). record { role = ap (λ (x : View). x.role) e; out = ap (λ (x : View). x.out) e; sizes = ap (λ (x : View). x.sizes) e; begins = ([], append-nil v.seen ∙ ap (λ (x : View). x.seen) (sym e)); lawful = λ l. subst (λ (x : View). IsLegal x.sizes x.seen) (sym e) l })
+    (λ (t : (q : ℕ) × ComesNext (actor_of_hand hand) v (event_of hand p word touch) (At p) q w). let a = t.1 in
+    record { role = a.role; out = a.out; sizes = a.sizes; begins = begins_added (actor_of_hand hand) v (event_of hand p word touch) (At p) t.0 w a; lawful = λ l. subst (λ (z : Sizes). IsLegal z w.seen) (sym a.sizes) a.lawful })
     (told_either hand p word touch v r w k h)
 
 still_pass : (hand : Hand) (p : Place) (word : ℕ) (touch : Touch) (s : PassState) (q : ℕ) → pass_after s (event_of hand p word touch) q ≡ s
@@ -233,19 +273,19 @@ still_pass hand p word (touches.Harvest client index) s q = refl
 pub pass_kept : (u : ℕ) (p : Place) (word : ℕ) (touch : Touch) (v : View) (r : ℕ) (w : View) → IsTouch (hands.Pass (pass_id u)) p word touch → Told (hands.Pass (pass_id u)) p word touch v r w → pass_seen u w ≡ pass_seen u v
 pass_kept u p word touch v r w k h = let hand : Hand = hands.Pass (pass_id u) in ⊎_elim
     (λ (e : w ≡ v). ap (pass_seen u) e)
-    (λ (t : (q : ℕ) × Adds (u + 1) v (event_of hand p word touch) (At p) q w).
+    (λ (t : (q : ℕ) × ComesNext (u + 1) v (event_of hand p word touch) (At p) q w).
     pass_added u v (event_of hand p word touch) (At p) t.0 w (kinds hand p word touch k).mine t.1 ∙ still_pass hand p word touch (pass_seen u v) t.0)
     (told_either hand p word touch v r w k h)
 
 pub generations_kept : (p : Place) (word : ℕ) (touch : Touch) (v : View) (r : ℕ) (w : View) → IsTouch hands.Writer p word touch → Told hands.Writer p word touch v r w → generations_seen w ≡ generations_seen v
 generations_kept p word touch v r w k h = let kind = kinds hands.Writer p word touch k in ⊎_elim
     (λ (e : w ≡ v). ap generations_seen e)
-    (λ (t : (q : ℕ) × Adds 0 v (event_of hands.Writer p word touch) (At p) q w).
+    (λ (t : (q : ℕ) × ComesNext 0 v (event_of hands.Writer p word touch) (At p) q w).
     generations_added v (event_of hands.Writer p word touch) (At p) t.0 w kind.mine t.1 ∙ kind.generations (generations_seen v) t.0)
     (told_either hands.Writer p word touch v r w k h)
 
 -- the writer's seat after a step that changes no generation
-pub writing_kept : {S : Type 0} (t t' : TableId) (me new : Me S View) (current : ℕ) (known : List Found) (out : List Bool) → t' ≡ t → new.1 ≡ me.1 → HoldsOn me.0 new.0 → Kept me.0 new.0 → generations_seen new.0 ≡ generations_seen me.0
+pub writing_kept : {S : Type 0} (t t' : TableId) (me new : Me S View) (current : ℕ) (known : List Found) (out : List Bool) → t' ≡ t → new.1 ≡ me.1 → KeepsSlot me.0 new.0 → Kept me.0 new.0 → generations_seen new.0 ≡ generations_seen me.0
     → IsWriting t me current known out → IsWriting t' new current known out
 writing_kept t t' me new current known out table bare holds k same w = record {
   role = k.role ∙ w.role;

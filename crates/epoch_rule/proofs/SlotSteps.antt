@@ -10,7 +10,7 @@ use Rattle.atomic_table.proofs.Lists.{set_here, set_else, one_turn}
 use Rattle.std.specs.Prelude.{slice_index_or}
 use Rattle.mem_base.specs.machine.Generations.{Generation, PassTrack, known_after_sweep, with_placed}
 use Rattle.mem_base.specs.machine.Actors.{first_generation}
-use Rattle.epoch_rule.specs.Ruled.{Has, Shelf}
+use Rattle.epoch_rule.specs.Rule.{HasAt, PassSlots}
 use Rattle.view_laws.proofs.Tests.{none_is_no_number, same_number}
 
 get_last : (l : List Generation) (a : Generation) (n : ℕ) → length l ≡ n → slice_index_or (l ++ a ∷ []) n first_generation ≡ a
@@ -30,22 +30,22 @@ module _ {S : Type 0} (Copy : ℕ → Generation → S → Type 0) where
   Homes = List (maybe.Option S)
 
   -- a place that is kept
-  has_else : (homes homes' : List (maybe.Option S)) (i : ℕ) (P : S → Type 0) → get_elem? homes' i ≡ get_elem? homes i → Has homes i P → Has homes' i P
+  has_else : (homes homes' : List (maybe.Option S)) (i : ℕ) (P : S → Type 0) → get_elem? homes' i ≡ get_elem? homes i → HasAt homes i P → HasAt homes' i P
   has_else homes homes' i P e h = (h.0, e ∙ h.1, h.2)
 
   -- the slots of this pass stay, and so does what the writer does here
   pub stays : (c : ℕ) (gs : List Generation) (f : PassTrack) (e : Option ℕ) (held held' : ℕ) (next next' : Generation) (homes homes' : List (maybe.Option S)) (v : ℕ) → ((k : ℕ) → k < 8 → get_elem? homes' (8 * v + k) ≡ get_elem? homes (8 * v + k))
-      → (held' ≡ v + 1 → held ≡ v + 1) → (held ≡ v + 1 → held' ≡ v + 1) → (f.placed ≡ true → next' ≡ next) → Shelf Copy c gs f e held next homes v → Shelf Copy c gs f e held' next' homes' v
+      → (held' ≡ v + 1 → held ≡ v + 1) → (held ≡ v + 1 → held' ≡ v + 1) → (f.placed ≡ true → next' ≡ next) → PassSlots Copy c gs f e held next homes v → PassSlots Copy c gs f e held' next' homes' v
   stays c gs f e held held' next next' homes homes' v same back on told s = record {
     kept = λ g a b d. has_else homes homes' (8 * v + g % 8) (Copy g (slice_index_or gs g first_generation)) (same (g % 8) (omega arith)) (s.kept g a b d);
-    placed = λ a. has_else homes homes' (8 * v + (c + 1) % 8) (Copy (c + 1) next') (same ((c + 1) % 8) (omega arith)) (subst (λ (m : Generation). Has homes (8 * v + (c + 1) % 8) (Copy (c + 1) m)) (sym (told a)) (s.placed a));
+    placed = λ a. has_else homes homes' (8 * v + (c + 1) % 8) (Copy (c + 1) next') (same ((c + 1) % 8) (omega arith)) (subst (λ (m : Generation). HasAt homes (8 * v + (c + 1) % 8) (Copy (c + 1) m)) (sym (told a)) (s.placed a));
     home = λ k l a b. has_else homes homes' (8 * v + k) (λ y. Unit {0}) (same k l) (s.home k l a (λ x. b (on x)));
     clear = λ x. s.clear (back x);
   }
 
   -- the pass takes its copy of the current edition
-  pub entered : (c : ℕ) (gs : List Generation) (f : PassTrack) (held : ℕ) (next : Generation) (homes : List (maybe.Option S)) (v : ℕ) → f.lowest ≤ c → c ≤ f.lowest + 7 → Shelf Copy c gs f None held next homes v
-      → Shelf Copy c gs f (Some c) held next (set homes (8 * v + c % 8) none) v
+  pub entered : (c : ℕ) (gs : List Generation) (f : PassTrack) (held : ℕ) (next : Generation) (homes : List (maybe.Option S)) (v : ℕ) → f.lowest ≤ c → c ≤ f.lowest + 7 → PassSlots Copy c gs f None held next homes v
+      → PassSlots Copy c gs f (Some c) held next (set homes (8 * v + c % 8) none) v
   entered c gs f held next homes v low near s =
       let homes' : List (maybe.Option S) = set homes (8 * v + c % 8) none in
       let away : (k : ℕ) → k ≢ c % 8 → get_elem? homes' (8 * v + k) ≡ get_elem? homes (8 * v + k) = λ k ne. set_else homes (8 * v + c % 8) (8 * v + k) none (λ q. ne (omega arith)) in record {
@@ -57,14 +57,14 @@ module _ {S : Type 0} (Copy : ℕ → Generation → S → Type 0) where
 
   -- the pass gives its copy back
   pub left : (c : ℕ) (gs : List Generation) (f : PassTrack) (g held : ℕ) (next : Generation) (homes : List (maybe.Option S)) (v : ℕ) (y : S) → f.lowest ≤ g → g ≤ c → c ≤ f.lowest + 7 → (f.placed ≡ true → c ≤ f.lowest + 6) → 8 * v + 8 ≤ length homes
-      → Copy g (slice_index_or gs g first_generation) y → Shelf Copy c gs f (Some g) held next homes v → Shelf Copy c gs f None held next (set homes (8 * v + g % 8) (some y)) v
+      → Copy g (slice_index_or gs g first_generation) y → PassSlots Copy c gs f (Some g) held next homes v → PassSlots Copy c gs f None held next (set homes (8 * v + g % 8) (some y)) v
   left c gs f g held next homes v y low high near ahead room copy s =
       let i : ℕ = 8 * v + g % 8 in
       let homes' : List (maybe.Option S) = set homes i (some y) in
       let here : get_elem? homes' i ≡ some (some y) = set_here homes i (some y) (omega arith) in
       let away : (k : ℕ) → k ≢ g % 8 → get_elem? homes' (8 * v + k) ≡ get_elem? homes (8 * v + k) = λ k ne. set_else homes i (8 * v + k) (some y) (λ q. ne (omega arith)) in
       let one : (x : ℕ) → f.lowest ≤ x → x ≤ c → x % 8 ≡ g % 8 → x ≡ g = λ x a b q. turn x a b q (dec_le x g) in record {
-        kept = λ x a b d. dite (ℕ_discrete x g) (λ e. subst (λ (z : ℕ). Has homes' (8 * v + z % 8) (Copy z (slice_index_or gs z first_generation))) (sym e) (y, here, copy))
+        kept = λ x a b d. dite (ℕ_discrete x g) (λ e. subst (λ (z : ℕ). HasAt homes' (8 * v + z % 8) (Copy z (slice_index_or gs z first_generation))) (sym e) (y, here, copy))
             (λ ne. has_else homes homes' (8 * v + x % 8) (Copy x (slice_index_or gs x first_generation)) (away (x % 8) (λ q. ne (one x a b q))) (s.kept x a b (λ q. ne (sym (same_number g x q)))));
         placed = λ a. let z = ahead a in has_else homes homes' (8 * v + (c + 1) % 8) (Copy (c + 1) next) (away ((c + 1) % 8) (λ q. let e = one_turn g (c + 1) 8 (omega arith) (omega arith) (sym q) in omega arith)) (s.placed a);
         home = λ k l a b. dite (ℕ_discrete k (g % 8)) (λ e. (y, ap (λ (z : ℕ). get_elem? homes' (8 * v + z)) e ∙ here, tt))
@@ -77,8 +77,8 @@ module _ {S : Type 0} (Copy : ℕ → Generation → S → Type 0) where
       turn x a b q (no l) = sym (one_turn g x 8 (omega arith) (omega arith) (sym q))
 
   -- a sweep may raise the lowest number
-  pub swept : (c : ℕ) (gs : List Generation) (f : PassTrack) (f' : PassTrack) (e : Option ℕ) (held : ℕ) (next : Generation) (homes : List (maybe.Option S)) (v : ℕ) → f.lowest ≤ f'.lowest → f'.placed ≡ f.placed → Shelf Copy c gs f e held next homes v
-      → Shelf Copy c gs f' e held next homes v
+  pub swept : (c : ℕ) (gs : List Generation) (f : PassTrack) (f' : PassTrack) (e : Option ℕ) (held : ℕ) (next : Generation) (homes : List (maybe.Option S)) (v : ℕ) → f.lowest ≤ f'.lowest → f'.placed ≡ f.placed → PassSlots Copy c gs f e held next homes v
+      → PassSlots Copy c gs f' e held next homes v
   swept c gs f f' e held next homes v up same s = record {
     kept = λ g a b d. s.kept g (omega arith) b d;
     placed = λ a. s.placed (sym same ∙ a);
@@ -87,8 +87,8 @@ module _ {S : Type 0} (Copy : ℕ → Generation → S → Type 0) where
   }
 
   -- the writer takes the slot for the next edition
-  pub reached : (c : ℕ) (gs : List Generation) (f : PassTrack) (e : Option ℕ) (next : Generation) (homes : List (maybe.Option S)) (v : ℕ) → c ≤ f.lowest + 6 → f.placed ≡ false → Shelf Copy c gs f e 0 next homes v
-      → Shelf Copy c gs f e (v + 1) next (set homes (8 * v + (c + 1) % 8) none) v
+  pub reached : (c : ℕ) (gs : List Generation) (f : PassTrack) (e : Option ℕ) (next : Generation) (homes : List (maybe.Option S)) (v : ℕ) → c ≤ f.lowest + 6 → f.placed ≡ false → PassSlots Copy c gs f e 0 next homes v
+      → PassSlots Copy c gs f e (v + 1) next (set homes (8 * v + (c + 1) % 8) none) v
   reached c gs f e next homes v near free s =
       let i : ℕ = 8 * v + (c + 1) % 8 in
       let homes' : List (maybe.Option S) = set homes i none in
@@ -100,8 +100,8 @@ module _ {S : Type 0} (Copy : ℕ → Generation → S → Type 0) where
       }
 
   -- and gives it back with a copy of that edition
-  pub placed : (c : ℕ) (gs : List Generation) (f : PassTrack) (e : Option ℕ) (next m : Generation) (homes : List (maybe.Option S)) (v : ℕ) (y : S) → 8 * v + 8 ≤ length homes → Copy (c + 1) m y → Shelf Copy c gs f e (v + 1) next homes v
-      → Shelf Copy c gs (with_placed true f) e 0 m (set homes (8 * v + (c + 1) % 8) (some y)) v
+  pub placed : (c : ℕ) (gs : List Generation) (f : PassTrack) (e : Option ℕ) (next m : Generation) (homes : List (maybe.Option S)) (v : ℕ) (y : S) → 8 * v + 8 ≤ length homes → Copy (c + 1) m y → PassSlots Copy c gs f e (v + 1) next homes v
+      → PassSlots Copy c gs (with_placed true f) e 0 m (set homes (8 * v + (c + 1) % 8) (some y)) v
   placed c gs f e next m homes v y room copy s =
       let i : ℕ = 8 * v + (c + 1) % 8 in
       let homes' : List (maybe.Option S) = set homes i (some y) in
@@ -116,13 +116,13 @@ module _ {S : Type 0} (Copy : ℕ → Generation → S → Type 0) where
       }
 
   -- the next edition is the current one
-  pub published : (c : ℕ) (gs : List Generation) (f : PassTrack) (e : Option ℕ) (held : ℕ) (m : Generation) (homes : List (maybe.Option S)) (v : ℕ) → length gs ≡ c + 1 → f.placed ≡ true → Shelf Copy c gs f e held m homes v
-      → Shelf Copy (c + 1) (gs ++ m ∷ []) (with_placed false f) e held m homes v
+  pub published : (c : ℕ) (gs : List Generation) (f : PassTrack) (e : Option ℕ) (held : ℕ) (m : Generation) (homes : List (maybe.Option S)) (v : ℕ) → length gs ≡ c + 1 → f.placed ≡ true → PassSlots Copy c gs f e held m homes v
+      → PassSlots Copy (c + 1) (gs ++ m ∷ []) (with_placed false f) e held m homes v
   published c gs f e held m homes v long all s = record {
     kept = λ g a b d. dite (ℕ_discrete g (c + 1))
-        (λ z. subst (λ (x : ℕ). Has homes (8 * v + x % 8) (Copy x (slice_index_or (gs ++ m ∷ []) x first_generation))) (sym z)
-        (subst (λ (x : Generation). Has homes (8 * v + (c + 1) % 8) (Copy (c + 1) x)) (sym (get_last gs m (c + 1) long)) (s.placed all)))
-        (λ ne. subst (λ (x : Generation). Has homes (8 * v + g % 8) (Copy g x)) (sym (get_or-append gs (m ∷ []) first_generation g (omega arith))) (s.kept g a (omega arith) d));
+        (λ z. subst (λ (x : ℕ). HasAt homes (8 * v + x % 8) (Copy x (slice_index_or (gs ++ m ∷ []) x first_generation))) (sym z)
+        (subst (λ (x : Generation). HasAt homes (8 * v + (c + 1) % 8) (Copy (c + 1) x)) (sym (get_last gs m (c + 1) long)) (s.placed all)))
+        (λ ne. subst (λ (x : Generation). HasAt homes (8 * v + g % 8) (Copy g x)) (sym (get_or-append gs (m ∷ []) first_generation g (omega arith))) (s.kept g a (omega arith) d));
     placed = λ z. absurd (grind arith);
     home = λ k l a b. s.home k l a (λ x. absurd (both_ways _ (s.clear x).1 all));
     clear = λ x. absurd (both_ways _ (s.clear x).1 all);

@@ -23,30 +23,30 @@ use Rattle.epoch_rule.specs.declared.writers.Found.{Found}
 use Rattle.epoch_rule.specs.declared.writers.Held.{Held}
 use Rattle.mem_base.specs.machine.Passes.{pass_id}
 use Rattle.mem_base.specs.machine.Actors.{own_entries, generations_after_all}
-use Rattle.epoch_rule.specs.Ruled.{Lawful, generations_seen, carried_pick, HoldsOn, Adds}
+use Rattle.epoch_rule.specs.Rule.{IsLegal, generations_seen, carried_pick, KeepsSlot, ComesNext}
 use Rattle.epoch_rule.specs.Copies.{picked}
 use Rattle.epoch_rule.specs.Wrote.{Wrote, EndsWith}
 use Rattle.epoch_rule.specs.Writing.{IsWriting, stored}
-use Rattle.epoch_rule.specs.Calls.{sweeps_of, Writes, Sweeping, Placing, AreCopies, held_in, least_in, refusal_of}
+use Rattle.epoch_rule.specs.Calls.{sweeps_of, HasWritten, HasSwept, HasPlaced, AreCopies, held_in, least_in, refusal_of}
 use Rattle.history_laws.proofs.NumberLaws.{none_placed}
-use Rattle.epoch_rule.proofs.Passing.{generations_added, suits_on}
-use Rattle.epoch_rule.proofs.Sweeps.{found_pin, sweeping_current, all_free, placing_generations, places_current, places_done, places_stored, unplaced_stored, all_from, writes_generations}
+use Rattle.epoch_rule.proofs.PassLaws.{generations_added, suits_on}
+use Rattle.epoch_rule.proofs.SweepLaws.{found_pin, sweeping_current, all_free, placing_generations, places_current, places_done, places_stored, unplaced_stored, all_from, writes_generations}
 
-pub wrote_of : (v : View) (es : List HistoryEntry) (w : View) → Writes v es w → EndsWith es w.seen → Wrote hands.Writer v.sizes v.seen es w.seen
+pub wrote_of : (v : View) (es : List HistoryEntry) (w : View) → HasWritten v es w → EndsWith es w.seen → Wrote hands.Writer v.sizes v.seen es w.seen
 wrote_of v es w h ends = record { begins = h.begins; lawful = h.lawful; events = h.events; ends = ends }
 
-pub writes_both : (v : View) (es : List HistoryEntry) (w : View) (fs : List HistoryEntry) (u : View) → Writes v es w → Writes w fs u → Writes v (es ++ fs) u
+pub writes_both : (v : View) (es : List HistoryEntry) (w : View) (fs : List HistoryEntry) (u : View) → HasWritten v es w → HasWritten w fs u → HasWritten v (es ++ fs) u
 writes_both v es w fs u h k = record {
   role = k.role ∙ h.role;
   out = k.out ∙ h.out;
   sizes = k.sizes ∙ h.sizes;
   begins = prefix_trans v.seen w.seen u.seen h.begins k.begins;
-  lawful = subst (λ (z : Sizes). Lawful z u.seen) h.sizes k.lawful;
+  lawful = subst (λ (z : Sizes). IsLegal z u.seen) h.sizes k.lawful;
   events = k.events ∙ (ap (λ l. l ++ fs) h.events ∙ append_assoc (own_entries 0 v.seen) es fs);
 }
 
 -- after a sweep of each pass
-pub swept_writing : {S : Type 0} (t t' : TableId) (me new : Me S View) (current : ℕ) (known known' : List Found) (out : List Bool) (n : ℕ) → t' ≡ t → new.1 ≡ me.1 → Sweeping me.0 new.0 known' n
+pub swept_writing : {S : Type 0} (t t' : TableId) (me new : Me S View) (current : ℕ) (known known' : List Found) (out : List Bool) (n : ℕ) → t' ≡ t → new.1 ≡ me.1 → HasSwept me.0 new.0 known' n
     → IsWriting t me current known out → IsWriting t' new current known' out
 swept_writing t t' me new current known known' out n table bare s w = let now = sweeping_current me.0 new.0 known' n s in record {
   role = s.writes.role ∙ w.role;
@@ -59,22 +59,22 @@ swept_writing t t' me new current known known' out n table bare s w = let now = 
   unplaced = all_free me.0 new.0 known' n s w.unplaced;
   is_out = w.is_out ∙ sym s.writes.out;
   outs = w.outs ∙ ap (λ (z : Sizes). z.passes) (sym s.writes.sizes);
-  lawful = subst (λ (z : Sizes). Lawful z new.0.seen) (sym s.writes.sizes) s.writes.lawful;
+  lawful = subst (λ (z : Sizes). IsLegal z new.0.seen) (sym s.writes.sizes) s.writes.lawful;
 }
 
 -- all have their copies
-pub placed_all : (w u : View) (x : Picked) (n : ℕ) → Placing w u x n → n ≡ length (generations_seen w).passes → all_placed (generations_seen u).passes ≡ true
+pub placed_all : (w u : View) (x : Picked) (n : ℕ) → HasPlaced w u x n → n ≡ length (generations_seen w).passes → all_placed (generations_seen u).passes ≡ true
 placed_all w u x n p is =
     let e = placing_generations w u x n p in
     let long = (places_current (generations_seen w) n).1 in
     subst (λ (g : Generations). all_placed g.passes ≡ true) (sym e) (all_from _ (λ v l. places_done (generations_seen w) n v (omega arith) (omega arith)))
 
-pub placed_current : (w u : View) (x : Picked) (n : ℕ) → Placing w u x n → (generations_seen u).current ≡ (generations_seen w).current
+pub placed_current : (w u : View) (x : Picked) (n : ℕ) → HasPlaced w u x n → (generations_seen u).current ≡ (generations_seen w).current
 placed_current w u x n p = ap (λ (g : Generations). g.current) (placing_generations w u x n p) ∙ (places_current (generations_seen w) n).0
 
 -- after a publish
-pub published_writing : {S : Type 0} (t t' : TableId) (me : Me S View) (u : View) (new : Me S View) (current : ℕ) (known : List Found) (out : List Bool) (x : Picked) (n : ℕ) → t' ≡ t → new.1 ≡ [] → Placing me.0 u x n → HoldsOn u new.0
-    → Adds 0 u events.Publish (carried_pick u.next) (current + 1) new.0 → IsWriting t me current known out → IsWriting t' new (current + 1) known out
+pub published_writing : {S : Type 0} (t t' : TableId) (me : Me S View) (u : View) (new : Me S View) (current : ℕ) (known : List Found) (out : List Bool) (x : Picked) (n : ℕ) → t' ≡ t → new.1 ≡ [] → HasPlaced me.0 u x n → KeepsSlot u new.0
+    → ComesNext 0 u events.Publish (carried_pick u.next) (current + 1) new.0 → IsWriting t me current known out → IsWriting t' new (current + 1) known out
 published_writing t t' me u new current known out x n table bare p holds a w =
     let g : Generations = generations_seen me.0 in
     let h : Generations = generations_seen u in
@@ -91,7 +91,7 @@ published_writing t t' me u new current known out x n table bare p holds a w =
       unplaced = λ v. ap (λ (y : Generations). (known_of y (pass_id v)).placed) after ∙ ap (λ (k : PassTrack). k.placed) (none_placed h.passes v);
       is_out = w.is_out ∙ sym (a.out ∙ p.writes.out);
       outs = w.outs ∙ ap (λ (z : Sizes). z.passes) (sym sizes);
-      lawful = subst (λ (z : Sizes). Lawful z new.0.seen) (sym a.sizes) a.lawful;
+      lawful = subst (λ (z : Sizes). IsLegal z new.0.seen) (sym a.sizes) a.lawful;
     }
 
 -- what holds a publish up, as the pure machine says it
@@ -110,7 +110,7 @@ held_both c first (k ∷ ks) = one k.found (held_both c (first + 1) ks)
         go true = ap (λ (n : ℕ). Some (refusals.Held (pass_id first) n)) (omega arith)
         go false = h
 
-pub held_is : (v w : View) (known : List Found) (n c : ℕ) (h : Held) → Sweeping v w known n → c ≡ (generations_seen v).current → held_in c 0 known ≡ Some h → held_up (generations_seen w) ≡ Some (refusal_of h)
+pub held_is : (v w : View) (known : List Found) (n c : ℕ) (h : Held) → HasSwept v w known n → c ≡ (generations_seen v).current → held_in c 0 known ≡ Some h → held_up (generations_seen w) ≡ Some (refusal_of h)
 held_is v w known n c h s is found = held_both (generations_seen w).current 0 (generations_seen w).passes
     ∙ ap (option_map refusal_of) ((λ i. held_in ((sweeping_current v w known n s).0 i) 0 (sym s.is_known i)) ∙ (ap (λ (x : ℕ). held_in x 0 known) (sym is) ∙ found))
 
@@ -134,8 +134,8 @@ least_rest c (f ∷ fs) zero l = absurd (omega arith)
 least_rest c (f ∷ fs) (suc i) l = least_rest c fs i (omega arith)
 
 -- after a step that changes which passes are out
-pub writing_seat : {S : Type 0} (t t' : TableId) (me new : Me S View) (current : ℕ) (known : List Found) (out out' : List Bool) → t' ≡ t → new.1 ≡ me.1 → new.0.role ≡ me.0.role → HoldsOn me.0 new.0 → new.0.sizes ≡ me.0.sizes
-    → generations_seen new.0 ≡ generations_seen me.0 → Lawful new.0.sizes new.0.seen → out' ≡ new.0.out → length out' ≡ length out → IsWriting t me current known out → IsWriting t' new current known out'
+pub writing_seat : {S : Type 0} (t t' : TableId) (me new : Me S View) (current : ℕ) (known : List Found) (out out' : List Bool) → t' ≡ t → new.1 ≡ me.1 → new.0.role ≡ me.0.role → KeepsSlot me.0 new.0 → new.0.sizes ≡ me.0.sizes
+    → generations_seen new.0 ≡ generations_seen me.0 → IsLegal new.0.sizes new.0.seen → out' ≡ new.0.out → length out' ≡ length out → IsWriting t me current known out → IsWriting t' new current known out'
 writing_seat t t' me new current known out out' table bare role holds sizes same lawful is long w = record {
   role = role ∙ w.role;
   free = holds.0 ∙ w.free;
@@ -150,6 +150,6 @@ writing_seat t t' me new current known out out' table bare role holds sizes same
   lawful = lawful;
 }
 
-pub held_not : (v w : View) (known : List Found) (n c : ℕ) (s : Sweeping v w known n) → c ≡ (generations_seen v).current → held_in c 0 known ≡ None → held_up (generations_after_all (generations_seen v) (sweeps_of 0 s.rs)) ≡ None
+pub held_not : (v w : View) (known : List Found) (n c : ℕ) (s : HasSwept v w known n) → c ≡ (generations_seen v).current → held_in c 0 known ≡ None → held_up (generations_after_all (generations_seen v) (sweeps_of 0 s.rs)) ≡ None
 held_not v w known n c s is none = subst (λ (g : Generations). held_up g ≡ None) (writes_generations v (sweeps_of 0 s.rs) w s.writes) (held_both (generations_seen w).current 0 (generations_seen w).passes
     ∙ ap (option_map refusal_of) ((λ i. held_in ((sweeping_current v w known n s).0 i) 0 (sym s.is_known i)) ∙ (ap (λ (x : ℕ). held_in x 0 known) (sym is) ∙ none)))

@@ -23,16 +23,16 @@ use Rattle.epoch_rule.specs.declared.writers.Found.{Found}
 use Rattle.mem_base.specs.machine.Passes.{pass_id}
 use Rattle.mem_base.specs.machine.Turns.{history_entry}
 use Rattle.mem_base.specs.machine.Actors.{actor_of, own_entries, generations_after_all}
-use Rattle.epoch_rule.specs.Ruled.{Lawful, generations_seen, HoldsOn, Adds}
+use Rattle.epoch_rule.specs.Rule.{IsLegal, generations_seen, KeepsSlot, ComesNext}
 use Rattle.epoch_rule.specs.Writing.{stored}
 use Rattle.mem_base.specs.lists.Every.{Every}
 use Rattle.mem_base.specs.machine.Publishing.{holds_up}
 use Rattle.epoch_rule.specs.declared.views.Picked.{Picked}
-use Rattle.epoch_rule.specs.Calls.{sweeps_of, places_of, Writes, Sweeping, Placing, AreCopies, held_in}
+use Rattle.epoch_rule.specs.Calls.{sweeps_of, places_of, HasWritten, HasSwept, HasPlaced, AreCopies, held_in}
 use Rattle.view_laws.proofs.Tests.{none_is_no_number, same_number, none_is_not_some, both}
-use Rattle.epoch_rule.proofs.Histories.{generations_by_append}
+use Rattle.epoch_rule.proofs.HistoryLaws.{generations_by_append}
 use Rattle.epoch_rule.specs.Wrote.{EndsWith}
-use Rattle.epoch_rule.proofs.Passing.{own_added, begins_added, ends_added, generations_added}
+use Rattle.epoch_rule.proofs.PassLaws.{own_added, begins_added, ends_added, generations_added}
 
 pub no_sweep : Found
 no_sweep = record { word = 0; lowest = 0 }
@@ -59,31 +59,31 @@ sweeps_current (r ∷ rs) first g = let k : PassTrack = known_after_sweep g.curr
     (h.0, h.1 ∙ length-set g.passes first k)
 
 -- what was written makes the generations
-pub writes_generations : (v : View) (es : List HistoryEntry) (w : View) → Writes v es w → generations_seen w ≡ generations_after_all (generations_seen v) es
+pub writes_generations : (v : View) (es : List HistoryEntry) (w : View) → HasWritten v es w → generations_seen w ≡ generations_after_all (generations_seen v) es
 writes_generations v es w h = (λ i. generations_after_all (first_generations (h.sizes i).passes) (h.events i)) ∙ generations_by_append (own_entries 0 v.seen) es (first_generations v.sizes.passes)
 
-pub writes_nothing : (v : View) → Lawful v.sizes v.seen → Writes v [] v
+pub writes_nothing : (v : View) → IsLegal v.sizes v.seen → HasWritten v [] v
 writes_nothing v l = record { role = refl; out = refl; sizes = refl; begins = prefix_refl v.seen; lawful = l; events = sym (append-nil (own_entries 0 v.seen)) }
 
-pub writes_more : (v : View) (es : List HistoryEntry) (w : View) (e : Event) (x : Carried) (r : ℕ) (u : View) → actor_of e ≡ 0 → Writes v es w → Adds 0 w e x r u → Writes v (es ++ history_entry e x r ∷ []) u
+pub writes_more : (v : View) (es : List HistoryEntry) (w : View) (e : Event) (x : Carried) (r : ℕ) (u : View) → actor_of e ≡ 0 → HasWritten v es w → ComesNext 0 w e x r u → HasWritten v (es ++ history_entry e x r ∷ []) u
 writes_more v es w e x r u mine h a = record {
   role = a.role ∙ h.role;
   out = a.out ∙ h.out;
   sizes = a.sizes ∙ h.sizes;
   begins = prefix_trans v.seen w.seen u.seen h.begins (begins_added 0 w e x r u a);
-  lawful = subst (λ (z : Sizes). Lawful z u.seen) h.sizes a.lawful;
+  lawful = subst (λ (z : Sizes). IsLegal z u.seen) h.sizes a.lawful;
   events = own_added 0 w e x r u mine a ∙ (ap (λ l. l ++ history_entry e x r ∷ []) h.events ∙ append_assoc (own_entries 0 v.seen) es (history_entry e x r ∷ []));
 }
 
-pub sweeping_first : (v : View) (known : List Found) → Lawful v.sizes v.seen → known ≡ map stored (generations_seen v).passes → Sweeping v v known 0
+pub sweeping_first : (v : View) (known : List Found) → IsLegal v.sizes v.seen → known ≡ map stored (generations_seen v).passes → HasSwept v v known 0
 sweeping_first v known l is = record { rs = []; many = refl; writes = writes_nothing v l; ends = λ x none. none_is_not_some x none; holds = (refl, refl); is_known = is }
 
-pub sweeping_current : (v w : View) (known : List Found) (n : ℕ) → Sweeping v w known n → ((generations_seen w).current ≡ (generations_seen v).current) × (length (generations_seen w).passes ≡ length (generations_seen v).passes)
+pub sweeping_current : (v w : View) (known : List Found) (n : ℕ) → HasSwept v w known n → ((generations_seen w).current ≡ (generations_seen v).current) × (length (generations_seen w).passes ≡ length (generations_seen v).passes)
 sweeping_current v w known n s = let h = sweeps_current s.rs 0 (generations_seen v) in let e = writes_generations v (sweeps_of 0 s.rs) w s.writes in
     (ap (λ (g : Generations). g.current) e ∙ h.0, ap (λ (g : Generations). length g.passes) e ∙ h.1)
 
-pub sweeping_next : (v w u : View) (known known' : List Found) (n r : ℕ) (f : Found) → Sweeping v w known n → Adds 0 w (events.Sweep (pass_id n)) Nothing r u → HoldsOn w u
-    → f ≡ stored (known_after_sweep (generations_seen v).current (known_of (generations_seen w) (pass_id n)) r) → known' ≡ set known n f → Sweeping v u known' (n + 1)
+pub sweeping_next : (v w u : View) (known known' : List Found) (n r : ℕ) (f : Found) → HasSwept v w known n → ComesNext 0 w (events.Sweep (pass_id n)) Nothing r u → KeepsSlot w u
+    → f ≡ stored (known_after_sweep (generations_seen v).current (known_of (generations_seen w) (pass_id n)) r) → known' ≡ set known n f → HasSwept v u known' (n + 1)
 sweeping_next v w u known known' n r f s a holds is set_is =
     let g : Generations = generations_seen w in
     let now = (sweeping_current v w known n s).0 in
@@ -91,7 +91,7 @@ sweeping_next v w u known known' n r f s a holds is set_is =
     let after : generations_seen u ≡ with_known g (pass_id n) k = generations_added w (events.Sweep (pass_id n)) Nothing r u refl a in record {
       rs = s.rs ++ r ∷ [];
       many = length-append s.rs (r ∷ []) ∙ ap (λ (m : ℕ). m + 1) s.many;
-      writes = subst (λ l. Writes v l u) (ap (λ (m : ℕ). sweeps_of 0 s.rs ++ history_entry (events.Sweep (pass_id m)) Nothing r ∷ []) (sym s.many ∙ omega arith) ∙ sym (sweeps_snoc s.rs 0 r))
+      writes = subst (λ l. HasWritten v l u) (ap (λ (m : ℕ). sweeps_of 0 s.rs ++ history_entry (events.Sweep (pass_id m)) Nothing r ∷ []) (sym s.many ∙ omega arith) ∙ sym (sweeps_snoc s.rs 0 r))
           (writes_more v (sweeps_of 0 s.rs) w (events.Sweep (pass_id n)) Nothing r u refl s.writes a);
       ends = subst (λ l. EndsWith l u.seen) (ap (λ (m : ℕ). sweeps_of 0 s.rs ++ history_entry (events.Sweep (pass_id m)) Nothing r ∷ []) (sym s.many ∙ omega arith) ∙ sym (sweeps_snoc s.rs 0 r))
           (ends_added 0 w (events.Sweep (pass_id n)) Nothing r u a (sweeps_of 0 s.rs));
@@ -172,7 +172,7 @@ near_of c k s free = go k.found refl free
     go (Some q) e h = let a = s.1 q e in let b = leb-false (q + 7) c h in omega arith
 
 -- after a sweep of each pass that none holds up, each may have its copy
-pub all_near : (v w : View) (known : List Found) (c : ℕ) → Sweeping v w known (length (generations_seen v).passes) → c ≡ (generations_seen v).current → held_in c 0 known ≡ None
+pub all_near : (v w : View) (known : List Found) (c : ℕ) → HasSwept v w known (length (generations_seen v).passes) → c ≡ (generations_seen v).current → held_in c 0 known ≡ None
     → (u : ℕ) → u < length (generations_seen v).passes → (generations_seen w).current ≤ (known_of (generations_seen w) (pass_id u)).lowest + 6
 all_near v w known c s is none u l =
     let g : Generations = generations_seen v in
@@ -185,7 +185,7 @@ all_near v w known c s is none u l =
     let near = near_of c (known_of (generations_seen w) (pass_id u)) swept free in
     let same = now.0 in omega arith
 
-pub all_free : (v w : View) (known : List Found) (n : ℕ) → Sweeping v w known n → ((u : ℕ) → (known_of (generations_seen v) (pass_id u)).placed ≡ false) → (u : ℕ) → (known_of (generations_seen w) (pass_id u)).placed ≡ false
+pub all_free : (v w : View) (known : List Found) (n : ℕ) → HasSwept v w known n → ((u : ℕ) → (known_of (generations_seen v) (pass_id u)).placed ≡ false) → (u : ℕ) → (known_of (generations_seen w) (pass_id u)).placed ≡ false
 all_free v w known n s free u = ap (λ (g : Generations). (known_of g (pass_id u)).placed) (writes_generations v (sweeps_of 0 s.rs) w s.writes) ∙ (sweeps_placed s.rs 0 (generations_seen v) u ∙ free u)
 
 -- copies
@@ -231,17 +231,17 @@ pub every_last : {A : Type 0} (P : A → Type 0) (xs : List A) (x : A) → Every
 every_last P [] x h = (tt, h.0)
 every_last P (y ∷ ys) x h = let r = every_last P ys x h.1 in ((h.0, r.0), r.1)
 
-pub placing_first : (v : View) (next : Picked) → v.held ≡ 0 → Lawful v.sizes v.seen → Placing v v next 0
+pub placing_first : (v : View) (next : Picked) → v.held ≡ 0 → IsLegal v.sizes v.seen → HasPlaced v v next 0
 placing_first v next free l = record { writes = writes_nothing v l; free = free; is_next = λ z. absurd (omega arith) }
 
-pub placing_next : (v w u : View) (next : Picked) (n : ℕ) → Placing v w next n → Adds 0 w (events.Place (pass_id n)) Nothing 0 u → u.held ≡ 0 → u.next ≡ next → Placing v u next (n + 1)
+pub placing_next : (v w u : View) (next : Picked) (n : ℕ) → HasPlaced v w next n → ComesNext 0 w (events.Place (pass_id n)) Nothing 0 u → u.held ≡ 0 → u.next ≡ next → HasPlaced v u next (n + 1)
 placing_next v w u next n p a free is = record {
-  writes = let one : suc n ≡ n + 1 = omega arith in subst (λ (m : ℕ). Writes v (places_of m) u) one (writes_more v (places_of n) w (events.Place (pass_id n)) Nothing 0 u refl p.writes a);
+  writes = let one : suc n ≡ n + 1 = omega arith in subst (λ (m : ℕ). HasWritten v (places_of m) u) one (writes_more v (places_of n) w (events.Place (pass_id n)) Nothing 0 u refl p.writes a);
   free = free;
   is_next = λ _. is;
 }
 
-pub placing_generations : (v w : View) (next : Picked) (n : ℕ) → Placing v w next n → generations_seen w ≡ generations_after_all (generations_seen v) (places_of n)
+pub placing_generations : (v w : View) (next : Picked) (n : ℕ) → HasPlaced v w next n → generations_seen w ≡ generations_after_all (generations_seen v) (places_of n)
 placing_generations v w next n p = writes_generations v (places_of n) w p.writes
 
 -- a pass that has its copy had it, or got it by now
