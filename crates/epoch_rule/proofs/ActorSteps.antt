@@ -52,59 +52,77 @@ every_snoc P [] x h p = (p, tt)
 every_snoc P (y ∷ ys) x h p = (h.0, every_snoc P ys x h.1 p)
 
 module _ {S : Type 0} (Copy : ℕ → Generation → S → Type 0) (z : Sizes) where
-  pub look : (slots id : ℕ) (me : Me S View) (p : ℕ) → p < z.passes → me.0.role ≡ Some (p + 1) → (pass_seen p me.0).announced ≡ None → Allows (IsRuled Copy z) slots id me 0 (λ r. r) (looks Copy (step slots 0 0 0 none) me)
+  pub look : (slots id : ℕ) (me : Me S View) (p : ℕ) → p < z.passes → me.0.role ≡ Some (p + 1) → (pass_seen p me.0).announced ≡ None
+      → Allows (IsRuled Copy z) slots id me 0 (λ r. r) (looks Copy (step slots 0 0 0 none) me)
   look slots id me p near role out s k deep at small =
       let st : Shared = state_of z k.log in
       let r : ℕ = get_or s.words 0 0 in
       let ok = good Copy z s k in
       let in_passes = inside Copy z s k id me.0 at p near in
       let knows = knows_pass Copy z s k id me.0 at p near role in
-      let may : shared_possible st (events.Look (pass_id p)) Nothing ≡ true = both _ _ (lt-ltb p (length st.passes) in_passes) (ap (λ (h : PassState). is_none h.announced) knows ∙ ap is_none out) in
+      let may : shared_possible st (events.Look (pass_id p)) Nothing ≡ true =
+      both _ _ (lt-ltb p (length st.passes) in_passes) (ap (λ (h : PassState). is_none h.announced) knows ∙ ap is_none out) in
       let is : r ≡ shared_reply st (events.Look (pass_id p)) Nothing = k.shown.current in
       let now : PassState = record (pass_of st.passes (pass_id p)) { looked = Some r } in
-      let shown : WordsShow z (shared st.generations (set st.passes p now) st.words) s.words = subst (WordsShow z (shared st.generations (set st.passes p now) st.words)) (set-get_or s.words (p + 1) 0)
+      let shown : WordsShow z (shared st.generations (set st.passes p now) st.words) s.words =
+      subst (WordsShow z (shared st.generations (set st.passes p now) st.words)) (set-get_or s.words (p + 1) 0)
       (shows_moved z st s.words k.shown p now (get_or s.words (p + 1) 0) ok.many near (k.shown.pins p near)) in
-      let slots' : AllSlots Copy z.passes (shared st.generations (set st.passes p now) st.words) (generations_published k.log) k.held (generation_of_pick k.next) s.homes =
-      slots_moved Copy z.passes st (generations_published k.log) k.held (generation_of_pick k.next) s.homes s.homes p now in_passes k.slots refl (λ v j other l. refl) (k.slots.each p near) in
+      let slots' : AllSlots Copy z.passes (shared st.generations (set st.passes p now) st.words) (generations_published k.log) k.held
+      (generation_of_pick k.next) s.homes =
+      slots_moved Copy z.passes st (generations_published k.log) k.held (generation_of_pick k.next) s.homes s.homes p now in_passes k.slots refl
+      (λ v j other l. refl) (k.slots.each p near) in
       let v' : View = grown me.0 (k.log ++ history_entry (events.Look (pass_id p)) Nothing r ∷ []) me.0.held me.0.next in (
         v',
         keeps,
         tt,
         subst (λ (ws : List ℕ). IsRuled Copy z record { words = ws; homes = s.homes; views = set s.views id v' }) (sym (set-get_or s.words 0 0))
-            (extends Copy z s k id me.0 at (p + 1) (events.Look (pass_id p)) Nothing r s.words s.homes k.held k.next me.0.held me.0.next role refl may is shown k.roomy slots' (λ y. absurd (omega arith)) (λ y. (refl, refl))),
+            (extends Copy z s k id me.0 at (p + 1) (events.Look
+            (pass_id p)) Nothing r s.words s.homes k.held k.next me.0.held me.0.next role refl may is shown k.roomy slots' (λ y. absurd (omega arith))
+            (λ y. (refl, refl))),
         (
           refl,
           subst (λ (c : ℕ). c + 1 < 18446744073709551616) (sym is) k.shown.small,
           λ b role'. let same : p ≡ b = (let e = same_number (p + 1) (b + 1) (sym role ∙ role') in omega arith) in
-              subst (λ (y : ℕ). ComesNext (y + 1) me.0 (events.Look (pass_id y)) Nothing r v') same (adds Copy z s k id me.0 at (p + 1) (events.Look (pass_id p)) Nothing r me.0.held me.0.next role may is),
+              subst (λ (y : ℕ). ComesNext (y + 1) me.0 (events.Look (pass_id y)) Nothing r v') same
+              (adds Copy z s k id me.0 at (p + 1) (events.Look (pass_id p)) Nothing r me.0.held me.0.next role may is),
         ),
       )
 
-  pub announce : (slots id : ℕ) (me : Me S View) (p q : ℕ) → p < z.passes → me.0.role ≡ Some (p + 1) → (pass_seen p me.0).looked ≡ Some q → (pass_seen p me.0).announced ≡ None
+  pub announce : (slots id : ℕ) (me : Me S View) (p q : ℕ) → p < z.passes → me.0.role ≡ Some (p + 1) → (pass_seen p me.0).looked ≡ Some q
+      → (pass_seen p me.0).announced ≡ None
       → Allows (IsRuled Copy z) slots id me (p + 1) (λ _. q + 1) (λ _. announces Copy (step slots (p + 1) (q + 1) 0 none) me (q + 1))
   announce slots id me p q near role there out s k deep at small =
       let st : Shared = state_of z k.log in
       let ok = good Copy z s k in
       let in_passes = inside Copy z s k id me.0 at p near in
       let knows = knows_pass Copy z s k id me.0 at p near role in
-      let may : shared_possible st (events.Announce (pass_id p)) Nothing ≡ true = both _ _ (both _ _ (lt-ltb p (length st.passes) in_passes) (ap (λ (h : PassState). is_some h.looked) knows ∙ ap is_some there)) (ap (λ (h : PassState). is_none h.announced) knows ∙ ap is_none out) in
+      let may : shared_possible st (events.Announce (pass_id p)) Nothing ≡ true =
+      both _ _ (both _ _ (lt-ltb p (length st.passes) in_passes) (ap (λ (h : PassState). is_some h.looked) knows ∙ ap is_some there))
+      (ap (λ (h : PassState). is_none h.announced) knows ∙ ap is_none out) in
       let now : PassState = record (pass_of st.passes (pass_id p)) { announced = (pass_of st.passes (pass_id p)).looked } in
-      let shown : WordsShow z (shared st.generations (set st.passes p now) st.words) (set s.words (p + 1) (q + 1)) = shows_moved z st s.words k.shown p now (q + 1) ok.many near (ap pin_word (sym (ap (λ (h : PassState). h.looked) knows ∙ there))) in
-      let slots' : AllSlots Copy z.passes (shared st.generations (set st.passes p now) st.words) (generations_published k.log) k.held (generation_of_pick k.next) s.homes =
-      slots_moved Copy z.passes st (generations_published k.log) k.held (generation_of_pick k.next) s.homes s.homes p now in_passes k.slots refl (λ v j other l. refl) (k.slots.each p near) in
+      let shown : WordsShow z (shared st.generations (set st.passes p now) st.words) (set s.words (p + 1) (q + 1)) =
+      shows_moved z st s.words k.shown p now (q + 1) ok.many near (ap pin_word (sym (ap (λ (h : PassState). h.looked) knows ∙ there))) in
+      let slots' : AllSlots Copy z.passes (shared st.generations (set st.passes p now) st.words) (generations_published k.log) k.held
+      (generation_of_pick k.next) s.homes =
+      slots_moved Copy z.passes st (generations_published k.log) k.held (generation_of_pick k.next) s.homes s.homes p now in_passes k.slots refl
+      (λ v j other l. refl) (k.slots.each p near) in
       let v' : View = grown me.0 (k.log ++ history_entry (events.Announce (pass_id p)) Nothing 0 ∷ []) me.0.held me.0.next in (
         v',
         keeps,
         tt,
-        extends Copy z s k id me.0 at (p + 1) (events.Announce (pass_id p)) Nothing 0 (set s.words (p + 1) (q + 1)) s.homes k.held k.next me.0.held me.0.next role refl may refl shown k.roomy slots' (λ y. absurd (omega arith)) (λ y. (refl, refl)),
+        extends Copy z s k id me.0 at (p + 1) (events.Announce (pass_id p)) Nothing 0
+            (set s.words (p + 1) (q + 1)) s.homes k.held k.next me.0.held me.0.next role refl may refl shown k.roomy slots' (λ y. absurd (omega arith))
+            (λ y. (refl, refl)),
         (
           refl,
           λ b role'. let same : p ≡ b = (let e = same_number (p + 1) (b + 1) (sym role ∙ role') in omega arith) in
-              subst (λ (y : ℕ). ComesNext (y + 1) me.0 (events.Announce (pass_id y)) Nothing 0 v') same (adds Copy z s k id me.0 at (p + 1) (events.Announce (pass_id p)) Nothing 0 me.0.held me.0.next role may refl),
+              subst (λ (y : ℕ). ComesNext (y + 1) me.0 (events.Announce (pass_id y)) Nothing 0 v') same
+              (adds Copy z s k id me.0 at (p + 1) (events.Announce (pass_id p)) Nothing 0 me.0.held me.0.next role may refl),
         ),
       )
 
-  pub enter : (slots id : ℕ) (me : Me S View) (p q : ℕ) → p < z.passes → me.0.role ≡ Some (p + 1) → (pass_seen p me.0).announced ≡ Some q → (pass_seen p me.0).entered ≡ None
+  pub enter : (slots id : ℕ) (me : Me S View) (p q : ℕ) → p < z.passes → me.0.role ≡ Some (p + 1) → (pass_seen p me.0).announced ≡ Some q
+      → (pass_seen p me.0).entered ≡ None
       → Allows (IsRuled Copy z) slots id me 0 (λ r. r) (enters Copy (step slots 0 0 0 none) me)
   enter slots id me p q near role there out s k deep at small =
       let st : Shared = state_of z k.log in
@@ -114,36 +132,45 @@ module _ {S : Type 0} (Copy : ℕ → Generation → S → Type 0) (z : Sizes) w
       let ok = good Copy z s k in
       let in_passes = inside Copy z s k id me.0 at p near in
       let knows = knows_pass Copy z s k id me.0 at p near role in
-      let may : shared_possible st (events.Enter (pass_id p)) Nothing ≡ true = both _ _ (both _ _ (lt-ltb p (length st.passes) in_passes) (ap (λ (h : PassState). is_some h.announced) knows ∙ ap is_some there)) (ap (λ (h : PassState). is_none h.entered) knows ∙ ap is_none out) in
+      let may : shared_possible st (events.Enter (pass_id p)) Nothing ≡ true =
+      both _ _ (both _ _ (lt-ltb p (length st.passes) in_passes) (ap (λ (h : PassState). is_some h.announced) knows ∙ ap is_some there))
+      (ap (λ (h : PassState). is_none h.entered) knows ∙ ap is_none out) in
       let is : r ≡ shared_reply st (events.Enter (pass_id p)) Nothing = k.shown.current in
       let free : (pass_of st.passes (pass_id p)).entered ≡ None = ap (λ (h : PassState). h.entered) knows ∙ out in
       let numbers = ok.each p near in
       let low = numbers.low in
       let close = numbers.near in
       let next : Generation = generation_of_pick k.next in
-      let mine_slots : PassSlots Copy c gs (known_of st.generations (pass_id p)) None k.held next s.homes p = subst (λ (e : Option ℕ). PassSlots Copy c gs (known_of st.generations (pass_id p)) e k.held next s.homes p) free (k.slots.each p near) in
+      let mine_slots : PassSlots Copy c gs (known_of st.generations (pass_id p)) None k.held next s.homes p =
+      subst (λ (e : Option ℕ). PassSlots Copy c gs (known_of st.generations (pass_id p)) e k.held next s.homes p) free (k.slots.each p near) in
       let copy = mine_slots.kept c low (omega arith) (λ e. none_is_no_number c e) in
       let i : ℕ = 8 * p + r % 8 in
       let same_place : 8 * p + c % 8 ≡ i = ap (λ (n : ℕ). 8 * p + n % 8) (sym is) in
       let homes' : List (maybe.Option S) = set s.homes i none in
       let log' : List HistoryEntry = k.log ++ history_entry (events.Enter (pass_id p)) Nothing r ∷ [] in
       let now : PassState = record (pass_of st.passes (pass_id p)) { entered = Some r } in
-      let shown : WordsShow z (shared st.generations (set st.passes p now) st.words) s.words = subst (WordsShow z (shared st.generations (set st.passes p now) st.words)) (set-get_or s.words (p + 1) 0)
+      let shown : WordsShow z (shared st.generations (set st.passes p now) st.words) s.words =
+      subst (WordsShow z (shared st.generations (set st.passes p now) st.words)) (set-get_or s.words (p + 1) 0)
       (shows_moved z st s.words k.shown p now (get_or s.words (p + 1) 0) ok.many near (k.shown.pins p near)) in
       let here : PassSlots Copy c gs (known_of st.generations (pass_id p)) (Some r) k.held next homes' p =
       subst (λ (n : ℕ). PassSlots Copy c gs (known_of st.generations (pass_id p)) (Some n) k.held next (set s.homes (8 * p + n % 8) none) p) (sym is)
       (of_slots.entered Copy c gs (known_of st.generations (pass_id p)) k.held next s.homes p low close mine_slots) in
-      let slots' : AllSlots Copy z.passes (shared st.generations (set st.passes p now) st.words) gs k.held next homes' = slots_moved Copy z.passes st gs k.held next s.homes homes' p now in_passes k.slots (length-set s.homes i none)
+      let slots' : AllSlots Copy z.passes (shared st.generations (set st.passes p now) st.words) gs k.held next homes' =
+      slots_moved Copy z.passes st gs k.held next s.homes homes' p now in_passes k.slots (length-set s.homes i none)
       (λ v j other l. set_else s.homes i (8 * v + j) none (λ y. other (omega arith))) here in
-      let same_gs : gs ≡ generations_published log' = sym (published_append k.log (history_entry (events.Enter (pass_id p)) Nothing r ∷ []) (first_generation ∷ [])) in
+      let same_gs : gs ≡ generations_published log' =
+      sym (published_append k.log (history_entry (events.Enter (pass_id p)) Nothing r ∷ []) (first_generation ∷ [])) in
       let v' : View = grown me.0 log' me.0.held me.0.next in (
         v',
         takes i copy.0,
         subst (λ (x : ℕ). get_elem? s.homes x ≡ some (some copy.0)) same_place copy.1,
         subst (λ (ws : List ℕ). IsRuled Copy z record { words = ws; homes = homes'; views = set s.views id v' }) (sym (set-get_or s.words 0 0))
-            (extends Copy z s k id me.0 at (p + 1) (events.Enter (pass_id p)) Nothing r s.words homes' k.held k.next me.0.held me.0.next role refl may is shown k.roomy slots' (λ y. absurd (omega arith)) (λ y. (refl, refl))),
+            (extends Copy z s k id me.0 at (p + 1) (events.Enter
+            (pass_id p)) Nothing r s.words homes' k.held k.next me.0.held me.0.next role refl may is shown k.roomy slots' (λ y. absurd (omega arith))
+            (λ y. (refl, refl))),
         (λ b role'. let same : p ≡ b = (let e = same_number (p + 1) (b + 1) (sym role ∙ role') in omega arith) in (
-          subst (λ (y : ℕ). ComesNext (y + 1) me.0 (events.Enter (pass_id y)) Nothing r v') same (adds Copy z s k id me.0 at (p + 1) (events.Enter (pass_id p)) Nothing r me.0.held me.0.next role may is),
+          subst (λ (y : ℕ). ComesNext (y + 1) me.0 (events.Enter (pass_id y)) Nothing r v') same
+              (adds Copy z s k id me.0 at (p + 1) (events.Enter (pass_id p)) Nothing r me.0.held me.0.next role may is),
           (
             copy.0,
             ap (λ (y : ℕ). (8 * y + r % 8, copy.0) ∷ me.1) same,
@@ -156,7 +183,8 @@ module _ {S : Type 0} (Copy : ℕ → Generation → S → Type 0) (z : Sizes) w
         )),
       )
 
-  pub leave : (slots id : ℕ) (me : Me S View) (p g : ℕ) (y : S) → p < z.passes → slots ≡ 8 * z.passes → me.0.role ≡ Some (p + 1) → (pass_seen p me.0).entered ≡ Some g → me.1 ≡ (8 * p + g % 8, y) ∷ []
+  pub leave : (slots id : ℕ) (me : Me S View) (p g : ℕ) (y : S) → p < z.passes → slots ≡ 8 * z.passes → me.0.role ≡ Some (p + 1)
+      → (pass_seen p me.0).entered ≡ Some g → me.1 ≡ (8 * p + g % 8, y) ∷ []
       → ((log : List HistoryEntry) → me.0.sizes ≡ z → IsLegal z log → IsPrefix me.0.seen log → Copy g (generation_published log g) y)
       → Allows (IsRuled Copy z) slots id me (p + 1) (λ _. 0) (λ _. leaves Copy (step slots (p + 1) 0 0 none) me 0)
   leave slots id me p g y near wide role there carries copies s k deep at small =
@@ -166,7 +194,8 @@ module _ {S : Type 0} (Copy : ℕ → Generation → S → Type 0) (z : Sizes) w
       let ok = good Copy z s k in
       let in_passes = inside Copy z s k id me.0 at p near in
       let knows = knows_pass Copy z s k id me.0 at p near role in
-      let may : shared_possible st (events.Leave (pass_id p)) Nothing ≡ true = both _ _ (lt-ltb p (length st.passes) in_passes) (ap (λ (h : PassState). is_some h.entered) knows ∙ ap is_some there) in
+      let may : shared_possible st (events.Leave (pass_id p)) Nothing ≡ true =
+      both _ _ (lt-ltb p (length st.passes) in_passes) (ap (λ (h : PassState). is_some h.entered) knows ∙ ap is_some there) in
       let busy : (pass_of st.passes (pass_id p)).entered ≡ Some g = ap (λ (h : PassState). h.entered) knows ∙ there in
       let numbers = ok.each p near in
       let t = numbers.entered g busy in
@@ -174,27 +203,34 @@ module _ {S : Type 0} (Copy : ℕ → Generation → S → Type 0) (z : Sizes) w
       let i : ℕ = 8 * p + g % 8 in
       let homes' : List (maybe.Option S) = set s.homes i (some y) in
       let log' : List HistoryEntry = k.log ++ history_entry (events.Leave (pass_id p)) Nothing 0 ∷ [] in
-      let shown : WordsShow z (shared st.generations (set st.passes p idle) st.words) (set s.words (p + 1) 0) = shows_moved z st s.words k.shown p idle 0 ok.many near refl in
+      let shown : WordsShow z (shared st.generations (set st.passes p idle) st.words) (set s.words (p + 1) 0) =
+      shows_moved z st s.words k.shown p idle 0 ok.many near refl in
       let room : 8 * p + 8 ≤ length s.homes = omega arith in
       let seat = k.seats id me.0 at in
       let here : PassSlots Copy c gs (known_of st.generations (pass_id p)) None k.held next homes' p =
-      of_slots.left Copy c gs (known_of st.generations (pass_id p)) g k.held next s.homes p y t.3 t.4 numbers.near numbers.placed room (copies k.log (seat.knows (p + 1) role) k.lawful seat.begins)
+      of_slots.left Copy c gs (known_of st.generations (pass_id p)) g k.held next s.homes p y t.3 t.4 numbers.near numbers.placed room
+      (copies k.log (seat.knows (p + 1) role) k.lawful seat.begins)
       (subst (λ (e : Option ℕ). PassSlots Copy c gs (known_of st.generations (pass_id p)) e k.held next s.homes p) busy (k.slots.each p near)) in
-      let slots' : AllSlots Copy z.passes (shared st.generations (set st.passes p idle) st.words) gs k.held next homes' = slots_moved Copy z.passes st gs k.held next s.homes homes' p idle in_passes k.slots (length-set s.homes i (some y))
+      let slots' : AllSlots Copy z.passes (shared st.generations (set st.passes p idle) st.words) gs k.held next homes' =
+      slots_moved Copy z.passes st gs k.held next s.homes homes' p idle in_passes k.slots (length-set s.homes i (some y))
       (λ v j other l. set_else s.homes i (8 * v + j) (some y) (λ q. other (omega arith))) here in
       let v' : View = grown me.0 log' me.0.held me.0.next in rw carries (
         v',
         gives,
         tt,
-        extends Copy z s k id me.0 at (p + 1) (events.Leave (pass_id p)) Nothing 0 (set s.words (p + 1) 0) homes' k.held k.next me.0.held me.0.next role refl may refl shown k.roomy slots' (λ q. absurd (omega arith)) (λ q. (refl, refl)),
+        extends Copy z s k id me.0 at (p + 1) (events.Leave (pass_id p)) Nothing 0
+            (set s.words (p + 1) 0) homes' k.held k.next me.0.held me.0.next role refl may refl shown k.roomy slots' (λ q. absurd (omega arith))
+            (λ q. (refl, refl)),
         (
           refl,
           λ b role'. let same : p ≡ b = (let e = same_number (p + 1) (b + 1) (sym role ∙ role') in omega arith) in
-              subst (λ (q : ℕ). ComesNext (q + 1) me.0 (events.Leave (pass_id q)) Nothing 0 v') same (adds Copy z s k id me.0 at (p + 1) (events.Leave (pass_id p)) Nothing 0 me.0.held me.0.next role may refl),
+              subst (λ (q : ℕ). ComesNext (q + 1) me.0 (events.Leave (pass_id q)) Nothing 0 v') same
+              (adds Copy z s k id me.0 at (p + 1) (events.Leave (pass_id p)) Nothing 0 me.0.held me.0.next role may refl),
         ),
       )
 
-  pub sweep : (slots id : ℕ) (me : Me S View) (p : ℕ) → p < z.passes → me.0.role ≡ Some 0 → Allows (IsRuled Copy z) slots id me (p + 1) (λ r. r) (sweeps Copy (step slots (p + 1) 0 0 none) me)
+  pub sweep : (slots id : ℕ) (me : Me S View) (p : ℕ) → p < z.passes → me.0.role ≡ Some 0
+      → Allows (IsRuled Copy z) slots id me (p + 1) (λ r. r) (sweeps Copy (step slots (p + 1) 0 0 none) me)
   sweep slots id me p near role s k deep at small =
       let st : Shared = state_of z k.log in
       let gs : List Generation = generations_published k.log in
@@ -210,26 +246,32 @@ module _ {S : Type 0} (Copy : ℕ → Generation → S → Type 0) (z : Sizes) w
       let low = (ok.each p near).low in
       let up : was.lowest ≤ now.lowest = of_slots.raises c was r low in
       let slots' : AllSlots Copy z.passes (after_shared_entry st (history_entry (events.Sweep (pass_id p)) Nothing r)) gs k.held next s.homes =
-      slots_known Copy z.passes st gs k.held k.held next next s.homes s.homes p now (let n = ok.known in omega arith) k.slots refl (λ v j other l. refl) (λ v other l. ((λ q. q), (λ q. q), (λ _. refl)))
+      slots_known Copy z.passes st gs k.held k.held next next s.homes s.homes p now (let n = ok.known in
+      omega arith) k.slots refl (λ v j other l. refl) (λ v other l. ((λ q. q), (λ q. q), (λ _. refl)))
       (of_slots.swept Copy c gs was now (pass_of st.passes (pass_id p)).entered k.held next s.homes p up refl (k.slots.each p near)) in
-      let shown : WordsShow z (after_shared_entry st (history_entry (events.Sweep (pass_id p)) Nothing r)) s.words = record { wide = k.shown.wide; current = k.shown.current; small = k.shown.small; pins = k.shown.pins; pool = k.shown.pool } in
+      let shown : WordsShow z (after_shared_entry st (history_entry (events.Sweep (pass_id p)) Nothing r)) s.words =
+      record { wide = k.shown.wide; current = k.shown.current; small = k.shown.small; pins = k.shown.pins; pool = k.shown.pool } in
       let v' : View = grown me.0 (k.log ++ history_entry (events.Sweep (pass_id p)) Nothing r ∷ []) me.0.held me.0.next in (
         v',
         keeps,
         tt,
         subst (λ (ws : List ℕ). IsRuled Copy z record { words = ws; homes = s.homes; views = set s.views id v' }) (sym (set-get_or s.words (p + 1) 0))
-            (extends Copy z s k id me.0 at 0 (events.Sweep (pass_id p)) Nothing r s.words s.homes k.held k.next me.0.held me.0.next role refl may is shown k.roomy slots' (λ _. let n = (k.seats id me.0 at).counts role in (n.1, n.2)) (λ q. absurd (q refl))),
+            (extends Copy z s k id me.0 at 0 (events.Sweep
+            (pass_id p)) Nothing r s.words s.homes k.held k.next me.0.held me.0.next role refl may is shown k.roomy slots'
+            (λ _. let n = (k.seats id me.0 at).counts role in (n.1, n.2)) (λ q. absurd (q refl))),
         (
           refl,
           (refl, refl),
           λ b word. let same : p ≡ b = omega arith in
-              subst (λ (q : ℕ). ComesNext 0 me.0 (events.Sweep (pass_id q)) Nothing r v') same (adds Copy z s k id me.0 at 0 (events.Sweep (pass_id p)) Nothing r me.0.held me.0.next role may is),
+              subst (λ (q : ℕ). ComesNext 0 me.0 (events.Sweep (pass_id q)) Nothing r v') same
+              (adds Copy z s k id me.0 at 0 (events.Sweep (pass_id p)) Nothing r me.0.held me.0.next role may is),
         ),
       )
 
   -- with a load of the pass's word the writer takes the slot for the next generation: no event
   pub reach : (slots id : ℕ) (me : Me S View) (p : ℕ) → p < z.passes → me.0.role ≡ Some 0 → me.0.held ≡ 0 → me.1 ≡ []
-      → (generations_seen me.0).current ≤ (known_of (generations_seen me.0) (pass_id p)).lowest + 6 → (known_of (generations_seen me.0) (pass_id p)).placed ≡ false
+      → (generations_seen me.0).current ≤ (known_of (generations_seen me.0) (pass_id p)).lowest + 6
+      → (known_of (generations_seen me.0) (pass_id p)).placed ≡ false
       → Allows (IsRuled Copy z) slots id me (p + 1) (λ r. r) (reaches Copy (step slots (p + 1) 0 0 none) me)
   reach slots id me p near role idle_hand empty close free s k deep at small =
       let st : Shared = state_of z k.log in
@@ -243,16 +285,20 @@ module _ {S : Type 0} (Copy : ℕ → Generation → S → Type 0) (z : Sizes) w
       let close' : c ≤ was.lowest + 6 = subst (λ (d : Generations). d.current ≤ (known_of d (pass_id p)).lowest + 6) (sym knows) close in
       let free' : was.placed ≡ false = ap (λ (d : Generations). (known_of d (pass_id p)).placed) knows ∙ free in
       let ok = (good Copy z s k).each p near in
-      let mine_slots : PassSlots Copy c gs was (pass_of st.passes (pass_id p)).entered 0 next s.homes p = subst (λ (h : ℕ). SlotsOfPass Copy st gs h next s.homes p) none_held (k.slots.each p near) in
+      let mine_slots : PassSlots Copy c gs was (pass_of st.passes (pass_id p)).entered 0 next s.homes p =
+      subst (λ (h : ℕ). SlotsOfPass Copy st gs h next s.homes p) none_held (k.slots.each p near) in
       let i : ℕ = 8 * p + (c + 1) % 8 in
-      let home = mine_slots.home ((c + 1) % 8) (omega arith) (λ g e q. let t = ok.entered g e in let a = t.3 in let b = t.4 in let y = one_turn g (c + 1) 8 (omega arith) (omega arith) (sym q) in absurd (omega arith)) (λ y. absurd (omega arith)) in
+      let home = mine_slots.home ((c + 1) % 8) (omega arith) (λ g e q. let t = ok.entered g e in let a = t.3 in let b = t.4 in
+      let y = one_turn g (c + 1) 8 (omega arith) (omega arith) (sym q) in absurd (omega arith)) (λ y. absurd (omega arith)) in
       let homes' : List (maybe.Option S) = set s.homes i none in
       let v' : View = record me.0 { held = p + 1 } in
       let slots' : AllSlots Copy z.passes st gs (p + 1) next homes' = record {
         deep = length-set s.homes i none ∙ k.slots.deep;
         each = λ v l. dite (ℕ_discrete v p)
-            (λ same. subst (λ (y : ℕ). SlotsOfPass Copy st gs (p + 1) next homes' y) (sym same) (of_slots.reached Copy c gs was (pass_of st.passes (pass_id p)).entered next s.homes p close' free' mine_slots))
-            (λ other. of_slots.stays Copy c gs (known_of st.generations (pass_id v)) (pass_of st.passes (pass_id v)).entered k.held (p + 1) next next s.homes homes' v (λ j l'. set_else s.homes i (8 * v + j) none (λ y. other (omega arith)))
+            (λ same. subst (λ (y : ℕ). SlotsOfPass Copy st gs (p + 1) next homes' y) (sym same)
+            (of_slots.reached Copy c gs was (pass_of st.passes (pass_id p)).entered next s.homes p close' free' mine_slots))
+            (λ other. of_slots.stays Copy c gs (known_of st.generations (pass_id v)) (pass_of st.passes (pass_id v)).entered k.held
+            (p + 1) next next s.homes homes' v (λ j l'. set_else s.homes i (8 * v + j) none (λ y. other (omega arith)))
             (λ y. absurd (other (omega arith))) (λ y. absurd (omega arith)) (λ _. refl) (k.slots.each v l));
       } in rw empty (
         v',
@@ -307,8 +353,10 @@ module _ {S : Type 0} (Copy : ℕ → Generation → S → Type 0) (z : Sizes) w
         )),
       )
 
-  pub place : (slots id : ℕ) (me : Me S View) (p : ℕ) (m : Picked) (y : S) → p < z.passes → slots ≡ 8 * z.passes → me.0.role ≡ Some 0 → me.0.held ≡ p + 1 → me.1 ≡ (8 * p + ((generations_seen me.0).current + 1) % 8, y) ∷ []
-      → Copy ((generations_seen me.0).current + 1) (generation_of_pick m) y → ((v : ℕ) → (known_of (generations_seen me.0) (pass_id v)).placed ≡ true → me.0.next ≡ m)
+  pub place : (slots id : ℕ) (me : Me S View) (p : ℕ) (m : Picked) (y : S) → p < z.passes → slots ≡ 8 * z.passes → me.0.role ≡ Some 0 → me.0.held ≡ p + 1
+      → me.1 ≡ (8 * p + ((generations_seen me.0).current + 1) % 8, y) ∷ []
+      → Copy ((generations_seen me.0).current + 1) (generation_of_pick m) y
+      → ((v : ℕ) → (known_of (generations_seen me.0) (pass_id v)).placed ≡ true → me.0.next ≡ m)
       → Allows (IsRuled Copy z) slots id me (p + 1) (λ r. r) (places Copy m (step slots (p + 1) 0 0 none) me)
   place slots id me p m y near wide role holding carries copy alike s k deep at small =
       let st : Shared = state_of z k.log in
@@ -322,36 +370,48 @@ module _ {S : Type 0} (Copy : ℕ → Generation → S → Type 0) (z : Sizes) w
       let next_is : k.next ≡ me.0.next = sym (seat.counts role).2 in
       let was : PassTrack = known_of st.generations (pass_id p) in
       let next : Generation = generation_of_pick k.next in
-      let mine_slots : PassSlots Copy c gs was (pass_of st.passes (pass_id p)).entered (p + 1) next s.homes p = subst (λ (h : ℕ). SlotsOfPass Copy st gs h next s.homes p) here_held (k.slots.each p near) in
+      let mine_slots : PassSlots Copy c gs was (pass_of st.passes (pass_id p)).entered (p + 1) next s.homes p =
+      subst (λ (h : ℕ). SlotsOfPass Copy st gs h next s.homes p) here_held (k.slots.each p near) in
       let clear = mine_slots.clear refl in
-      let may : shared_possible st (events.Place (pass_id p)) Nothing ≡ true = both _ _ (le-leb _ _ clear.0) (both _ _ (lt-ltb p (length st.passes) in_passes) (ap not clear.1)) in
+      let may : shared_possible st (events.Place (pass_id p)) Nothing ≡ true =
+      both _ _ (le-leb _ _ clear.0) (both _ _ (lt-ltb p (length st.passes) in_passes) (ap not clear.1)) in
       let i : ℕ = 8 * p + (c + 1) % 8 in
       let homes' : List (maybe.Option S) = set s.homes i (some y) in
       let room : 8 * p + 8 ≤ length s.homes = omega arith in
       let copy' : Copy (c + 1) (generation_of_pick m) y = subst (λ (d : Generations). Copy (d.current + 1) (generation_of_pick m) y) (sym knows) copy in
       let slots' : AllSlots Copy z.passes (after_shared_entry st (history_entry (events.Place (pass_id p)) Nothing 0)) gs 0 (generation_of_pick m) homes' =
-      slots_known Copy z.passes st gs k.held 0 next (generation_of_pick m) s.homes homes' p (with_placed true was) (let n = ok.known in omega arith) k.slots (length-set s.homes i (some y))
+      slots_known Copy z.passes st gs k.held 0 next (generation_of_pick m) s.homes homes' p (with_placed true was) (let n = ok.known in
+      omega arith) k.slots (length-set s.homes i (some y))
       (λ v j other l. set_else s.homes i (8 * v + j) (some y) (λ q. other (omega arith)))
-      (λ v other l. ((λ q. absurd (omega arith)), (λ q. absurd (other (omega arith))), λ b. ap generation_of_pick (sym (next_is ∙ alike v (sym (ap (λ (d : Generations). (known_of d (pass_id v)).placed) knows) ∙ b)))))
+      (λ v other l. (
+        (λ q. absurd (omega arith)),
+        (λ q. absurd (other (omega arith))),
+        λ b. ap generation_of_pick (sym (next_is ∙ alike v (sym (ap (λ (d : Generations). (known_of d (pass_id v)).placed) knows) ∙ b))),
+      ))
       (of_slots.placed Copy c gs was (pass_of st.passes (pass_id p)).entered next (generation_of_pick m) s.homes p y room copy' mine_slots) in
       let v' : View = grown me.0 (k.log ++ history_entry (events.Place (pass_id p)) Nothing 0 ∷ []) 0 m in
-      let shown : WordsShow z (after_shared_entry st (history_entry (events.Place (pass_id p)) Nothing 0)) s.words = record { wide = k.shown.wide; current = k.shown.current; small = k.shown.small; pins = k.shown.pins; pool = k.shown.pool } in
-      let same_slot : 8 * p + ((generations_seen me.0).current + 1) % 8 ≡ i = ap (λ (d : Generations). 8 * p + (d.current + 1) % 8) (sym knows) in rw (carries, same_slot) (
+      let shown : WordsShow z (after_shared_entry st (history_entry (events.Place (pass_id p)) Nothing 0)) s.words =
+      record { wide = k.shown.wide; current = k.shown.current; small = k.shown.small; pins = k.shown.pins; pool = k.shown.pool } in
+      let same_slot : 8 * p + ((generations_seen me.0).current + 1) % 8 ≡ i = ap (λ (d : Generations). 8 * p + (d.current + 1) % 8) (sym knows) in
+      rw (carries, same_slot) (
         v',
         gives,
         tt,
         subst (λ (ws : List ℕ). IsRuled Copy z record { words = ws; homes = homes'; views = set s.views id v' }) (sym (set-get_or s.words (p + 1) 0))
-            (extends Copy z s k id me.0 at 0 (events.Place (pass_id p)) Nothing 0 s.words homes' 0 m 0 m role refl may refl shown k.roomy slots' (λ _. (refl, refl)) (λ q. absurd (q refl))),
+            (extends Copy z s k id me.0 at 0 (events.Place (pass_id p)) Nothing 0 s.words homes' 0 m 0 m role refl may refl shown k.roomy slots'
+            (λ _. (refl, refl)) (λ q. absurd (q refl))),
         (
           refl,
           refl,
           refl,
           λ b word. let same : p ≡ b = omega arith in
-              subst (λ (q : ℕ). ComesNext 0 me.0 (events.Place (pass_id q)) Nothing 0 v') same (adds Copy z s k id me.0 at 0 (events.Place (pass_id p)) Nothing 0 0 m role may refl),
+              subst (λ (q : ℕ). ComesNext 0 me.0 (events.Place (pass_id q)) Nothing 0 v') same
+              (adds Copy z s k id me.0 at 0 (events.Place (pass_id p)) Nothing 0 0 m role may refl),
         ),
       )
 
-  pub publish : (slots id : ℕ) (me : Me S View) (new : ℕ) → me.0.role ≡ Some 0 → new ≡ (generations_seen me.0).current + 1 → all_placed (generations_seen me.0).passes ≡ true → new + 1 < 18446744073709551616 → PlacesFit z.words (generation_of_pick me.0.next)
+  pub publish : (slots id : ℕ) (me : Me S View) (new : ℕ) → me.0.role ≡ Some 0 → new ≡ (generations_seen me.0).current + 1
+      → all_placed (generations_seen me.0).passes ≡ true → new + 1 < 18446744073709551616 → PlacesFit z.words (generation_of_pick me.0.next)
       → Allows (IsRuled Copy z) slots id me 0 (λ _. new) (λ _. publishes Copy (step slots 0 new 0 none) me new)
   publish slots id me new role next full fits roomy s k deep at small =
       let st : Shared = state_of z k.log in
@@ -372,51 +432,74 @@ module _ {S : Type 0} (Copy : ℕ → Generation → S → Type 0) (z : Sizes) w
         pins = λ v l. get_or-set_other s.words 0 (v + 1) new 0 (λ q. omega arith) ∙ k.shown.pins v l;
         pool = λ i l. get_or-set_other s.words 0 (z.passes + 1 + i) new 0 (λ q. omega arith) ∙ k.shown.pool i l;
       } in
-      let slots' : AllSlots Copy z.passes (after_shared_entry st (history_entry events.Publish x new)) (gs ++ m ∷ []) k.held (generation_of_pick k.next) s.homes = record {
+      let slots' : AllSlots Copy z.passes (after_shared_entry st (history_entry events.Publish x new)) (gs ++ m ∷ []) k.held
+      (generation_of_pick k.next) s.homes = record {
         deep = k.slots.deep;
         each = λ v l. let near : v < length st.generations.passes = (let n = ok.known in omega arith) in
-            subst (λ (f : PassTrack). PassSlots Copy (c + 1) (gs ++ m ∷ []) f (pass_of st.passes (pass_id v)).entered k.held (generation_of_pick k.next) s.homes v) (sym (none_placed st.generations.passes v))
-            (subst (λ (q : Picked). PassSlots Copy (c + 1) (gs ++ m ∷ []) (with_placed false (known_of st.generations (pass_id v))) (pass_of st.passes (pass_id v)).entered k.held (generation_of_pick q) s.homes v) (sym next_is)
-            (of_slots.published Copy c gs (known_of st.generations (pass_id v)) (pass_of st.passes (pass_id v)).entered k.held m s.homes v ok.counted (all_of st.generations.passes v may near)
+            subst (λ (f : PassTrack). PassSlots Copy (c + 1) (gs ++ m ∷ []) f (pass_of st.passes (pass_id v)).entered k.held
+            (generation_of_pick k.next) s.homes v) (sym (none_placed st.generations.passes v))
+            (subst (λ (q : Picked). PassSlots Copy (c + 1) (gs ++ m ∷ []) (with_placed false (known_of st.generations (pass_id v)))
+            (pass_of st.passes (pass_id v)).entered k.held (generation_of_pick q) s.homes v) (sym next_is)
+            (of_slots.published Copy c gs (known_of st.generations (pass_id v)) (pass_of st.passes (pass_id v)).entered k.held m s.homes v ok.counted
+            (all_of st.generations.passes v may near)
             (subst (λ (q : Picked). SlotsOfPass Copy st gs k.held (generation_of_pick q) s.homes v) next_is (k.slots.each v l))));
       } in
       let v' : View = grown me.0 (k.log ++ history_entry events.Publish x new ∷ []) me.0.held me.0.next in (
         v',
         keeps,
         tt,
-        extends Copy z s k id me.0 at 0 events.Publish x new (set s.words 0 new) s.homes k.held k.next me.0.held me.0.next role refl may is shown (every_snoc (PlacesFit z.words) gs m k.roomy roomy) slots' (λ _. let n = seat.counts role in (n.1, n.2)) (λ q. absurd (q refl)),
+        extends Copy z s k id me.0 at 0 events.Publish x new (set s.words 0 new) s.homes k.held k.next me.0.held me.0.next role refl may is shown
+            (every_snoc (PlacesFit z.words) gs m k.roomy roomy) slots' (λ _. let n = seat.counts role in (n.1, n.2)) (λ q. absurd (q refl)),
         (refl, (refl, refl), adds Copy z s k id me.0 at 0 events.Publish x new me.0.held me.0.next role may is),
       )
 
 published_grows : (xs : List HistoryEntry) (gs : List Generation) → IsPrefix gs (published_from gs xs)
 published_grows [] gs = prefix_refl gs
-published_grows (x ∷ xs) gs = prefix_trans gs (published_with gs x.event x.carried) (published_from (published_with gs x.event x.carried) xs) (one x.event x.carried) (published_grows xs (published_with gs x.event x.carried))
+published_grows (x ∷ xs) gs = prefix_trans gs (published_with gs x.event x.carried) (published_from (published_with gs x.event x.carried) xs)
+    (one x.event x.carried) (published_grows xs (published_with gs x.event x.carried))
   where
     one : (e : Event) (c : Carried) → IsPrefix gs (published_with gs e c)
     one events.Publish (Edition forest places) = (generation forest places ∷ [], refl)
     one e c = prefix_refl gs
 
 -- what a generation shows stays, once it was published
-pub generation_stays : (xs log : List HistoryEntry) → IsPrefix xs log → (g : ℕ) → g < length (generations_published xs) → generation_published log g ≡ generation_published xs g
+pub generation_stays : (xs log : List HistoryEntry) → IsPrefix xs log → (g : ℕ) → g < length (generations_published xs)
+    → generation_published log g ≡ generation_published xs g
 generation_stays xs log h g l =
     let more = published_grows h.0 (generations_published xs) in
-    let whole : published_from (generations_published xs) h.0 ≡ generations_published log = sym (published_append xs h.0 (first_generation ∷ [])) ∙ ap generations_published h.1 in
+    let whole : published_from (generations_published xs) h.0 ≡ generations_published log = sym (published_append xs h.0 (first_generation ∷ []))
+    ∙ ap generations_published h.1 in
     ap (λ t. get_or t g first_generation) (sym whole ∙ sym more.1) ∙ get_or-append (generations_published xs) more.0 first_generation g l
 
 pub published_more : (xs log : List HistoryEntry) → IsPrefix xs log → (g : ℕ) → g < length (generations_published xs) → g < length (generations_published log)
 published_more xs log h g l =
     let more = published_grows h.0 (generations_published xs) in
-    let whole : published_from (generations_published xs) h.0 ≡ generations_published log = sym (published_append xs h.0 (first_generation ∷ [])) ∙ ap generations_published h.1 in
-    let long : length (generations_published xs) + length more.0 ≡ length (generations_published log) = sym (length-append (generations_published xs) more.0) ∙ ap length (more.1 ∙ whole) in omega arith
+    let whole : published_from (generations_published xs) h.0 ≡ generations_published log = sym (published_append xs h.0 (first_generation ∷ []))
+    ∙ ap generations_published h.1 in
+    let long : length (generations_published xs) + length more.0 ≡ length (generations_published log) = sym (length-append (generations_published xs) more.0)
+    ∙ ap length (more.1 ∙ whole) in omega arith
 
 -- for a play that names what was picked by the value in hand
-pub place_as : {E Y : Type 0} (number : E → ℕ) (forest : E → Forest) (places : E → List Place) (z : Sizes) (slots id : ℕ) (me : Me (Option (Arc E Y)) View) (p : ℕ) (a : Arc E Y) → p < z.passes → slots ≡ 8 * z.passes → me.0.role ≡ Some 0 → me.0.held ≡ p + 1
+pub place_as : {E Y : Type 0} (number : E → ℕ) (forest : E → Forest) (places : E → List Place) (z : Sizes) (slots id : ℕ) (me : Me (Option (Arc E Y)) View)
+    (p : ℕ) (a : Arc E Y) → p < z.passes → slots ≡ 8 * z.passes → me.0.role ≡ Some 0 → me.0.held ≡ p + 1
     → me.1 ≡ (8 * p + ((generations_seen me.0).current + 1) % 8, Some a) ∷ [] → number (arc_value a) ≡ (generations_seen me.0).current + 1
     → ((v : ℕ) → (known_of (generations_seen me.0) (pass_id v)).placed ≡ true → me.0.next ≡ picked forest places (arc_value a))
     → Allows (IsRuled (IsCopy number forest places) z) slots id me (p + 1) (λ r. r) (placed_as forest places (step slots (p + 1) 0 0 none) me)
 place_as {E} {Y} number forest places z slots id me p a near wide role holding carries num alike s k deep at small =
-    let did = place (IsCopy number forest places) z slots id me p (picked forest places (arc_value a)) (Some a) near wide role holding carries (a, refl, num, refl) alike s k deep at small in
-    (did.0, did.1, did.2, did.3, λ i b is. (did.4.0, did.4.1, did.4.2 ∙ ap (λ x. picked forest places (arc_value x)) (in_hand a b (ap (λ l. one a l) (sym carries ∙ is))), did.4.3))
+    let did = place (IsCopy number forest places) z slots id me p (picked forest places (arc_value a)) (Some a) near wide role holding carries
+    (a, refl, num, refl) alike s k deep at small in (
+      did.0,
+      did.1,
+      did.2,
+      did.3,
+      λ i b is. (
+        did.4.0,
+        did.4.1,
+        did.4.2
+            ∙ ap (λ x. picked forest places (arc_value x)) (in_hand a b (ap (λ l. one a l) (sym carries ∙ is))),
+        did.4.3,
+      ),
+    )
   where
     one : Arc E Y → List (ℕ × Option (Arc E Y)) → Arc E Y
     one d [] = d
@@ -428,5 +511,7 @@ place_as {E} {Y} number forest places z slots id me p a near wide role holding c
 pub published_longer : (xs log : List HistoryEntry) → IsPrefix xs log → length (generations_published xs) ≤ length (generations_published log)
 published_longer xs log h =
     let more = published_grows h.0 (generations_published xs) in
-    let whole : published_from (generations_published xs) h.0 ≡ generations_published log = sym (published_append xs h.0 (first_generation ∷ [])) ∙ ap generations_published h.1 in
-    let long : length (generations_published xs) + length more.0 ≡ length (generations_published log) = sym (length-append (generations_published xs) more.0) ∙ ap length (more.1 ∙ whole) in omega arith
+    let whole : published_from (generations_published xs) h.0 ≡ generations_published log = sym (published_append xs h.0 (first_generation ∷ []))
+    ∙ ap generations_published h.1 in
+    let long : length (generations_published xs) + length more.0 ≡ length (generations_published log) = sym (length-append (generations_published xs) more.0)
+    ∙ ap length (more.1 ∙ whole) in omega arith

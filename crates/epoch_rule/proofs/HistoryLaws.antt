@@ -22,7 +22,9 @@ pub published_append : (xs ys : List HistoryEntry) (gs : List Generation) → pu
 published_append [] ys gs = refl
 published_append (x ∷ xs) ys gs = published_append xs ys (published_with gs x.event x.carried)
 
-pub legal_snoc : (xs : List HistoryEntry) (s : Shared) (e : Event) (x : Carried) (r : ℕ) → IsSharedLegalFrom s xs → shared_possible (after_shared_entries s xs) e x ≡ true → r ≡ shared_reply (after_shared_entries s xs) e x → IsSharedLegalFrom s (xs ++ history_entry e x r ∷ [])
+pub legal_snoc : (xs : List HistoryEntry) (s : Shared) (e : Event) (x : Carried) (r : ℕ) → IsSharedLegalFrom s xs
+    → shared_possible (after_shared_entries s xs) e x ≡ true → r ≡ shared_reply (after_shared_entries s xs) e x
+    → IsSharedLegalFrom s (xs ++ history_entry e x r ∷ [])
 legal_snoc [] s e x r l may is = (may, is, tt)
 legal_snoc (y ∷ ys) s e x r l may is = (l.0, l.1, legal_snoc ys (after_shared_entry s y) e x r l.2 may is)
 
@@ -31,7 +33,8 @@ legal_start [] ys s l = tt
 legal_start (x ∷ xs) ys s l = (l.0, l.1, legal_start xs ys (after_shared_entry s x) l.2)
 
 -- the last entry of a legal history has its reply
-pub last_reply : (xs : List HistoryEntry) (s : Shared) (e : Event) (x : Carried) (r : ℕ) → IsSharedLegalFrom s (xs ++ history_entry e x r ∷ []) → r ≡ shared_reply (after_shared_entries s xs) e x
+pub last_reply : (xs : List HistoryEntry) (s : Shared) (e : Event) (x : Carried) (r : ℕ) → IsSharedLegalFrom s (xs ++ history_entry e x r ∷ [])
+    → r ≡ shared_reply (after_shared_entries s xs) e x
 last_reply [] s e x r l = l.1
 last_reply (y ∷ ys) s e x r l = last_reply ys (after_shared_entry s y) e x r l.2
 
@@ -39,36 +42,45 @@ pub own_append : (a : ℕ) (xs ys : List HistoryEntry) → own_entries a (xs ++ 
 own_append a [] ys = refl
 own_append a (x ∷ xs) ys = go (eqb (actor_of x.event) a) (own_append a xs ys)
   where
-    go : (b : Bool) → own_entries a (xs ++ ys) ≡ own_entries a xs ++ own_entries a ys → (if b then x ∷ own_entries a (xs ++ ys) else own_entries a (xs ++ ys)) ≡ (if b then x ∷ own_entries a xs else own_entries a xs) ++ own_entries a ys
+    go : (b : Bool) → own_entries a (xs ++ ys) ≡ own_entries a xs ++ own_entries a ys
+        → (if b then x ∷ own_entries a (xs ++ ys) else own_entries a (xs ++ ys)) ≡ (if b then x ∷ own_entries a xs else own_entries a xs) ++ own_entries a ys
     go true h = ap (λ l. x ∷ l) h
     go false h = h
 
-pub own_other : (b : ℕ) (xs : List HistoryEntry) (e : Event) (x : Carried) (r : ℕ) → actor_of e ≢ b → own_entries b (xs ++ history_entry e x r ∷ []) ≡ own_entries b xs
+pub own_other : (b : ℕ) (xs : List HistoryEntry) (e : Event) (x : Carried) (r : ℕ) → actor_of e ≢ b
+    → own_entries b (xs ++ history_entry e x r ∷ []) ≡ own_entries b xs
 own_other b xs e x r other = own_append b xs (history_entry e x r ∷ []) ∙ rw (ne_eqb (actor_of e) b other) (append-nil (own_entries b xs))
 
 pub pass_by_append : (xs ys : List HistoryEntry) (p : PassState) → pass_after_all p (xs ++ ys) ≡ pass_after_all (pass_after_all p xs) ys
 pass_by_append [] ys p = refl
 pass_by_append (x ∷ xs) ys p = pass_by_append xs ys (pass_after p x.event x.reply)
 
-pub generations_by_append : (xs ys : List HistoryEntry) (g : Generations) → generations_after_all g (xs ++ ys) ≡ generations_after_all (generations_after_all g xs) ys
+pub generations_by_append : (xs ys : List HistoryEntry) (g : Generations)
+    → generations_after_all g (xs ++ ys) ≡ generations_after_all (generations_after_all g xs) ys
 generations_by_append [] ys g = refl
 generations_by_append (x ∷ xs) ys g = generations_by_append xs ys (generations_after g x.event x.carried x.reply)
 
 -- an entry that changes no pass
-silent : (p : PassState) (y : HistoryEntry) (os : List HistoryEntry) → pass_after p y.event y.reply ≡ p → (b : Bool) → pass_after_all p os ≡ pass_after_all p (if b then y ∷ os else os)
+silent : (p : PassState) (y : HistoryEntry) (os : List HistoryEntry) → pass_after p y.event y.reply ≡ p → (b : Bool)
+    → pass_after_all p os ≡ pass_after_all p (if b then y ∷ os else os)
 silent p y os is true = ap (λ q. pass_after_all q os) (sym is)
 silent p y os is false = refl
 
 -- an entry of the pass u
-moves : (ps : List PassState) (v : ℕ) (x : Carried) (r : ℕ) (os : List HistoryEntry) → v < length ps → (u : ℕ) (e : Event) → passes_after ps e r ≡ set ps u (pass_after (get_or ps u idle) e r) → actor_of e ≡ u + 1
-    → pass_after_all (pass_of (passes_after ps e r) (pass_id v)) os ≡ pass_after_all (pass_of ps (pass_id v)) (if eqb (actor_of e) (v + 1) then history_entry e x r ∷ os else os)
+moves : (ps : List PassState) (v : ℕ) (x : Carried) (r : ℕ) (os : List HistoryEntry) → v < length ps → (u : ℕ) (e : Event)
+    → passes_after ps e r ≡ set ps u (pass_after (get_or ps u idle) e r) → actor_of e ≡ u + 1
+    → pass_after_all (pass_of (passes_after ps e r) (pass_id v)) os
+    ≡ pass_after_all (pass_of ps (pass_id v)) (if eqb (actor_of e) (v + 1) then history_entry e x r ∷ os else os)
 moves ps v x r os near u e m b = rw (m, b) (dite (ℕ_discrete v u)
     (λ same. rw (eq-eqb (u + 1) (v + 1) (omega arith)) (ap (λ q. pass_after_all q os)
-    (subst (λ (k : ℕ). get_or (set ps u (pass_after (get_or ps u idle) e r)) k idle ≡ pass_after (get_or ps k idle) e r) (sym same) (get_or-set_same ps u (pass_after (get_or ps u idle) e r) idle (omega arith)))))
-    (λ other. rw (ne_eqb (u + 1) (v + 1) (λ q. other (omega arith))) (ap (λ q. pass_after_all q os) (get_or-set_other ps u v (pass_after (get_or ps u idle) e r) idle other))))
+    (subst (λ (k : ℕ). get_or (set ps u (pass_after (get_or ps u idle) e r)) k idle ≡ pass_after (get_or ps k idle) e r) (sym same)
+    (get_or-set_same ps u (pass_after (get_or ps u idle) e r) idle (omega arith)))))
+    (λ other. rw (ne_eqb (u + 1) (v + 1) (λ q. other (omega arith)))
+    (ap (λ q. pass_after_all q os) (get_or-set_other ps u v (pass_after (get_or ps u idle) e r) idle other))))
 
 steps_pass : (ps : List PassState) (v : ℕ) → v < length ps → (e : Event) (x : Carried) (r : ℕ) (os : List HistoryEntry)
-    → pass_after_all (pass_of (passes_after ps e r) (pass_id v)) os ≡ pass_after_all (pass_of ps (pass_id v)) (if eqb (actor_of e) (v + 1) then history_entry e x r ∷ os else os)
+    → pass_after_all (pass_of (passes_after ps e r) (pass_id v)) os
+    ≡ pass_after_all (pass_of ps (pass_id v)) (if eqb (actor_of e) (v + 1) then history_entry e x r ∷ os else os)
 steps_pass ps v near (events.Look u) x r os = moves ps v x r os near u.0 (events.Look u) refl refl
 steps_pass ps v near (events.Announce u) x r os = moves ps v x r os near u.0 (events.Announce u) refl refl
 steps_pass ps v near (events.Enter u) x r os = moves ps v x r os near u.0 (events.Enter u) refl refl
@@ -99,16 +111,20 @@ passes_stay ps (events.Config c) r = refl
 passes_stay ps events.Reap r = refl
 
 -- the pass v is what its own entries make
-pub pass_owns : (xs : List HistoryEntry) (s : Shared) (v : ℕ) → v < length s.passes → pass_of (after_shared_entries s xs).passes (pass_id v) ≡ pass_after_all (pass_of s.passes (pass_id v)) (own_entries (v + 1) xs)
+pub pass_owns : (xs : List HistoryEntry) (s : Shared) (v : ℕ) → v < length s.passes
+    → pass_of (after_shared_entries s xs).passes (pass_id v) ≡ pass_after_all (pass_of s.passes (pass_id v)) (own_entries (v + 1) xs)
 pass_owns [] s v near = refl
-pass_owns (x ∷ xs) s v near = pass_owns xs (after_shared_entry s x) v (subst (λ (k : ℕ). v < k) (sym (passes_stay s.passes x.event x.reply)) near) ∙ steps_pass s.passes v near x.event x.carried x.reply (own_entries (v + 1) xs)
+pass_owns (x ∷ xs) s v near = pass_owns xs (after_shared_entry s x) v (subst (λ (k : ℕ). v < k) (sym (passes_stay s.passes x.event x.reply)) near)
+    ∙ steps_pass s.passes v near x.event x.carried x.reply (own_entries (v + 1) xs)
 
 -- an entry that changes no generation
-still : (g : Generations) (y : HistoryEntry) (os : List HistoryEntry) → generations_after g y.event y.carried y.reply ≡ g → (b : Bool) → generations_after_all g os ≡ generations_after_all g (if b then y ∷ os else os)
+still : (g : Generations) (y : HistoryEntry) (os : List HistoryEntry) → generations_after g y.event y.carried y.reply ≡ g → (b : Bool)
+    → generations_after_all g os ≡ generations_after_all g (if b then y ∷ os else os)
 still g y os is true = ap (λ q. generations_after_all q os) (sym is)
 still g y os is false = refl
 
-steps_generations : (g : Generations) (e : Event) (x : Carried) (r : ℕ) (os : List HistoryEntry) → generations_after_all (generations_after g e x r) os ≡ generations_after_all g (if eqb (actor_of e) 0 then history_entry e x r ∷ os else os)
+steps_generations : (g : Generations) (e : Event) (x : Carried) (r : ℕ) (os : List HistoryEntry)
+    → generations_after_all (generations_after g e x r) os ≡ generations_after_all g (if eqb (actor_of e) 0 then history_entry e x r ∷ os else os)
 steps_generations g (events.Look u) x r os = still g (history_entry (events.Look u) x r) os refl _
 steps_generations g (events.Announce u) x r os = still g (history_entry (events.Announce u) x r) os refl _
 steps_generations g (events.Enter u) x r os = still g (history_entry (events.Enter u) x r) os refl _

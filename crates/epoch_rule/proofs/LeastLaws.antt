@@ -89,13 +89,15 @@ least_pass z xs legal some =
     }
 
 -- of what is stored of the passes
-pub swept_pass : (z : Sizes) (xs : List HistoryEntry) → IsLegal z xs → 0 < z.passes → (known : List Found) → known ≡ map stored (generations_in_seen z xs).passes → (low n : ℕ)
+pub swept_pass : (z : Sizes) (xs : List HistoryEntry) → IsLegal z xs → 0 < z.passes → (known : List Found)
+    → known ≡ map stored (generations_in_seen z xs).passes → (low n : ℕ)
     → low ≡ least_lowest (generations_in_seen z xs).current (generations_in_seen z xs).passes → n ≡ first_at low known
     → IsLeastPassAt (generations_in_seen z xs) low (pass_id n) × (n < z.passes)
 swept_pass z xs legal some known is low n low_is n_is =
     let g : Generations = generations_in_seen z xs in
     let k = least_pass z xs legal some in
-    let many : length g.passes ≡ z.passes = ap (λ (h : Generations). length h.passes) (sym (generations_own xs (shared_opening z.words z.passes))) ∙ (sound z.words z.passes xs legal).known in
+    let many : length g.passes ≡ z.passes = ap (λ (h : Generations). length h.passes) (sym (generations_own xs (shared_opening z.words z.passes)))
+    ∙ (sound z.words z.passes xs legal).known in
     let inside = k.inside in
     let at : n ≡ first_at (least_lowest g.current g.passes) (map stored g.passes) = n_is ∙ (λ i. first_at (low_is i) (is i)) in (
       subst (λ (y : ℕ × ℕ). IsLeastPassAt g y.0 (pass_id y.1)) (λ i. (sym low_is i, sym at i)) k,

@@ -23,7 +23,8 @@ use Rattle.mem_base.specs.machine.Passes.{idle}
 use Rattle.mem_base.specs.machine.Actors.{own_entries, actor_of, pass_after_all}
 use Rattle.epoch_rule.specs.Rule.{IsLegal, pass_seen, SeatKnows, IsRuled}
 use Rattle.epoch_rule.specs.Wrote.{longer}
-use Rattle.epoch_rule.specs.Plays.{note_view, spent_view, met_view, first_free, with_least_out, next_pass, taken_in, settles}
+use Rattle.epoch_rule.specs.Values.{first_free}
+use Rattle.epoch_rule.specs.Plays.{note_view, spent_view, met_view, with_least_out, next_pass, taken_in, settles}
 use Rattle.view_laws.proofs.Tests.{none_is_no_number, same_number}
 use Rattle.epoch_rule.proofs.HistoryLaws.{own_append, legal_start}
 
@@ -39,7 +40,8 @@ module _ {A : Type 0} where
   pub shorter_begins : (p q l : List A) → IsPrefix p l → IsPrefix q l → length p ≤ length q → IsPrefix p q
   shorter_begins [] q l h k le = (q, refl)
   shorter_begins (x ∷ p) [] l h k le = absurd (omega arith)
-  shorter_begins (x ∷ p) (y ∷ q) l h k le = let t = shorter_begins p q (tail l) (h.0, ap tail h.1) (k.0, ap tail k.1) (omega arith) in let e : x ≡ y = ap (head x) (h.1 ∙ sym k.1) in (t.0, λ i. e i ∷ t.1 i)
+  shorter_begins (x ∷ p) (y ∷ q) l h k le = let t = shorter_begins p q (tail l) (h.0, ap tail h.1) (k.0, ap tail k.1) (omega arith) in
+      let e : x ≡ y = ap (head x) (h.1 ∙ sym k.1) in (t.0, λ i. e i ∷ t.1 i)
 
   pub at_end : (l : List A) (a b : A) (j : ℕ) → get_elem? (l ++ a ∷ []) j ≡ some b → (get_elem? l j ≡ some b) ⊎ ((j ≡ length l) × (a ≡ b))
   at_end [] a b zero e = inr (refl, some-injective a b e)
@@ -52,15 +54,19 @@ module _ {A : Type 0} where
   nothing_after (x ∷ xs) ys e = absurd (omega (arith, ap length e))
 
 -- a longer beginning of the history has as many events of the actor
-pub squeezed : (a : ℕ) (xs ys log : List HistoryEntry) → IsPrefix xs ys → IsPrefix ys log → own_entries a xs ≡ own_entries a log → own_entries a ys ≡ own_entries a log
+pub squeezed : (a : ℕ) (xs ys log : List HistoryEntry) → IsPrefix xs ys → IsPrefix ys log → own_entries a xs ≡ own_entries a log
+    → own_entries a ys ≡ own_entries a log
 squeezed a xs ys log h k e =
     let inner : own_entries a xs ++ own_entries a h.0 ≡ own_entries a ys = sym (own_append a xs h.0) ∙ ap (own_entries a) h.1 in
     let outer : own_entries a ys ++ own_entries a k.0 ≡ own_entries a log = sym (own_append a ys k.0) ∙ ap (own_entries a) k.1 in
     let none_left : own_entries a k.0 ≡ [] = nothing_after (own_entries a h.0) (own_entries a k.0)
-    (append_cancel_left (own_entries a xs) (own_entries a h.0 ++ own_entries a k.0) [] (sym (append_assoc (own_entries a xs) (own_entries a h.0) (own_entries a k.0)) ∙ (ap (λ z. z ++ own_entries a k.0) inner ∙ (outer ∙ (sym e ∙ sym (append-nil (own_entries a xs))))))) in
+    (append_cancel_left (own_entries a xs) (own_entries a h.0 ++ own_entries a k.0) []
+    (sym (append_assoc (own_entries a xs) (own_entries a h.0) (own_entries a k.0))
+    ∙ (ap (λ z. z ++ own_entries a k.0) inner ∙ (outer ∙ (sym e ∙ sym (append-nil (own_entries a xs))))))) in
     sym (append-nil (own_entries a ys)) ∙ (ap (λ z. own_entries a ys ++ z) (sym none_left) ∙ outer)
 
-pub longer_cases : (P : List HistoryEntry → Type 0) (xs ys : List HistoryEntry) → (length xs < length ys → P ys) → (length ys ≤ length xs → P xs) → P (longer xs ys)
+pub longer_cases : (P : List HistoryEntry → Type 0) (xs ys : List HistoryEntry) → (length xs < length ys → P ys) → (length ys ≤ length xs → P xs)
+    → P (longer xs ys)
 longer_cases P xs ys one two = go (nat_lt (length xs) (length ys)) refl
   where
     go : (b : Bool) → nat_lt (length xs) (length ys) ≡ b → P (if b then ys else xs)
@@ -78,7 +84,8 @@ longer_begins xs ys log h k = longer_cases (λ z. IsPrefix z log) xs ys (λ l. k
 
 -- where the rest of the views stays
 there : (views : List View) (id other : ℕ) (both w : View) → ¬ (other ≡ id) → get_elem? (set views id both) other ≡ some w → get_elem? views other ≡ some w
-there views id other both w apart e = ⊎_elim (λ (t : (other ≡ id) × (both ≡ w)). absurd (apart t.0)) (λ (t : (other ≢ id) × (get_elem? views other ≡ some w)). t.1) (at_set views id other both w e)
+there views id other both w apart e = ⊎_elim (λ (t : (other ≡ id) × (both ≡ w)). absurd (apart t.0))
+    (λ (t : (other ≢ id) × (get_elem? views other ≡ some w)). t.1) (at_set views id other both w e)
 
 abbrev put : (ℕ → ℕ) → ℕ → ℕ → ℕ → ℕ
 put f a x b = if eqb b a then x else f b
@@ -99,11 +106,26 @@ set_free out f p b other = get_or-set_other out f p b false other
 
 module _ {S : Type 0} (Copy : ℕ → Generation → S → Type 0) (z : Sizes) where
   -- the rule where the views alone change
-  reseat : (s : State S View) (k : IsRuled Copy z s) (views' : List View) (owner : ℕ → ℕ) (out : List Bool) → ((p : ℕ) → get_or out p false ≡ false → pass_after_all idle (own_entries (p + 1) k.log) ≡ idle) → ((j : ℕ) (v : View) → get_elem? views' j ≡ some v → SeatKnows z k.log owner out k.held k.next j v)
+  reseat : (s : State S View) (k : IsRuled Copy z s) (views' : List View) (owner : ℕ → ℕ) (out : List Bool)
+      → ((p : ℕ) → get_or out p false ≡ false → pass_after_all idle (own_entries (p + 1) k.log) ≡ idle)
+      → ((j : ℕ) (v : View) → get_elem? views' j ≡ some v → SeatKnows z k.log owner out k.held k.next j v)
       → IsRuled Copy z record { words = s.words; homes = s.homes; views = views' }
-  reseat s k views' owner out rest seats = record { log = k.log; lawful = k.lawful; shown = k.shown; roomy = k.roomy; owner = owner; out = out; rest = rest; held = k.held; next = k.next; slots = k.slots; seats = seats }
+  reseat s k views' owner out rest seats = record {
+    log = k.log;
+    lawful = k.lawful;
+    shown = k.shown;
+    roomy = k.roomy;
+    owner = owner;
+    out = out;
+    rest = rest;
+    held = k.held;
+    next = k.next;
+    slots = k.slots;
+    seats = seats;
+  }
 
-  idles : (log : List HistoryEntry) (owner : ℕ → ℕ) (out : List Bool) (h : ℕ) (x : Picked) (j : ℕ) (v : View) → v.role ≡ None → IsPrefix v.seen log → IsPrefix v.was v.seen → IsPrefix v.told v.seen → SeatKnows z log owner out h x j v
+  idles : (log : List HistoryEntry) (owner : ℕ → ℕ) (out : List Bool) (h : ℕ) (x : Picked) (j : ℕ) (v : View) → v.role ≡ None → IsPrefix v.seen log
+      → IsPrefix v.was v.seen → IsPrefix v.told v.seen → SeatKnows z log owner out h x j v
   idles log owner out h x j v r b was told = record {
     knows = λ a is. absurd (none_is_no_number a (sym r ∙ is));
     begins = b;
@@ -121,10 +143,12 @@ module _ {S : Type 0} (Copy : ℕ → Generation → S → Type 0) (z : Sizes) w
   pub tells : (id : ℕ) (v : View) → Splits (IsRuled Copy z) id v v (note_view v)
   tells id v s k at = reseat s k (set s.views id v ++ note_view v ∷ []) k.owner k.out k.rest
       (λ j w e. ⊎_elim (λ t. k.seats j w (subst (λ l. get_elem? l j ≡ some w) (set_again s.views id v at) t))
-      (λ t. subst (λ (y : View). SeatKnows z k.log k.owner k.out k.held k.next j y) t (let f = k.seats id v at in idles k.log k.owner k.out k.held k.next j (note_view v) refl f.begins f.was f.told)) (at_snoc (set s.views id v) (note_view v) w j e))
+      (λ t. subst (λ (y : View). SeatKnows z k.log k.owner k.out k.held k.next j y) t (let f = k.seats id v at in
+      idles k.log k.owner k.out k.held k.next j (note_view v) refl f.begins f.was f.told)) (at_snoc (set s.views id v) (note_view v) w j e))
 
   -- a view that has met a note
-  merged : (log : List HistoryEntry) (owner : ℕ → ℕ) (out : List Bool) (h : ℕ) (x : Picked) (j : ℕ) (v w : View) → SeatKnows z log owner out h x j v → IsPrefix w.seen log → SeatKnows z log owner out h x j (met_view v w)
+  merged : (log : List HistoryEntry) (owner : ℕ → ℕ) (out : List Bool) (h : ℕ) (x : Picked) (j : ℕ) (v w : View) → SeatKnows z log owner out h x j v
+      → IsPrefix w.seen log → SeatKnows z log owner out h x j (met_view v w)
   merged log owner out h x j v w f g =
       let first = longer_first v.seen w.seen log f.begins g in
       let second = longer_second v.seen w.seen log f.begins g in
@@ -148,7 +172,8 @@ module _ {S : Type 0} (Copy : ℕ → Generation → S → Type 0) (z : Sizes) w
       let g = k.seats other w (there s.views id other (met_view v w) w apart e) in
       let both = merged k.log k.owner k.out k.held k.next id v w f g.begins in
       reseat s k (set (set s.views id (met_view v w)) other spent_view) k.owner k.out k.rest
-      (λ j u e'. ⊎_elim (λ (t : (j ≡ other) × (spent_view ≡ u)). subst (λ (y : View). SeatKnows z k.log k.owner k.out k.held k.next j y) t.1 (idles k.log k.owner k.out k.held k.next j spent_view refl (k.log, refl) ([], refl) ([], refl)))
+      (λ j u e'. ⊎_elim (λ (t : (j ≡ other) × (spent_view ≡ u)). subst (λ (y : View). SeatKnows z k.log k.owner k.out k.held k.next j y) t.1
+      (idles k.log k.owner k.out k.held k.next j spent_view refl (k.log, refl) ([], refl) ([], refl)))
       (λ (t : (j ≢ other) × (get_elem? (set s.views id (met_view v w)) j ≡ some u)). ⊎_elim
       (λ (q : (j ≡ id) × (met_view v w ≡ u)). subst (λ (y : ℕ × View). SeatKnows z k.log k.owner k.out k.held k.next y.0 y.1) (λ i. (sym q.0 i, q.1 i)) both)
       (λ (q : (j ≢ id) × (get_elem? s.views j ≡ some u)). k.seats j u q.1) (at_set s.views id j (met_view v w) u t.1))
@@ -164,8 +189,11 @@ module _ {S : Type 0} (Copy : ℕ → Generation → S → Type 0) (z : Sizes) w
       let now : get_or out' f false ≡ true = get_or-set_same k.out f true false (subst (λ (o : List Bool). f < length o) same room) in
       let vs : List View = set s.views id (with_least_out v) in
       let owner' : ℕ → ℕ = put k.owner (f + 1) (length vs) in
-      let rest : (p : ℕ) → get_or out' p false ≡ false → get_or k.out p false ≡ false = λ p l. dite (ℕ_discrete p f) (λ e. absurd (both_ways _ l (subst (λ (y : ℕ). get_or out' y false ≡ true) (sym e) now))) (λ ne. sym (set_free k.out f p true ne) ∙ l) in
-      let kept : (j : ℕ) (w : View) → SeatKnows z k.log k.owner k.out k.held k.next j w → (o : List Bool) → (w.role ≡ Some 0 → o ≡ out') → SeatKnows z k.log owner' out' k.held k.next j (record w { out = o }) = λ j w g o new. record {
+      let rest : (p : ℕ) → get_or out' p false ≡ false
+      → get_or k.out p false ≡ false = λ p l. dite (ℕ_discrete p f)
+      (λ e. absurd (both_ways _ l (subst (λ (y : ℕ). get_or out' y false ≡ true) (sym e) now))) (λ ne. sym (set_free k.out f p true ne) ∙ l) in
+      let kept : (j : ℕ) (w : View) → SeatKnows z k.log k.owner k.out k.held k.next j w → (o : List Bool) → (w.role ≡ Some 0 → o ≡ out')
+      → SeatKnows z k.log owner' out' k.held k.next j (record w { out = o }) = λ j w g o new. record {
         knows = g.knows;
         begins = g.begins;
         was = g.was;
@@ -181,16 +209,20 @@ module _ {S : Type 0} (Copy : ℕ → Generation → S → Type 0) (z : Sizes) w
       reseat s k (vs ++ next_pass v ∷ []) owner' out' (λ p l. k.rest p (rest p l))
       (λ j w e. ⊎_elim
       (λ t. ⊎_elim
-      (λ (q : (j ≡ id) × (with_least_out v ≡ w)). subst (λ (y : ℕ × View). SeatKnows z k.log owner' out' k.held k.next y.0 y.1) (λ i. (sym q.0 i, q.1 i)) (kept id v mine (set v.out f true) (λ _. ap (λ (o : List Bool). set o f true) same)))
-      (λ (q : (j ≢ id) × (get_elem? s.views j ≡ some w)). let g = k.seats j w q.1 in kept j w g w.out (λ is. absurd (q.0 (sym (g.sits 0 is) ∙ mine.sits 0 role))))
+      (λ (q : (j ≡ id) × (with_least_out v ≡ w)). subst (λ (y : ℕ × View). SeatKnows z k.log owner' out' k.held k.next y.0 y.1) (λ i. (sym q.0 i, q.1 i))
+      (kept id v mine (set v.out f true) (λ _. ap (λ (o : List Bool). set o f true) same)))
+      (λ (q : (j ≢ id) × (get_elem? s.views j ≡ some w)). let g = k.seats j w q.1 in
+      kept j w g w.out (λ is. absurd (q.0 (sym (g.sits 0 is) ∙ mine.sits 0 role))))
       (at_set s.views id j (with_least_out v) w t))
-      (λ (t : (j ≡ length vs) × (next_pass v ≡ w)). subst (λ (y : ℕ × View). SeatKnows z k.log owner' out' k.held k.next y.0 y.1) (λ i. (sym t.0 i, t.1 i)) record {
+      (λ (t : (j ≡ length vs) × (next_pass v ≡ w)). subst (λ (y : ℕ × View). SeatKnows z k.log owner' out' k.held k.next y.0 y.1)
+      (λ i. (sym t.0 i, t.1 i)) record {
         knows = λ a is. mine.knows 0 role;
         begins = mine.begins;
         was = prefix_refl v.seen;
         told = prefix_refl v.seen;
         quiet = λ a is. refl;
-        fresh = λ new p is. subst (λ (y : ℕ). pass_after_all idle (own_entries y v.seen) ≡ idle) (same_number (f + 1) (p + 1) is) (ap (pass_after_all idle) (mine.home role f was) ∙ k.rest f was);
+        fresh = λ new p is. subst (λ (y : ℕ). pass_after_all idle (own_entries y v.seen) ≡ idle) (same_number (f + 1) (p + 1) is)
+            (ap (pass_after_all idle) (mine.home role f was) ∙ k.rest f was);
         sits = λ a is. ap owner' (sym (same_number (f + 1) a is)) ∙ put_here k.owner (f + 1) (length vs);
         all = λ a is. subst (λ (y : ℕ). own_entries y v.seen ≡ own_entries y k.log) (same_number (f + 1) a is) (mine.home role f was);
         goes = λ p is. let e : f ≡ p = (let q = same_number (f + 1) (p + 1) is in omega arith) in subst (λ (y : ℕ). get_or out' y false ≡ true) e now;
@@ -199,7 +231,8 @@ module _ {S : Type 0} (Copy : ℕ → Generation → S → Type 0) (z : Sizes) w
       })
       (at_end vs (next_pass v) w j e))
 
-  pub takes_in : (id : ℕ) (v : View) (other : ℕ) (w : View) (p : ℕ) → v.role ≡ Some 0 → w.role ≡ Some (p + 1) → pass_seen p w ≡ idle → Joins (IsRuled Copy z) id v other w (taken_in v w) spent_view
+  pub takes_in : (id : ℕ) (v : View) (other : ℕ) (w : View) (p : ℕ) → v.role ≡ Some 0 → w.role ≡ Some (p + 1) → pass_seen p w ≡ idle
+      → Joins (IsRuled Copy z) id v other w (taken_in v w) spent_view
   takes_in id v other w p role pass still s k at apart e =
       let mine = k.seats id v at in
       let theirs = k.seats other w (there s.views id other (taken_in v w) w apart e) in
@@ -215,7 +248,8 @@ module _ {S : Type 0} (Copy : ℕ → Generation → S → Type 0) (z : Sizes) w
       (λ b l. dite (ℕ_discrete b p)
       (λ same. ap (λ (y : ℕ). pass_after_all idle (own_entries (y + 1) k.log)) same ∙ (ap (pass_after_all idle) (sym (theirs.all (p + 1) pass)) ∙ still))
       (λ ne. k.rest b (sym (set_free k.out m b false (λ x. ne (x ∙ is_p))) ∙ l)))
-      (λ j u e'. ⊎_elim (λ (t : (j ≡ other) × (spent_view ≡ u)). subst (λ (y : View). SeatKnows z k.log k.owner out' k.held k.next j y) t.1 (idles k.log k.owner out' k.held k.next j spent_view refl (k.log, refl) ([], refl) ([], refl)))
+      (λ j u e'. ⊎_elim (λ (t : (j ≡ other) × (spent_view ≡ u)). subst (λ (y : View). SeatKnows z k.log k.owner out' k.held k.next j y) t.1
+      (idles k.log k.owner out' k.held k.next j spent_view refl (k.log, refl) ([], refl) ([], refl)))
       (λ (t : (j ≢ other) × (get_elem? (set s.views id (taken_in v w)) j ≡ some u)). ⊎_elim
       (λ (q : (j ≡ id) × (taken_in v w ≡ u)). subst (λ (y : ℕ × View). SeatKnows z k.log k.owner out' k.held k.next y.0 y.1) (λ i. (sym q.0 i, q.1 i)) record {
         knows = met.knows;
@@ -241,7 +275,8 @@ module _ {S : Type 0} (Copy : ℕ → Generation → S → Type 0) (z : Sizes) w
         fresh = g.fresh;
         sits = g.sits;
         all = g.all;
-        goes = λ b is. set_free k.out m b false (λ x. t.0 (sym (g.sits (b + 1) is) ∙ (ap (λ (y : ℕ). k.owner (y + 1)) (x ∙ is_p) ∙ theirs.sits (p + 1) pass))) ∙ g.goes b is;
+        goes = λ b is. set_free k.out m b false (λ x. t.0 (sym (g.sits (b + 1) is) ∙ (ap (λ (y : ℕ). k.owner (y + 1)) (x ∙ is_p) ∙ theirs.sits (p + 1) pass)))
+            ∙ g.goes b is;
         counts = λ is. absurd (q.0 (sym (g.sits 0 is) ∙ mine.sits 0 role));
         home = λ is. absurd (q.0 (sym (g.sits 0 is) ∙ mine.sits 0 role));
       })
@@ -249,7 +284,8 @@ module _ {S : Type 0} (Copy : ℕ → Generation → S → Type 0) (z : Sizes) w
       (at_set (set s.views id (taken_in v w)) other j spent_view u e'))
 
   -- where no pass is out, the writer has seen the whole history
-  pub sees_whole : (s : State S View) (k : IsRuled Copy z s) (id : ℕ) (v : View) → get_elem? s.views id ≡ some v → v.role ≡ Some 0 → ((p : ℕ) → get_or v.out p false ≡ false) → v.seen ≡ k.log
+  pub sees_whole : (s : State S View) (k : IsRuled Copy z s) (id : ℕ) (v : View) → get_elem? s.views id ≡ some v → v.role ≡ Some 0
+      → ((p : ℕ) → get_or v.out p false ≡ false) → v.seen ≡ k.log
   sees_whole s k id v at role home =
       let f = k.seats id v at in
       let none_left : (a : ℕ) → own_entries a f.begins.0 ≡ [] = λ a. append_cancel_left (own_entries a v.seen) (own_entries a f.begins.0) []
@@ -258,7 +294,8 @@ module _ {S : Type 0} (Copy : ℕ → Generation → S → Type 0) (z : Sizes) w
     where
       all : (a : ℕ) → own_entries a v.seen ≡ own_entries a k.log
       all zero = (k.seats id v at).all 0 role
-      all (suc p) = subst (λ (y : ℕ). own_entries y v.seen ≡ own_entries y k.log) (omega arith) ((k.seats id v at).home role p (ap (λ (o : List Bool). get_or o p false) (sym ((k.seats id v at).counts role).0) ∙ home p))
+      all (suc p) = subst (λ (y : ℕ). own_entries y v.seen ≡ own_entries y k.log) (omega arith)
+          ((k.seats id v at).home role p (ap (λ (o : List Bool). get_or o p false) (sym ((k.seats id v at).counts role).0) ∙ home p))
 
       empty : (xs : List HistoryEntry) → ((a : ℕ) → own_entries a xs ≡ []) → xs ≡ []
       empty [] h = refl
@@ -275,7 +312,8 @@ module _ {S : Type 0} (Copy : ℕ → Generation → S → Type 0) (z : Sizes) w
         me.0,
         keeps,
         tt,
-        subst (λ (y : List ℕ × List View). IsRuled Copy z record { words = y.0; homes = s.homes; views = y.1 }) (λ j. (sym (set-get_or s.words i 0) j, sym (set_again s.views id me.0 at) j)) k,
+        subst (λ (y : List ℕ × List View). IsRuled Copy z record { words = y.0; homes = s.homes; views = y.1 })
+            (λ j. (sym (set-get_or s.words i 0) j, sym (set_again s.views id me.0 at) j)) k,
         (
           refl,
           λ a is. record {
@@ -284,7 +322,8 @@ module _ {S : Type 0} (Copy : ℕ → Generation → S → Type 0) (z : Sizes) w
             told = f.told;
             quiet = f.quiet a is;
             fresh = f.fresh;
-            lawful = subst (λ (y : Sizes). IsLegal y me.0.seen) (sym (f.knows a is)) (legal_start me.0.seen f.begins.0 (shared_opening z.words z.passes) (subst (IsSharedLegal z.words z.passes) (sym f.begins.1) k.lawful));
+            lawful = subst (λ (y : Sizes). IsLegal y me.0.seen) (sym (f.knows a is))
+                (legal_start me.0.seen f.begins.0 (shared_opening z.words z.passes) (subst (IsSharedLegal z.words z.passes) (sym f.begins.1) k.lawful));
           },
         ),
       )
@@ -294,7 +333,8 @@ module _ {S : Type 0} (Copy : ℕ → Generation → S → Type 0) (z : Sizes) w
     me.0,
     keeps,
     tt,
-    subst (λ (y : List ℕ × List View). IsRuled Copy z record { words = y.0; homes = s.homes; views = y.1 }) (λ j. (sym (set-get_or s.words i 0) j, sym (set_again s.views id me.0 at) j)) k,
+    subst (λ (y : List ℕ × List View). IsRuled Copy z record { words = y.0; homes = s.homes; views = y.1 })
+        (λ j. (sym (set-get_or s.words i 0) j, sym (set_again s.views id me.0 at) j)) k,
     refl,
   )
 

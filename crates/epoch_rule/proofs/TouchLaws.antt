@@ -139,15 +139,34 @@ pass_steps s v f ps p word (touches.Mark client page) k is kind may =
 pass_steps s v f ps p word (touches.Harvest client index) k is kind may = absurd kind.0
 
 -- the kind of a touch
-pub kinds : (hand : Hand) (p : Place) (word : ℕ) (touch : Touch) → IsTouch hand p word touch → TouchesWord (actor_of_hand hand) (event_of hand p word touch) p (touch_at (event_of hand p word touch) p)
+pub kinds : (hand : Hand) (p : Place) (word : ℕ) (touch : Touch) → IsTouch hand p word touch
+    → TouchesWord (actor_of_hand hand) (event_of hand p word touch) p (touch_at (event_of hand p word touch) p)
 kinds hand p word touches.Look k = record { mine = refl; is = refl; generations = λ g r. refl; passes = λ ps r. refl; published = λ gs. refl }
 kinds hand p word (touches.Step step) k = record { mine = refl; is = refl; generations = λ g r. refl; passes = λ ps r. refl; published = λ gs. refl }
-kinds hand p word (touches.Try old first bytes value) k = record { mine = refl; is = refl; generations = λ g r. refl; passes = λ ps r. refl; published = λ gs. refl }
+kinds hand p word (touches.Try old first bytes value) k = record {
+  mine = refl;
+  is = refl;
+  generations = λ g r. refl;
+  passes = λ ps r. refl;
+  published = λ gs. refl;
+}
 kinds hands.Writer p word touches.Fill k = record { mine = refl; is = refl; generations = λ g r. refl; passes = λ ps r. refl; published = λ gs. refl }
 kinds (hands.Pass v) p word touches.Fill k = absurd k
-kinds (hands.Pass v) p word (touches.Mark client page) k = record { mine = refl; is = refl; generations = λ g r. refl; passes = λ ps r. refl; published = λ gs. refl }
+kinds (hands.Pass v) p word (touches.Mark client page) k = record {
+  mine = refl;
+  is = refl;
+  generations = λ g r. refl;
+  passes = λ ps r. refl;
+  published = λ gs. refl;
+}
 kinds hands.Writer p word (touches.Mark client page) k = absurd k.0
-kinds hands.Writer p word (touches.Harvest client index) k = record { mine = refl; is = refl; generations = λ g r. refl; passes = λ ps r. refl; published = λ gs. refl }
+kinds hands.Writer p word (touches.Harvest client index) k = record {
+  mine = refl;
+  is = refl;
+  generations = λ g r. refl;
+  passes = λ ps r. refl;
+  published = λ gs. refl;
+}
 kinds (hands.Pass v) p word (touches.Harvest client index) k = absurd k.0
 
 pub word_is : (hand : Hand) (p : Place) (word : ℕ) (touch : Touch) → IsTouch hand p word touch → (touch_at (event_of hand p word touch) p).word ≡ p.start + word
@@ -160,61 +179,80 @@ word_is hand p word (touches.Harvest client index) k = ap (λ (n : ℕ). p.start
 
 -- a pass is ready
 
-entered_seen : {E : Type 0} (number : E → ℕ) (forest : E → Forest) (places : E → List Place) (z : Sizes) (log : List HistoryEntry) (p : ℕ) (v : View) (e : E) → IsLegal z log → p < z.passes → IsPrefix v.seen log → own_entries (p + 1) v.seen ≡ own_entries (p + 1) log
-    → IsEnteredIn number forest places p v e → entered_generation (state_of z log).generations (state_of z log).passes (pass_id p) ≡ Some (shown_by forest places e)
+entered_seen : {E : Type 0} (number : E → ℕ) (forest : E → Forest) (places : E → List Place) (z : Sizes) (log : List HistoryEntry) (p : ℕ) (v : View) (e : E)
+    → IsLegal z log → p < z.passes → IsPrefix v.seen log → own_entries (p + 1) v.seen ≡ own_entries (p + 1) log
+    → IsEnteredIn number forest places p v e → entered_generation (state_of z log).generations (state_of z log).passes (pass_id p)
+    ≡ Some (shown_by forest places e)
 entered_seen number forest places z log p v e l near begins same s =
-    let knows : pass_of (state_of z log).passes (pass_id p) ≡ pass_seen p v = pass_owns log (shared_opening z.words z.passes) p (subst (λ (m : ℕ). p < m) (sym (length-replicate z.passes idle)) near)
+    let knows : pass_of (state_of z log).passes (pass_id p) ≡ pass_seen p v =
+    pass_owns log (shared_opening z.words z.passes) p (subst (λ (m : ℕ). p < m) (sym (length-replicate z.passes idle)) near)
     ∙ (ap (λ h. pass_after_all h (own_entries (p + 1) log)) (get_or-replicate z.passes p idle idle near) ∙ ap (pass_after_all idle) (sym same)) in
     entered_is z log l p near (number e) (ap (λ (h : PassState). h.entered) knows ∙ s.entered)
     ∙ ap (λ (x : Generation). Some x) (generation_stays v.seen log begins (number e) s.published ∙ sym s.shows)
 
-pub ready_pass : {E : Type 0} (number : E → ℕ) (forest : E → Forest) (places : E → List Place) (z : Sizes) (p : ℕ) (v : View) (e : E) (at : Place) (word : ℕ) (touch : Touch) → IsEdition (forest e) (places e)
+pub ready_pass : {E : Type 0} (number : E → ℕ) (forest : E → Forest) (places : E → List Place) (z : Sizes) (p : ℕ) (v : View) (e : E) (at : Place) (word : ℕ)
+    (touch : Touch) → IsEdition (forest e) (places e)
     → v.role ≡ Some (p + 1) → p < z.passes → IsEnteredIn number forest places p v e → at.start + word < z.words
     → IsTouch (hands.Pass (pass_id p)) at word touch → PassMay (places e) at word touch → IsReady z v (hands.Pass (pass_id p)) at word touch
 ready_pass number forest places z p v e at word touch law role near s room kind may = record {
   kind = kinds (hands.Pass (pass_id p)) at word touch kind;
   role = role;
   inside = subst (λ (n : ℕ). n < z.words) (sym (word_is (hands.Pass (pass_id p)) at word touch kind)) room;
-  may = λ log same l begins own_same. pass_steps (state_of z log) p (forest e) (places e) at word touch law (entered_seen number forest places z log p v e l near begins own_same s) kind may;
+  may = λ log same l begins own_same. pass_steps (state_of z log) p (forest e) (places e) at word touch law
+      (entered_seen number forest places z log p v e l near begins own_same s) kind may;
 }
 
 -- the writer is ready
 
-writer_steps : (s : Shared) (p : Place) (word : ℕ) (touch : Touch) → IsTouch hands.Writer p word touch → word < p.words → past p ≤ length s.words → shared_possible s (event_of hands.Writer p word touch) (At p) ≡ true
+writer_steps : (s : Shared) (p : Place) (word : ℕ) (touch : Touch) → IsTouch hands.Writer p word touch → word < p.words → past p ≤ length s.words
+    → shared_possible s (event_of hands.Writer p word touch) (At p) ≡ true
 writer_steps s p word touches.Look kind l m = both _ _ (itself p.region.0) (both _ _ (lt-ltb _ _ l) (le-leb _ _ m))
 writer_steps s p word (touches.Step step) kind l m = both _ _ (itself p.region.0) (both _ _ (lt-ltb _ _ l) (le-leb _ _ m))
 writer_steps s p word (touches.Try old first bytes value) kind l m = both _ _ (itself p.region.0) (both _ _ (lt-ltb _ _ l) (le-leb _ _ m))
 writer_steps s p word touches.Fill kind l m = both _ _ (itself p.region.0) (both _ _ (lt-ltb _ _ l) (le-leb _ _ m))
 writer_steps s p word (touches.Mark client page) kind l m = absurd kind.0
-writer_steps s p word (touches.Harvest client index) kind l m = both _ _ (itself p.region.0) (both _ _ (lt-ltb _ _ (subst (λ (n : ℕ). n < p.words) kind.1 l)) (le-leb _ _ m))
+writer_steps s p word (touches.Harvest client index) kind l m =
+    both _ _ (itself p.region.0) (both _ _ (lt-ltb _ _ (subst (λ (n : ℕ). n < p.words) kind.1 l)) (le-leb _ _ m))
 
-pub ready_writer : (z : Sizes) (v : View) (at : Place) (word : ℕ) (touch : Touch) → v.role ≡ Some 0 → IsTouch hands.Writer at word touch → WriterMay z at word → IsReady z v hands.Writer at word touch
+pub ready_writer : (z : Sizes) (v : View) (at : Place) (word : ℕ) (touch : Touch) → v.role ≡ Some 0 → IsTouch hands.Writer at word touch → WriterMay z at word
+    → IsReady z v hands.Writer at word touch
 ready_writer z v at word touch role kind may = record {
   kind = kinds hands.Writer at word touch kind;
   role = role;
   inside = subst (λ (n : ℕ). n < z.words) (sym (word_is hands.Writer at word touch kind)) (let a = may.0 in let b = may.1 in omega arith);
-  may = λ log same l begins own_same. let ok = sound z.words z.passes log l in writer_steps (state_of z log) at word touch kind may.0 (let a = may.1 in let w = ok.wide in omega arith);
+  may = λ log same l begins own_same. let ok = sound z.words z.passes log l in
+      writer_steps (state_of z log) at word touch kind may.0 (let a = may.1 in let w = ok.wide in omega arith);
 }
 
 -- what a touch told, as the caller sees it
 
-wrote : (hand : Hand) (v : View) (e : Event) (p : Place) (r : ℕ) (w : View) → actor_of e ≡ actor_of_hand hand → ComesNext (actor_of_hand hand) v e (At p) r w → Wrote hand v.sizes v.seen (history_entry e (At p) r ∷ []) w.seen
-wrote hand v e p r w mine h = record { begins = begins_added (actor_of_hand hand) v e (At p) r w h; lawful = h.lawful; events = own_added (actor_of_hand hand) v e (At p) r w mine h; ends = ends_added (actor_of_hand hand) v e (At p) r w h [] }
+wrote : (hand : Hand) (v : View) (e : Event) (p : Place) (r : ℕ) (w : View) → actor_of e ≡ actor_of_hand hand → ComesNext (actor_of_hand hand) v e (At p) r w
+    → Wrote hand v.sizes v.seen (history_entry e (At p) r ∷ []) w.seen
+wrote hand v e p r w mine h = record {
+  begins = begins_added (actor_of_hand hand) v e (At p) r w h;
+  lawful = h.lawful;
+  events = own_added (actor_of_hand hand) v e (At p) r w mine h;
+  ends = ends_added (actor_of_hand hand) v e (At p) r w h [];
+}
 
-shown_step : (hand : Hand) (p : Place) (word : ℕ) (s : WordStep) (v : View) (r : ℕ) (w : View) → ToldStep hand p word s v r w → ShowsStep hand v.sizes p word s v.seen r w.seen
+shown_step : (hand : Hand) (p : Place) (word : ℕ) (s : WordStep) (v : View) (r : ℕ) (w : View) → ToldStep hand p word s v r w
+    → ShowsStep hand v.sizes p word s v.seen r w.seen
 shown_step hand p word steps.Load v r w h = wrote hand v _ p r w refl h
 shown_step hand p word (steps.Replace first bytes value) v r w h = (h.0, (h.1.0, wrote hand v _ p h.1.0 w refl h.1.1))
 shown_step hand p word steps.AddOne v r w h = wrote hand v _ p r w refl h
 shown_step hand p word (steps.Or bits) v r w h = wrote hand v _ p r w refl h
 shown_step hand p word steps.Take v r w h = wrote hand v _ p r w refl h
 
-pub shown : (hand : Hand) (p : Place) (word : ℕ) (touch : Touch) (v : View) (r : ℕ) (w : View) → IsTouch hand p word touch → Told hand p word touch v r w → ShowsTouch hand v.sizes p word touch v.seen r w.seen
+pub shown : (hand : Hand) (p : Place) (word : ℕ) (touch : Touch) (v : View) (r : ℕ) (w : View) → IsTouch hand p word touch → Told hand p word touch v r w
+    → ShowsTouch hand v.sizes p word touch v.seen r w.seen
 shown hand p word touches.Look v r w k h = ap (λ (x : View). x.seen) h
 shown hand p word (touches.Step step) v r w k h = shown_step hand p word step v r w h
 shown hand p word (touches.Try old first bytes value) v r w k h = go (eqb r old) h
   where
-    go : (b : Bool) → MatchBool b (ComesNext (actor_of_hand hand) v (events.Word hand (cell p.region word) (steps.Replace first bytes value)) (At p) r w) (w ≡ v)
-        → MatchBool b (Wrote hand v.sizes v.seen (history_entry (events.Word hand (cell p.region word) (steps.Replace first bytes value)) (At p) r ∷ []) w.seen) (w.seen ≡ v.seen)
+    go : (b : Bool) → MatchBool b (ComesNext (actor_of_hand hand) v (events.Word hand (cell p.region word) (steps.Replace first bytes value)) (At p) r w)
+        (w ≡ v)
+        → MatchBool b (Wrote hand v.sizes v.seen (history_entry (events.Word hand (cell p.region word) (steps.Replace first bytes value))
+        (At p) r ∷ []) w.seen) (w.seen ≡ v.seen)
     go true h = wrote hand v _ p r w refl h
     go false h = ap (λ (x : View). x.seen) h
 shown hands.Writer p word touches.Fill v r w k h = (h.0, wrote hands.Writer v _ p 0 w refl h.1)
@@ -237,7 +275,8 @@ told_either hand p word (touches.Step (steps.Or bits)) v r w k h = inr (r, h)
 told_either hand p word (touches.Step steps.Take) v r w k h = inr (r, h)
 told_either hand p word (touches.Try old first bytes value) v r w k h = go (eqb r old) h
   where
-    go : (b : Bool) → MatchBool b (ComesNext (actor_of_hand hand) v (events.Word hand (cell p.region word) (steps.Replace first bytes value)) (At p) r w) (w ≡ v)
+    go : (b : Bool) → MatchBool b (ComesNext (actor_of_hand hand) v (events.Word hand (cell p.region word) (steps.Replace first bytes value)) (At p) r w)
+        (w ≡ v)
         → (w ≡ v) ⊎ ((q : ℕ) × ComesNext (actor_of_hand hand) v (events.Word hand (cell p.region word) (steps.Replace first bytes value)) (At p) q w)
     go true h = inr (r, h)
     go false h = inl h
@@ -255,11 +294,24 @@ pub record Kept (v w : View) : Type 0 where
   pub begins : IsPrefix v.seen w.seen
   pub lawful : IsLegal v.sizes v.seen → IsLegal w.sizes w.seen
 
-pub kept : (hand : Hand) (p : Place) (word : ℕ) (touch : Touch) (v : View) (r : ℕ) (w : View) → IsTouch hand p word touch → Told hand p word touch v r w → Kept v w
+pub kept : (hand : Hand) (p : Place) (word : ℕ) (touch : Touch) (v : View) (r : ℕ) (w : View) → IsTouch hand p word touch → Told hand p word touch v r w
+    → Kept v w
 kept hand p word touch v r w k h = ⊎_elim
-    (λ (e : w ≡ v). record { role = ap (λ (x : View). x.role) e; out = ap (λ (x : View). x.out) e; sizes = ap (λ (x : View). x.sizes) e; begins = ([], append-nil v.seen ∙ ap (λ (x : View). x.seen) (sym e)); lawful = λ l. subst (λ (x : View). IsLegal x.sizes x.seen) (sym e) l })
+    (λ (e : w ≡ v). record {
+      role = ap (λ (x : View). x.role) e;
+      out = ap (λ (x : View). x.out) e;
+      sizes = ap (λ (x : View). x.sizes) e;
+      begins = ([], append-nil v.seen ∙ ap (λ (x : View). x.seen) (sym e));
+      lawful = λ l. subst (λ (x : View). IsLegal x.sizes x.seen) (sym e) l;
+    })
     (λ (t : (q : ℕ) × ComesNext (actor_of_hand hand) v (event_of hand p word touch) (At p) q w). let a = t.1 in
-    record { role = a.role; out = a.out; sizes = a.sizes; begins = begins_added (actor_of_hand hand) v (event_of hand p word touch) (At p) t.0 w a; lawful = λ l. subst (λ (z : Sizes). IsLegal z w.seen) (sym a.sizes) a.lawful })
+    record {
+      role = a.role;
+      out = a.out;
+      sizes = a.sizes;
+      begins = begins_added (actor_of_hand hand) v (event_of hand p word touch) (At p) t.0 w a;
+      lawful = λ l. subst (λ (z : Sizes). IsLegal z w.seen) (sym a.sizes) a.lawful;
+    })
     (told_either hand p word touch v r w k h)
 
 still_pass : (hand : Hand) (p : Place) (word : ℕ) (touch : Touch) (s : PassState) (q : ℕ) → pass_after s (event_of hand p word touch) q ≡ s
@@ -270,14 +322,16 @@ still_pass hand p word touches.Fill s q = refl
 still_pass hand p word (touches.Mark client page) s q = refl
 still_pass hand p word (touches.Harvest client index) s q = refl
 
-pub pass_kept : (u : ℕ) (p : Place) (word : ℕ) (touch : Touch) (v : View) (r : ℕ) (w : View) → IsTouch (hands.Pass (pass_id u)) p word touch → Told (hands.Pass (pass_id u)) p word touch v r w → pass_seen u w ≡ pass_seen u v
+pub pass_kept : (u : ℕ) (p : Place) (word : ℕ) (touch : Touch) (v : View) (r : ℕ) (w : View) → IsTouch (hands.Pass (pass_id u)) p word touch
+    → Told (hands.Pass (pass_id u)) p word touch v r w → pass_seen u w ≡ pass_seen u v
 pass_kept u p word touch v r w k h = let hand : Hand = hands.Pass (pass_id u) in ⊎_elim
     (λ (e : w ≡ v). ap (pass_seen u) e)
     (λ (t : (q : ℕ) × ComesNext (u + 1) v (event_of hand p word touch) (At p) q w).
     pass_added u v (event_of hand p word touch) (At p) t.0 w (kinds hand p word touch k).mine t.1 ∙ still_pass hand p word touch (pass_seen u v) t.0)
     (told_either hand p word touch v r w k h)
 
-pub generations_kept : (p : Place) (word : ℕ) (touch : Touch) (v : View) (r : ℕ) (w : View) → IsTouch hands.Writer p word touch → Told hands.Writer p word touch v r w → generations_seen w ≡ generations_seen v
+pub generations_kept : (p : Place) (word : ℕ) (touch : Touch) (v : View) (r : ℕ) (w : View) → IsTouch hands.Writer p word touch
+    → Told hands.Writer p word touch v r w → generations_seen w ≡ generations_seen v
 generations_kept p word touch v r w k h = let kind = kinds hands.Writer p word touch k in ⊎_elim
     (λ (e : w ≡ v). ap generations_seen e)
     (λ (t : (q : ℕ) × ComesNext 0 v (event_of hands.Writer p word touch) (At p) q w).
@@ -285,7 +339,8 @@ generations_kept p word touch v r w k h = let kind = kinds hands.Writer p word t
     (told_either hands.Writer p word touch v r w k h)
 
 -- the writer's seat after a step that changes no generation
-pub writing_kept : {S : Type 0} (t t' : TableId) (me new : Me S View) (current : ℕ) (known : List Found) (out : List Bool) → t' ≡ t → new.1 ≡ me.1 → KeepsSlot me.0 new.0 → Kept me.0 new.0 → generations_seen new.0 ≡ generations_seen me.0
+pub writing_kept : {S : Type 0} (t t' : TableId) (me new : Me S View) (current : ℕ) (known : List Found) (out : List Bool) → t' ≡ t → new.1 ≡ me.1
+    → KeepsSlot me.0 new.0 → Kept me.0 new.0 → generations_seen new.0 ≡ generations_seen me.0
     → IsWriting t me current known out → IsWriting t' new current known out
 writing_kept t t' me new current known out table bare holds k same w = record {
   role = k.role ∙ w.role;

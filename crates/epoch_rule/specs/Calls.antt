@@ -64,7 +64,8 @@ pub record HasSwept (v w : View) (known : List Found) (n : ℕ) : Type 0 where
 -- the least pass that holds a publish up
 abbrev pub held_in : ℕ → ℕ → List Found → Option Held
 held_in current first [] = None
-held_in current first (f ∷ fs) = if holds_up current (number_pinned f.word) then Some (record { pass = pass_id first; number = f.word - 1 }) else held_in current (first + 1) fs
+held_in current first (f ∷ fs) = if holds_up current (number_pinned f.word) then Some
+    (record { pass = pass_id first; number = f.word - 1 }) else held_in current (first + 1) fs
 
 -- copies of one edition
 abbrev pub AreCopies : {E Z : Type 0} → (E → ℕ) → (E → Forest) → (E → List Place) → ℕ → Picked → List (Arc E Z) → Type 0
@@ -82,11 +83,14 @@ refusal_of h = refusals.Held h.pass h.number
 
 -- a publish was made: a sweep of each pass, none of which held it up, a copy for each, and then the Publish
 abbrev pub Published : Sizes → List HistoryEntry → Carried → ℕ → List HistoryEntry → Type 0
-Published z xs x number ys = (rs : List ℕ) × (length rs ≡ z.passes) × Wrote hands.Writer z xs (sweeps_of 0 rs ++ places_of z.passes ++ history_entry events.Publish x number ∷ []) ys × (held_up (generations_after_all (generations_in_seen z xs) (sweeps_of 0 rs)) ≡ None)
+Published z xs x number ys = (rs : List ℕ) × (length rs ≡ z.passes)
+    × Wrote hands.Writer z xs (sweeps_of 0 rs ++ places_of z.passes ++ history_entry events.Publish x number ∷ []) ys
+    × (held_up (generations_after_all (generations_in_seen z xs) (sweeps_of 0 rs)) ≡ None)
 
 -- it was held up: a sweep of each pass, and this is the least one that was found at the current number less 7 or older
 abbrev pub HeldUp : Sizes → List HistoryEntry → Held → List HistoryEntry → Type 0
-HeldUp z xs h ys = (rs : List ℕ) × (length rs ≡ z.passes) × Wrote hands.Writer z xs (sweeps_of 0 rs) ys × (held_up (generations_in_seen z ys) ≡ Some (refusal_of h))
+HeldUp z xs h ys = (rs : List ℕ) × (length rs ≡ z.passes) × Wrote hands.Writer z xs (sweeps_of 0 rs) ys
+    × (held_up (generations_in_seen z ys) ≡ Some (refusal_of h))
 
 -- the pass is the least one that has this lowest number
 pub record IsLeastPassAt (g : Generations) (lowest : ℕ) (pass : PassId) : Type 0 where

@@ -13,4 +13,5 @@ use Rattle.epoch_rule.specs.Copies.{IsCopy}
 
 -- this is the whole history of the cabinet: the one that the rule says there is, of the table at its end
 abbrev pub IsWholeHistory : {E : Type 0} → (E → ℕ) → (E → Forest) → (E → List Place) → Sizes → List HistoryEntry → Type 0
-IsWholeHistory {E} number forest places z xs = (s : State (Option (Arc E Global)) View) × (k : IsRuled (IsCopy {E = E} {Z = Global} number forest places) z s) × (xs ≡ k.log)
+IsWholeHistory {E} number forest places z xs = (s : State (Option (Arc E Global)) View) × (k : IsRuled (IsCopy {E = E} {Z = Global} number forest places) z s)
+    × (xs ≡ k.log)

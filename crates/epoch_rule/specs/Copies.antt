@@ -42,7 +42,8 @@ pub record IsEnteredIn {E : Type 0} (number : E → ℕ) (forest : E → Forest)
 -- a pass that is entered has its edition, out of its slot; one that is not is idle, and holds no slot
 abbrev pub HasItsEdition : {E Z : Type 0} → (E → ℕ) → (E → Forest) → (E → List Place) → ℕ → Me (Option (Arc E Z)) View → Option (Arc E Z) → Type 0
 HasItsEdition number forest places p me None = (pass_seen p me.0 ≡ idle) × (me.1 ≡ [])
-HasItsEdition number forest places p me (Some a) = IsEnteredIn number forest places p me.0 (arc_value a) × (me.1 ≡ (8 * p + number (arc_value a) % 8, None) ∷ [])
+HasItsEdition number forest places p me (Some a) = IsEnteredIn number forest places p me.0 (arc_value a)
+    × (me.1 ≡ (8 * p + number (arc_value a) % 8, None) ∷ [])
 
 -- what a publish shows of an edition
 abbrev pub picked : {E : Type 0} → (E → Forest) → (E → List Place) → E → Picked
@@ -54,6 +55,8 @@ value_in None = None
 value_in (Some a) = Some (arc_value a)
 
 -- the writer has given the slot back, with a copy of the edition whose forest and places it publishes
-abbrev pub placed_as : {E Z : Type 0} → (E → Forest) → (E → List Place) → Step (Option (Arc E Z)) → Me (Option (Arc E Z)) View → ℕ → Me (Option (Arc E Z)) View → Type 0
-placed_as {E} {Z} forest places st m r w = (i : ℕ) (a : Arc E Z) → m.1 ≡ (i, Some a) ∷ [] → (w.1 ≡ []) × (w.0.held ≡ 0) × (w.0.next ≡ picked forest places (arc_value a))
+abbrev pub placed_as : {E Z : Type 0} → (E → Forest) → (E → List Place) → Step (Option (Arc E Z)) → Me (Option (Arc E Z)) View → ℕ
+    → Me (Option (Arc E Z)) View → Type 0
+placed_as {E} {Z} forest places st m r w = (i : ℕ) (a : Arc E Z) → m.1 ≡ (i, Some a) ∷ [] → (w.1 ≡ []) × (w.0.held ≡ 0)
+    × (w.0.next ≡ picked forest places (arc_value a))
     × ((p : ℕ) → st.word ≡ p + 1 → ComesNext 0 m.0 (events.Place (pass_id p)) Nothing 0 w.0)

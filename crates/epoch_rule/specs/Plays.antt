@@ -14,13 +14,15 @@ use Rattle.epoch_rule.specs.declared.views.Picked.{Picked}
 use Rattle.epoch_rule.specs.declared.views.View.{View}
 use Rattle.mem_base.specs.machine.Passes.{pass_id}
 use Rattle.mem_base.specs.machine.Actors.{own_entries, generation_published}
+use Rattle.epoch_rule.specs.Values.{first_free}
 use Rattle.epoch_rule.specs.Wrote.{longer}
 use Rattle.epoch_rule.specs.Rule.{IsLegal, carried_pick, generations_seen, pass_seen, PlacesFit, ComesNext, KeepsSlot}
 
 module _ {S : Type 0} (Copy : ℕ → Generation → S → Type 0) where
   -- the pass looked at the current number
   abbrev pub looks : Step S → Me S View → ℕ → Me S View → Type 0
-  looks st m r w = (w.1 ≡ m.1) × (r + 1 < 18446744073709551616) × ((p : ℕ) → m.0.role ≡ Some (p + 1) → ComesNext (p + 1) m.0 (events.Look (pass_id p)) Nothing r w.0)
+  looks st m r w = (w.1 ≡ m.1) × (r + 1 < 18446744073709551616)
+      × ((p : ℕ) → m.0.role ≡ Some (p + 1) → ComesNext (p + 1) m.0 (events.Look (pass_id p)) Nothing r w.0)
 
   -- the pass announced the number that it looked at
   abbrev pub announces : Step S → Me S View → ℕ → Me S View → Type 0
@@ -46,7 +48,8 @@ module _ {S : Type 0} (Copy : ℕ → Generation → S → Type 0) where
 
   -- the writer has given it back, with a copy of the next generation in it
   abbrev pub places : Picked → Step S → Me S View → ℕ → Me S View → Type 0
-  places next st m r w = (w.1 ≡ []) × (w.0.held ≡ 0) × (w.0.next ≡ next) × ((p : ℕ) → st.word ≡ p + 1 → ComesNext 0 m.0 (events.Place (pass_id p)) Nothing 0 w.0)
+  places next st m r w = (w.1 ≡ []) × (w.0.held ≡ 0) × (w.0.next ≡ next)
+      × ((p : ℕ) → st.word ≡ p + 1 → ComesNext 0 m.0 (events.Place (pass_id p)) Nothing 0 w.0)
 
   -- the next generation is the current one
   abbrev pub publishes : Step S → Me S View → ℕ → Me S View → Type 0
@@ -57,17 +60,21 @@ abbrev pub note_view : View → View
 note_view v = record v { role = None }
 
 abbrev pub spent_view : View
-spent_view = record { sizes = record { passes = 0; words = 0 }; role = None; seen = []; was = []; told = []; fresh = false; out = []; held = 0; next = record { forest = empty; places = [] } }
+spent_view = record {
+  sizes = record { passes = 0; words = 0 };
+  role = None;
+  seen = [];
+  was = [];
+  told = [];
+  fresh = false;
+  out = [];
+  held = 0;
+  next = record { forest = empty; places = [] };
+}
 
 -- the view of a seat that met a note: what it has seen is the longer one
 abbrev pub met_view : View → View → View
 met_view v w = record v { seen = longer v.seen w.seen; was = v.seen; told = w.seen; fresh = false }
-
--- the least pass that is not out
-abbrev pub first_free : List Bool → ℕ
-first_free [] = 0
-first_free (true ∷ bs) = suc (first_free bs)
-first_free (false ∷ bs) = 0
 
 -- the writer's view after it handed out the least pass that is not out, and that pass's view
 abbrev pub with_least_out : View → View
@@ -82,7 +89,17 @@ taken_in v w = record (met_view v w) { out = slice_set v.out (unwrap_or w.role 0
 
 -- the first seat's view
 abbrev pub first_view : Sizes → View
-first_view z = record { sizes = z; role = Some 0; seen = []; was = []; told = []; fresh = false; out = replicate z.passes false; held = 0; next = record { forest = empty; places = [] } }
+first_view z = record {
+  sizes = z;
+  role = Some 0;
+  seen = [];
+  was = [];
+  told = [];
+  fresh = false;
+  out = replicate z.passes false;
+  held = 0;
+  next = record { forest = empty; places = [] };
+}
 
 -- After a load that shows no event: what was seen begins with what had been seen, and with what was told, when a note was
 -- met; and a pass that was just handed out is idle

@@ -67,7 +67,8 @@ module _ {S : Type 0} where
 
   -- What the slots of pass v contain. The current number is c, the generations `gs` were published, the pass is entered
   -- in `inside`, and the writer holds a slot of pass `held - 1` for the generation `next`, or none where `held` is 0
-  pub record PassSlots (Copy : ℕ → Generation → S → Type 0) (c : ℕ) (gs : List Generation) (k : PassTrack) (inside : Option ℕ) (held : ℕ) (next : Generation) (homes : List (maybe.Option S)) (v : ℕ) : Type 0 where
+  pub record PassSlots (Copy : ℕ → Generation → S → Type 0) (c : ℕ) (gs : List Generation) (k : PassTrack) (inside : Option ℕ) (held : ℕ) (next : Generation)
+      (homes : List (maybe.Option S)) (v : ℕ) : Type 0 where
     -- each generation that the pass may still use is in its slot, but for the one that it is entered in
     pub kept : (g : ℕ) → k.lowest ≤ g → g ≤ c → inside ≢ Some g → HasAt homes (8 * v + g % 8) (Copy g (slice_index_or gs g first_generation))
     -- the next generation is in its slot where the pass has its copy
@@ -78,9 +79,11 @@ module _ {S : Type 0} where
     pub clear : held ≡ v + 1 → (c ≤ k.lowest + 6) × (k.placed ≡ false)
 
   abbrev pub SlotsOfPass : (ℕ → Generation → S → Type 0) → Shared → List Generation → ℕ → Generation → List (maybe.Option S) → ℕ → Type 0
-  SlotsOfPass Copy s gs held next homes v = PassSlots Copy s.generations.current gs (known_of s.generations (pass_id v)) (pass_of s.passes (pass_id v)).entered held next homes v
+  SlotsOfPass Copy s gs held next homes v = PassSlots Copy s.generations.current gs (known_of s.generations (pass_id v))
+      (pass_of s.passes (pass_id v)).entered held next homes v
 
-  pub record AllSlots (Copy : ℕ → Generation → S → Type 0) (n : ℕ) (s : Shared) (gs : List Generation) (held : ℕ) (next : Generation) (homes : List (maybe.Option S)) : Type 0 where
+  pub record AllSlots (Copy : ℕ → Generation → S → Type 0) (n : ℕ) (s : Shared) (gs : List Generation) (held : ℕ) (next : Generation)
+      (homes : List (maybe.Option S)) : Type 0 where
     pub deep : length homes ≡ 8 * n
     pub each : (v : ℕ) → v < n → SlotsOfPass Copy s gs held next homes v
 

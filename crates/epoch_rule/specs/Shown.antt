@@ -17,7 +17,7 @@ use Rattle.epoch_rule.specs.declared.touches.Touch.{Touch}
 use Rattle.epoch_rule.specs.declared.touches.Touch.TheVariants as touches
 use Rattle.mem_base.specs.machine.Turns.{history_entry}
 use Rattle.mem_base.specs.machine.Actors.{own_entries, actor_of_hand}
-use Rattle.epoch_rule.specs.Wrote.{Wrote}
+use Rattle.epoch_rule.specs.Wrote.{Wrote, WroteStep}
 use Rattle.epoch_rule.specs.Touches.{pass_of_hand}
 
 -- what a pass may touch: a word of the data, a register or a notifier, or for a Mark a page of the place
@@ -40,15 +40,16 @@ WriterMay z p word = (word < p.words) × (past p ≤ z.words)
 -- what a step on a word shows: its event, with its place and the reply that stands in the history, which is the answer,
 -- or 0 where it is a store
 abbrev pub ShowsStep : Hand → Sizes → Place → ℕ → WordStep → List HistoryEntry → ℕ → List HistoryEntry → Type 0
-ShowsStep hand z p word (Replace first bytes value) xs r ys = (r ≡ 0) × ((old : ℕ) × Wrote hand z xs (history_entry (events.Word hand (cell p.region word) (Replace first bytes value)) (At p) old ∷ []) ys)
-ShowsStep hand z p word s xs r ys = Wrote hand z xs (history_entry (events.Word hand (cell p.region word) s) (At p) r ∷ []) ys
+ShowsStep hand z p word (Replace first bytes value) xs r ys = (r ≡ 0) × ((old : ℕ) × WroteStep hand z p word (Replace first bytes value) old xs ys)
+ShowsStep hand z p word s xs r ys = WroteStep hand z p word s r xs ys
 
 -- what a touch shows: a Look nothing, a Try its event only where it found `old`, and any other its event
 abbrev pub ShowsTouch : Hand → Sizes → Place → ℕ → Touch → List HistoryEntry → ℕ → List HistoryEntry → Type 0
 ShowsTouch hand z p word touches.Look xs r ys = ys ≡ xs
 ShowsTouch hand z p word (touches.Step step) xs r ys = ShowsStep hand z p word step xs r ys
 ShowsTouch hand z p word (touches.Try old first bytes value) xs r ys =
-    MatchBool (r == old) (Wrote hand z xs (history_entry (events.Word hand (cell p.region word) (Replace first bytes value)) (At p) r ∷ []) ys) (ys ≡ xs)
+    MatchBool (r == old) (WroteStep hand z p word (Replace first bytes value) r xs ys) (ys ≡ xs)
 ShowsTouch hand z p word touches.Fill xs r ys = (r ≡ 0) × Wrote hand z xs (history_entry (events.Fill (cell p.region word)) (At p) 0 ∷ []) ys
-ShowsTouch hand z p word (touches.Mark client page) xs r ys = Wrote hand z xs (history_entry (events.Mark (pass_of_hand hand) p.region client page) (At p) 0 ∷ []) ys
+ShowsTouch hand z p word (touches.Mark client page) xs r ys =
+    Wrote hand z xs (history_entry (events.Mark (pass_of_hand hand) p.region client page) (At p) 0 ∷ []) ys
 ShowsTouch hand z p word (touches.Harvest client index) xs r ys = Wrote hand z xs (history_entry (events.Harvest p.region client index) (At p) r ∷ []) ys

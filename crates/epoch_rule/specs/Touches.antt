@@ -83,7 +83,8 @@ IsTouch hand p word (touches.Harvest client index) = IsWriterHand hand × (word 
 
 -- what a step on a word tells: the word before it, or 0 where it is a store
 abbrev pub ToldStep : Hand → Place → ℕ → WordStep → View → ℕ → View → Type 0
-ToldStep hand p word (Replace first bytes value) v r w = (r ≡ 0) × ((old : ℕ) × ComesNext (actor_of_hand hand) v (events.Word hand (cell p.region word) (Replace first bytes value)) (At p) old w)
+ToldStep hand p word (Replace first bytes value) v r w = (r ≡ 0)
+    × ((old : ℕ) × ComesNext (actor_of_hand hand) v (events.Word hand (cell p.region word) (Replace first bytes value)) (At p) old w)
 ToldStep hand p word s v r w = ComesNext (actor_of_hand hand) v (events.Word hand (cell p.region word) s) (At p) r w
 
 -- what a touch tells: its event, with the reply that stands in the history
@@ -101,7 +102,8 @@ pub record IsStepReady (z : Sizes) (v : View) (a : ℕ) (e : Event) (p : Place) 
   pub kind : TouchesWord a e p t
   pub role : v.role ≡ Some a
   pub inside : t.word < z.words
-  pub may : (log : List HistoryEntry) → v.sizes ≡ z → IsLegal z log → IsPrefix v.seen log → own_entries a v.seen ≡ own_entries a log → shared_possible (state_of z log) e (At p) ≡ true
+  pub may : (log : List HistoryEntry) → v.sizes ≡ z → IsLegal z log → IsPrefix v.seen log → own_entries a v.seen ≡ own_entries a log
+      → shared_possible (state_of z log) e (At p) ≡ true
 
 -- the touch of an event at a place
 abbrev pub no_touch : PoolTouch

@@ -1,5 +1,5 @@
 -- What a caller sees of a cabinet, and of those who act on it.
-use Rattle.std.specs.Prelude.{◌≡◌, ℕ, ◌+◌, ◌<◌, ◌^◌, List, Bool, Option}
+use Rattle.std.specs.Prelude.{◌≡◌, ℕ, suc, ◌+◌, ◌<◌, ◌^◌, List, [], ◌∷◌, Bool, true, false, Option}
 use Rattle.atomic_table.specs.Seated.{TableId}
 use Rattle.mem_base.specs.declared.machine.events.HistoryEntry.{HistoryEntry}
 use Rattle.epoch_rule.specs.declared.views.Sizes.{Sizes}
@@ -37,6 +37,12 @@ pub record WriterValue : Type 0 where
   pub sizes : Sizes
   pub seen : List HistoryEntry
   pub out : List Bool
+
+-- the least pass that is not out; where all are, the number of passes
+abbrev pub first_free : List Bool → ℕ
+first_free [] = 0
+first_free (true ∷ bs) = suc (first_free bs)
+first_free (false ∷ bs) = 0
 
 -- a batch: an edition, and how many copies of it there are
 pub record BatchValue (E : Type 0) : Type 0 where

@@ -1,12 +1,12 @@
 // The cabinet, and the calls of a pass.
 ghost use Rattle.std.specs.Prelude.{◌≡◌, ℕ, ◌≤◌, [], ◌∷◌, Some, None, MatchBool};
-ghost use Rattle.mem_base.specs.declared.machine.events.Event.TheVariants.{Look, Announce, Enter, Leave};
+ghost use Rattle.mem_base.specs.declared.machine.events.Event.TheVariants.{Leave};
 ghost use Rattle.mem_base.specs.declared.machine.events.Carried.TheVariants.{Nothing};
 ghost use Rattle.mem_base.specs.machine.Passes.{pass_id};
 ghost use Rattle.mem_base.specs.machine.Turns.{history_entry};
 ghost use Rattle.mem_base.specs.machine.Actors.{number_seen, generation_published};
 ghost use Rattle.epoch_rule.specs.Copies.{shown_by};
-ghost use Rattle.epoch_rule.specs.Wrote.{Made, longer};
+ghost use Rattle.epoch_rule.specs.Wrote.{Made, entries_of_enter, longer};
 ghost use Rattle.epoch_rule.specs.Touches.{IsTouch};
 ghost use Rattle.epoch_rule.specs.Shown.{ShowsTouch};
 ghost use mathlib.Core.List.{IsPrefix};
@@ -44,7 +44,7 @@ impl<E: Edition + Drop> Cabinet<E> {
     pub fn enter(&self, pass: &mut Pass<E>) -> u64
         requires own { pass.old.cabinet ≡ self.now.id }
         requires out { pass.old.edition ≡ None }
-        ensures events { (looked : ℕ) × Made pass.old (history_entry (Look (pass_id pass.old.number)) Nothing looked ∷ history_entry (Announce (pass_id pass.old.number)) Nothing 0 ∷ history_entry (Enter (pass_id pass.old.number)) Nothing result ∷ []) pass.new }
+        ensures events { (looked : ℕ) × Made pass.old (entries_of_enter (pass_id pass.old.number) looked result) pass.new }
         ensures current { result ≡ number_seen pass.new.seen }
         ensures newest { number_seen pass.old.seen ≤ result }
         ensures edition { (e : E) × (pass.new.edition ≡ Some e) × (E.counted e ≡ result) × (shown_by E.forest E.places e ≡ generation_published pass.new.seen result) }

@@ -1,9 +1,8 @@
 // Passes that are handed out and taken in.
-ghost use Rattle.std.specs.Prelude.{◌≡◌, ◌<◌, ◌≤◌, [], length, None, MatchOption, slice_set, true, false};
+ghost use Rattle.std.specs.Prelude.{◌≡◌, ◌≤◌, [], length, None, MatchOption, slice_set, true, false};
 ghost use Rattle.mem_base.specs.declared.machine.events.Hand.TheVariants.{Writer};
-ghost use Rattle.epoch_rule.specs.Plays.{first_free as first_free_in};
-ghost use Rattle.epoch_rule.specs.Rule.{IsLegal};
-ghost use Rattle.epoch_rule.specs.Wrote.{Wrote, longer};
+ghost use Rattle.epoch_rule.specs.Values.{first_free as first_free_in};
+ghost use Rattle.epoch_rule.specs.Wrote.{IsNewPass, Wrote, longer};
 ghost use mathlib.Core.List.{IsPrefix};
 
 use crate::board::{HandsOut, Settles, TakesIn};
@@ -30,7 +29,7 @@ impl<E: Edition + Drop> Cabinet<E> {
         requires own { writer.old.cabinet ≡ self.now.id }
         ensures pass { MatchOption result
             ((first_free_in writer.old.out ≡ length writer.old.out) × (writer.new.out ≡ writer.old.out))
-            (λ p. (p.number ≡ first_free_in writer.old.out) × (p.number < length writer.old.out) × (p.cabinet ≡ writer.old.cabinet) × (p.sizes ≡ writer.old.sizes) × (p.seen ≡ writer.old.seen) × (p.edition ≡ None) × IsLegal p.sizes p.seen × (writer.new.out ≡ slice_set writer.old.out p.number true)) }
+            (λ p. IsNewPass writer.old p × (writer.new.out ≡ slice_set writer.old.out p.number true)) }
         ensures same { (writer.new.cabinet ≡ writer.old.cabinet) × (writer.new.sizes ≡ writer.old.sizes) × (writer.new.seen ≡ writer.old.seen) }
     {
         let free = first_free(writer.out.as_slice());

@@ -1,22 +1,12 @@
 -- What an actor wrote, call after call.
-use Rattle.std.proofs.Common.{◌≡◌, List, [], ◌∷◌, ◌++◌, Some, refl, sym, ap, ◌∙◌, append_assoc, append-nil}
-use Rattle.view_laws.proofs.Tests.{none_is_not_some}
-use base.Growing.{prefix_refl, prefix_trans}
+use Rattle.std.proofs.Common.{◌≡◌, List, [], ◌∷◌, ◌++◌, Some, refl, sym, ap, ◌∙◌, append_assoc}
+use base.Growing.{prefix_trans}
 use Rattle.mem_base.specs.declared.machine.events.Hand.{Hand}
 use Rattle.mem_base.specs.declared.machine.events.HistoryEntry.{HistoryEntry}
 use Rattle.mem_base.specs.machine.Actors.{actor_of_hand, own_entries}
 use Rattle.epoch_rule.specs.declared.views.Sizes.{Sizes}
-use Rattle.epoch_rule.specs.Rule.{IsLegal}
 use Rattle.epoch_rule.specs.Wrote.{Wrote}
 use Rattle.epoch_rule.proofs.PassLaws.{last_snoc}
-
-pub wrote_nothing : (hand : Hand) (z : Sizes) (xs : List HistoryEntry) → IsLegal z xs → Wrote hand z xs [] xs
-wrote_nothing hand z xs legal = record {
-  begins = prefix_refl xs;
-  lawful = legal;
-  events = sym (append-nil (own_entries (actor_of_hand hand) xs));
-  ends = λ x none. none_is_not_some x none;
-}
 
 pub wrote_one_more : (hand : Hand) (z : Sizes) (xs es ys : List HistoryEntry) (e : HistoryEntry) (zs : List HistoryEntry)
     → Wrote hand z xs es ys → Wrote hand z ys (e ∷ []) zs → Wrote hand z xs (es ++ e ∷ []) zs

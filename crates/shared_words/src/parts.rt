@@ -1,13 +1,9 @@
 // Steps on a part of a word.
-ghost use Rattle.std.specs.Prelude.{◌≡◌, ℕ, ◌+◌, ◌*◌, ◌^◌, ◌<◌, ◌≤◌, [], ◌∷◌, length};
+ghost use Rattle.std.specs.Prelude.{◌≡◌, ℕ, ◌+◌, ◌*◌, ◌^◌, ◌<◌, ◌≤◌, length};
 ghost use Rattle.mem_base.specs.declared.access.cells.WordStep.TheVariants as steps;
-ghost use Rattle.mem_base.specs.declared.machine.events.Event.TheVariants as events;
-ghost use Rattle.mem_base.specs.declared.machine.events.Carried.TheVariants.{At};
 ghost use Rattle.mem_base.specs.access.Words.{little_endian};
-ghost use Rattle.mem_base.specs.access.Cells.{cell};
 ghost use Rattle.epoch_rule.specs.declared.touches.Touch.TheVariants.{Look};
-ghost use Rattle.mem_base.specs.machine.Turns.{history_entry};
-ghost use Rattle.epoch_rule.specs.Wrote.{Wrote};
+ghost use Rattle.epoch_rule.specs.Wrote.{WroteStep};
 
 use epoch_rule::{Cabinet, Hand, Touch};
 use mem_base::{Edition, Place};
@@ -39,7 +35,7 @@ pub fn store_part<E: Edition + Drop, H: Hand<E>, R: Wait>(
     requires own { H.made_by hand.old ≡ cabinet.now.id }
     requires part { (0 < length bytes.now) × (first + length bytes.now ≤ 8) }
     requires may { H.may hand.old place.now word Look }
-    ensures wrote { (old : ℕ) × Wrote (H.actor hand.old) (H.sizes hand.old) (H.seen hand.old) (history_entry (events.Word (H.actor hand.old) (cell place.now.region word) (steps.Replace first (length bytes.now) (little_endian bytes.now))) (At place.now) old ∷ []) (H.seen hand.new) }
+    ensures wrote { (old : ℕ) × WroteStep (H.actor hand.old) (H.sizes hand.old) place.now word (steps.Replace first (length bytes.now) (little_endian bytes.now)) old (H.seen hand.old) (H.seen hand.new) }
     ensures stays { H.stays hand.old hand.new }
 {
     let value = number(bytes);

@@ -1,12 +1,8 @@
 // Steps on whole words.
-ghost use Rattle.std.specs.Prelude.{◌≡◌, ℕ, ◌+◌, ◌*◌, ◌<◌, [], ◌∷◌};
+ghost use Rattle.std.specs.Prelude.{◌≡◌, ℕ};
 ghost use Rattle.mem_base.specs.declared.access.cells.WordStep.TheVariants as steps;
-ghost use Rattle.mem_base.specs.declared.machine.events.Event.TheVariants as events;
-ghost use Rattle.mem_base.specs.declared.machine.events.Carried.TheVariants.{At};
-ghost use Rattle.mem_base.specs.access.Cells.{cell};
 ghost use Rattle.epoch_rule.specs.declared.touches.Touch.TheVariants.{Step};
-ghost use Rattle.mem_base.specs.machine.Turns.{history_entry};
-ghost use Rattle.epoch_rule.specs.Wrote.{Wrote};
+ghost use Rattle.epoch_rule.specs.Wrote.{WroteStep};
 
 use epoch_rule::{Cabinet, Hand, Touch};
 use mem_base::{Edition, Place, WordStep};
@@ -21,7 +17,7 @@ pub fn load<E: Edition + Drop, H: Hand<E>>(
 ) -> u64
     requires own { H.made_by hand.old ≡ cabinet.now.id }
     requires may { H.may hand.old place.now word (Step steps.Load) }
-    ensures wrote { Wrote (H.actor hand.old) (H.sizes hand.old) (H.seen hand.old) (history_entry (events.Word (H.actor hand.old) (cell place.now.region word) steps.Load) (At place.now) result ∷ []) (H.seen hand.new) }
+    ensures wrote { WroteStep (H.actor hand.old) (H.sizes hand.old) place.now word steps.Load result (H.seen hand.old) (H.seen hand.new) }
     ensures stays { H.stays hand.old hand.new }
 {
     cabinet.touch(hand, place, word, Touch::Step(WordStep::Load))
@@ -37,7 +33,7 @@ pub fn store8<E: Edition + Drop, H: Hand<E>>(
 )
     requires own { H.made_by hand.old ≡ cabinet.now.id }
     requires may { H.may hand.old place.now word (Step (steps.Replace 0 8 value)) }
-    ensures wrote { (old : ℕ) × Wrote (H.actor hand.old) (H.sizes hand.old) (H.seen hand.old) (history_entry (events.Word (H.actor hand.old) (cell place.now.region word) (steps.Replace 0 8 value)) (At place.now) old ∷ []) (H.seen hand.new) }
+    ensures wrote { (old : ℕ) × WroteStep (H.actor hand.old) (H.sizes hand.old) place.now word (steps.Replace 0 8 value) old (H.seen hand.old) (H.seen hand.new) }
     ensures stays { H.stays hand.old hand.new }
 {
     let step = WordStep::Replace {
@@ -57,7 +53,7 @@ pub fn add<E: Edition + Drop, H: Hand<E>>(
 ) -> u64
     requires own { H.made_by hand.old ≡ cabinet.now.id }
     requires may { H.may hand.old place.now word (Step steps.AddOne) }
-    ensures wrote { Wrote (H.actor hand.old) (H.sizes hand.old) (H.seen hand.old) (history_entry (events.Word (H.actor hand.old) (cell place.now.region word) steps.AddOne) (At place.now) result ∷ []) (H.seen hand.new) }
+    ensures wrote { WroteStep (H.actor hand.old) (H.sizes hand.old) place.now word steps.AddOne result (H.seen hand.old) (H.seen hand.new) }
     ensures stays { H.stays hand.old hand.new }
 {
     cabinet.touch(hand, place, word, Touch::Step(WordStep::AddOne))
@@ -73,7 +69,7 @@ pub fn or<E: Edition + Drop, H: Hand<E>>(
 ) -> u64
     requires own { H.made_by hand.old ≡ cabinet.now.id }
     requires may { H.may hand.old place.now word (Step (steps.Or bits)) }
-    ensures wrote { Wrote (H.actor hand.old) (H.sizes hand.old) (H.seen hand.old) (history_entry (events.Word (H.actor hand.old) (cell place.now.region word) (steps.Or bits)) (At place.now) result ∷ []) (H.seen hand.new) }
+    ensures wrote { WroteStep (H.actor hand.old) (H.sizes hand.old) place.now word (steps.Or bits) result (H.seen hand.old) (H.seen hand.new) }
     ensures stays { H.stays hand.old hand.new }
 {
     cabinet.touch(hand, place, word, Touch::Step(WordStep::Or { bits }))
@@ -88,7 +84,7 @@ pub fn take<E: Edition + Drop, H: Hand<E>>(
 ) -> u64
     requires own { H.made_by hand.old ≡ cabinet.now.id }
     requires may { H.may hand.old place.now word (Step steps.Take) }
-    ensures wrote { Wrote (H.actor hand.old) (H.sizes hand.old) (H.seen hand.old) (history_entry (events.Word (H.actor hand.old) (cell place.now.region word) steps.Take) (At place.now) result ∷ []) (H.seen hand.new) }
+    ensures wrote { WroteStep (H.actor hand.old) (H.sizes hand.old) place.now word steps.Take result (H.seen hand.old) (H.seen hand.new) }
     ensures stays { H.stays hand.old hand.new }
 {
     cabinet.touch(hand, place, word, Touch::Step(WordStep::Take))

@@ -5,5 +5,9 @@ use Rattle.epoch_rule.proofs.WordSteps.{ready_touch}
 use Rattle.epoch_rule.proofs.plans.take_as.Goals as goal
 
 pub swap-requires : goal.swap-requires
-swap-requires g c = let t = c.requires.table in let a = t.1.0 in let i = c.requires.index in let r = c.requires.ready in let b = r.inside in
-    (t.0, omega arith, ready_touch (IsCopy g.E.Edition.counted g.E.Edition.forest g.E.Edition.places) _ _ _ _ _ _ _ _ _ _ r i (λ n l. ap (λ s. word_after s n) (sym c.requires.step)))
+swap-requires g c = let t = c.requires.table in let a = t.1.0 in let i = c.requires.index in let r = c.requires.ready in let b = r.inside in (
+  t.0,
+  omega arith,
+  ready_touch (IsCopy g.E.Edition.counted g.E.Edition.forest g.E.Edition.places) _ _ _ _ _ _ _ _ _ _ r i
+      (λ n l. ap (λ s. word_after s n) (sym c.requires.step)),
+)

@@ -10,13 +10,8 @@ use Rattle.epoch_rule.proofs.steps.place_all.Goals as goal
 pub place-requires-clause-writer : goal.place-requires-clause-writer
 place-requires-clause-writer g c =
     let inv = c.loop-pass.invariant in
-    let v : View = c.args.seat.now.me.0 in
-    let w : View = c.loop-pass.seat.me.0 in
-    let n : ℕ = c.loop-pass.pass in
     let h = inv.3 c.requires.copies.0 c.requires.copies.1 in
     let p = h.1 in
-    let e = placing_generations v w c.requires.copies.0 n p in
-    let g0 : Generations = generations_seen v in
     (p.writes.role ∙ c.requires.writer.0, p.free, inv.1)
 
 pub place-requires-clause-next : goal.place-requires-clause-next
@@ -41,8 +36,10 @@ place-requires-clause-near g c =
     let p = h.1 in
     let e = placing_generations v w c.requires.copies.0 n p in
     let g0 : Generations = generations_seen v in
-    let same : known_of (generations_seen w) (pass_id n) ≡ known_of g0 (pass_id n) = ap (λ (x : Generations). known_of x (pass_id n)) e ∙ places_later g0 n n (omega arith) in
-    subst (λ (x : ℕ × PassTrack). x.0 ≤ x.1.lowest + 6) (λ i. (sym (ap (λ (x : Generations). x.current) e ∙ (places_current g0 n).0) i, sym same i)) (c.requires.near n c.loop-pass-test.true)
+    let same : known_of (generations_seen w) (pass_id n) ≡ known_of g0 (pass_id n) = ap (λ (x : Generations). known_of x (pass_id n)) e
+    ∙ places_later g0 n n (omega arith) in
+    subst (λ (x : ℕ × PassTrack). x.0 ≤ x.1.lowest + 6) (λ i. (sym (ap (λ (x : Generations). x.current) e ∙ (places_current g0 n).0) i, sym same i))
+    (c.requires.near n c.loop-pass-test.true)
 
 pub place-requires-clause-free : goal.place-requires-clause-free
 place-requires-clause-free g c =
@@ -66,8 +63,11 @@ place-requires-clause-copy g c =
     let p = h.1 in
     let e = placing_generations v w c.requires.copies.0 n p in
     let g0 : Generations = generations_seen v in
-    let last = last_copy g.E.Edition.counted g.E.Edition.forest g.E.Edition.places c.args.next c.requires.copies.0 c.loop-pass.copies.items c.pop.new.self.items c.pop.result c.in-Some.copy c.pop.ensures.items c.in-Some.is h.0 in
-    (last.1.0, λ u placed. p.is_next (places_placed g0 n u (ap (λ (x : Generations). (known_of x (pass_id u)).placed) (sym e) ∙ placed) (c.requires.free u)) ∙ sym last.1.1)
+    let last = last_copy g.E.Edition.counted g.E.Edition.forest g.E.Edition.places c.args.next c.requires.copies.0 c.loop-pass.copies.items c.pop.new.self.items c.pop.result c.in-Some.copy c.pop.ensures.items c.in-Some.is h.0 in (
+      last.1.0,
+      λ u placed. p.is_next (places_placed g0 n u (ap (λ (x : Generations). (known_of x (pass_id u)).placed) (sym e) ∙ placed) (c.requires.free u))
+          ∙ sym last.1.1,
+    )
 
 pub loop-pass-preserved : goal.loop-pass-preserved
 loop-pass-preserved g c =
@@ -78,12 +78,17 @@ loop-pass-preserved g c =
       c.place.ensures.seat.0 ∙ inv.0,
       c.place.ensures.seat.1,
       (let m = inv.2 in omega arith),
-      λ x all. let h = inv.3 x all in let last = last_copy g.E.Edition.counted g.E.Edition.forest g.E.Edition.places c.args.next x c.loop-pass.copies.items c.pop.new.self.items c.pop.result c.in-Some.copy c.pop.ensures.items c.in-Some.is h.0 in
-          (last.0, placing_next v c.loop-pass.seat.me.0 c.place.new.seat.me.0 x n h.1 c.place.ensures.adds c.place.ensures.seat.2 (c.place.ensures.seat.3 ∙ last.1.1)),
+      λ x all. let h = inv.3 x all in let last = last_copy g.E.Edition.counted g.E.Edition.forest g.E.Edition.places c.args.next x c.loop-pass.copies.items c.pop.new.self.items c.pop.result c.in-Some.copy c.pop.ensures.items c.in-Some.is h.0 in (
+        last.0,
+        placing_next v c.loop-pass.seat.me.0 c.place.new.seat.me.0 x n h.1 c.place.ensures.adds c.place.ensures.seat.2
+            (c.place.ensures.seat.3 ∙ last.1.1),
+      ),
     )
 
 pub returns-clause-placed : goal.returns-clause-placed
 returns-clause-placed g c = λ x all.
-    let inv = c.loop-pass.invariant in let m = inv.2 in let f = c.loop-pass-test.false in
+    let inv = c.loop-pass.invariant in
+    let m = inv.2 in
+    let f = c.loop-pass-test.false in
     let done : c.loop-pass.pass ≡ c.args.passes = omega arith in
     subst (HasPlaced c.args.seat.now.me.0 c.loop-pass.seat.me.0 x) done (inv.3 x all).1

@@ -16,7 +16,9 @@ loop-pass-preserved g c =
     let s = inv.2 in
     let now = sweeping_current v w c.loop-pass.known.items n s in
     let k : PassTrack = known_of (generations_seen w) (pass_id n) in
-    let below = c.loop-pass-test.true in let long = now.1 in let all = c.requires.many in
+    let below = c.loop-pass-test.true in
+    let long = now.1 in
+    let all = c.requires.many in
     let near : n < length (generations_seen w).passes = omega arith in
     let i = c.index.ensures in (
       c.sweep-word.ensures.seat.0 ∙ inv.0,

@@ -7,7 +7,7 @@ use Rattle.mem_base.specs.machine.Turns.{history_entry}
 use Rattle.epoch_rule.specs.declared.views.Sizes.{Sizes}
 use Rattle.epoch_rule.specs.Wrote.{Wrote}
 use Rattle.shared_words.specs.Fills.{fills_of}
-use Rattle.shared_words.proofs.WroteLaws.{wrote_nothing, wrote_one_more}
+use Rattle.shared_words.proofs.WroteLaws.{wrote_one_more}
 use Rattle.shared_words.proofs.fills.fill.Goals as goal
 
 pub loop-word-preserved : goal.loop-word-preserved

@@ -15,9 +15,13 @@ use Rattle.epoch_rule.proofs.cabinet.Cabinet.leave.Goals as goal
 
 pub store-requires : goal.store-requires
 store-requires g c =
-    let num = g.E.Edition.counted in let forest = g.E.Edition.forest in let places = g.E.Edition.places in
-    let suits = c.self.invariant.suits in let few = c.self.invariant.few in
-    let inv = c.pass.invariant in let p : ℕ = c.pass.inside.number in
+    let num = g.E.Edition.counted in
+    let forest = g.E.Edition.forest in
+    let places = g.E.Edition.places in
+    let suits = c.self.invariant.suits in
+    let few = c.self.invariant.few in
+    let inv = c.pass.invariant in
+    let p : ℕ = c.pass.inside.number in
     let a = c.in-Some.edition in
     let r : ℕ = c.number.result in
     let st = stands_at num forest places p c.pass.inside.seat.me c.pass.inside.edition a (sym c.take.ensures.value ∙ c.in-Some.is) inv.3 in
@@ -27,7 +31,8 @@ store-requires g c =
     let seen : c.exchange.new.seat.me.0.seen ≡ c.pass.inside.seat.me.0.seen = ap (λ m. m.0.seen) x.3 in
     let sizes : c.exchange.new.seat.me.0.sizes ≡ c.pass.inside.seat.me.0.sizes = ap (λ m. m.0.sizes) x.3 in
     let t = x.0 ∙ (ap (λ v. v.cabinet) c.pass.view_is ∙ (c.requires.own ∙ sym (ap (λ w. w.id) c.self.view_is))) in
-    let words = ap (λ y. y.words) (ap (λ v. v.cabinet) c.pass.view_is ∙ (c.requires.own ∙ sym (ap (λ w. w.id) c.self.view_is))) in let slots = ap (λ y. y.slots) (ap (λ v. v.cabinet) c.pass.view_is ∙ (c.requires.own ∙ sym (ap (λ w. w.id) c.self.view_is))) in
+    let words = ap (λ y. y.words) (ap (λ v. v.cabinet) c.pass.view_is ∙ (c.requires.own ∙ sym (ap (λ w. w.id) c.self.view_is))) in
+    let slots = ap (λ y. y.slots) (ap (λ v. v.cabinet) c.pass.view_is ∙ (c.requires.own ∙ sym (ap (λ w. w.id) c.self.view_is))) in
     let u = suits.0 in let b = suits.1 in let d = inv.1 in let e = inv.2.1 in (
       t,
       omega arith,
@@ -39,22 +44,20 @@ store-requires g c =
             refl,
             sym is,
             st.0.shows ∙ (ap (generation_published c.pass.inside.seat.me.0.seen) (sym is)
-                ∙ sym (generation_stays c.pass.inside.seat.me.0.seen log (begins.0, ap (λ l. l ++ begins.0) (sym seen) ∙ begins.1) r (subst (λ (y : ℕ). y < length (generations_published c.pass.inside.seat.me.0.seen)) (sym is) st.0.published))),
+                ∙ sym (generation_stays c.pass.inside.seat.me.0.seen log (begins.0, ap (λ l. l ++ begins.0) (sym seen) ∙ begins.1) r
+                (subst (λ (y : ℕ). y < length (generations_published c.pass.inside.seat.me.0.seen)) (sym is) st.0.published))),
           )),
     )
 
 pub invariant_of-pass : goal.invariant_of-pass
 invariant_of-pass g c =
-    let num = g.E.Edition.counted in let forest = g.E.Edition.forest in let places = g.E.Edition.places in
-    let suits = c.self.invariant.suits in let few = c.self.invariant.few in
-    let inv = c.pass.invariant in let p : ℕ = c.pass.inside.number in
-    let a = c.in-Some.edition in
-    let r : ℕ = c.number.result in
-    let st = stands_at num forest places p c.pass.inside.seat.me c.pass.inside.edition a (sym c.take.ensures.value ∙ c.in-Some.is) inv.3 in
-    let is : r ≡ num (arc_value a) = c.number.ensures.value ∙ ap num c.deref.ensures in
+    let num = g.E.Edition.counted in
+    let forest = g.E.Edition.forest in
+    let places = g.E.Edition.places in
+    let inv = c.pass.invariant in
+    let p : ℕ = c.pass.inside.number in
     let x = c.exchange.ensures in
     let role = ap (λ m. m.0.role) x.3 ∙ inv.0 in
-    let seen : c.exchange.new.seat.me.0.seen ≡ c.pass.inside.seat.me.0.seen = ap (λ m. m.0.seen) x.3 in
     let sizes : c.exchange.new.seat.me.0.sizes ≡ c.pass.inside.seat.me.0.sizes = ap (λ m. m.0.sizes) x.3 in
     let did = c.store.ensures.2.1 p role in (
       did.role ∙ role,
@@ -65,18 +68,14 @@ invariant_of-pass g c =
 
 pub returns-in-Some-clause-events : goal.returns-in-Some-clause-events
 returns-in-Some-clause-events g c =
-    let num = g.E.Edition.counted in let forest = g.E.Edition.forest in let places = g.E.Edition.places in
-    let suits = c.self.invariant.suits in let few = c.self.invariant.few in
-    let inv = c.pass.invariant in let p : ℕ = c.pass.inside.number in
-    let a = c.in-Some.edition in
-    let r : ℕ = c.number.result in
-    let st = stands_at num forest places p c.pass.inside.seat.me c.pass.inside.edition a (sym c.take.ensures.value ∙ c.in-Some.is) inv.3 in
-    let is : r ≡ num (arc_value a) = c.number.ensures.value ∙ ap num c.deref.ensures in
+    let inv = c.pass.invariant in
+    let p : ℕ = c.pass.inside.number in
     let x = c.exchange.ensures in
     let role = ap (λ m. m.0.role) x.3 ∙ inv.0 in
     let seen : c.exchange.new.seat.me.0.seen ≡ c.pass.inside.seat.me.0.seen = ap (λ m. m.0.seen) x.3 in
     let sizes : c.exchange.new.seat.me.0.sizes ≡ c.pass.inside.seat.me.0.sizes = ap (λ m. m.0.sizes) x.3 in
-    let did = c.store.ensures.2.1 p role in let begins = begins_added (p + 1) _ _ _ _ _ did in
+    let did = c.store.ensures.2.1 p role in
+    let begins = begins_added (p + 1) _ _ _ _ _ did in
     rw (sym c.pass.view_is) record {
       cabinet = c.store.ensures.0 ∙ x.0;
       number = refl;

@@ -13,18 +13,30 @@ use Rattle.epoch_rule.proofs.cabinet.Cabinet.new.Goals as goal
 
 pub new-requires : goal.new-requires
 new-requires g c =
-    let num = g.E.Edition.counted in let forest = g.E.Edition.forest in let places = g.E.Edition.places in
+    let num = g.E.Edition.counted in
+    let forest = g.E.Edition.forest in
+    let places = g.E.Edition.places in
     let z : Sizes = record { passes = c.args.passes; words = c.args.words } in
     let n : ℕ = c.args.passes + 1 + c.args.words in
     let s = c.in_ok-slots.ensures in
     let first = c.requires.first in
-    subst (λ ws. IsRuled (IsCopy num forest places) z (opening ws c.in_ok-slots.slots.items (first_view z))) (sym (c.as_slice.ensures.value ∙ c.in_ok-blank.ensures))
+    subst (λ ws. IsRuled (IsCopy num forest places) z (opening ws c.in_ok-slots.slots.items (first_view z)))
+    (sym (c.as_slice.ensures.value ∙ c.in_ok-blank.ensures))
     (opens (IsCopy num forest places) z (replicate n 0) c.in_ok-slots.slots.items (length-replicate n 0) (zero_at n) s.long
-    (λ v l. let t = s.each v l in (Some t.0, t.1, (t.0, refl, ap num t.2 ∙ first.0, ap (shown_by forest places) t.2 ∙ (λ i. generation (first.1 i) (first.2 i))))))
+    (λ v l. let t = s.each v l in (
+      Some t.0,
+      t.1,
+      (
+        t.0,
+        refl,
+        ap num t.2 ∙ first.0,
+        ap (shown_by forest places) t.2
+            ∙ (λ i. generation (first.1 i) (first.2 i)),
+      ),
+    )))
 
 pub invariant_of-writer : goal.invariant_of-writer
 invariant_of-writer g c =
-    let z : Sizes = record { passes = c.args.passes; words = c.args.words } in
     let k = c.in-Ok.ensures.ok in
     let n : ℕ = c.args.passes + 1 + c.args.words in
     let s = c.in_ok-slots.ensures in
