@@ -117,9 +117,9 @@ impl<E: Edition + Drop> Cabinet<E> {
         shared.load::<Settles>(&mut pass.seat, 0);
     }
 
-    /// One atomic step on word `word` of a place, by a pass or the writer: the value that the word had, or 0 where the step
-    /// is a store. A pass may step on the data, registers and notifiers of the places that its generation carries, and the
-    /// writer on all words of a place that ends within the cabinet's words.
+    /// One atomic step on word `word` of a place, by a pass or the writer: the value that the word had, or 0 where the
+    /// step is a store. A pass may step on the data, registers and notifiers of the places that its generation
+    /// carries, and the writer on all words of a place that ends within the cabinet's words.
     pub fn touch<H: Hand<E>>(&self, hand: &mut H, place: &Place, word: usize, touch: Touch) -> u64
         requires own { H.made_by hand.old ≡ self.now.id }
         requires kind { IsTouch (H.actor hand.old) place.now word touch }

@@ -58,9 +58,9 @@ fn first_slots<E: Edition + Drop>(
 }
 
 impl<E: Edition + Drop> Cabinet<E> {
-    /// A cabinet of `passes` passes and `words` words of 8 bytes, all 0, with generation 0 current, and the writer's seat;
-    /// or out of memory. There are 1 to 16 passes and at most 2^26 + 64 words; the first edition has number 0, the empty
-    /// forest and no places.
+    /// A cabinet of `passes` passes and `words` words of 8 bytes, all 0, with generation 0 current, and the writer's
+    /// seat; or out of memory. There are 1 to 16 passes and at most 2^26 + 64 words; the first edition has number 0,
+    /// the empty forest and no places.
     pub fn new(
         alloc: Global,
         passes: u32,

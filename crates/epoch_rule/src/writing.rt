@@ -67,10 +67,10 @@ impl<E: Edition + Drop> Cabinet<E> {
         Swept { lowest, pass }
     }
 
-    /// Publishes the batch's edition, and answers its number. It looks at each pass first. A pass that was found announced
-    /// at the current number less 7, or at an older one, holds the publish up: then nothing is published, and the batch
-    /// comes back with the least such pass. The batch must have a copy for each pass, its edition the next number, and
-    /// that edition's places must end within the cabinet's words.
+    /// Publishes the batch's edition, and answers its number. It looks at each pass first. A pass that was found
+    /// announced at the current number less 7, or at an older one, holds the publish up: then nothing is published,
+    /// and the batch comes back with the least such pass. The batch must have a copy for each pass, its edition the
+    /// next number, and that edition's places must end within the cabinet's words.
     pub fn publish(
         &self,
         writer: &mut WriterSeat<E>,

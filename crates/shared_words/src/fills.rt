@@ -8,8 +8,8 @@ ghost use Rattle.shared_words.specs.Fills.{fills_of};
 use epoch_rule::{Cabinet, Touch, WriterSeat};
 use mem_base::{Edition, Place};
 
-/// Clears each word of a place, by ascending word: its data, registers and marks. The place must end within the cabinet's
-/// words.
+/// Clears each word of a place, by ascending word: its data, registers and marks. The place must end within the
+/// cabinet's words.
 pub fn fill<E: Edition + Drop>(cabinet: &Cabinet<E>, writer: &mut WriterSeat<E>, place: &Place)
     requires own { writer.old.cabinet ≡ cabinet.now.id }
     requires within { past place.now ≤ writer.old.sizes.words }

@@ -35,8 +35,8 @@ fn mark_word(place: &Place, client: Client, index: u64) -> usize
     (first + skipped + index) as usize
 }
 
-/// Marks a page of a place as written, for one client. The pass must be entered, its generation must carry the place, and
-/// the page, of 4,096 bytes, must be one of the place's.
+/// Marks a page of a place as written, for one client. The pass must be entered, its generation must carry the place,
+/// and the page, of 4,096 bytes, must be one of the place's.
 pub fn mark<E: Edition + Drop>(
     cabinet: &Cabinet<E>,
     pass: &mut Pass<E>,
@@ -54,9 +54,9 @@ pub fn mark<E: Edition + Drop>(
     cabinet.touch(pass, place, word, Touch::Mark { client, page });
 }
 
-/// Takes a mark word of one client by one swap that leaves 0, and answers the marks that it had: bit b of word `index` is
-/// page 64 index + b. The place must end within the cabinet's words and have the words of its bytes and registers, and
-/// the index must be one of its mark words of a client.
+/// Takes a mark word of one client by one swap that leaves 0, and answers the marks that it had: bit b of word `index`
+/// is page 64 index + b. The place must end within the cabinet's words and have the words of its bytes and registers,
+/// and the index must be one of its mark words of a client.
 pub fn harvest<E: Edition + Drop>(
     cabinet: &Cabinet<E>,
     writer: &mut WriterSeat<E>,

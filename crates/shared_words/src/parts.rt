@@ -21,8 +21,8 @@ fn number(bytes: &[u8]) -> u64
     }
 }
 
-/// Replaces the bytes of a word from byte `first` on, by one exchange; byte 0 is the lowest. It tries again until its exchange
-/// stands, so it may wait. There are 1 to 8 bytes, and they end at byte 8 or before.
+/// Replaces the bytes of a word from byte `first` on, by one exchange; byte 0 is the lowest. It tries again until its
+/// exchange stands, so it may wait. There are 1 to 8 bytes, and they end at byte 8 or before.
 pub fn store_part<E: Edition + Drop, H: Hand<E>, R: Wait>(
     rt: &R,
     cabinet: &Cabinet<E>,

@@ -7,8 +7,8 @@ ghost use Rattle.epoch_rule.specs.Wrote.{WroteStep};
 use epoch_rule::{Cabinet, Hand, Touch};
 use mem_base::{Edition, Place, WordStep};
 
-/// The value of a word. As in all calls here, a pass must be entered, its generation must carry the place, and the word be one
-/// of its data, registers or notifiers; for the writer the place must end within the cabinet's words.
+/// The value of a word. As in all calls here, a pass must be entered, its generation must carry the place, and the
+/// word be one of its data, registers or notifiers; for the writer the place must end within the cabinet's words.
 pub fn load<E: Edition + Drop, H: Hand<E>>(
     cabinet: &Cabinet<E>,
     hand: &mut H,

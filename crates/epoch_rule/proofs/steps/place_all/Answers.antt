@@ -63,7 +63,8 @@ place-requires-clause-copy g c =
     let p = h.1 in
     let e = placing_generations v w c.requires.copies.0 n p in
     let g0 : Generations = generations_seen v in
-    let last = last_copy g.E.Edition.counted g.E.Edition.forest g.E.Edition.places c.args.next c.requires.copies.0 c.loop-pass.copies.items c.pop.new.self.items c.pop.result c.in-Some.copy c.pop.ensures.items c.in-Some.is h.0 in (
+    let last = last_copy g.E.Edition.counted g.E.Edition.forest g.E.Edition.places c.args.next c.requires.copies.0 c.loop-pass.copies.items
+    c.pop.new.self.items c.pop.result c.in-Some.copy c.pop.ensures.items c.in-Some.is h.0 in (
       last.1.0,
       λ u placed. p.is_next (places_placed g0 n u (ap (λ (x : Generations). (known_of x (pass_id u)).placed) (sym e) ∙ placed) (c.requires.free u))
           ∙ sym last.1.1,
@@ -78,11 +79,12 @@ loop-pass-preserved g c =
       c.place.ensures.seat.0 ∙ inv.0,
       c.place.ensures.seat.1,
       (let m = inv.2 in omega arith),
-      λ x all. let h = inv.3 x all in let last = last_copy g.E.Edition.counted g.E.Edition.forest g.E.Edition.places c.args.next x c.loop-pass.copies.items c.pop.new.self.items c.pop.result c.in-Some.copy c.pop.ensures.items c.in-Some.is h.0 in (
-        last.0,
-        placing_next v c.loop-pass.seat.me.0 c.place.new.seat.me.0 x n h.1 c.place.ensures.adds c.place.ensures.seat.2
-            (c.place.ensures.seat.3 ∙ last.1.1),
-      ),
+      λ x all. let h = inv.3 x all in let last = last_copy g.E.Edition.counted g.E.Edition.forest g.E.Edition.places c.args.next x c.loop-pass.copies.items
+          c.pop.new.self.items c.pop.result c.in-Some.copy c.pop.ensures.items c.in-Some.is h.0 in (
+            last.0,
+            placing_next v c.loop-pass.seat.me.0 c.place.new.seat.me.0 x n h.1 c.place.ensures.adds c.place.ensures.seat.2
+                (c.place.ensures.seat.3 ∙ last.1.1),
+          ),
     )
 
 pub returns-clause-placed : goal.returns-clause-placed

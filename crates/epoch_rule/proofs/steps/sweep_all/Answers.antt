@@ -23,5 +23,8 @@ loop-pass-preserved g c =
     let i = c.index.ensures in (
       c.sweep-word.ensures.seat.0 ∙ inv.0,
       c.sweep-word.ensures.seat.1 ∙ inv.1,
-      sweeping_next v w c.sweep-word.new.seat.me.0 c.loop-pass.known.items _ n c.sweep-word.result c.found_after.result s c.sweep-word.ensures.adds c.sweep-word.ensures.seat.2 (c.found_after.ensures k (i ∙ (ap (λ l. get_or l n c.index.result.now) s.is_known ∙ map_get stored (generations_seen w).passes n nothing_known c.index.result.now near)) ∙ ap (λ (x : ℕ). stored (known_after_sweep x k c.sweep-word.result)) c.requires.current) refl,
+      sweeping_next v w c.sweep-word.new.seat.me.0 c.loop-pass.known.items _ n c.sweep-word.result c.found_after.result s c.sweep-word.ensures.adds
+          c.sweep-word.ensures.seat.2 (c.found_after.ensures k
+          (i ∙ (ap (λ l. get_or l n c.index.result.now) s.is_known ∙ map_get stored (generations_seen w).passes n nothing_known c.index.result.now near))
+          ∙ ap (λ (x : ℕ). stored (known_after_sweep x k c.sweep-word.result)) c.requires.current) refl,
     )

@@ -221,7 +221,8 @@ returns-clause-events g c =
     let sizes : c.exchange.new.seat.me.0.sizes ≡ c.pass.inside.seat.me.0.sizes = ap (λ m. m.0.sizes) now.3 ∙ (came.sizes ∙ (told.sizes ∙ looked.sizes)) in
     let copy : IsCopy num forest places r (generation_published c.exchange.new.seat.me.0.seen r) c.exchange.result =
     (took.2.0, same ∙ took.2.1, took.2.2, took.2.3 ∙ (λ i. generation_published (sym seen i) r)) in
-    let all = three p c.pass.inside.seat.me.0 c.load-looked.new.seat.me.0 c.store.new.seat.me.0 c.load-number.new.seat.me.0 _ _ _ _ _ _ _ refl refl refl looked told came in (
+    let all = three p c.pass.inside.seat.me.0 c.load-looked.new.seat.me.0 c.store.new.seat.me.0 c.load-number.new.seat.me.0 _ _ _ _ _ _ _ refl refl refl
+    looked told came in (
       c.load-looked.result,
       rw (sym c.pass.view_is) record {
         cabinet = now.0 ∙ (c.load-number.ensures.0 ∙ (c.store.ensures.0 ∙ c.load-looked.ensures.0));
@@ -270,6 +271,7 @@ returns-clause-newest g c =
     ∙ entered_counts p _ r _ came in
     let copy : IsCopy num forest places r (generation_published c.exchange.new.seat.me.0.seen r) c.exchange.result =
     (took.2.0, same ∙ took.2.1, took.2.2, took.2.3 ∙ (λ i. generation_published (sym seen i) r)) in
-    let all = three p c.pass.inside.seat.me.0 c.load-looked.new.seat.me.0 c.store.new.seat.me.0 c.load-number.new.seat.me.0 _ _ _ _ _ _ _ refl refl refl looked told came in
+    let all = three p c.pass.inside.seat.me.0 c.load-looked.new.seat.me.0 c.store.new.seat.me.0 c.load-number.new.seat.me.0 _ _ _ _ _ _ _ refl refl refl
+    looked told came in
     let longer = published_longer c.pass.inside.seat.me.0.seen c.exchange.new.seat.me.0.seen (all.0.0, all.0.1 ∙ sym seen) in
     rw (sym c.pass.view_is) (omega arith)

@@ -59,7 +59,8 @@ invariant_of-writer g c =
     let inv = c.writer.invariant in
     let n : ℕ = c.self.inside.passes in
     let s = c.sweep_all.ensures.swept in
-    swept_writing _ _ c.writer.inside.seat.me c.sweep_all.new.seat.me _ _ c.sweep_all.new.known.items _ n c.sweep_all.ensures.seat.0 c.sweep_all.ensures.seat.1 s inv
+    swept_writing _ _ c.writer.inside.seat.me c.sweep_all.new.seat.me _ _ c.sweep_all.new.known.items _ n c.sweep_all.ensures.seat.0
+    c.sweep_all.ensures.seat.1 s inv
 
 pub returns-in-Some-clause-done : goal.returns-in-Some-clause-done
 returns-in-Some-clause-done g c =
@@ -310,7 +311,8 @@ invariant_of-writer-2 g c =
     let copies = copies_of num forest places (cur + 1) edition c.next.inside.copies.items number c.next.invariant in
     let u : View = c.place_all.new.seat.me.0 in
     let p = c.place_all.ensures.placed x copies in
-    let w1 = swept_writing _ _ c.writer.inside.seat.me c.sweep_all.new.seat.me _ _ c.sweep_all.new.known.items _ n c.sweep_all.ensures.seat.0 c.sweep_all.ensures.seat.1 s inv in
+    let w1 = swept_writing _ _ c.writer.inside.seat.me c.sweep_all.new.seat.me _ _ c.sweep_all.new.known.items _ n c.sweep_all.ensures.seat.0
+    c.sweep_all.ensures.seat.1 s inv in
     published_writing _ _ c.sweep_all.new.seat.me u c.publish.new.seat.me cur _ _ x n (c.publish.ensures.seat.0 ∙ c.place_all.ensures.seat.0)
     (c.publish.ensures.seat.1 ∙ c.place_all.ensures.seat.1) p c.publish.ensures.seat.2 c.publish.ensures.adds w1
 

@@ -15,7 +15,8 @@ invariant_of-writer g c =
     let inv = c.writer.invariant in
     let n : ℕ = c.self.inside.passes in
     let s = c.sweep_all.ensures.swept in
-    swept_writing _ _ c.writer.inside.seat.me c.sweep_all.new.seat.me _ _ c.sweep_all.new.known.items _ n c.sweep_all.ensures.seat.0 c.sweep_all.ensures.seat.1 s inv
+    swept_writing _ _ c.writer.inside.seat.me c.sweep_all.new.seat.me _ _ c.sweep_all.new.known.items _ n c.sweep_all.ensures.seat.0
+    c.sweep_all.ensures.seat.1 s inv
 
 pub returns-clause-swept : goal.returns-clause-swept
 returns-clause-swept g c =

@@ -76,12 +76,14 @@ invariant_of-self g c =
     let kind = subst (λ (n : ℕ). IsTouch (Pass (pass_id n)) c.args.place.now c.args.word c.args.touch)
     (ap (λ v. v.number) (sym c.self.view_is)) c.requires.kind in
     let told = c.touch_word.ensures.told in
-    let k = kept (Pass (pass_id p)) c.args.place.now c.args.word c.args.touch c.self.inside.seat.me.0 c.touch_word.result c.touch_word.new.seat.me.0 kind told in
+    let k = kept (Pass (pass_id p)) c.args.place.now c.args.word c.args.touch c.self.inside.seat.me.0 c.touch_word.result c.touch_word.new.seat.me.0 kind told
+    in
     let same = pass_kept p c.args.place.now c.args.word c.args.touch c.self.inside.seat.me.0 c.touch_word.result c.touch_word.new.seat.me.0 kind told in (
       k.role ∙ inv.0,
       subst (λ (y : Sizes). p < y.passes) (sym k.sizes) inv.1,
       suits_on _ _ _ _ (sym c.touch_word.ensures.table) (sym k.sizes) inv.2,
-      stands_still num forest places p c.self.inside.seat.me c.touch_word.new.seat.me c.self.inside.edition c.touch_word.ensures.seat.0 k.sizes k.begins same inv.3,
+      stands_still num forest places p c.self.inside.seat.me c.touch_word.new.seat.me c.self.inside.edition c.touch_word.ensures.seat.0 k.sizes k.begins same
+          inv.3,
     )
 
 pub returns-clause-shown : goal.returns-clause-shown
@@ -89,12 +91,14 @@ returns-clause-shown g c =
     let p : ℕ = c.self.inside.number in
     let kind = subst (λ (n : ℕ). IsTouch (Pass (pass_id n)) c.args.place.now c.args.word c.args.touch)
     (ap (λ v. v.number) (sym c.self.view_is)) c.requires.kind in
-    rw (sym c.self.view_is) (shown (Pass (pass_id p)) c.args.place.now c.args.word c.args.touch c.self.inside.seat.me.0 c.touch_word.result c.touch_word.new.seat.me.0 kind c.touch_word.ensures.told)
+    rw (sym c.self.view_is) (shown (Pass (pass_id p)) c.args.place.now c.args.word c.args.touch c.self.inside.seat.me.0 c.touch_word.result
+    c.touch_word.new.seat.me.0 kind c.touch_word.ensures.told)
 
 pub returns-clause-stays : goal.returns-clause-stays
 returns-clause-stays g c =
     let p : ℕ = c.self.inside.number in
     let kind = subst (λ (n : ℕ). IsTouch (Pass (pass_id n)) c.args.place.now c.args.word c.args.touch)
     (ap (λ v. v.number) (sym c.self.view_is)) c.requires.kind in
-    let k = kept (Pass (pass_id p)) c.args.place.now c.args.word c.args.touch c.self.inside.seat.me.0 c.touch_word.result c.touch_word.new.seat.me.0 kind c.touch_word.ensures.told in
+    let k = kept (Pass (pass_id p)) c.args.place.now c.args.word c.args.touch c.self.inside.seat.me.0 c.touch_word.result c.touch_word.new.seat.me.0 kind
+    c.touch_word.ensures.told in
     rw (sym c.self.view_is) (c.touch_word.ensures.table, refl, k.sizes, refl)

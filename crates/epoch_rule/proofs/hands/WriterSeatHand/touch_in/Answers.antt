@@ -40,14 +40,18 @@ pub invariant_of-self : goal.invariant_of-self
 invariant_of-self g c =
     let told = c.touch_word.ensures.told in
     let k = kept Writer c.args.place.now c.args.word c.args.touch c.self.inside.seat.me.0 c.touch_word.result c.touch_word.new.seat.me.0 c.requires.kind told in
-    let same = generations_kept c.args.place.now c.args.word c.args.touch c.self.inside.seat.me.0 c.touch_word.result c.touch_word.new.seat.me.0 c.requires.kind told in
-    writing_kept _ _ c.self.inside.seat.me c.touch_word.new.seat.me _ _ _ c.touch_word.ensures.table c.touch_word.ensures.seat.0 c.touch_word.ensures.seat.1 k same c.self.invariant
+    let same = generations_kept c.args.place.now c.args.word c.args.touch c.self.inside.seat.me.0 c.touch_word.result c.touch_word.new.seat.me.0
+    c.requires.kind told in
+    writing_kept _ _ c.self.inside.seat.me c.touch_word.new.seat.me _ _ _ c.touch_word.ensures.table c.touch_word.ensures.seat.0 c.touch_word.ensures.seat.1 k
+    same c.self.invariant
 
 pub returns-clause-shown : goal.returns-clause-shown
 returns-clause-shown g c =
-    rw (sym c.self.view_is) (shown Writer c.args.place.now c.args.word c.args.touch c.self.inside.seat.me.0 c.touch_word.result c.touch_word.new.seat.me.0 c.requires.kind c.touch_word.ensures.told)
+    rw (sym c.self.view_is) (shown Writer c.args.place.now c.args.word c.args.touch c.self.inside.seat.me.0 c.touch_word.result c.touch_word.new.seat.me.0
+    c.requires.kind c.touch_word.ensures.told)
 
 pub returns-clause-stays : goal.returns-clause-stays
 returns-clause-stays g c =
-    let k = kept Writer c.args.place.now c.args.word c.args.touch c.self.inside.seat.me.0 c.touch_word.result c.touch_word.new.seat.me.0 c.requires.kind c.touch_word.ensures.told in
+    let k = kept Writer c.args.place.now c.args.word c.args.touch c.self.inside.seat.me.0 c.touch_word.result c.touch_word.new.seat.me.0 c.requires.kind
+    c.touch_word.ensures.told in
     rw (sym c.self.view_is) (c.touch_word.ensures.table, k.sizes, refl)
