@@ -7,7 +7,7 @@ use Rattle.mem_base.specs.declared.views.flat.FlatRange.{FlatRange}
 use Rattle.mem_base.specs.views.View.{seen, shown, IsRanges}
 use Rattle.mem_base.proofs.ViewLaws.{seen-after, seen-within, shown-before, shown-first, shown-later}
 use Rattle.flat_lookup.specs.Levels.{IsPlace, AreFew}
-use Rattle.flat_lookup.specs.Atlases.{run_end, starts_of, AreProbes, IsAtlas, end_at, no_range}
+use Rattle.flat_lookup.specs.Atlases.{run_end, starts_of, AreProbes, HasLevels, end_at, no_range}
 
 pub starts_length : (rs : List FlatRange) → length (starts_of rs) ≡ length rs
 starts_length [] = refl
@@ -84,7 +84,7 @@ few_probes count n keys e some few = by
     by zero l = absurd (omega arith)
     by (suc k) l = few (suc k) (omega arith) (omega arith)
 
-pub atlas_place : (rs rs' : List FlatRange) (levels ls : List (List ℕ)) (a p : ℕ) → IsAtlas rs levels → ls ≡ levels → rs' ≡ rs → 0 < length rs' →
+pub atlas_place : (rs rs' : List FlatRange) (levels ls : List (List ℕ)) (a p : ℕ) → HasLevels rs levels → ls ≡ levels → rs' ≡ rs → 0 < length rs' →
     IsPlace (get_or ls 0 []) a p → IsPlace (starts_of rs') a p
 atlas_place rs rs' levels ls a p h e f l k =
     let some : 0 < length rs = subst (λ (x : List FlatRange). 0 < length x) f l in
@@ -159,7 +159,7 @@ pub run_none : (rs : List FlatRange) (a : ℕ) → length rs ≡ 0 → run_end r
 run_none [] a e = refl
 run_none (r ∷ rs) a e = absurd (omega arith)
 
-pub atlas_probes : (rs rs' now : List FlatRange) (levels ls : List (List ℕ)) (before after : ℕ) → IsAtlas rs levels → ls ≡ levels → rs' ≡ rs → rs ≡ now →
+pub atlas_probes : (rs rs' now : List FlatRange) (levels ls : List (List ℕ)) (before after : ℕ) → HasLevels rs levels → ls ≡ levels → rs' ≡ rs → rs ≡ now →
     0 < length rs' → after ≡ before + length ls → AreProbes (after - before) (length now)
 atlas_probes rs rs' now levels ls before after h e f v l up =
     let some : 0 < length rs = subst (λ (x : List FlatRange). 0 < length x) f l in

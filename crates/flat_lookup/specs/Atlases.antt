@@ -2,6 +2,7 @@
 use Rattle.std.specs.Prelude.{ℕ, ◌+◌, ◌-◌, ◌*◌, ◌^◌, ◌<◌, ◌≤◌, false, nat_lt, nat_le, slice_index, slice_index_or, if◌then◌else◌, List, [], ◌∷◌, map, length}
 use Rattle.mem_base.specs.declared.views.flat.FlatRange.{FlatRange}
 use Rattle.flat_lookup.specs.Levels.{IsBuilt}
+use Rattle.flat_lookup.specs.Leaves.{AreLeavesOf}
 
 -- the last address of the range that holds an address, or else of the hole that does
 abbrev pub run_end : List FlatRange → ℕ → ℕ
@@ -28,8 +29,13 @@ end_at rs a p d = if nat_le a (slice_index_or rs p d).last then (slice_index_or 
     (starts_of rs) (p + 1) - 1 else 2 ^ 64 - 1
 
 -- where there are ranges, the levels are over their starts
-pub record IsAtlas (rs : List FlatRange) (levels : List (List ℕ)) : Type 0 where
+pub record HasLevels (rs : List FlatRange) (levels : List (List ℕ)) : Type 0 where
   pub built : 0 < length rs → IsBuilt (starts_of rs) levels
+
+-- an atlas: its levels are over the starts of its ranges, and its leaves are theirs
+pub record IsAtlas (rs : List FlatRange) (levels : List (List ℕ)) (leaves : List ℕ) : Type 0 where
+  pub levels_over : HasLevels rs levels
+  pub leaves_of : AreLeavesOf rs leaves
 
 -- a count of probes of a look-up among `ranges` ranges: at most k where 16 ^ k is at least 2 * ranges + 1
 abbrev pub AreProbes : ℕ → ℕ → Type 0

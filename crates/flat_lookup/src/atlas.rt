@@ -1,10 +1,13 @@
 // A view with levels over the starts of its ranges.
 ghost use Rattle.std.specs.Prelude.{◌≡◌, ◌+◌, ◌-◌, ◌*◌, ◌≤◌, ◌^◌, ◌<◌, ℕ, length, map, MatchResult, IfOk};
 ghost use Rattle.mem_base.specs.views.View.{seen, shown, IsRanges, IsMerged};
-ghost use Rattle.flat_lookup.specs.Atlases.{IsAtlas, starts_of, run_end, AreProbes, end_at, no_range};
+ghost use Rattle.mem_base.specs.views.Naming.{has_leaf};
+ghost use Rattle.flat_lookup.specs.Leaves.{AreLeavesOf};
+ghost use Rattle.flat_lookup.specs.Atlases.{HasLevels, starts_of, run_end, AreProbes, end_at, no_range};
 
+use crate::leaves::Leaves;
 use crate::levels::{Level, levels_over, place};
-use mem_base::{FlatRange, Spot, View};
+use mem_base::{FlatRange, RegionId, Spot, View};
 use std::alloc::{AllocError, Global};
 use std::marker::Model;
 use std::sync::ledger::Ledger;
@@ -16,6 +19,7 @@ use step_counter::Steps;
 pub struct Atlas {
     ranges: View,
     levels: Vec<Level>,
+    leaves: Leaves,
 }
 
 impl Model for Atlas {
@@ -28,7 +32,7 @@ impl Model for Atlas {
 
     ghost view = { λ a. a.ranges };
 
-    ghost invariant = { λ a. IsAtlas a.ranges a.levels.items };
+    ghost invariant = { λ a. IsAtlas a.ranges a.levels.items a.leaves };
 }
 
 // The starts of ranges.
@@ -41,7 +45,7 @@ fn starts(alloc: Global, ranges: &[FlatRange]) -> Result<Vec<u64>, AllocError>
 // The levels over the starts of ranges, if there are any.
 fn levels_of(alloc: Global, ranges: &[FlatRange]) -> Result<Vec<Level>, AllocError>
     requires ranges { IsRanges 0 (2 ^ 64) ranges.now }
-    ensures { IfOk result (λ levels. IsAtlas ranges.now levels.items) }
+    ensures { IfOk result (λ levels. HasLevels ranges.now levels.items) }
 {
     if ranges.is_empty() {
         return Ok(Vec::new(alloc));
@@ -51,15 +55,28 @@ fn levels_of(alloc: Global, ranges: &[FlatRange]) -> Result<Vec<Level>, AllocErr
     Ok(levels)
 }
 
+// What an atlas keeps beside its ranges.
+fn parts(alloc: Global, ranges: &[FlatRange]) -> Result<(Vec<Level>, Leaves), AllocError>
+    requires ranges { IsRanges 0 (2 ^ 64) ranges.now }
+    ensures levels { IfOk result (λ parts. HasLevels ranges.now parts.0.items) }
+    ensures leaves { IfOk result (λ parts. AreLeavesOf ranges.now parts.1) }
+{
+    let levels = levels_of(alloc, ranges)?;
+    let leaves = Leaves::of(alloc, ranges)?;
+    Ok((levels, leaves))
+}
+
 impl Atlas {
-    /// The atlas of a view. Out of memory, the view is given back. It takes time linear in the ranges.
+    /// The atlas of a view. Out of memory, the view is given back. It takes time linear in the ranges,
+    /// but for the sorting of their leaves.
     pub fn new(alloc: Global, view: View) -> Result<Atlas, (AllocError, View)>
         ensures value { MatchResult result (λ atlas. atlas ≡ view) (λ e. e.1 ≡ view) }
     {
-        match levels_of(alloc, view.as_slice()) {
-            Ok(levels) => Ok(Atlas {
+        match parts(alloc, view.as_slice()) {
+            Ok((levels, leaves)) => Ok(Atlas {
                 ranges: view,
                 levels,
+                leaves,
             }),
             Err(e) => Err((e, view)),
         }
@@ -107,6 +124,13 @@ impl Atlas {
         }
         let at = place(self.levels.as_slice(), addr, steps);
         end_after(ranges, at, addr)
+    }
+
+    /// Whether some range has this leaf. It takes no memory, and time that grows with the logarithm of the ranges.
+    pub fn has_leaf(&self, region: RegionId) -> bool
+        ensures { result ≡ has_leaf region self.now }
+    {
+        self.leaves.has(region)
     }
 }
 

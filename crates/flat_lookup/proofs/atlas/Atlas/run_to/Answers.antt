@@ -16,7 +16,7 @@ pub end_after-requires : goal.end_after-requires
 end_after-requires g c =
     let rs : List FlatRange = c.as_slice-ranges.result.now in
     let some = not_empty (length rs) c.is_empty.result c.is_empty.ensures c.if-is_empty.false in
-    let k = atlas_place c.self.inside.ranges rs c.self.inside.levels.items c.as_slice.result.now c.args.addr c.place-at.result c.self.invariant
+    let k = atlas_place c.self.inside.ranges rs c.self.inside.levels.items c.as_slice.result.now c.args.addr c.place-at.result c.self.invariant.levels_over
     c.as_slice.ensures.value c.as_slice-ranges.ensures.value some c.place-at.ensures.place in
     let n = starts_length rs in
     let inside = k.inside in
@@ -27,7 +27,7 @@ returns-clause-value g c =
     let rs : List FlatRange = c.as_slice-ranges.result.now in
     let some = not_empty (length rs) c.is_empty.result c.is_empty.ensures c.if-is_empty.false in
     let ranges : IsRanges 0 (2 ^ 64) rs = subst (IsRanges 0 (2 ^ 64)) (sym c.as_slice-ranges.ensures.value) c.as_slice-ranges.ensures.ranges in
-    let k = atlas_place c.self.inside.ranges rs c.self.inside.levels.items c.as_slice.result.now c.args.addr c.place-at.result c.self.invariant
+    let k = atlas_place c.self.inside.ranges rs c.self.inside.levels.items c.as_slice.result.now c.args.addr c.place-at.result c.self.invariant.levels_over
     c.as_slice.ensures.value c.as_slice-ranges.ensures.value some c.place-at.ensures.place in
     c.end_after.ensures ∙ sym (run_of_place rs c.args.addr c.place-at.result (2 ^ 64) ranges k)
     ∙ ap (λ (xs : List FlatRange). run_end xs c.args.addr) (c.as_slice-ranges.ensures.value ∙ c.self.view_is)
@@ -37,4 +37,4 @@ returns-clause-probes g c =
     let rs : List FlatRange = c.as_slice-ranges.result.now in
     let some = not_empty (length rs) c.is_empty.result c.is_empty.ensures c.if-is_empty.false in
     atlas_probes c.self.inside.ranges rs c.args.self.now c.self.inside.levels.items c.as_slice.result.now c.args.steps.now c.place-at.new.steps
-    c.self.invariant c.as_slice.ensures.value c.as_slice-ranges.ensures.value c.self.view_is some c.place-at.ensures.probes
+    c.self.invariant.levels_over c.as_slice.ensures.value c.as_slice-ranges.ensures.value c.self.view_is some c.place-at.ensures.probes

@@ -1,0 +1,141 @@
+// A generation: a forest with the atlases of its spaces and the places of what it names.
+ghost use Rattle.std.specs.Prelude.{◌≡◌, ◌↔◌, None, IsNone, IfSome, map};
+ghost use Rattle.std.specs.Arc.{arc_value};
+ghost use Rattle.mem_base.specs.map.Search.{root_of};
+ghost use Rattle.mem_base.specs.map.Forest.{IsMade};
+ghost use Rattle.mem_base.specs.views.Flattened.{view_of};
+ghost use Rattle.mem_base.specs.views.LiveEvents.{events_of};
+ghost use Rattle.mem_base.specs.views.Naming.{names};
+ghost use Rattle.mem_base.specs.access.Translations.{entries_of};
+ghost use Rattle.mem_base.specs.access.EditionPlaces.{IsEdition};
+ghost use Rattle.generation.specs.Published.{views_of, AscendByRegion};
+
+use crate::atlases::{atlas_among, is_leaf_among};
+use crate::places::place_among;
+use flat_lookup::Atlas;
+use mem_base::{Edition, Entry, Forest, Ioevent, Place, RegionId, SpaceId};
+use std::alloc::Global;
+use std::marker::Model;
+use std::sync::Arc;
+
+/// A published state of the memory map. It is seen as its number, its forest and its places.
+#[derive(Debug, Drop)]
+pub struct Generation {
+    number: u64,
+    forest: Forest,
+    atlases: Vec<(SpaceId, Arc<Atlas, Global>)>,
+    places: Vec<Place>,
+}
+
+impl Model for Generation {
+    ghost use Rattle.std.specs.Prelude.{map};
+    ghost use Rattle.std.specs.Arc.{arc_value};
+    ghost use Rattle.generation.specs.Published.{Published, published, IsGeneration};
+
+    ghost Value = { Published };
+
+    ghost view = { λ g. published g.number g.forest g.places.items };
+
+    ghost invariant = { λ g. IsGeneration g.forest (map (λ p. (p.0, arc_value p.1)) g.atlases.items) g.places.items };
+}
+
+impl Generation {
+    /// A generation of a forest that accepted calls make. It takes no memory.
+    ///
+    /// The atlases are those of its spaces, in order of making, each with the view of its space. The places are those of
+    /// just the regions that it names and that have words, and the notifiers' where a leaf has an ioeventfd; they stand by
+    /// ascending id of their regions, in which order regions are made.
+    pub fn new(
+        number: u64,
+        forest: Forest,
+        atlases: Vec<(SpaceId, Arc<Atlas, Global>)>,
+        places: Vec<Place>,
+    ) -> Generation
+        requires edition { IsEdition forest places.items }
+        requires atlases { map (λ p. (p.0, arc_value p.1)) atlases.items ≡ views_of forest }
+        requires ascending { AscendByRegion places.items }
+        ensures number { result.number ≡ number }
+        ensures forest { result.forest ≡ forest }
+        ensures places { result.places ≡ places.items }
+    {
+        Generation {
+            number,
+            forest,
+            atlases,
+            places,
+        }
+    }
+
+    /// The forest that it publishes.
+    pub fn forest(&self) -> &Forest
+        ensures value { result.now ≡ self.now.forest }
+        ensures made { IsMade self.now.forest }
+    {
+        &self.forest
+    }
+
+    /// The atlas of a space's view: `None` exactly where the forest has no such space.
+    pub fn atlas(&self, space: SpaceId) -> Option<&Atlas>
+        ensures none { IsNone result ↔ root_of self.now.forest space ≡ None }
+        ensures some { IfSome result (λ atlas. atlas.now ≡ view_of self.now.forest space) }
+    {
+        match self.shared_atlas(space) {
+            Some(atlas) => Some(atlas),
+            None => None,
+        }
+    }
+
+    /// The same atlas as it is shared: a later generation in which the space shows the same keeps it.
+    pub fn shared_atlas(&self, space: SpaceId) -> Option<&Arc<Atlas, Global>>
+        ensures none { IsNone result ↔ root_of self.now.forest space ≡ None }
+        ensures some { IfSome result (λ atlas. arc_value atlas.now ≡ view_of self.now.forest space) }
+    {
+        match atlas_among(self.atlases.as_slice(), space) {
+            Some(atlas) => Some(atlas),
+            None => None,
+        }
+    }
+
+    /// The translations of a region, by ascending address; none where it is no IOMMU region of the forest.
+    pub fn entries(&self, region: RegionId) -> &[Entry]
+        ensures { result.now ≡ entries_of self.now.forest region }
+    {
+        match self.forest.nodes.get(region) {
+            Some(node) => node.entries.as_slice(),
+            None => &[],
+        }
+    }
+
+    /// The ioeventfds of a region, in order; none where it is no device of the forest.
+    pub fn events(&self, region: RegionId) -> &[Ioevent]
+        ensures { result.now ≡ events_of self.now.forest region }
+    {
+        match self.forest.nodes.get(region) {
+            Some(node) => node.events.as_slice(),
+            None => &[],
+        }
+    }
+
+    /// Whether the region is a leaf in one of its views.
+    pub fn names(&self, region: RegionId) -> bool
+        ensures { result ≡ names self.now.forest region }
+    {
+        is_leaf_among(self.atlases.as_slice(), region)
+    }
+}
+
+impl Edition for Generation {
+    ghost counted = { λ g. g.number };
+
+    ghost forest = { λ g. g.forest };
+
+    ghost places = { λ g. g.places };
+
+    fn number(&self) -> u64 {
+        self.number
+    }
+
+    fn place_of(&self, region: RegionId) -> Option<Place> {
+        place_among(self.places.as_slice(), region)
+    }
+}

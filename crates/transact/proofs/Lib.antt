@@ -1,0 +1,7 @@
+pub mod MadeLaws
+pub mod TouchedLaws
+pub mod ShownLaws
+pub mod EventLaws
+pub mod PlacedLaws
+pub mod DeskLaws
+pub mod StepLaws

@@ -1,0 +1,125 @@
+-- Forests that accepted calls make.
+use Rattle.std.proofs.Common.{◌≡◌, ℕ, zero, suc, ◌+◌, ◌<◌, not, Bool, true, false, List, [], ◌∷◌, ◌++◌, Option, Some, None, Ok, refl, sym, ap, subst, ◌∙◌, arith}
+use Rattle.mem_base.specs.declared.map.ids.SpaceId.{SpaceId}
+use Rattle.mem_base.specs.declared.map.forests.Node.{Node}
+use Rattle.mem_base.specs.declared.map.forests.Forest.{Forest}
+use Rattle.mem_base.specs.declared.map.ioevents.Ioevent.{Ioevent}
+use Rattle.mem_base.specs.declared.map.refusals.Refusal.TheVariants.{BadOps}
+use Rattle.mem_base.specs.declared.map.calls.Call.{Call}
+use Rattle.mem_base.specs.declared.map.calls.Call.TheVariants as calls
+use Rattle.mem_base.specs.declared.views.flat.FlatRange.{FlatRange}
+use Rattle.mem_base.specs.declared.map.ioevents.Live.{Live}
+use Rattle.mem_base.specs.lists.Every.{Every}
+use Rattle.mem_base.specs.map.Region.{node_of}
+use Rattle.std.specs.Prelude.{option_and_then}
+use Rattle.mem_base.specs.map.Limits.{most_depth}
+use Rattle.mem_base.specs.map.Search.{root_of, found_in, spot_of}
+use Rattle.mem_base.specs.map.Devices.{is_access_size}
+use Rattle.mem_base.specs.map.Events.{is_good_event}
+use Rattle.mem_base.specs.map.TableRefusals.{bad_event}
+use Rattle.mem_base.specs.map.Changes.{changed}
+use Rattle.mem_base.specs.map.Calls.{after, after_all, left_by, empty}
+use Rattle.mem_base.specs.map.Forest.{FitsTypes, IsMade, IsOrderedForest, IsClosedForest, IsRegion}
+use Rattle.mem_base.specs.views.View.{IsView}
+use Rattle.mem_base.specs.views.Flattened.{view_of}
+use Rattle.mem_base.specs.views.LiveEvents.{events_at, lives_of, lives_in}
+use Rattle.mem_base.proofs.EveryLaws.{weaker, every_push}
+use Rattle.mem_base.proofs.ForestLaws.{every_node_of}
+use Rattle.mem_base.proofs.ViewLaws.{IsView-unique}
+use Rattle.map_laws.proofs.CallLaws.{IsOrderedForest-made, after-accepted}
+use Rattle.map_laws.proofs.SoundCallLaws.{IsClosedForest-made}
+use Rattle.map_laws.proofs.OffsetLaws.{IsView-made}
+use Rattle.map_laws.proofs.RefusalLaws.{refuse_if-none}
+use Rattle.view_laws.specs.LiveLists.{HaveBytes}
+use Rattle.view_laws.proofs.LiveRanges.{lives_agree}
+
+after_both : (f : Forest) (xs ys : List Call) → after_all f (xs ++ ys) ≡ after_all (after_all f xs) ys
+after_both f [] ys = refl
+after_both f (call ∷ xs) ys = after_both (left_by f (after f call)) xs ys
+
+-- one more accepted call
+pub made_after : (f g : Forest) (call : Call) → IsMade f → FitsTypes call → after f call ≡ Ok g → IsMade g
+made_after f g call m fits e = record {
+  calls = m.calls ++ call ∷ [];
+  fitting = every_push FitsTypes m.calls call m.fitting fits;
+  made = after_both empty m.calls (call ∷ []) ∙ ap (λ h. after_all h (call ∷ [])) m.made ∙ ap (left_by f) e;
+}
+
+pub made_empty : IsMade empty
+made_empty = record { calls = []; fitting = tt; made = refl }
+
+pub ordered_made : (f : Forest) → IsMade f → IsOrderedForest f
+ordered_made f m = subst IsOrderedForest m.made (IsOrderedForest-made m.calls)
+
+pub closed_made : (f : Forest) → IsMade f → IsClosedForest f
+closed_made f m = subst IsClosedForest m.made (IsClosedForest-made m.calls m.fitting)
+
+-- what a call changes is not the number of calls
+calls_stay : (f : Forest) (call : Call) → (changed f call).calls ≡ f.calls
+calls_stay f (calls.Region kind size) = refl
+calls_stay f (calls.Space space root) = refl
+calls_stay f (calls.Add parent offset child priority) = refl
+calls_stay f (calls.Del parent child) = refl
+calls_stay f (calls.Move child offset) = refl
+calls_stay f (calls.Resize region size) = refl
+calls_stay f (calls.Retarget alias offset) = refl
+calls_stay f (calls.Enable region on) = refl
+calls_stay f (calls.Readonly region on) = refl
+calls_stay f (calls.Nonvolatile region on) = refl
+calls_stay f (calls.Unmergeable region on) = refl
+calls_stay f (calls.Romd region on) = refl
+calls_stay f (calls.Log region client on) = refl
+calls_stay f (calls.Global on) = refl
+calls_stay f (calls.Map region iova size space translated perm) = refl
+calls_stay f (calls.Unmap region iova) = refl
+calls_stay f (calls.Event region event) = refl
+calls_stay f (calls.Unevent region offset size matched value) = refl
+calls_stay f (calls.Drop region) = refl
+
+pub counted_after : (f g : Forest) (call : Call) → after f call ≡ Ok g → g.calls ≡ f.calls + 1
+counted_after f g call e = ap (λ (h : Forest). h.calls) (after-accepted f g call e).1 ∙ ap (λ n. n + 1) (calls_stay f call)
+
+-- the view of a forest at a space is its view
+view_made : (f : Forest) (s : SpaceId) → IsMade f → IsView f s (view_of f s)
+view_made f s m = subst (λ g. IsView g s (view_of g s)) m.made (IsView-made m.calls s m.fitting)
+
+pub view_is : (f : Forest) (s : SpaceId) (rs : List FlatRange) → IsMade f → IsView f s rs → rs ≡ view_of f s
+view_is f s rs m k = IsView-unique f s rs (view_of f s) k (view_made f s m)
+
+-- a space that is not there shows nothing
+pub nothing_shown : (f : Forest) (s : SpaceId) → IsMade f → root_of f s ≡ None → [] ≡ view_of f s
+nothing_shown f s m e = view_is f s [] m (record {
+  agrees = record {
+    ranges = omega arith;
+    shows = λ a l. sym (ap (λ o. spot_of (option_and_then (λ r. found_in f most_depth r a) o)) e);
+    paths = tt;
+  };
+  merged = tt;
+})
+
+-- each ioeventfd has bytes
+sized : (size : ℕ) → is_access_size size ≡ true → 0 < size
+sized zero h = absurd (grind arith)
+sized (suc n) h = omega arith
+
+not_of : (a : Bool) → not a ≡ false → a ≡ true
+not_of true h = refl
+not_of false h = absurd (grind arith)
+
+has_bytes : (e : Ioevent) → bad_event e ≡ None → 0 < e.size
+has_bytes e h =
+    let good : is_good_event e ≡ true = not_of (is_good_event e) (refuse_if-none (not (is_good_event e)) BadOps h) in
+    sized e.size (grind (arith, good))
+
+have_bytes : (f : Forest) → IsClosedForest f → HaveBytes f
+have_bytes f k region = go (node_of f.nodes region) refl
+  where
+    go : (o : Option Node) → node_of f.nodes region ≡ o → Every (λ e. 0 < e.size) (events_at o)
+    go None e = tt
+    go (Some n) e = weaker (λ x. bad_event x ≡ None) (λ x. 0 < x.size) has_bytes n.events
+        (every_node_of (IsRegion f.nodes) f.nodes region n e k.regions).0.good_events
+
+-- the live ioeventfds of the view are those of the forest
+pub lives_are : (f : Forest) (s : SpaceId) (rs : List FlatRange) (ls : List Live) → IsMade f → rs ≡ view_of f s → ls ≡ lives_in f rs → ls ≡ lives_of f s
+lives_are f s rs ls m shown e =
+    e ∙ ap (lives_in f) shown ∙ sym (lives_agree f s (view_of f s) (have_bytes f (closed_made f m)) (view_made f s m).agrees)

@@ -1,0 +1,62 @@
+-- What spaces show, of which some are not touched.
+use Rattle.std.proofs.Common.{◌≡◌, ℕ, zero, suc, ◌<◌, if◌then◌else◌, Bool, true, false, eqb, List, [], ◌∷◌, map, length, get_or, drop, Some, IsSome, refl, sym, ap, subst, ◌∙◌, arith}
+use Rattle.std.specs.Prelude.{find, option_map}
+use Rattle.std.proofs.lemmas.Bool.Decides.{nat_tests}
+use Rattle.mem_base.specs.declared.map.ids.RegionId.{RegionId}
+use Rattle.mem_base.specs.declared.map.ids.SpaceId.{SpaceId}
+use Rattle.mem_base.specs.declared.map.forests.Forest.{Forest}
+use Rattle.mem_base.specs.declared.views.flat.FlatRange.{FlatRange}
+use Rattle.mem_base.specs.lists.Every.{Every}
+use Rattle.mem_base.specs.map.Search.{is_space, root_of}
+use Rattle.mem_base.specs.map.Forest.{IsMade}
+use Rattle.mem_base.specs.map.Touched.{is_touched}
+use Rattle.mem_base.specs.views.Flattened.{view_of}
+use Rattle.view_laws.proofs.TouchedLaws.{untouched_view}
+use Rattle.transact.proofs.MadeLaws.{ordered_made}
+
+-- an untouched space keeps its view
+pub view_stays : (f g : Forest) (s : SpaceId) → IsMade f → IsMade g → is_touched f g s ≡ false → view_of f s ≡ view_of g s
+view_stays f g s m n calm = untouched_view f g s (ordered_made f m).ascending (ordered_made g n).ascending calm
+
+-- each atlas is of the view of its space
+pub each_view : {X : Type 0} (h : X → List FlatRange) (f : Forest) (spaces : List (SpaceId × RegionId)) (atlases : List (SpaceId × X)) →
+    map {B = SpaceId × List FlatRange} (λ p. (p.0, h p.1)) atlases ≡ map (λ p. (p.0, view_of f p.0)) spaces → Every (λ p. h p.1 ≡ view_of f p.0) atlases
+each_view h f spaces [] e = tt
+each_view h f [] (p ∷ ps) e = let none = ap (λ ts. length ts) e in absurd (grind arith)
+each_view {X = X} h f (q ∷ qs) (p ∷ ps) e =
+    let heads : (p.0, h p.1) ≡ (q.0, view_of f q.0) = ap (λ (ts : List (SpaceId × List FlatRange)). get_or ts 0 (p.0, h p.1)) e in
+    let id : p.0 ≡ q.0 = ap (λ (t : SpaceId × List FlatRange). t.0) heads in
+    (ap (λ (t : SpaceId × List FlatRange). t.1) heads ∙ ap (view_of f) (sym id), each_view h f qs ps (ap (λ (ts : List (SpaceId × List FlatRange)). drop 1 ts) e))
+
+-- the spaces of the atlases are those of the forest
+pub same_spaces : {X Y : Type 0} (h : X → List FlatRange) (f : Forest) (g : SpaceId → Y) (spaces : List (SpaceId × RegionId)) (atlases : List (SpaceId × X)) →
+    map {B = SpaceId × List FlatRange} (λ p. (p.0, h p.1)) atlases ≡ map (λ p. (p.0, view_of f p.0)) spaces → map (λ p. g p.0) atlases ≡ map (λ p. g p.0) spaces
+same_spaces {X = X} {Y = Y} h f g spaces atlases e =
+    firsts h g atlases ∙ ap (λ (ts : List (SpaceId × List FlatRange)). map (λ t. g t.0) ts) e ∙ sym (seconds spaces)
+  where
+    firsts : {X : Type 0} (h : X → List FlatRange) (g : SpaceId → Y) (xs : List (SpaceId × X)) →
+        map (λ p. g p.0) xs ≡ map (λ (t : SpaceId × List FlatRange). g t.0) (map {B = SpaceId × List FlatRange} (λ p. (p.0, h p.1)) xs)
+    firsts h g [] = refl
+    firsts h g (x ∷ xs) = ap (λ rest. g x.0 ∷ rest) (firsts h g xs)
+
+    seconds : (qs : List (SpaceId × RegionId)) → map (λ p. g p.0) qs ≡ map (λ (t : SpaceId × List FlatRange). g t.0) (map {B = SpaceId × List FlatRange} (λ p. (p.0, view_of f p.0)) qs)
+    seconds [] = refl
+    seconds (q ∷ qs) = ap (λ rest. g q.0 ∷ rest) (seconds qs)
+
+-- each space of a forest has its root
+found_root : (spaces : List (SpaceId × RegionId)) (i : ℕ) (d : SpaceId × RegionId) → i < length spaces
+    → IsSome (option_map (λ (p : SpaceId × RegionId). p.1) (find (is_space (get_or spaces i d).0) spaces))
+found_root [] i d l = absurd (omega arith)
+found_root (p ∷ ps) zero d l = let t : eqb p.0.0 p.0.0 ≡ true = grind (arith, nat_tests) in rw t refl
+found_root (p ∷ ps) (suc i) d l = go (found_root ps i d (omega arith)) (is_space (get_or ps i d).0 p) refl
+  where
+    go : IsSome (option_map (λ (p : SpaceId × RegionId). p.1) (find (is_space (get_or ps i d).0) ps)) → (b : Bool) → is_space (get_or ps i d).0 p ≡ b
+        → IsSome (option_map (λ (p : SpaceId × RegionId). p.1) (if b then Some p else find (is_space (get_or ps i d).0) ps))
+    go rest true e = refl
+    go rest false e = rest
+
+pub rooted : (f : Forest) (spaces : List (SpaceId × RegionId)) (i : ℕ) (d : SpaceId × RegionId) → spaces ≡ f.spaces → i < length spaces
+    → IsSome (root_of f (get_or spaces i d).0)
+rooted f spaces i d e l =
+    subst (λ (qs : List (SpaceId × RegionId)). IsSome (option_map (λ (p : SpaceId × RegionId). p.1) (find (is_space (get_or spaces i d).0) qs))) e
+    (found_root spaces i d l)

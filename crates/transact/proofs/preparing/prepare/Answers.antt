@@ -1,0 +1,28 @@
+use Rattle.std.proofs.Common.{◌≡◌, map, sym, ap, subst, ◌∙◌}
+use Rattle.std.specs.Arc.{arc_value}
+use Rattle.mem_base.specs.access.EditionPlaces.{IsEdition}
+use Rattle.mem_base.specs.machine.Desk.{shown_places}
+use Rattle.generation.specs.Published.{views_of}
+use Rattle.transact.proofs.PlacedLaws.{edition_of, ascending_of}
+use Rattle.transact.proofs.preparing.prepare.Goals as goal
+
+pub changes-requires-clause-atlases : goal.changes-requires-clause-atlases
+changes-requires-clause-atlases g c =
+    ap (λ atlases. map (λ p. (p.0, arc_value p.1)) atlases) c.as_slice-2.ensures.value ∙ c.in_ok-atlases.ensures.atlases ∙ ap views_of (sym c.in_ok-forest.ensures)
+
+pub places_of-requires : goal.places_of-requires
+places_of-requires g c =
+    ap (λ atlases. map (λ p. (p.0, arc_value p.1)) atlases) c.as_slice-3.ensures.value ∙ c.in_ok-atlases.ensures.atlases ∙ ap views_of (sym c.in_ok-forest.ensures)
+
+pub new-generation-requires-clause-edition : goal.new-generation-requires-clause-edition
+new-generation-requires-clause-edition g c =
+    let list : c.in_ok-places.places.items ≡ shown_places c.args.tree.now c.args.places.now = c.in_ok-places.ensures
+    ∙ ap (λ f. shown_places f c.args.places.now) c.in_ok-forest.ensures in
+    subst (λ f. IsEdition f c.in_ok-places.places.items) (sym c.in_ok-forest.ensures)
+    (edition_of c.args.tree.now c.args.places.now c.in_ok-places.places.items c.requires.made c.requires.places list)
+
+pub new-generation-requires-clause-ascending : goal.new-generation-requires-clause-ascending
+new-generation-requires-clause-ascending g c =
+    let list : c.in_ok-places.places.items ≡ shown_places c.args.tree.now c.args.places.now = c.in_ok-places.ensures
+    ∙ ap (λ f. shown_places f c.args.places.now) c.in_ok-forest.ensures in
+    ascending_of c.args.tree.now c.args.places.now c.in_ok-places.places.items c.requires.places list

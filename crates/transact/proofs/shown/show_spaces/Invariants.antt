@@ -1,0 +1,16 @@
+use Rattle.std.proofs.Common.{◌≡◌, ◌+◌, ◌≤◌, ◌++◌, map, drop}
+use Rattle.std.specs.List.{sum_by}
+use Rattle.std.specs.Arc.{arc_value}
+use Rattle.mem_base.specs.map.Touched.{reached}
+use Rattle.mem_base.specs.views.Flattened.{view_of}
+use Rattle.generation.specs.Published.{views_of}
+use Rattle.transact.specs.Desks.{reached_in}
+use Rattle.transact.specs.Preparing.{carves_of, most_carves}
+use Rattle.transact.proofs.shown.show_spaces.Given as goal
+
+abbrev pub invariant-loop-space : goal.invariant-loop-space
+invariant-loop-space g l = record {
+  atlases : map (λ p. (p.0, arc_value p.1)) l.atlases.items ++ map (λ p. (p.0, view_of l.tree p.0)) (drop l.space-index l.spaces) ≡ views_of l.tree;
+  reached : l.reached.items ++ map (λ p. (p.0, reached l.tree p.0)) (drop l.space-index l.spaces) ≡ reached_in l.tree;
+  carves : l.steps + sum_by (λ p. carves_of l.current.forest l.tree p.0) (drop l.space-index l.spaces) ≤ l.fn.steps + most_carves l.current.forest l.tree;
+}

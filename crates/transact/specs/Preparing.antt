@@ -1,0 +1,77 @@
+-- What is prepared before a generation becomes current, and how often that may carve.
+use Rattle.std.specs.Prelude.{◌≡◌, ℕ, ◌+◌, ◌*◌, ◌⊎◌, true, false, if◌then◌else◌, List, [], ◌∷◌, ◌++◌, Option, Some, None, Ok}
+use Rattle.std.specs.List.{sum_by}
+use Rattle.mem_base.specs.declared.map.ids.RegionId.{RegionId}
+use Rattle.mem_base.specs.declared.map.ids.SpaceId.{SpaceId}
+use Rattle.mem_base.specs.declared.map.forests.Forest.{Forest}
+use Rattle.mem_base.specs.declared.map.forests.Node.{Node}
+use Rattle.mem_base.specs.declared.map.calls.Call.{Call}
+use Rattle.mem_base.specs.declared.access.cells.Place.{Place}
+use Rattle.mem_base.specs.declared.views.listening.Change.{Change}
+use Rattle.mem_base.specs.map.Search.{root_of}
+use Rattle.mem_base.specs.map.Steps.{weight_of}
+use Rattle.mem_base.specs.map.Calls.{after}
+use Rattle.mem_base.specs.map.Touched.{is_touched}
+use Rattle.mem_base.specs.access.Places.{notifiers_place}
+use Rattle.mem_base.specs.views.Listening.{changes_between}
+use Rattle.mem_base.specs.machine.Committed.{transaction}
+use Rattle.mem_base.specs.machine.Desk.{shown_places}
+use Rattle.history_laws.specs.BackedForests.{BacksForest}
+use Rattle.generation.specs.Published.{Published, published, AscendByRegion}
+use Rattle.transact.specs.Desks.{DeskState, desk_state}
+
+-- the places of all regions of a forest that have words, in order of making, and after the pool the notifiers'
+pub record AreDeskPlaces (f : Forest) (places : List Place) : Type 0 where
+  pub pool_words : ℕ
+  pub regions : List Place
+  pub parts : places ≡ regions ++ notifiers_place pool_words ∷ []
+  pub backs : BacksForest pool_words f regions
+  pub ascending : AscendByRegion places
+
+-- the generation that publishes a forest after this one
+abbrev pub next_of : Published → Forest → List Place → Published
+next_of current f places = published (current.number + 1) f (shown_places f places)
+
+-- what is ready to become current: a generation, the listeners' calls, and for a call the tree after it
+pub record Readied : Type 0 where
+  pub generation : Published
+  pub changes : List Change
+  pub tree : Option Forest
+
+-- what is prepared of a forest: the generation that publishes it next, and the changes from the current one to it
+abbrev pub readied : Published → Forest → List Place → Option Forest → Readied
+readied current f places tree = record {
+  generation = next_of current f places;
+  changes = changes_between current.forest f;
+  tree = tree;
+}
+
+-- the weight of a space's root
+abbrev pub weight_at : List Node → Option RegionId → ℕ
+weight_at nodes None = 0
+weight_at nodes (Some root) = weight_of nodes root
+
+-- the carves that a space may take from one forest to another: none where it is not touched
+abbrev pub carves_of : Forest → Forest → SpaceId → ℕ
+carves_of f g s = if is_touched f g s then weight_at g.nodes (root_of g s) * weight_at g.nodes (root_of g s) else 0
+
+-- those of all spaces
+abbrev pub most_carves : Forest → Forest → ℕ
+most_carves f g = sum_by (λ p. carves_of f g p.0) g.spaces
+
+-- what is prepared belongs to a desk as it stands: the generation comes next, and its forest is that of a call outside
+-- all transactions, or the desk's own where the outermost transaction has a change pending
+abbrev pub IsFromCall : DeskState → Readied → Type 0
+IsFromCall d r = (d.state.depth ≡ 0) × (r.tree ≡ Some r.generation.forest) × ((call : Call) × (after d.state.forest call ≡ Ok r.generation.forest))
+
+abbrev pub IsFromCommit : DeskState → Readied → Type 0
+IsFromCommit d r = (d.state.depth ≡ 1) × (d.state.pending ≡ true) × (r.tree ≡ None) × (r.generation.forest ≡ d.state.forest)
+
+pub record IsOfDesk (d : DeskState) (r : Readied) : Type 0 where
+  pub number : r.generation.number ≡ d.current.number + 1
+  pub changes : r.changes ≡ changes_between d.current.forest r.generation.forest
+  pub source : IsFromCall d r ⊎ IsFromCommit d r
+
+-- the desk when what was prepared is current: no transaction is open, and nothing is pending
+abbrev pub when_done : Readied → DeskState
+when_done r = desk_state (transaction r.generation.forest 0 false) r.generation

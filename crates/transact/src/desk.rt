@@ -1,0 +1,260 @@
+// The desk at which the writer changes the map.
+ghost use Rattle.std.specs.Prelude.{◌≡◌, ◌≢◌, ◌^◌, ◌+◌, ◌<◌, ◌≤◌, ◌==◌, ◌&&◌, not, true, false, unwrap_or, Ok, Err, Some, None, IfOk, IfErr, OnOk, OnErr};
+ghost use Rattle.std.specs.Arc.{arc_value};
+ghost use Rattle.mem_base.specs.declared.map.calls.Config.TheVariants as configs;
+ghost use Rattle.mem_base.specs.declared.map.forests.Forest.{Forest};
+ghost use Rattle.mem_base.specs.map.Limits.{most_nested};
+ghost use Rattle.mem_base.specs.map.Forest.{FitsTypes, IsMade};
+ghost use Rattle.mem_base.specs.map.Calls.{after, answer_of, is_quiet};
+ghost use Rattle.mem_base.specs.machine.Committed.{transaction_after};
+ghost use Rattle.transact.specs.Desks.{first_state, with_state};
+ghost use Rattle.transact.specs.Preparing.{AreDeskPlaces, readied, IsOfDesk, when_done, most_carves};
+ghost use Rattle.transact.specs.Commits.{IsStep};
+
+use crate::prepared::{Prepared, Step};
+use crate::preparing::prepare;
+use crate::regions::Regions;
+use generation::Generation;
+use mem_base::{Applied, Call, MOST_NESTED, Place, Refusal, SpaceId};
+use region_tree::Tree;
+use std::alloc::{AllocError, Global};
+use std::marker::Model;
+use std::sync::Arc;
+use std::sync::ledger::Ledger;
+use step_counter::Steps;
+
+/// What the writer keeps of the map: the tree, the transactions that are open, and the current generation.
+///
+/// It is seen as the forest with the transactions that are open, and the current generation.
+#[derive(Drop)]
+pub struct Desk {
+    alloc: Global,
+    tree: Tree,
+    depth: u32,
+    pending: bool,
+    current: Arc<Generation, Global>,
+    // the regions that are reached in each space of the current generation
+    reached: Vec<(SpaceId, Regions)>,
+}
+
+impl Model for Desk {
+    ghost use Rattle.std.specs.Arc.{arc_value};
+    ghost use Rattle.mem_base.specs.machine.Committed.{transaction};
+    ghost use Rattle.transact.specs.Desks.{DeskState, desk_state, IsDesk};
+
+    ghost Value = { DeskState };
+
+    ghost view = { λ d. desk_state (transaction d.tree d.depth d.pending) (arc_value d.current) };
+
+    ghost invariant = { λ d. IsDesk (desk_state (transaction d.tree d.depth d.pending) (arc_value d.current)) d.reached.items };
+}
+
+// That an address of a call is below 2^64.
+fn fits_address(address: u64)
+    ensures { address < 2 ^ 64 }
+{}
+
+// That the sizes of a call, and the address of a page, are such as their types hold.
+fn fits(call: &Call)
+    ensures { FitsTypes call.now }
+{
+    match *call {
+        Call::Region { size, .. } | Call::Resize { size, .. } => {
+            let _ = size.get();
+        }
+        Call::Map { iova, size, .. } => {
+            fits_address(iova);
+            let _ = size.get();
+        }
+        _ => {}
+    }
+}
+
+// Puts a tree in the place of another, if there is one.
+fn replace(tree: &mut Tree, next: Option<Tree>)
+    ensures { tree.new ≡ unwrap_or next tree.old }
+{
+    if let Some(next) = next {
+        *tree = next;
+    }
+}
+
+impl Desk {
+    /// An empty map, which generation 0 publishes.
+    ///
+    /// It fails only where memory runs out.
+    pub fn new(alloc: Global) -> Result<Desk, AllocError>
+        ensures { IfOk result (λ desk. desk ≡ first_state) }
+    {
+        let tree = Tree::new(alloc);
+        let forest = tree.forest()?;
+        let generation = Generation::new(0, forest, Vec::new(alloc), Vec::new(alloc));
+        Ok(Desk {
+            alloc,
+            tree,
+            depth: 0,
+            pending: false,
+            current: Arc::new(alloc, generation)?,
+            reached: Vec::new(alloc),
+        })
+    }
+
+    /// The forest of regions as the calls have made it, those of open transactions included.
+    pub fn tree(&self) -> &Tree
+        ensures value { result.now ≡ self.now.state.forest }
+        ensures made { IsMade self.now.state.forest }
+    {
+        &self.tree
+    }
+
+    /// How many transactions are open, one within another.
+    pub fn depth(&self) -> u32
+        ensures value { result ≡ self.now.state.depth }
+        ensures within { result ≤ most_nested }
+    {
+        self.depth
+    }
+
+    /// Whether a change was made in the transactions that are open.
+    pub fn pending(&self) -> bool
+        ensures { result ≡ self.now.state.pending }
+    {
+        self.pending
+    }
+
+    /// The generation that is current.
+    pub fn current(&self) -> &Arc<Generation, Global>
+        ensures { arc_value result.now ≡ self.now.current }
+    {
+        &self.current
+    }
+
+    /// Opens a transaction, inside of those that are open. QEMU's core, `memory_region_transaction_begin`.
+    ///
+    /// Refused with `TooNested` where 64 are open, and then nothing changes; the bound is this project's own.
+    pub fn begin(&mut self) -> Result<(), Refusal>
+        ensures begun { OnOk result (self.new ≡ with_state (transaction_after self.old.state configs.Begin) self.old) }
+        ensures accepted { OnOk result (self.old.state.depth < most_nested) }
+        ensures refused { OnErr result (result ≡ Err Refusal.TooNested) }
+        ensures nested { OnErr result (self.old.state.depth ≡ most_nested) }
+        ensures unchanged { OnErr result (self.new ≡ self.old) }
+    {
+        if self.depth >= MOST_NESTED {
+            return Err(Refusal::TooNested);
+        }
+        self.depth += 1;
+        Ok(())
+    }
+
+    /// Does a call that publishes nothing: inside a transaction any call, outside one a call that makes or drops a region.
+    ///
+    /// It is refused for the forest's first reason, or where memory runs out, and then nothing changes.
+    pub fn call(&mut self, call: &Call) -> Result<Applied, Refusal>
+        requires { (self.old.state.depth == 0) && not (is_quiet call.now) ≡ false }
+        ensures applied { IfOk result (λ x. (after self.old.state.forest call.now ≡ Ok self.new.state.forest) × (x ≡ answer_of self.old.state.forest call.now)) }
+        ensures state { OnOk result (self.new ≡ with_state (transaction_after self.old.state (configs.Call call.now)) self.old) }
+        ensures refused { IfErr result (λ why. why ≢ Refusal.Memory → after self.old.state.forest call.now ≡ Err why) }
+        ensures unchanged { OnErr result (self.new ≡ self.old) }
+    {
+        fits(call);
+        let applied = self.tree.apply(call)?;
+        if !call.is_quiet() {
+            self.pending = true;
+        }
+        Ok(applied)
+    }
+
+    /// Prepares a change outside all transactions, which is one by itself. The desk stays as it is until `done`.
+    ///
+    /// `places` are the places of all regions that have words, in order of making, and after the pool the notifiers'. It is
+    /// refused for the forest's first reason, before anything is carved, or where memory runs out. A step is one carve: at
+    /// most the square of the root's weight for each space that the change touches, and none for any other.
+    pub fn call_prepare<L: Ledger>(
+        &self,
+        call: &Call,
+        places: &[Place],
+        steps: &mut Steps<L>,
+    ) -> Result<Prepared, Refusal>
+        requires outside { self.now.state.depth ≡ 0 }
+        requires change { is_quiet call.now ≡ false }
+        requires places { AreDeskPlaces self.now.state.forest places.now }
+        ensures applied { IfOk result (λ p. after self.now.state.forest call.now ≡ Ok p.generation.forest) }
+        ensures prepared { IfOk result (λ p. p ≡ readied self.now.current p.generation.forest places.now (Some p.generation.forest)) }
+        ensures refused { IfErr result (λ why. why ≢ Refusal.Memory → after self.now.state.forest call.now ≡ Err why) }
+        ensures carves { (f : Forest) → after self.now.state.forest call.now ≡ Ok f → steps.new ≤ steps.old + most_carves self.now.current.forest f }
+        ensures spared { IfErr result (λ why. why ≢ Refusal.Memory → steps.new ≡ steps.old) }
+    {
+        fits(call);
+        let mut tree = self.tree.try_copy()?;
+        tree.apply(call)?;
+        let prepared = prepare(
+            self.alloc,
+            &self.current,
+            self.reached.as_slice(),
+            &tree,
+            places,
+            steps,
+        )?;
+        Ok(prepared.with_tree(tree))
+    }
+
+    /// Closes an inner transaction, or the outermost one where nothing is pending; or else prepares what is pending, and the
+    /// desk stays as it is until `done`. QEMU's core, `memory_region_transaction_commit`.
+    ///
+    /// `places` as for `call_prepare`. It is refused with `NoTransaction` where none is open, or where memory runs out, and
+    /// then nothing changes. It carves at most as often as `call_prepare` may.
+    pub fn commit_prepare<L: Ledger>(
+        &mut self,
+        places: &[Place],
+        steps: &mut Steps<L>,
+    ) -> Result<Step, Refusal>
+        requires { AreDeskPlaces self.old.state.forest places.now }
+        ensures step { IfOk result (λ step. IsStep self.old places.now self.new step) }
+        ensures refused { IfErr result (λ why. why ≢ Refusal.Memory → (why ≡ Refusal.NoTransaction) × (self.old.state.depth ≡ 0)) }
+        ensures unchanged { OnErr result (self.new ≡ self.old) }
+        ensures carves { steps.new ≤ steps.old + most_carves self.old.current.forest self.old.state.forest }
+        ensures spared { IfErr result (λ why. why ≢ Refusal.Memory → steps.new ≡ steps.old) }
+    {
+        if self.depth == 0 {
+            return Err(Refusal::NoTransaction);
+        }
+        if self.depth > 1 {
+            self.depth -= 1;
+            return Ok(Step::Inner);
+        }
+        if !self.pending {
+            self.depth = 0;
+            return Ok(Step::Empty);
+        }
+        let prepared = prepare(
+            self.alloc,
+            &self.current,
+            self.reached.as_slice(),
+            &self.tree,
+            places,
+            steps,
+        )?;
+        Ok(Step::Ready(prepared))
+    }
+
+    /// Makes a prepared generation the current one: no transaction is open then, and nothing is pending.
+    ///
+    /// What is handed in was prepared of the desk as it stands. It takes no memory, and cannot fail.
+    pub fn done(&mut self, prepared: Prepared)
+        requires { IsOfDesk self.old prepared }
+        ensures { self.new ≡ when_done prepared }
+    {
+        let _ = prepared.generation.forest();
+        let Prepared {
+            generation,
+            tree,
+            reached,
+            ..
+        } = prepared;
+        replace(&mut self.tree, tree);
+        self.depth = 0;
+        self.pending = false;
+        self.current = generation;
+        self.reached = reached;
+    }
+}

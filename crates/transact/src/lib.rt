@@ -1,0 +1,18 @@
+//! Transactions: the desk at which the writer changes the map, and what it prepares before a generation becomes current.
+//!
+//! QEMU's core, `memory_region_transaction_begin` and `memory_region_transaction_commit`: only the outermost commit acts, and
+//! a call outside all transactions is one by itself. The layer above may rely on it that a prepared generation shows what the
+//! forest shows, that only spaces that the change touches are carved anew, that preparing changes nothing, and that `done`
+//! takes no memory and cannot fail.
+#![tactic(auto)]
+
+mod changes;
+mod desk;
+mod prepared;
+mod preparing;
+mod regions;
+mod shown;
+mod touched;
+
+pub use desk::Desk;
+pub use prepared::{Prepared, Step};
