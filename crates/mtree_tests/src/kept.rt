@@ -7,6 +7,7 @@ use rand_pcg::Lcg64Xsh32;
 use region_tree::Tree;
 use std::alloc::{AllocError, Global};
 use std::test::Fail;
+use tree_find::find;
 
 /// The regions that the plain walk reaches from the root of space 0, by ascending id.
 fn plain_reach(alloc: Global, case: &Case) -> Result<Vec<RegionId>, AllocError> {
@@ -159,13 +160,40 @@ fn children_of_the_worked_pc_in_the_order_of_search(rt: HostRuntime) -> Result<(
     );
     let mut list = Vec::new(rt.alloc());
     for child in tree.placed_children(RegionId(0)) {
-        list.push((child.id.0, child.offset, child.priority))?;
+        list.push((child.id.0, child.offset, child.last, child.priority))?;
     }
     assert_eq!(rt;
         list.as_slice(),
-        [(7, 0xe_0000, 1), (5, 0xa_0000, 1), (3, 0, 0), (1, 0, -1)].as_slice()
+        [
+            (7, 0xe_0000, 0x1_ffff, 1),
+            (5, 0xa_0000, 0x1_ffff, 1),
+            (3, 0, 0x7ff_ffff, 0),
+            (1, 0, u64::MAX, -1)
+        ]
+        .as_slice()
     );
     assert_eq!(rt; tree.reach(SpaceId(0))?.len(), 8);
     assert_eq!(rt; tree.reach(SpaceId(1))?.len(), 0);
+    Ok(())
+}
+
+#[test]
+fn a_resized_child_is_told_and_found_to_its_new_last_address(rt: HostRuntime) -> Result<(), Fail> {
+    let mut tree = pc(rt.alloc())?;
+    let found = |tree: &Tree| find(tree, SpaceId(0), 0xf_0000).map(|spot| (
+        spot.leaf.0,
+        spot.offset,
+    ));
+    assert_eq!(rt; found(&tree), Some((6, 0x3_0000)));
+    let region = RegionId(7);
+    let size = Size::new(0x1_0000).ok_or(Refusal::BadSize)?;
+    tree.apply(&Call::Resize { region, size })?;
+    assert_eq!(rt; found(&tree), Some((2, 0xf_0000)));
+    assert!(rt; tree.node(RegionId(0)).is_some());
+    let first = tree.placed_children(RegionId(0)).first();
+    assert_eq!(rt;
+        first.map(|child| (child.id.0, child.last)),
+        Some((7, 0xffff))
+    );
     Ok(())
 }

@@ -25,3 +25,5 @@ mod maps;
 mod paths;
 #[cfg(test)]
 mod plain;
+#[cfg(test)]
+mod wide;

@@ -47,7 +47,7 @@ pub(crate) fn region(kind: Kind, bytes: u128) -> Call
     }
 }
 
-fn alias(bytes: u128, target: u32, offset: u64) -> Call
+pub(crate) fn alias(bytes: u128, target: u32, offset: u64) -> Call
     requires { bytes ≤ 2 ^ 64 }
 {
     region(
@@ -59,7 +59,7 @@ fn alias(bytes: u128, target: u32, offset: u64) -> Call
     )
 }
 
-fn add(parent: u32, offset: u64, child: u32, priority: i32) -> Call {
+pub(crate) fn add(parent: u32, offset: u64, child: u32, priority: i32) -> Call {
     Call::Add {
         parent: RegionId(parent),
         offset,

@@ -1,5 +1,6 @@
-use Rattle.std.proofs.Common.{◌≡◌, ◌∙◌, ℕ, zero, suc, pos, ◌+◌, ◌-◌, ◌<◌, ◌≤◌, true, false, cond, length, drop, get_or, add-one, subst, arith, List, [], ◌∷◌, ◌++◌, Option, Some, None, refl, sym, ap}
+use Rattle.std.proofs.Common.{◌≡◌, ◌∙◌, ℕ, zero, suc, pos, ◌+◌, ◌-◌, ◌<◌, ◌≤◌, true, false, cond, length, drop, get_or, add-one, subst, arith, List, [], ◌∷◌, ◌++◌, Option, Some, None, refl, sym, ap, ⊎_elim}
 use Rattle.std.proofs.lemmas.List.{append-nil}
+use Rattle.std.proofs.lemmas.Bool.{cases_lt}
 use Rattle.mem_base.specs.declared.map.ids.RegionId.{RegionId}
 use Rattle.mem_base.specs.declared.map.forests.Node.{Node}
 use Rattle.mem_base.specs.declared.map.spots.Spot.{Spot}
@@ -13,7 +14,7 @@ use Rattle.region_slots.specs.declared.children.Child.{Child}
 use Rattle.region_slots.specs.Slots.{child_of, placed_of}
 use Rattle.region_slots.specs.Told.{IsChild}
 use Rattle.region_slots.proofs.ToldLaws.{past_last}
-use Rattle.tree_find.specs.Children.{tried}
+use Rattle.tree_find.specs.Children.{tried, holds}
 use Rattle.mem_base.proofs.ForestLaws.{id_of}
 
 -- a region that was found by an id is found by its own
@@ -44,7 +45,7 @@ next_placed cs items i d e l =
       go (c ∷ cs) (suc i) l = go cs i (omega arith)
 
 -- nothing is found in a child that ends before the offset
-pub tried_past : (f : Forest) (depth : ℕ) (c : Child) (a : ℕ) → IsChild f.nodes c → c.offset ≤ a → c.last < a - c.offset → tried (found_in f depth) c a ≡ None
+tried_past : (f : Forest) (depth : ℕ) (c : Child) (a : ℕ) → IsChild f.nodes c → c.offset ≤ a → c.last < a - c.offset → tried (found_in f depth) c a ≡ None
 tried_past f depth c a h l m =
     let t : nat_le c.offset a ≡ true = grind (arith, nat_tests) in
     ap (λ b. cond b (found_in f depth c.id (a - c.offset)) None) t ∙ past_last f depth c (a - c.offset) h m
@@ -67,8 +68,15 @@ pub found_later : (below : Search) (l rest : List Node) (c : Node) (x : Child) (
 found_later below l rest c x a e f w = first_step below l rest c x a e f ∙ ap (λ y. option_or y (first_of_children below rest a)) w
 
 -- a child above the offset
-pub tried_above : (below : Search) (x : Child) (a : ℕ) → a < x.offset → tried below x a ≡ None
+tried_above : (below : Search) (x : Child) (a : ℕ) → a < x.offset → tried below x a ≡ None
 tried_above below x a l = let t : nat_le x.offset a ≡ false = grind (arith, nat_tests) in ap (λ b. cond b (below x.id (a - x.offset)) None) t
+
+-- nothing is found in a child that does not hold the offset
+pub not_held : (f : Forest) (depth : ℕ) (c : Child) (a : ℕ) → IsChild f.nodes c → holds c a ≡ false → tried (found_in f depth) c a ≡ None
+not_held f depth c a h e = ⊎_elim
+    (λ low. tried_above (found_in f depth) c a low)
+    (λ high. tried_past f depth c a h high (grind (arith, nat_tests)))
+    (cases_lt a c.offset)
 
 -- a spot and a path that are found together are what is found
 pub both_found : (x : Option Found) (s : Spot) (path : List RegionId) → Some s ≡ spot_of x → path ≡ [] ++ path_of x → x ≡ Some (s, path)

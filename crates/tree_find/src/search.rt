@@ -6,7 +6,7 @@ ghost use Rattle.mem_base.specs.map.Order.{children_of};
 ghost use Rattle.mem_base.specs.map.Forest.{IsOrderedForest};
 ghost use Rattle.mem_base.specs.map.Search.{found_in, at_node, first_of_children, inside, flagged, spot_of, path_of};
 ghost use Rattle.region_slots.specs.Told.{IsChild};
-ghost use Rattle.tree_find.specs.Children.{tried};
+ghost use Rattle.tree_find.specs.Children.{tried, holds};
 
 use mem_base::{Kind, Node, Path, RegionId, Spot};
 use region_slots::Child;
@@ -118,6 +118,14 @@ fn find_below(tree: &Tree, depth: u32, region: RegionId, at: u64, path: &mut Pat
     None
 }
 
+/// Whether a child holds an offset of its container.
+#[inline(always)]
+fn holds(child: &Child, at: u64) -> bool
+    ensures { result ≡ holds child.now at }
+{
+    child.offset <= at && at - child.offset <= child.last
+}
+
 /// The search in one child, at an offset in its container. A child that lies above the offset, or ends before it, is
 /// passed over without a look at the region.
 #[cycle(search)]
@@ -128,12 +136,8 @@ fn find_child(tree: &Tree, depth: u32, child: &Child, at: u64, path: &mut Path) 
     ensures spot { result ≡ spot_of (tried (found_in tree.now depth) child.now at) }
     ensures path { path.new ≡ path.old ++ path_of (tried (found_in tree.now depth) child.now at) }
 {
-    if at < child.offset {
+    if !holds(child, at) {
         return None;
     }
-    let inside = at - child.offset;
-    if inside > child.last {
-        return None;
-    }
-    find_from(tree, depth, child.id, u128::from(inside), path)
+    find_from(tree, depth, child.id, u128::from(at - child.offset), path)
 }

@@ -8,7 +8,7 @@ use Rattle.region_slots.proofs.ToldLaws.{children_are}
 use Rattle.tree_find.specs.Children.{tried}
 use Rattle.map_laws.proofs.SearchLaws.{found_in_zero, found_in_missing, found_in_step}
 use Rattle.mem_base.proofs.ForestLaws.{found_by_id, id_of}
-use Rattle.tree_find.proofs.FoundLaws.{found_itself, no_path, none_found, no_child, next_placed, tried_past, found_first, found_later}
+use Rattle.tree_find.proofs.FoundLaws.{found_itself, no_path, none_found, no_child, next_placed, not_held, found_first, found_later}
 use Rattle.tree_find.proofs.search.+search.Goals as goal
 
 pub find_from-returns-in_err-node-clause-spot : goal.find_from-returns-in_err-node-clause-spot
@@ -74,13 +74,13 @@ find_below-find_child-requires t c = (
   ),
 )
 
-pub find_child-returns-then-inside-child-clause-spot : goal.find_child-returns-then-inside-child-clause-spot
-find_child-returns-then-inside-child-clause-spot t c =
-    sym (ap spot_of (tried_past c.args.tree.now c.args.depth c.args.child.now c.args.at c.requires.child c.if-at-child.false c.if-inside-child.true))
+pub find_child-returns-then-not-holds-clause-spot : goal.find_child-returns-then-not-holds-clause-spot
+find_child-returns-then-not-holds-clause-spot t c = sym (ap spot_of
+    (not_held c.args.tree.now c.args.depth c.args.child.now c.args.at c.requires.child (sym c.holds.ensures ∙ c.if-not-holds.true)))
 
-pub find_child-returns-then-inside-child-clause-path : goal.find_child-returns-then-inside-child-clause-path
-find_child-returns-then-inside-child-clause-path t c = no_path c.args.path.now _
-    (tried_past c.args.tree.now c.args.depth c.args.child.now c.args.at c.requires.child c.if-at-child.false c.if-inside-child.true)
+pub find_child-returns-then-not-holds-clause-path : goal.find_child-returns-then-not-holds-clause-path
+find_child-returns-then-not-holds-clause-path t c = no_path c.args.path.now _
+    (not_held c.args.tree.now c.args.depth c.args.child.now c.args.at c.requires.child (sym c.holds.ensures ∙ c.if-not-holds.true))
 
 -- what was found in this child is what is found among all
 pub find_below-returns-in-Some-clause-spot : goal.find_below-returns-in-Some-clause-spot
