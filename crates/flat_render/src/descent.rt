@@ -1,12 +1,15 @@
 // The walk down the tree, from a region to all that it leads to. Each step puts what a window shows of regions under
-// the cuts that stand in a list; the window is changed on the way.
+// the cuts that stand in a list; each child has a window of its own.
 ghost use Rattle.std.specs.Prelude.{◌≡◌, ◌+◌, ◌-◌, ◌<◌, ◌≤◌, ◌^◌, ℕ, List, Some, None, IsSome, IfSome, IfNone, OnOk, length};
+ghost use Rattle.mem_base.specs.lists.Every.{Every};
 ghost use Rattle.mem_base.specs.map.Region.{node_of};
 ghost use Rattle.mem_base.specs.map.Forest.{IsOrderedForest, IsClosedForest};
 ghost use Rattle.mem_base.specs.map.Search.{found_in, at_node, inside, itself};
 ghost use Rattle.mem_base.specs.map.Steps.{steps_of, steps_at, weight_by};
 ghost use Rattle.mem_base.specs.declared.map.ids.RegionId.{RegionId};
 ghost use Rattle.mem_base.specs.declared.views.notes.Note.{Note};
+ghost use Rattle.region_slots.specs.Slots.{ids_in};
+ghost use Rattle.region_slots.specs.Told.{IsChild};
 ghost use Rattle.flat_render.specs.Cuts.{AreCuts, seen};
 ghost use Rattle.flat_render.specs.Notes.{IsPath, Matches};
 ghost use Rattle.flat_render.specs.Windows.{in_alias, through};
@@ -14,9 +17,6 @@ ghost use Rattle.flat_render.specs.Rendered.{Renders};
 ghost use Rattle.flat_render.specs.Edges.{Carves};
 ghost use Rattle.flat_render.specs.Descending.{IsDescending};
 ghost use Rattle.flat_render.specs.Ids.{in_child, first_of_ids, weight_of_ids};
-ghost use Rattle.mem_base.specs.lists.Every.{Every};
-ghost use Rattle.region_slots.specs.Slots.{ids_in};
-ghost use Rattle.region_slots.specs.Told.{IsChild};
 
 use crate::carving::over;
 use crate::cuts::Cut;

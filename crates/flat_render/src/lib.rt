@@ -1,9 +1,10 @@
 //! Rendering: the ranges of an address space, carved out of the tree of regions.
 //!
 //! QEMU's core renders a space by walking its tree from the root and inserting ranges where nothing is yet. Here
-//! too, where few regions stand in a container; the children of a wide one are rendered by halves, and the one half
-//! is laid over the other. The layer above may rely on it that the slices tell at every address what the search
-//! finds there and on which path, and that no more ranges are carved than the square of the root's weight.
+//! too, where few regions stand in a container, or where their addresses ascend or descend, so that each range is put
+//! at the end of the list; the other children of a wide container are rendered by halves, and the one half is laid over
+//! the other. The layer above may rely on it that the slices tell at every address what the search finds there and on
+//! which path, and that no more ranges are carved than the square of the root's weight.
 //!
 //! While ranges are carved, the path of each is one number: that of a note taken on the way down, which names the
 //! region and the note before it.
