@@ -1,0 +1,2 @@
+pub mod MarksLeft
+pub mod Apart
