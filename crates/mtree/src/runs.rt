@@ -1,7 +1,6 @@
 // Runs commands, and writes each line as one piece.
-ghost use Rattle.std.specs.Prelude.{◌≡◌, ◌≤◌, IsErrOf, OnErr, OnOk};
-ghost use Rattle.outside.specs.Causes.{Rose};
-ghost use Rattle.outside.specs.Sink.{Takes, TakesPrefix};
+ghost use Rattle.std.specs.Prelude.{◌≡◌, OnOk};
+ghost use Rattle.outside.specs.Sink.{Writes};
 ghost use Rattle.mem_base.specs.script.FirstOutput.{range_line, range_lines};
 ghost use Rattle.mem_base.specs.script.FirstRun.{step, text_of};
 ghost use Rattle.mtree.specs.Replies.{tells};
@@ -47,10 +46,7 @@ fn write_range<K: Sink>(
     range: FlatRange,
     sink: &mut K,
 ) -> Result<(), RunFault>
-    ensures all { OnOk result (Takes K.written K.holds sink.old sink.new (range_line names.now tree.now range)) }
-    ensures prefix { OnErr result (TakesPrefix K.written K.holds sink.old sink.new (range_line names.now tree.now range)) }
-    ensures failed { IsErrOf result RunFault.Write → Rose (K.faults sink.old) (K.faults sink.new) }
-    ensures later { K.faults sink.old ≤ K.faults sink.new }
+    ensures { Writes K.written K.holds K.faults sink.old sink.new (range_line names.now tree.now range) RunFault.Write result }
 {
     let mut line = Line::new(alloc);
     add_range(&mut line, names, tree, range)?;
@@ -66,10 +62,7 @@ fn write_ranges<K: Sink>(
     ranges: &[FlatRange],
     sink: &mut K,
 ) -> Result<(), RunFault>
-    ensures all { OnOk result (Takes K.written K.holds sink.old sink.new (range_lines names.now tree.now ranges.now)) }
-    ensures prefix { OnErr result (TakesPrefix K.written K.holds sink.old sink.new (range_lines names.now tree.now ranges.now)) }
-    ensures failed { IsErrOf result RunFault.Write → Rose (K.faults sink.old) (K.faults sink.new) }
-    ensures later { K.faults sink.old ≤ K.faults sink.new }
+    ensures { Writes K.written K.holds K.faults sink.old sink.new (range_lines names.now tree.now ranges.now) RunFault.Write result }
 {
     for range in ranges {
         write_range(alloc, names, tree, *range, sink)?;
@@ -84,10 +77,7 @@ fn write_reply<K: Sink>(
     reply: &Reply,
     sink: &mut K,
 ) -> Result<(), RunFault>
-    ensures all { OnOk result (Takes K.written K.holds sink.old sink.new (tells session.now reply.now)) }
-    ensures prefix { OnErr result (TakesPrefix K.written K.holds sink.old sink.new (tells session.now reply.now)) }
-    ensures failed { IsErrOf result RunFault.Write → Rose (K.faults sink.old) (K.faults sink.new) }
-    ensures later { K.faults sink.old ≤ K.faults sink.new }
+    ensures { Writes K.written K.holds K.faults sink.old sink.new (tells session.now reply.now) RunFault.Write result }
 {
     match reply {
         Reply::Nothing => Ok(()),
@@ -118,10 +108,7 @@ fn run_line<K: Sink>(
     sink: &mut K,
 ) -> Result<(), RunFault>
     ensures session { OnOk result (session.new ≡ (step session.old number command.now).1) }
-    ensures all { OnOk result (Takes K.written K.holds sink.old sink.new (step session.old number command.now).0) }
-    ensures prefix { OnErr result (TakesPrefix K.written K.holds sink.old sink.new (step session.old number command.now).0) }
-    ensures failed { IsErrOf result RunFault.Write → Rose (K.faults sink.old) (K.faults sink.new) }
-    ensures later { K.faults sink.old ≤ K.faults sink.new }
+    ensures written { Writes K.written K.holds K.faults sink.old sink.new (step session.old number command.now).0 RunFault.Write result }
 {
     let reply = session.step(number, command)?;
     write_reply(alloc, session, &reply, sink)?;
@@ -136,10 +123,7 @@ pub fn run<K: Sink>(
     lines: &[(u32, FirstCommand)],
     sink: &mut K,
 ) -> Result<(), RunFault>
-    ensures all { OnOk result (Takes K.written K.holds sink.old sink.new (text_of lines.now)) }
-    ensures prefix { OnErr result (TakesPrefix K.written K.holds sink.old sink.new (text_of lines.now)) }
-    ensures failed { IsErrOf result RunFault.Write → Rose (K.faults sink.old) (K.faults sink.new) }
-    ensures later { K.faults sink.old ≤ K.faults sink.new }
+    ensures { Writes K.written K.holds K.faults sink.old sink.new (text_of lines.now) RunFault.Write result }
 {
     let mut session = Session::new(alloc);
     for (number, command) in lines {

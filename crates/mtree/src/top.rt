@@ -48,10 +48,7 @@ fn bad_line(alloc: Global, bad: BadScript) -> Result<String, AllocError>
 
 // Writes the line of a text that is no script.
 fn refuse<K: Sink>(alloc: Global, bad: BadScript, sink: &mut K) -> Ending
-    ensures bad { result ≡ Ending.BadScript bad → Takes K.written K.holds sink.old sink.new (bad_line bad) }
-    ensures which { (result ≡ Ending.BadScript bad) ⊎ (result ≡ Ending.WriteFault) ⊎ (result ≡ Ending.Memory) }
-    ensures write { result ≡ Ending.WriteFault → Rose (K.faults sink.old) (K.faults sink.new) }
-    ensures prefix { TakesPrefix K.written K.holds sink.old sink.new (bad_line bad) }
+    ensures says { Says K.written K.holds K.faults (bad_line bad) (Ending.BadScript bad) sink.old sink.new result }
     ensures later { K.faults sink.old ≤ K.faults sink.new }
 {
     let line = match bad_line(alloc, bad) {

@@ -1,5 +1,6 @@
 -- When a failure may be told: only where a count of faults rose.
 use Rattle.std.specs.Prelude.{ℕ, ◌+◌, ◌-◌, ◌^◌, ◌≤◌, min, Result, OnErr, if◌then◌else◌, is_ok}
+use Rattle.outside.specs.declared.Failed.{Failed}
 
 -- one more, up to the greatest number that a count of 64 bits has
 abbrev pub one_fault_more : ℕ → ℕ
@@ -17,3 +18,7 @@ pub record HasCause {T E : Type 0} (before now : ℕ) (result : Result T E) : Ty
 -- the count after a call: one more where it failed, and else as it was
 abbrev pub faults_after : {T E : Type 0} → ℕ → Result T E → ℕ
 faults_after before result = if is_ok result then before else one_fault_more before
+
+-- what a read or a write that failed answers
+abbrev pub failed : Failed
+failed = record {}

@@ -1,6 +1,7 @@
 -- What a sink took, by the bytes that it tells and the texts that it holds.
-use Rattle.std.specs.Prelude.{ℕ, ◌≡◌, ◌↔◌, None, Some, ⊤, List, Result, ◌++◌, take, ◌≤◌, MatchResult, OnOk, OnErr}
+use Rattle.std.specs.Prelude.{ℕ, ◌≡◌, ◌↔◌, None, Some, ⊤, List, Result, ◌++◌, take, ◌≤◌, MatchResult, OnOk, OnErr, IsErrOf}
 use Rattle.std.specs.declared.option.Option.{Option}
+use Rattle.outside.specs.Causes.{Rose}
 
 -- told bytes grow by these, or are told no longer; what is not told stays so
 abbrev pub Grows : Option (List ℕ) → Option (List ℕ) → List ℕ → Type 0
@@ -28,10 +29,13 @@ TakesCount written holds old new result piece =
 abbrev pub TakesPrefix : {K : Type 0} → (K → Option (List ℕ)) → (K → List ℕ → Type 0) → K → K → List ℕ → Type 0
 TakesPrefix written holds old new text = (front rest : List ℕ) × (text ≡ front ++ rest) × Takes written holds old new front
 
--- a call wrote a text: all of it where it answers Ok, a prefix of it otherwise, and no fault is forgotten
-pub record Writes {K T E : Type 0} (written : K → Option (List ℕ)) (holds : K → List ℕ → Type 0) (faults : K → ℕ) (old new : K) (text : List ℕ) (result : Result T E) : Type 0 where
+-- a call wrote a text: all of it where it answers Ok, and a prefix of it otherwise; it answers this fault only where a write failed,
+-- and no fault is forgotten
+pub record Writes {K T E : Type 0} (written : K → Option (List ℕ)) (holds : K → List ℕ → Type 0) (faults : K → ℕ) (old new : K) (text : List ℕ)
+    (fault : E) (result : Result T E) : Type 0 where
   pub all : OnOk result (Takes written holds old new text)
   pub prefix : OnErr result (TakesPrefix written holds old new text)
+  pub failed : IsErrOf result fault → Rose (faults old) (faults new)
   pub later : faults old ≤ faults new
 
 -- a sink that tells what it took holds that text alone

@@ -1,9 +1,9 @@
 // Where text goes.
-ghost use Rattle.std.specs.Prelude.{◌≡◌, ◌≤◌, ◌<◌, List, ℕ, length, IfOk, OnOk, OnErr};
+ghost use Rattle.std.specs.Prelude.{◌≡◌, ◌<◌, List, ℕ, length, IfOk};
 ghost use Rattle.std.specs.declared.option.Option.{Option};
 ghost use Rattle.std.specs.Io.{WritesAtMost};
-ghost use Rattle.outside.specs.Causes.{HasCause};
-ghost use Rattle.outside.specs.Sink.{TakesCount, Takes, TakesPrefix, HoldsWhatIsTold};
+ghost use Rattle.outside.specs.Causes.{HasCause, failed};
+ghost use Rattle.outside.specs.Sink.{TakesCount, HoldsWhatIsTold, Writes};
 
 use crate::Failed;
 
@@ -36,9 +36,7 @@ pub trait Sink {
 ///
 /// `Failed` only where a write failed; a prefix of the piece was then taken.
 pub fn write_all<K: Sink>(sink: &mut K, piece: &[u8]) -> Result<(), Failed>
-    ensures all { OnOk result (Takes K.written K.holds sink.old sink.new piece.now) }
-    ensures prefix { OnErr result (TakesPrefix K.written K.holds sink.old sink.new piece.now) }
-    ensures cause { HasCause (K.faults sink.old) (K.faults sink.new) result }
+    ensures { Writes K.written K.holds K.faults sink.old sink.new piece.now failed result }
 {
     let mut rest = piece;
     while !rest.is_empty() {

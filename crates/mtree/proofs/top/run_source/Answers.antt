@@ -17,7 +17,7 @@ returns-in-Err-Long-clause-prefix g c =
       had.0,
       had.1,
       TakesPrefix-at g.K.Sink.written g.K.Sink.holds _ _ (bad_line faulty) (text_of_script (script_of had.0))
-          (ap text_of_script (script_of-long had.0 had.2)) (rw c.faulty.ensures at c.refuse.ensures.prefix),
+          (ap text_of_script (script_of-long had.0 had.2)) (rw c.faulty.ensures at c.refuse.ensures.says.prefix),
     )
 
 pub returns-in-Err-Memory-clause-prefix : goal.returns-in-Err-Memory-clause-prefix
