@@ -84,6 +84,7 @@ impl<E: Edition + Drop> Cabinet<E> {
         ensures done { MatchResult result
             (λ number. (number ≡ E.counted next.edition) × Published writer.old.sizes writer.old.seen (EditionCarried (E.forest next.edition) (E.places next.edition)) number writer.new.seen)
             (λ h. (h.1 ≡ next) × HeldUp writer.old.sizes writer.old.seen h.0 writer.new.seen) }
+        ensures current { MatchResult result (λ number. number_seen writer.new.seen ≡ number) (λ h. number_seen writer.new.seen ≡ number_seen writer.old.seen) }
         ensures same { (writer.new.cabinet ≡ writer.old.cabinet) × (writer.new.sizes ≡ writer.old.sizes) × (writer.new.out ≡ writer.old.out) }
     {
         let shared = &self.table.shared;

@@ -62,6 +62,17 @@ invariant_of-writer g c =
     swept_writing _ _ c.writer.inside.seat.me c.sweep_all.new.seat.me _ _ c.sweep_all.new.known.items _ n c.sweep_all.ensures.seat.0
     c.sweep_all.ensures.seat.1 s inv
 
+pub returns-in-Some-clause-current : goal.returns-in-Some-clause-current
+returns-in-Some-clause-current g c =
+    let inv = c.writer.invariant in
+    let v : View = c.writer.inside.seat.me.0 in
+    let w : View = c.sweep_all.new.seat.me.0 in
+    let n : ℕ = c.self.inside.passes in
+    let now = swept_writing _ _ c.writer.inside.seat.me c.sweep_all.new.seat.me _ _ c.sweep_all.new.known.items _ n c.sweep_all.ensures.seat.0
+    c.sweep_all.ensures.seat.1 c.sweep_all.ensures.swept inv in
+    rw (sym c.writer.view_is)
+    (sym (now.is_current ∙ current_seen w.sizes w.seen now.lawful) ∙ (inv.is_current ∙ current_seen v.sizes v.seen inv.lawful))
+
 pub returns-in-Some-clause-done : goal.returns-in-Some-clause-done
 returns-in-Some-clause-done g c =
     let num = g.E.Edition.counted in
@@ -315,6 +326,31 @@ invariant_of-writer-2 g c =
     c.sweep_all.ensures.seat.1 s inv in
     published_writing _ _ c.sweep_all.new.seat.me u c.publish.new.seat.me cur _ _ x n (c.publish.ensures.seat.0 ∙ c.place_all.ensures.seat.0)
     (c.publish.ensures.seat.1 ∙ c.place_all.ensures.seat.1) p c.publish.ensures.seat.2 c.publish.ensures.adds w1
+
+pub returns-clause-current : goal.returns-clause-current
+returns-clause-current g c =
+    let num = g.E.Edition.counted in
+    let forest = g.E.Edition.forest in
+    let places = g.E.Edition.places in
+    let inv = c.writer.invariant in
+    let v : View = c.writer.inside.seat.me.0 in
+    let n : ℕ = c.self.inside.passes in
+    let s = c.sweep_all.ensures.swept in
+    let edition = arc_value c.next.inside.edition in
+    let x : Picked = picked forest places edition in
+    let cur : ℕ = c.writer.inside.current in
+    let number : num edition ≡ cur + 1 = ap (λ y. num y.edition) c.next.view_is
+    ∙ (c.requires.next ∙ (ap (λ y. number_seen y.seen + 1) (sym c.writer.view_is)
+    ∙ ap (λ (y : ℕ). y + 1) (sym (inv.is_current ∙ current_seen v.sizes v.seen inv.lawful)))) in
+    let copies = copies_of num forest places (cur + 1) edition c.next.inside.copies.items number c.next.invariant in
+    let u : View = c.place_all.new.seat.me.0 in
+    let p = c.place_all.ensures.placed x copies in
+    let w1 = swept_writing _ _ c.writer.inside.seat.me c.sweep_all.new.seat.me _ _ c.sweep_all.new.known.items _ n c.sweep_all.ensures.seat.0
+    c.sweep_all.ensures.seat.1 s inv in
+    let after = published_writing _ _ c.sweep_all.new.seat.me u c.publish.new.seat.me cur _ _ x n (c.publish.ensures.seat.0 ∙ c.place_all.ensures.seat.0)
+    (c.publish.ensures.seat.1 ∙ c.place_all.ensures.seat.1) p c.publish.ensures.seat.2 c.publish.ensures.adds w1 in
+    let y : View = c.publish.new.seat.me.0 in
+    sym (after.is_current ∙ current_seen y.sizes y.seen after.lawful)
 
 pub returns-clause-done : goal.returns-clause-done
 returns-clause-done g c =
