@@ -76,7 +76,8 @@ weight_back nodes most cs i left d l e =
     ap (λ j. weight_of_ids nodes most (ids_in (drop j cs))) e in
     omega arith
 
-pub weight_drop : (nodes : List Node) (most : ℕ) (cs : List Child) (i : ℕ) → weight_of_ids nodes most (ids_in (drop i cs)) ≤ weight_of_ids nodes most (ids_in cs)
+pub weight_drop : (nodes : List Node) (most : ℕ) (cs : List Child) (i : ℕ) →
+    weight_of_ids nodes most (ids_in (drop i cs)) ≤ weight_of_ids nodes most (ids_in cs)
 weight_drop nodes most cs zero = omega arith
 weight_drop nodes most [] (suc i) = omega arith
 weight_drop nodes most (c ∷ cs) (suc i) = let t = weight_drop nodes most cs i in omega arith
@@ -102,7 +103,10 @@ descending_next cs i j d e l less h =
     let first = get_or cs i d in
     let rest : Every (λ x. x.offset + x.last < (get_or cs j d).offset) (drop (j + 1) cs) × IsDescending (drop (j + 1) cs) = subst IsDescending next h in
     subst IsDescending (sym here) (
-      subst (Every (λ x. x.offset + x.last < first.offset)) (sym next)
-          (less, weaker (λ x. x.offset + x.last < (get_or cs j d).offset) (λ x. x.offset + x.last < first.offset) (λ x m. omega arith) (drop (j + 1) cs) rest.0),
+      subst (Every (λ x. x.offset + x.last < first.offset)) (sym next) (
+        less,
+        weaker (λ x. x.offset + x.last < (get_or cs j d).offset) (λ x. x.offset + x.last < first.offset) (λ x m. omega arith) (drop (j + 1) cs)
+            rest.0,
+      ),
       h,
     )

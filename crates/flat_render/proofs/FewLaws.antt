@@ -60,7 +60,8 @@ weight_single nodes most [] d e = absurd (omega arith)
 weight_single nodes most (c ∷ []) d e = omega arith
 weight_single nodes most (c ∷ x ∷ xs) d e = absurd (omega arith)
 
-pub weight_take : (nodes : List Node) (most : ℕ) (cs : List Child) (i : ℕ) → weight_of_ids nodes most (ids_in (take i cs)) ≤ weight_of_ids nodes most (ids_in cs)
+pub weight_take : (nodes : List Node) (most : ℕ) (cs : List Child) (i : ℕ) →
+    weight_of_ids nodes most (ids_in (take i cs)) ≤ weight_of_ids nodes most (ids_in cs)
 weight_take nodes most [] zero = omega arith
 weight_take nodes most [] (suc i) = omega arith
 weight_take nodes most (c ∷ cs) zero = omega arith
@@ -100,7 +101,8 @@ child_seen nodes below c b h =
 pub through_past : (path : List RegionId) (w : Window) (f : Forest) (depth : ℕ) (c : Child) (a : ℕ) → IsChild f.nodes c → c.last < w.at →
     through path w (found_in f depth c.id) a ≡ None
 through_past path w f depth c a h l =
-    ap (λ o. cond (is_through w a) (option_map (marked path w) o) None) (past_last f depth c (w.at + (a - w.first)) h (omega arith)) ∙ nothing (is_through w a) where
+    ap (λ o. cond (is_through w a) (option_map (marked path w) o) None) (past_last f depth c (w.at + (a - w.first)) h (omega arith))
+    ∙ nothing (is_through w a) where
       nothing : (b : Bool) → cond b (option_map (marked path w) None) None ≡ None
       nothing true = refl
       nothing false = refl

@@ -160,8 +160,8 @@ fn append<L: Ledger>(
     Ok(())
 }
 
-/// Puts the back cuts under those of a list. Where one of the two is empty, nothing is carved; where the one ends before
-/// the other begins, the one is put after the other.
+/// Puts the back cuts under those of a list. Where one of the two is empty, nothing is carved; where the one ends
+/// before the other begins, the one is put after the other.
 pub(crate) fn over<L: Ledger>(
     cuts: &mut Vec<Cut>,
     back: Vec<Cut>,

@@ -191,8 +191,8 @@ fn render_below<L: Ledger>(
     Ok(())
 }
 
-/// These children of a region: one after another where their addresses ascend or descend, so that each is put after those
-/// before it, or where they are few; else by halves, the first half over the second.
+/// These children of a region: one after another where their addresses ascend or descend, so that each is put after
+/// those before it, or where they are few; else by halves, the first half over the second.
 #[cycle(render)]
 fn render_children<L: Ledger>(
     tree: &Tree,

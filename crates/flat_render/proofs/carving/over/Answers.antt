@@ -67,7 +67,8 @@ pub returns-then-are_apart-clause-edges : goal.returns-then-are_apart-clause-edg
 returns-then-are_apart-clause-edges g c =
     let put : c.append.new.low.items ≡ c.args.cuts.now.items ++ c.args.back.items = c.in_ok-append.ensures.items
     ∙ ap (λ b. c.args.cuts.now.items ++ b) c.as_slice-then-are_apart.ensures.value in
-    subst (λ rs. edge_count rs ≤ edge_count c.args.cuts.now.items + edge_count c.args.back.items) (sym put) (edges-append c.args.cuts.now.items c.args.back.items)
+    subst (λ rs. edge_count rs ≤ edge_count c.args.cuts.now.items + edge_count c.args.back.items) (sym put)
+    (edges-append c.args.cuts.now.items c.args.back.items)
 
 pub returns-in_err-append-2-clause-most : goal.returns-in_err-append-2-clause-most
 returns-in_err-append-2-clause-most g c =
