@@ -1,5 +1,6 @@
 //! How long the memory map takes: all calls that build a map, moves, look-ups of one address, a view, its atlas, and a
-//! walk to the next view; and how long the text of a script takes to be read and printed (`scripts`).
+//! walk to the next view; how long the text of a script takes to be read and printed (`scripts`); and how long places in a pool
+//! take.
 //!
 //! Standard output has a line for each map, which is the same in every run: how many calls it takes, how many of them
 //! were refused, how many ranges its view has, and a sum over what the look-ups found; and one for each text: its bytes,
@@ -9,11 +10,13 @@
 #![tactic(auto)]
 
 mod maps;
+mod pools;
 mod rounds;
 mod scripts;
 mod views;
 
 use crate::maps::{Map, aliases, chains, flat, generated, heavy, zigzag};
+use crate::pools::run_pool;
 use crate::rounds::{Failed, run};
 use crate::views::run_views;
 use std::alloc::AllocError;
@@ -110,6 +113,7 @@ fn all(rt: HostRuntime, sizes: Sizes) -> Result<(), Failed> {
     )?;
     let third = generated(rt.alloc(), sizes.generated[2])?;
     run_views(rt, &third, sizes.rounds)?;
+    run_pool(rt, sizes.rounds)?;
     scripts::all(rt, sizes.text, sizes.rounds)?;
     Ok(())
 }

@@ -29,8 +29,27 @@ impl Level {
     }
 }
 
-// The last key of a node that is at most the address, where its first key is: one probe reads one node. It reads all
-// keys: a way out of the loop that depends on the address takes more time than the rest of the node.
+// The last of some keys that is at most the address, where the first is. It reads all of them: a way out of the loop that
+// depends on the address takes more time than the rest of a node.
+fn last_of(keys: &[u64], count: usize, addr: u64) -> usize
+    requires some { 0 < count }
+    requires count { count ≡ length keys.now }
+    requires first { slice_index keys.now 0 ≤ addr }
+    ensures inside { result < length keys.now }
+    ensures reached { slice_index keys.now result ≤ addr }
+    ensures next { result + 1 < length keys.now → addr < slice_index keys.now (result + 1) }
+{
+    let mut at = 0;
+    for i in 0..count {
+        if keys[i] <= addr {
+            at = i;
+        }
+    }
+    at
+}
+
+// The last key of a node that is at most the address, where its first key is: one probe reads one node. A whole node has
+// a call of its own, so that the compiler knows how many keys there are.
 fn last_in(node: &[u64], addr: u64) -> usize
     requires some { 0 < length node.now }
     requires few { length node.now ≤ 16 }
@@ -39,13 +58,10 @@ fn last_in(node: &[u64], addr: u64) -> usize
     ensures reached { slice_index node.now result ≤ addr }
     ensures next { result + 1 < length node.now → addr < slice_index node.now (result + 1) }
 {
-    let mut at = 0;
-    for i in 0..node.len() {
-        if node[i] <= addr {
-            at = i;
-        }
+    if node.len() == 16 {
+        return last_of(node, 16, addr);
     }
-    at
+    last_of(node, node.len(), addr)
 }
 
 // The last key of a level that is at most the address, by the node that holds it.

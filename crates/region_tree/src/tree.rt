@@ -90,8 +90,8 @@ impl Tree {
         self.slots.child_ids(region)
     }
 
-    /// The children of a region, in the same order, each with its offset, its last offset and its priority: what a
-    /// search and a rendering need of a child before they look at the region itself.
+    /// The children of a region, in the same order, each with its offset, its last offset and its priority: what a search
+    /// and a rendering need of a child before they look at the region itself.
     pub fn placed_children(&self, region: RegionId) -> &[Child]
         requires { IsSome (node_of self.now.nodes region) }
         ensures { result.now ≡ placed_of (children_of self.now.nodes region) }
