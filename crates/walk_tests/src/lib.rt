@@ -1,11 +1,13 @@
-//! Tests of what a view tells and how it is looked up: walks and live ioeventfds against worked cases and plain
-//! programs, and look-ups against a plain search by halving.
+//! Tests of what a view tells and how it is looked up, and of how devices are accessed: walks and live ioeventfds
+//! against worked cases and plain programs, look-ups against a plain search by halving, and worked accesses.
 //!
 //! No crate stands on this one. What is tested here is what no clause says: that the definitions which the contracts
 //! cite mean what QEMU's core tells its listeners (`address_space_update_topology_pass`), by worked maps with values
 //! from outside and by programs that compare everything with everything; and that the calls answer with ample memory.
 #![tactic(auto)]
 
+#[cfg(test)]
+mod cuts;
 #[cfg(test)]
 mod drawn;
 #[cfg(test)]

@@ -1,0 +1,4 @@
+pub mod Good
+pub mod PieceLaws
+pub mod Powers
+pub mod Rows
