@@ -9,7 +9,6 @@ use Rattle.mem_base.specs.declared.machine.events.HistoryEntry.{HistoryEntry}
 use Rattle.mem_base.specs.machine.Passes.{PassState, idle, pass_of, pass_after, passes_after}
 use Rattle.mem_base.specs.machine.Generations.{Generation, Generations, generations_after}
 use Rattle.mem_base.specs.machine.SharedHistory.{Shared, shared_possible, shared_reply, after_shared_entry, after_shared_entries, IsSharedLegalFrom}
-use Rattle.mem_base.specs.declared.machine.events.Hand.TheVariants as hands
 use Rattle.mem_base.specs.machine.Passes.{pass_id}
 use Rattle.mem_base.specs.machine.Turns.{history_entry}
 use Rattle.mem_base.specs.machine.Actors.{actor_of, own_entries, pass_after_all, generations_after_all, published_from, published_with}

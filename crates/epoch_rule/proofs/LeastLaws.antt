@@ -1,13 +1,13 @@
 -- The least pass that has the least lowest number, and the current number.
-use Rattle.std.proofs.Common.{◌≡◌, ◌≢◌, ◌⊎◌, ℕ, zero, suc, ◌+◌, ◌-◌, ◌<◌, ◌≤◌, min, eqb, ne_eqb, List, [], ◌∷◌, length, map, get_or, refl, sym, ap, ◌∙◌, subst, inl, inr, ⊎_elim, arith}
+use Rattle.std.proofs.Common.{◌≡◌, ◌≢◌, ◌⊎◌, ℕ, zero, suc, ◌<◌, ◌≤◌, min, ne_eqb, List, [], ◌∷◌, length, map, get_or, refl, sym, ap, ◌∙◌, subst, inl, inr, ⊎_elim, arith}
 use Rattle.std.proofs.lemmas.Bool.{eq-eqb}
 use mathlib.Core.Logic.{dite}
 use native.Mathlib.Decide.{ℕ_discrete}
 use Rattle.mem_base.specs.declared.machine.events.HistoryEntry.{HistoryEntry}
 use Rattle.mem_base.specs.machine.Passes.{pass_id}
-use Rattle.mem_base.specs.machine.Generations.{Generations, PassTrack, nothing_known, known_of, least_lowest, first_generations}
+use Rattle.mem_base.specs.machine.Generations.{Generations, PassTrack, nothing_known, known_of, least_lowest}
 use Rattle.mem_base.specs.machine.SharedHistory.{shared_opening}
-use Rattle.mem_base.specs.machine.Actors.{own_entries, generations_after_all, number_seen}
+use Rattle.mem_base.specs.machine.Actors.{number_seen}
 use Rattle.history_laws.proofs.NumberLaws.{sound}
 use Rattle.epoch_rule.specs.declared.views.Sizes.{Sizes}
 use Rattle.epoch_rule.specs.declared.writers.Found.{Found}

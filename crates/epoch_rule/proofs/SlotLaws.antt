@@ -1,6 +1,6 @@
 -- The slot that the writer takes is free.
-use Rattle.std.proofs.Common.{◌≡◌, ℕ, ◌+◌, ◌%◌, ◌≤◌, arith, refl}
-use Rattle.mem_base.specs.machine.Passes.{PassState, pass_id}
+use Rattle.std.proofs.Common.{◌≡◌, ℕ, ◌+◌, ◌%◌, ◌≤◌, arith}
+use Rattle.mem_base.specs.machine.Passes.{PassState}
 use Rattle.mem_base.specs.machine.Generations.{PassTrack}
 use Rattle.history_laws.specs.Numbers.{InNumbers}
 use Rattle.history_laws.proofs.NumberLaws.{sound}

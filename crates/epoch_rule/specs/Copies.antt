@@ -1,23 +1,21 @@
 -- Copies of an edition in the slots, and the one in which a pass is entered.
-use Rattle.std.specs.Prelude.{◌≡◌, ℕ, ◌+◌, ◌*◌, ◌%◌, ◌<◌, List, [], ◌∷◌, ◌++◌, length, Option, Some, None}
+use Rattle.std.specs.Prelude.{◌≡◌, ℕ, ◌+◌, ◌*◌, ◌%◌, ◌<◌, List, [], ◌∷◌, length, Option, Some, None}
 use Rattle.std.specs.Arc.{arc_value}
 use Rattle.std.specs.declared.sync.Arc.{Arc}
-use mathlib.Core.List.{IsPrefix}
 use Rattle.atomic_table.specs.Seated.{TableId}
 use Rattle.atomic_table.specs.Table.{Me, Step}
 use Rattle.mem_base.specs.declared.map.forests.Forest.{Forest}
 use Rattle.mem_base.specs.declared.access.cells.Place.{Place}
 use Rattle.mem_base.specs.declared.machine.events.Event.TheVariants as events
 use Rattle.mem_base.specs.declared.machine.events.Carried.TheVariants.{Nothing}
-use Rattle.mem_base.specs.declared.machine.events.HistoryEntry.{HistoryEntry}
 use Rattle.mem_base.specs.machine.Passes.{idle}
 use Rattle.mem_base.specs.machine.Generations.{Generation, generation}
 use Rattle.epoch_rule.specs.declared.views.Sizes.{Sizes}
 use Rattle.epoch_rule.specs.declared.views.Picked.{Picked}
 use Rattle.epoch_rule.specs.declared.views.View.{View}
 use Rattle.mem_base.specs.machine.Passes.{pass_id}
-use Rattle.mem_base.specs.machine.Actors.{own_entries, generations_published, generation_published}
-use Rattle.epoch_rule.specs.Rule.{IsLegal, pass_seen, PlacesFit, ComesNext}
+use Rattle.mem_base.specs.machine.Actors.{generations_published, generation_published}
+use Rattle.epoch_rule.specs.Rule.{pass_seen, PlacesFit, ComesNext}
 
 -- the table has words and slots for these numbers of passes and words: word 0, a word for each pass, and the cabinet's
 -- words; eight slots for each pass

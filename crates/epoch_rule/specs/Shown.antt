@@ -1,7 +1,6 @@
 -- Which words an actor may touch, and what a touch adds to what it has seen.
-use Rattle.std.specs.Prelude.{◌≡◌, ℕ, ◌<◌, ◌≤◌, ◌==◌, true, MatchBool, List, [], ◌∷◌, ◌++◌}
+use Rattle.std.specs.Prelude.{◌≡◌, ℕ, ◌<◌, ◌≤◌, ◌==◌, true, MatchBool, List, [], ◌∷◌}
 use Rattle.std.specs.List.{list_any}
-use mathlib.Core.List.{IsPrefix}
 use Rattle.mem_base.specs.declared.machine.events.Hand.{Hand}
 use Rattle.mem_base.specs.declared.access.cells.Place.{Place}
 use Rattle.mem_base.specs.declared.access.cells.WordStep.{WordStep}
@@ -16,7 +15,6 @@ use Rattle.epoch_rule.specs.declared.views.Sizes.{Sizes}
 use Rattle.epoch_rule.specs.declared.touches.Touch.{Touch}
 use Rattle.epoch_rule.specs.declared.touches.Touch.TheVariants as touches
 use Rattle.mem_base.specs.machine.Turns.{history_entry}
-use Rattle.mem_base.specs.machine.Actors.{own_entries, actor_of_hand}
 use Rattle.epoch_rule.specs.Wrote.{Wrote, WroteStep}
 use Rattle.epoch_rule.specs.Touches.{pass_of_hand}
 

@@ -1,5 +1,5 @@
 -- What a caller sees of a cabinet, and of those who act on it.
-use Rattle.std.specs.Prelude.{◌≡◌, ℕ, suc, ◌+◌, ◌<◌, ◌^◌, List, [], ◌∷◌, Bool, true, false, Option}
+use Rattle.std.specs.Prelude.{◌≡◌, ℕ, suc, ◌<◌, ◌^◌, List, [], ◌∷◌, Bool, true, false, Option}
 use Rattle.atomic_table.specs.Seated.{TableId}
 use Rattle.mem_base.specs.declared.machine.events.HistoryEntry.{HistoryEntry}
 use Rattle.epoch_rule.specs.declared.views.Sizes.{Sizes}

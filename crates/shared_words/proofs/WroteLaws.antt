@@ -1,5 +1,5 @@
 -- What an actor wrote, call after call.
-use Rattle.std.proofs.Common.{◌≡◌, List, [], ◌∷◌, ◌++◌, Some, refl, sym, ap, ◌∙◌, append_assoc}
+use Rattle.std.proofs.Common.{List, [], ◌∷◌, ◌++◌, refl, sym, ap, ◌∙◌, append_assoc}
 use base.Growing.{prefix_trans}
 use Rattle.mem_base.specs.declared.machine.events.Hand.{Hand}
 use Rattle.mem_base.specs.declared.machine.events.HistoryEntry.{HistoryEntry}
