@@ -38,7 +38,7 @@ use Rattle.mem_base.specs.machine.Actors.{actor_of, actor_of_hand, own_entries, 
 use Rattle.epoch_rule.specs.Rule.{state_of, IsLegal, pass_seen, generations_seen, ComesNext, KeepsSlot}
 use Rattle.epoch_rule.specs.Copies.{shown_by, IsEnteredIn}
 use Rattle.epoch_rule.specs.Touches.{TouchesWord, IsReady, IsTouch, Told, ToldStep, event_of, touch_at}
-use Rattle.epoch_rule.specs.Wrote.{Wrote}
+use Rattle.epoch_rule.specs.Wrote.{Wrote, WordWas}
 use Rattle.epoch_rule.specs.Shown.{IsReach, PassMay, WriterMay, ShowsStep, ShowsTouch}
 use Rattle.atomic_table.specs.Seated.{TableId}
 use Rattle.atomic_table.specs.Table.{Me}
@@ -245,19 +245,19 @@ shown_step hand p word steps.Take v r w h = wrote hand v _ p r w refl h
 
 pub shown : (hand : Hand) (p : Place) (word : ℕ) (touch : Touch) (v : View) (r : ℕ) (w : View) → IsTouch hand p word touch → Told hand p word touch v r w
     → ShowsTouch hand v.sizes p word touch v.seen r w.seen
-shown hand p word touches.Look v r w k h = ap (λ (x : View). x.seen) h
+shown hand p word touches.Look v r w k h = (ap (λ (x : View). x.seen) h.0, h.1)
 shown hand p word (touches.Step step) v r w k h = shown_step hand p word step v r w h
 shown hand p word (touches.Try old first bytes value) v r w k h = go (eqb r old) h
   where
     go : (b : Bool) → MatchBool b (ComesNext (actor_of_hand hand) v (events.Word hand (cell p.region word) (steps.Replace first bytes value)) (At p) r w)
-        (w ≡ v)
+        ((w ≡ v) × WordWas v.sizes v.seen (p.start + word) r)
         → MatchBool b (Wrote hand v.sizes v.seen (history_entry (events.Word hand (cell p.region word) (steps.Replace first bytes value))
-        (At p) r ∷ []) w.seen) (w.seen ≡ v.seen)
+        (At p) r ∷ []) w.seen) ((w.seen ≡ v.seen) × WordWas v.sizes v.seen (p.start + word) r)
     go true h = wrote hand v _ p r w refl h
-    go false h = ap (λ (x : View). x.seen) h
+    go false h = (ap (λ (x : View). x.seen) h.0, h.1)
 shown hands.Writer p word touches.Fill v r w k h = (h.0, wrote hands.Writer v _ p 0 w refl h.1)
 shown (hands.Pass u) p word touches.Fill v r w k h = absurd k
-shown (hands.Pass u) p word (touches.Mark client page) v r w k h = wrote (hands.Pass u) v _ p 0 w refl h
+shown (hands.Pass u) p word (touches.Mark client page) v r w k h = (wrote (hands.Pass u) v _ p 0 w refl h.0, h.1)
 shown hands.Writer p word (touches.Mark client page) v r w k h = absurd k.0
 shown hands.Writer p word (touches.Harvest client index) v r w k h = wrote hands.Writer v _ p r w refl h
 shown (hands.Pass u) p word (touches.Harvest client index) v r w k h = absurd k.0
@@ -267,7 +267,7 @@ shown (hands.Pass u) p word (touches.Harvest client index) v r w k h = absurd k.
 -- a touch showed nothing, or its event
 told_either : (hand : Hand) (p : Place) (word : ℕ) (touch : Touch) (v : View) (r : ℕ) (w : View) → IsTouch hand p word touch → Told hand p word touch v r w
     → (w ≡ v) ⊎ ((q : ℕ) × ComesNext (actor_of_hand hand) v (event_of hand p word touch) (At p) q w)
-told_either hand p word touches.Look v r w k h = inl h
+told_either hand p word touches.Look v r w k h = inl h.0
 told_either hand p word (touches.Step steps.Load) v r w k h = inr (r, h)
 told_either hand p word (touches.Step (steps.Replace first bytes value)) v r w k h = inr h.1
 told_either hand p word (touches.Step steps.AddOne) v r w k h = inr (r, h)
@@ -276,13 +276,13 @@ told_either hand p word (touches.Step steps.Take) v r w k h = inr (r, h)
 told_either hand p word (touches.Try old first bytes value) v r w k h = go (eqb r old) h
   where
     go : (b : Bool) → MatchBool b (ComesNext (actor_of_hand hand) v (events.Word hand (cell p.region word) (steps.Replace first bytes value)) (At p) r w)
-        (w ≡ v)
+        ((w ≡ v) × WordWas v.sizes v.seen (p.start + word) r)
         → (w ≡ v) ⊎ ((q : ℕ) × ComesNext (actor_of_hand hand) v (events.Word hand (cell p.region word) (steps.Replace first bytes value)) (At p) q w)
     go true h = inr (r, h)
-    go false h = inl h
+    go false h = inl h.0
 told_either hands.Writer p word touches.Fill v r w k h = inr (0, h.1)
 told_either (hands.Pass u) p word touches.Fill v r w k h = absurd k
-told_either (hands.Pass u) p word (touches.Mark client page) v r w k h = inr (0, h)
+told_either (hands.Pass u) p word (touches.Mark client page) v r w k h = inr (0, h.0)
 told_either hands.Writer p word (touches.Mark client page) v r w k h = absurd k.0
 told_either hands.Writer p word (touches.Harvest client index) v r w k h = inr (r, h)
 told_either (hands.Pass u) p word (touches.Harvest client index) v r w k h = absurd k.0

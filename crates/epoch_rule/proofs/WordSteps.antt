@@ -3,7 +3,11 @@ use Rattle.std.proofs.Common.{◌≡◌, ℕ, zero, suc, ◌+◌, ◌-◌, ◌%�
 use Rattle.std.specs.Prelude.{MatchBool, slice_get}
 use Rattle.std.proofs.lemmas.Bool.{lt-ltb, le-leb, eqb-true}
 use mathlib.Core.List.{IsPrefix}
-use Rattle.atomic_table.specs.Table.{Me, Act, Valid, keeps, stepped, carried_after, Allows}
+use mathlib.Core.Option.{some}
+use lib.ListN.{get_elem?}
+use Rattle.epoch_rule.specs.Wrote.{HadWord, WordWas}
+use Rattle.epoch_rule.proofs.SeatSteps.{peek}
+use Rattle.atomic_table.specs.Table.{State, Me, Act, Valid, keeps, stepped, carried_after, Allows}
 use Rattle.atomic_table.proofs.Lists.{set_again}
 use prog.Atomic.{either}
 use lib.Seq.{set-get_or}
@@ -30,6 +34,17 @@ use Rattle.epoch_rule.specs.Rule.{state_of, IsLegal, generation_of_pick, WordsSh
 use Rattle.epoch_rule.specs.Touches.{TouchesWord, told_by, touched, IsStepReady, ToldStep}
 use Rattle.history_laws.proofs.NumberLaws.{sound}
 use Rattle.epoch_rule.proofs.EntrySteps.{grown, good, extends, adds, shows_touched}
+
+module _ {S : Type 0} (Copy : ℕ → Generation → S → Type 0) (z : Sizes) where
+  -- a word of the table is what the history leaves
+  had_word : (s : State S View) (k : IsRuled Copy z s) (id : ℕ) (me : Me S View) → get_elem? s.views id ≡ some me.0 → (a : ℕ) → me.0.role ≡ Some a
+      → (word : ℕ) → word < z.words → HadWord me.0.sizes me.0.seen word (get_or s.words (z.passes + 1 + word) 0) k.log
+  had_word s k id me at a role word inside = let seat = k.seats id me.0 at in record {
+    begins = seat.begins;
+    lawful = subst (λ (y : Sizes). IsLegal y k.log) (sym (seat.knows a role)) k.lawful;
+    value = subst (λ (y : Sizes). get_or (state_of y k.log).words word 0 ≡ get_or s.words (z.passes + 1 + word) 0) (sym (seat.knows a role))
+        (sym (k.shown.pool word inside));
+  }
 
 module _ {S : Type 0} (Copy : ℕ → Generation → S → Type 0) (z : Sizes) where
   -- one atomic step on a word of the cabinet, whatever it is
@@ -68,7 +83,12 @@ module _ {S : Type 0} (Copy : ℕ → Generation → S → Type 0) (z : Sizes) w
         extends Copy z s k id me.0 at a e (At p) r (set s.words i (f old)) s.homes k.held k.next me.0.held me.0.next role kind.mine may is shown
             (subst (Every (PlacesFit z.words)) (sym quiet) k.roomy) slots'
             (λ o. let n = seat.counts (role ∙ ap (λ (y : ℕ). Some y) o) in (n.1, n.2)) (λ o. (refl, refl)),
-        (refl, (refl, refl), adds Copy z s k id me.0 at a e (At p) r me.0.held me.0.next role may is),
+        (
+          refl,
+          (refl, refl),
+          adds Copy z s k id me.0 at a e (At p) r me.0.held me.0.next role may is,
+          (k.log, had_word Copy z s k id me at a role t.word inside, refl),
+        ),
       )
 
 -- a pass that is entered is in the generation that its Publish carried
@@ -116,12 +136,14 @@ module _ {S : Type 0} (Copy : ℕ → Generation → S → Type 0) (z : Sizes) w
   pub ready_try : (slots id : ℕ) (me : Me S View) (a : ℕ) (e : Event) (p : Place) (t : PoolTouch) (index old new : ℕ) → IsStepReady z me.0 a e p t
       → index ≡ z.passes + 1 + t.word
       → new ≡ word_after t.touch.step old
-      → Allows (IsRuled Copy z) slots id me index (λ n. either (eqb n old) new n) (λ r w. MatchBool (eqb r old) (touched a e p t me r w) (w ≡ me))
+      → Allows (IsRuled Copy z) slots id me index (λ n. either (eqb n old) new n) (λ r w. MatchBool (eqb r old) (touched a e p t me r w)
+      ((w ≡ me) × WordWas me.0.sizes me.0.seen t.word r))
   ready_try slots id me a e p t index old new r is does s k deep at small = go (eqb (get_or s.words index 0) old) refl
     where
       go : (b : Bool) → eqb (get_or s.words index 0) old ≡ b → (w : View) × (x : Act S) × Valid s.homes me.1 x
           × IsRuled Copy z (stepped s index (either b new (get_or s.words index 0)) id me.1 w x)
-          × MatchBool b (touched a e p t me (get_or s.words index 0) (w, carried_after me.1 x)) ((w, carried_after me.1 x) ≡ me)
+          × MatchBool b (touched a e p t me (get_or s.words index 0) (w, carried_after me.1 x))
+          (((w, carried_after me.1 x) ≡ me) × WordWas me.0.sizes me.0.seen t.word (get_or s.words index 0))
       go true same =
           let hit : get_or s.words index 0 ≡ old = eqb-true _ _ same in
           let did = ready_touch slots id me a e p t index (λ n. word_after t.touch.step n) r is (λ n l. refl) s k deep at small in (
@@ -137,8 +159,34 @@ module _ {S : Type 0} (Copy : ℕ → Generation → S → Type 0) (z : Sizes) w
         tt,
         subst (λ (y : List ℕ × List View). IsRuled Copy z record { words = y.0; homes = s.homes; views = y.1 })
             (λ j. (sym (set-get_or s.words index 0) j, sym (set_again s.views id me.0 at) j)) k,
-        refl,
+        (
+          refl,
+          (
+            k.log,
+            subst (λ (j : ℕ). HadWord me.0.sizes me.0.seen t.word (get_or s.words j 0) k.log) (sym is)
+                (had_word Copy z s k id me at a r.role t.word r.inside),
+          ),
+        ),
       )
+
+  -- a load that shows no event
+  pub ready_look : (slots id : ℕ) (me : Me S View) (a : ℕ) (e : Event) (p : Place) (t : PoolTouch) (index : ℕ) → IsStepReady z me.0 a e p t
+      → index ≡ z.passes + 1 + t.word
+      → Allows (IsRuled Copy z) slots id me index (λ n. n) (λ r w. (w ≡ me) × WordWas me.0.sizes me.0.seen t.word r)
+  ready_look slots id me a e p t index r is s k deep at small = let did = peek Copy z slots id me index s k deep at small in (
+    did.0,
+    did.1,
+    did.2,
+    did.3,
+    (
+      did.4,
+      (
+        k.log,
+        subst (λ (j : ℕ). HadWord me.0.sizes me.0.seen t.word (get_or s.words j 0) k.log) (sym is)
+            (had_word Copy z s k id me at a r.role t.word r.inside),
+      ),
+    ),
+  )
 
 pub whole_of : (n : ℕ) → n < 18446744073709551616 → n ≡ n % 18446744073709551616
 whole_of n l = omega arith

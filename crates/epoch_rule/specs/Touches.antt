@@ -24,6 +24,8 @@ use Rattle.epoch_rule.specs.declared.touches.Touch.{Touch}
 use Rattle.epoch_rule.specs.declared.touches.Touch.TheVariants as touches
 use Rattle.mem_base.specs.machine.Passes.{pass_id}
 use Rattle.mem_base.specs.machine.Actors.{actor_of, actor_of_hand, own_entries, published_with}
+use Rattle.mem_base.specs.machine.Turns.{history_entry}
+use Rattle.epoch_rule.specs.Wrote.{WordWas, WordWasBefore}
 use Rattle.epoch_rule.specs.Rule.{state_of, IsLegal, ComesNext, KeepsSlot}
 
 -- the event is the actor's, and steps on that word of the cabinet alone
@@ -38,9 +40,10 @@ pub record TouchesWord (a : ℕ) (e : Event) (p : Place) (t : PoolTouch) : Type 
 abbrev pub told_by : PoolTouch → ℕ → ℕ
 told_by t old = if t.touch.tells then old else 0
 
--- the seat made the event, which found this word
+-- the seat made the event, and the word was this before it
 abbrev pub touched : {S : Type 0} → ℕ → Event → Place → PoolTouch → Me S View → ℕ → Me S View → Type 0
 touched a e p t m r w = (w.1 ≡ m.1) × KeepsSlot m.0 w.0 × ComesNext a m.0 e (At p) (told_by t r) w.0
+    × WordWasBefore m.0.sizes m.0.seen t.word r (history_entry e (At p) (told_by t r)) w.0.seen
 
 -- the pass that a hand is
 abbrev pub pass_of_hand : Hand → PassId
@@ -89,12 +92,16 @@ ToldStep hand p word s v r w = ComesNext (actor_of_hand hand) v (events.Word han
 
 -- what a touch tells: its event, with the reply that stands in the history
 abbrev pub Told : Hand → Place → ℕ → Touch → View → ℕ → View → Type 0
-Told hand p word touches.Look v r w = w ≡ v
+Told hand p word touches.Look v r w = (w ≡ v) × WordWas v.sizes v.seen (p.start + word) r
 Told hand p word (touches.Step step) v r w = ToldStep hand p word step v r w
 Told hand p word (touches.Try old first bytes value) v r w =
-    MatchBool (r == old) (ComesNext (actor_of_hand hand) v (events.Word hand (cell p.region word) (Replace first bytes value)) (At p) r w) (w ≡ v)
+    MatchBool (r == old) (ComesNext (actor_of_hand hand) v (events.Word hand (cell p.region word) (Replace first bytes value)) (At p) r w)
+    ((w ≡ v) × WordWas v.sizes v.seen (p.start + word) r)
 Told hand p word touches.Fill v r w = (r ≡ 0) × ComesNext (actor_of_hand hand) v (events.Fill (cell p.region word)) (At p) 0 w
-Told hand p word (touches.Mark client page) v r w = ComesNext (actor_of_hand hand) v (events.Mark (pass_of_hand hand) p.region client page) (At p) 0 w
+Told hand p word (touches.Mark client page) v r w =
+    let event = events.Mark (pass_of_hand hand) p.region client page in
+    ComesNext (actor_of_hand hand) v event (At p) 0 w
+    × WordWasBefore v.sizes v.seen (p.start + word_of_page p client page) r (history_entry event (At p) 0) w.seen
 Told hand p word (touches.Harvest client index) v r w = ComesNext (actor_of_hand hand) v (events.Harvest p.region client index) (At p) r w
 
 -- all that a step on a word needs of the seat that makes it

@@ -1,5 +1,5 @@
 -- What an actor's calls add to what it has seen of the one history.
-use Rattle.std.specs.Prelude.{◌≡◌, ℕ, ◌<◌, nat_lt, if◌then◌else◌, List, [], ◌∷◌, ◌++◌, length, Some, None}
+use Rattle.std.specs.Prelude.{◌≡◌, ℕ, ◌<◌, nat_lt, if◌then◌else◌, List, slice_index, [], ◌∷◌, ◌++◌, length, Some, None}
 use mathlib.Core.List.{IsPrefix}
 use Rattle.mem_base.specs.declared.map.ids.PassId.{PassId}
 use Rattle.mem_base.specs.declared.access.cells.Place.{Place}
@@ -15,7 +15,7 @@ use Rattle.mem_base.specs.machine.Actors.{actor_of_hand, own_entries}
 use Rattle.mem_base.specs.machine.Histories.{last_of}
 use Rattle.mem_base.specs.machine.Turns.{history_entry}
 use Rattle.epoch_rule.specs.declared.views.Sizes.{Sizes}
-use Rattle.epoch_rule.specs.Rule.{IsLegal}
+use Rattle.epoch_rule.specs.Rule.{IsLegal, state_of}
 use Rattle.epoch_rule.specs.Values.{PassValue, WriterValue, first_free}
 
 -- where there are new entries, the last of them is the last one seen
@@ -29,6 +29,20 @@ pub record Wrote (hand : Hand) (z : Sizes) (before new after : List HistoryEntry
   pub lawful : IsLegal z after
   pub events : own_entries (actor_of_hand hand) after ≡ own_entries (actor_of_hand hand) before ++ new
   pub ends : EndsWith new after
+
+-- after this legal history, which begins with what was seen, a word of the cabinet had this value
+pub record HadWord (z : Sizes) (seen : List HistoryEntry) (word found : ℕ) (log : List HistoryEntry) : Type 0 where
+  pub begins : IsPrefix seen log
+  pub lawful : IsLegal z log
+  pub value : slice_index (state_of z log).words word ≡ found
+
+-- the word had this value at some point of the one history, after all that was seen
+abbrev pub WordWas : Sizes → List HistoryEntry → ℕ → ℕ → Type 0
+WordWas z seen word found = (log : List HistoryEntry) × HadWord z seen word found log
+
+-- the word had this value right before this entry, the last one that is seen now
+abbrev pub WordWasBefore : Sizes → List HistoryEntry → ℕ → ℕ → HistoryEntry → List HistoryEntry → Type 0
+WordWasBefore z seen word found entry now = (log : List HistoryEntry) × HadWord z seen word found log × (now ≡ log ++ entry ∷ [])
 
 -- a pass made these events, and is the same pass
 pub record Made {E : Type 0} (v : PassValue E) (new : List HistoryEntry) (w : PassValue E) : Type 0 where

@@ -5,6 +5,7 @@ ghost use Rattle.mem_base.specs.access.Words.{word_after};
 ghost use Rattle.epoch_rule.specs.Rule.{ComesNext, KeepsSlot};
 ghost use Rattle.epoch_rule.specs.Copies.{Suits};
 ghost use Rattle.epoch_rule.specs.Touches.{IsStepReady, touched};
+ghost use Rattle.epoch_rule.specs.Wrote.{WordWas};
 
 use crate::board::{SharedTable, Slot, TableSeat};
 use crate::views::View;
@@ -72,9 +73,38 @@ pub(crate) struct Tries<J: Plan> {
 
 impl<E: Edition, J: Plan> Play<Slot<E>, View> for Tries<J> {
     ghost use Rattle.std.specs.Prelude.{◌≡◌, ◌==◌, MatchBool};
+    ghost use Rattle.epoch_rule.specs.Wrote.{WordWas};
     ghost use Rattle.epoch_rule.specs.Touches.{touched};
 
-    ghost then = { λ st m r w. MatchBool (r == st.first) (touched J.actor J.event J.place J.touch m r w) (w ≡ m) };
+    ghost then = { λ st m r w. MatchBool (r == st.first) (touched J.actor J.event J.place J.touch m r w) ((w ≡ m) × WordWas m.0.sizes m.0.seen J.touch.word r) };
+}
+
+/// A load that shows no event.
+pub(crate) struct Peeks<J: Plan> {
+    of: PhantomData<J>,
+}
+
+impl<E: Edition, J: Plan> Play<Slot<E>, View> for Peeks<J> {
+    ghost use Rattle.std.specs.Prelude.{◌≡◌};
+    ghost use Rattle.epoch_rule.specs.Wrote.{WordWas};
+
+    ghost then = { λ st m r w. (w ≡ m) × WordWas m.0.sizes m.0.seen J.touch.word r };
+}
+
+pub(crate) fn look_as<E: Edition + Drop, J: Plan>(
+    shared: &SharedTable<E>,
+    seat: &mut TableSeat<E>,
+    index: usize,
+    event: Event,
+    place: &Place,
+) -> u64
+    requires table { (seat.old.table_id ≡ shared.now.table_id) × Suits shared.now.table_id shared.now.key }
+    requires ready { IsStepReady shared.now.key seat.old.me.0 J.actor J.event J.place J.touch }
+    requires index { index ≡ shared.now.key.passes + 1 + J.touch.word }
+    ensures table { seat.new.table_id ≡ seat.old.table_id }
+    ensures told { (seat.new.me ≡ seat.old.me) × WordWas seat.old.me.0.sizes seat.old.me.0.seen J.touch.word result }
+{
+    shared.load::<Peeks<J>>(seat, index)
 }
 
 pub(crate) fn load_as<E: Edition + Drop, J: Plan>(
@@ -178,7 +208,7 @@ pub(crate) fn try_as<E: Edition + Drop, J: Plan>(
     requires index { index ≡ shared.now.key.passes + 1 + J.touch.word }
     requires step { new ≡ word_after J.touch.touch.step old }
     ensures table { seat.new.table_id ≡ seat.old.table_id }
-    ensures told { MatchBool (result == old) (touched J.actor J.event J.place J.touch seat.old.me result seat.new.me) (seat.new.me ≡ seat.old.me) }
+    ensures told { MatchBool (result == old) (touched J.actor J.event J.place J.touch seat.old.me result seat.new.me) ((seat.new.me ≡ seat.old.me) × WordWas seat.old.me.0.sizes seat.old.me.0.seen J.touch.word result) }
 {
     shared.compare_exchange::<Tries<J>>(seat, index, old, new)
 }

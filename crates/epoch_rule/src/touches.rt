@@ -3,13 +3,13 @@ ghost use Rattle.std.specs.Prelude.{◌≡◌, ℕ, ◌+◌, ◌^◌, ◌≤◌,
 ghost use Rattle.mem_base.specs.access.Words.{replaced};
 ghost use Rattle.mem_base.specs.declared.machine.events.Hand.TheVariants.{Pass, Writer};
 ghost use Rattle.mem_base.specs.access.Places.{mark_word, word_of_page};
-ghost use Rattle.epoch_rule.specs.declared.touches.Touch.TheVariants.{Step, Try, Fill, Mark, Harvest};
+ghost use Rattle.epoch_rule.specs.declared.touches.Touch.TheVariants.{Look, Step, Try, Fill, Mark, Harvest};
 ghost use Rattle.epoch_rule.specs.Rule.{KeepsSlot};
 ghost use Rattle.epoch_rule.specs.Copies.{Suits};
 ghost use Rattle.epoch_rule.specs.Touches.{IsReady, IsTouch, IsWholeStep, Told, ToldStep};
 
-use crate::board::{Peeks, SharedTable, TableSeat};
-use crate::plans::{add_as, load_as, or_as, store_as, take_as, try_as};
+use crate::board::{SharedTable, TableSeat};
+use crate::plans::{add_as, load_as, look_as, or_as, store_as, take_as, try_as};
 use mem_base::{Cell, Client, Edition, Event, Hand, PassId, Place, WordStep};
 use std::marker::Brand;
 
@@ -216,11 +216,31 @@ fn fill_word<E: Edition + Drop>(
 }
 
 /// A load that shows no event.
-fn look<E: Edition + Drop>(shared: &SharedTable<E>, seat: &mut TableSeat<E>, index: usize) -> u64
-    requires { (seat.old.table_id ≡ shared.now.table_id) × (index < shared.now.table_id.words) }
-    ensures { (seat.new.table_id ≡ seat.old.table_id) × (seat.new.me ≡ seat.old.me) }
+fn look<E: Edition + Drop>(
+    shared: &SharedTable<E>,
+    seat: &mut TableSeat<E>,
+    index: usize,
+    hand: Hand,
+    place: &Place,
+    word: usize,
+) -> u64
+    requires table { (seat.old.table_id ≡ shared.now.table_id) × Suits shared.now.table_id shared.now.key }
+    requires ready { IsReady shared.now.key seat.old.me.0 hand place.now word Look }
+    requires index { index ≡ shared.now.key.passes + 1 + (place.now.start + word) }
+    ensures table { seat.new.table_id ≡ seat.old.table_id }
+    ensures seat { (seat.new.me.1 ≡ seat.old.me.1) × KeepsSlot seat.old.me.0 seat.new.me.0 }
+    ensures told { Told hand place.now word Look seat.old.me.0 result seat.new.me.0 }
 {
-    shared.load::<Peeks>(seat, index)
+    let cell = Cell {
+        region: place.region,
+        word,
+    };
+    let event = Event::Word {
+        hand,
+        cell,
+        step: WordStep::Load,
+    };
+    look_as::<E, Brand>(shared, seat, index, event, place)
 }
 
 /// One touch of a word of the cabinet.
@@ -244,7 +264,7 @@ pub(crate) fn touch_word<E: Edition + Drop>(
 {
     let index = passes as usize + 1 + (place.start + word);
     match touch {
-        Touch::Look => look(shared, seat, index),
+        Touch::Look => look(shared, seat, index, hand, place, word),
         Touch::Step(step) => step_word(shared, seat, index, hand, place, word, step),
         Touch::Try {
             old,

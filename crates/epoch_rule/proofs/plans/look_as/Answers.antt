@@ -1,0 +1,8 @@
+use Rattle.std.proofs.Common.{arith}
+use Rattle.epoch_rule.specs.Copies.{IsCopy}
+use Rattle.epoch_rule.proofs.WordSteps.{ready_look}
+use Rattle.epoch_rule.proofs.plans.look_as.Goals as goal
+
+pub load-requires : goal.load-requires
+load-requires g c = let t = c.requires.table in let a = t.1.0 in let i = c.requires.index in let r = c.requires.ready in let b = r.inside in
+    (t.0, omega arith, ready_look (IsCopy g.E.Edition.counted g.E.Edition.forest g.E.Edition.places) _ _ _ _ _ _ _ _ _ r i)
