@@ -12,7 +12,7 @@ use Rattle.mem_base.specs.declared.map.refusals.Refusal.TheVariants.{NoBacking}
 use Rattle.mem_base.specs.declared.access.cells.Place.{Place}
 use Rattle.mem_base.specs.lists.Every.{Every, EveryPair}
 use Rattle.mem_base.proofs.EveryLaws.{weaker, every_push, every_filter}
-use Rattle.mem_base.specs.access.Editions.{place_in}
+use Rattle.mem_base.specs.access.PlacesByRegion.{place_in}
 use Rattle.mem_base.specs.access.EditionPlaces.{ArePlacesApart}
 use Rattle.mem_base.specs.lists.Runs.{Run}
 use Rattle.mem_base.specs.map.Limits.{page_size}

@@ -10,7 +10,7 @@ use Rattle.mem_base.specs.declared.map.ids.RegionId.{RegionId}
 use Rattle.mem_base.specs.declared.access.cells.Place.{Place}
 use Rattle.mem_base.specs.lists.Every.{Every}
 use Rattle.mem_base.proofs.EveryLaws.{every_at}
-use Rattle.mem_base.specs.access.Editions.{place_in}
+use Rattle.mem_base.specs.access.PlacesByRegion.{place_in}
 use Rattle.backing_pool.specs.Backing.{RegionsAscend}
 
 regions_rise : (places : List Place) (i j : ℕ) (d : Place) → RegionsAscend places → i < j → j < length places

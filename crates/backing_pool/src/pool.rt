@@ -5,7 +5,7 @@ ghost use Rattle.mem_base.specs.declared.map.refusals.Refusal.{Refusal};
 ghost use Rattle.mem_base.specs.declared.map.refusals.Refusal.TheVariants.{Memory, NoBacking};
 ghost use Rattle.mem_base.specs.lists.Every.{Every};
 ghost use Rattle.mem_base.specs.map.Limits.{page_size, most_bytes, most_registers};
-ghost use Rattle.mem_base.specs.access.Editions.{place_in};
+ghost use Rattle.mem_base.specs.access.PlacesByRegion.{place_in};
 ghost use Rattle.mem_base.specs.access.Places.{extent, words_of, place_from, holes, first_fit};
 ghost use Rattle.backing_pool.specs.Holes.{hole_of, Ascends};
 ghost use Rattle.backing_pool.specs.Backing.{AreBacked, RegionsAscend};

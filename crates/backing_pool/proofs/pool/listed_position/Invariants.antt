@@ -1,5 +1,5 @@
 use Rattle.std.proofs.Common.{◌≡◌, drop}
-use Rattle.mem_base.specs.access.Editions.{place_in}
+use Rattle.mem_base.specs.access.PlacesByRegion.{place_in}
 use Rattle.backing_pool.proofs.pool.listed_position.Given as goal
 
 abbrev pub invariant-loop-at : goal.invariant-loop-at

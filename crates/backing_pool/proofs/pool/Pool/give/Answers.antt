@@ -1,6 +1,6 @@
 use Rattle.std.proofs.Common.{◌≡◌, ◌<◌, ◌==◌, not, List, length, None, sym, refl, ap, subst, ◌∙◌, arith}
 use Rattle.mem_base.specs.declared.access.cells.Place.{Place}
-use Rattle.mem_base.specs.access.Editions.{place_in}
+use Rattle.mem_base.specs.access.PlacesByRegion.{place_in}
 use Rattle.mem_base.specs.access.Places.{is_free}
 use Rattle.backing_pool.specs.Holes.{AreHoles}
 use Rattle.backing_pool.specs.Backing.{Backing, AreBacked, RegionsAscend}

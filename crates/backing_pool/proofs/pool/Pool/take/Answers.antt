@@ -2,7 +2,7 @@ use Rattle.std.proofs.Common.{◌≡◌, ◌<◌, ◌≤◌, List, Some, None, E
 use Rattle.mem_base.specs.declared.access.cells.Place.{Place}
 use Rattle.mem_base.specs.declared.map.refusals.Refusal.TheVariants.{NoBacking}
 use Rattle.mem_base.specs.lists.Every.{Every}
-use Rattle.mem_base.specs.access.Editions.{place_in}
+use Rattle.mem_base.specs.access.PlacesByRegion.{place_in}
 use Rattle.mem_base.specs.access.Places.{is_free, extent, words_of, first_fit}
 use Rattle.backing_pool.specs.Holes.{AreHoles}
 use Rattle.backing_pool.specs.Backing.{Backing, AreBacked, RegionsAscend}
