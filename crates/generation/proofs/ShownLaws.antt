@@ -13,27 +13,31 @@ use Rattle.mem_base.specs.views.Flattened.{view_of}
 use Rattle.mem_base.specs.views.Naming.{has_leaf}
 use Rattle.generation.specs.Published.{views_of}
 
--- the first pair of a space, in pairs whose second parts are made from others
-found_map : {X Y : Type 0} (h : X → Y) (s : SpaceId) (xs : List (SpaceId × X)) →
-    option_map (λ (p : SpaceId × X). h p.1) (find (λ p. p.0.0 == s.0) xs) ≡ option_map (λ (q : SpaceId × Y). q.1) (find (λ q. q.0.0 == s.0) (map (λ p. (p.0, h p.1)) xs))
-found_map {X = X} {Y = Y} h s [] = refl
+-- what stands beside a space, in the first pair that has it
+abbrev beside : {A B : Type 0} → (A → B) → SpaceId → List (SpaceId × A) → Option B
+beside {A} k s xs = option_map (λ (p : SpaceId × A). k p.1) (find (λ p. p.0.0 == s.0) xs)
+
+-- the same in pairs whose second parts are made from others
+found_map : {X Y : Type 0} (h : X → Y) (s : SpaceId) (xs : List (SpaceId × X)) → beside h s xs ≡ beside (λ y. y) s (map (λ p. (p.0, h p.1)) xs)
+found_map h s [] = refl
 found_map {X = X} {Y = Y} h s (x ∷ xs) = go (found_map h s xs) (eqb x.0.0 s.0) refl
   where
-    go : option_map (λ (p : SpaceId × X). h p.1) (find (λ p. p.0.0 == s.0) xs) ≡ option_map (λ (q : SpaceId × Y). q.1) (find (λ q. q.0.0 == s.0) (map (λ p. (p.0, h p.1)) xs))
-        → (b : Bool) → eqb x.0.0 s.0 ≡ b →
-        option_map (λ (p : SpaceId × X). h p.1) (find (λ p. p.0.0 == s.0) (x ∷ xs)) ≡ option_map (λ (q : SpaceId × Y). q.1) (find (λ q. q.0.0 == s.0) (map (λ p. (p.0, h p.1)) (x ∷ xs)))
+    go : beside h s xs ≡ beside (λ (y : Y). y) s (map (λ p. (p.0, h p.1)) xs) → (b : Bool) → eqb x.0.0 s.0 ≡ b
+        → beside h s (x ∷ xs) ≡ beside (λ (y : Y). y) s (map (λ p. (p.0, h p.1)) (x ∷ xs))
     go ih true e = rw e refl
     go ih false e = rw e ih
 
+-- the view of a space, where it is one of these
+abbrev view_at : Forest → SpaceId → List (SpaceId × RegionId) → Option (List FlatRange)
+view_at f s spaces = option_map (λ r. view_of f s) (option_map (λ (p : SpaceId × RegionId). p.1) (find (is_space s) spaces))
+
 view_found : (f : Forest) (s : SpaceId) (spaces : List (SpaceId × RegionId)) →
-    option_map (λ (q : SpaceId × List FlatRange). q.1) (find (λ q. q.0.0 == s.0) (map (λ p. (p.0, view_of f p.0)) spaces))
-    ≡ option_map (λ r. view_of f s) (option_map (λ (p : SpaceId × RegionId). p.1) (find (is_space s) spaces))
+    beside (λ (rs : List FlatRange). rs) s (map (λ p. (p.0, view_of f p.0)) spaces) ≡ view_at f s spaces
 view_found f s [] = refl
 view_found f s (p ∷ ps) = go (view_found f s ps) (eqb p.0.0 s.0) refl
   where
-    go : option_map (λ (q : SpaceId × List FlatRange). q.1) (find (λ q. q.0.0 == s.0) (map (λ p. (p.0, view_of f p.0)) ps))
-        ≡ option_map (λ r. view_of f s) (option_map (λ (p : SpaceId × RegionId). p.1) (find (is_space s) ps)) → (b : Bool) → eqb p.0.0 s.0 ≡ b → option_map (λ (q : SpaceId × List FlatRange). q.1) (find (λ q. q.0.0 == s.0) (map (λ p. (p.0, view_of f p.0)) (p ∷ ps)))
-        ≡ option_map (λ r. view_of f s) (option_map (λ (p : SpaceId × RegionId). p.1) (find (is_space s) (p ∷ ps)))
+    go : beside (λ (rs : List FlatRange). rs) s (map (λ p. (p.0, view_of f p.0)) ps) ≡ view_at f s ps → (b : Bool) → eqb p.0.0 s.0 ≡ b
+        → beside (λ (rs : List FlatRange). rs) s (map (λ p. (p.0, view_of f p.0)) (p ∷ ps)) ≡ view_at f s (p ∷ ps)
     go ih true e =
         let same : p.0.0 ≡ s.0 = grind (arith, nat_tests, e) in
         let space : p.0 ≡ s = ap (λ (n : ℕ). let t : SpaceId = record { 0 = n } in t) same in

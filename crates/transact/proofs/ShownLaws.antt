@@ -26,7 +26,8 @@ each_view h f [] (p ∷ ps) e = let none = ap (λ ts. length ts) e in absurd (gr
 each_view {X = X} h f (q ∷ qs) (p ∷ ps) e =
     let heads : (p.0, h p.1) ≡ (q.0, view_of f q.0) = ap (λ (ts : List (SpaceId × List FlatRange)). get_or ts 0 (p.0, h p.1)) e in
     let id : p.0 ≡ q.0 = ap (λ (t : SpaceId × List FlatRange). t.0) heads in
-    (ap (λ (t : SpaceId × List FlatRange). t.1) heads ∙ ap (view_of f) (sym id), each_view h f qs ps (ap (λ (ts : List (SpaceId × List FlatRange)). drop 1 ts) e))
+    let tails = ap (λ (ts : List (SpaceId × List FlatRange)). drop 1 ts) e in
+    (ap (λ (t : SpaceId × List FlatRange). t.1) heads ∙ ap (view_of f) (sym id), each_view h f qs ps tails)
 
 -- the spaces of the atlases are those of the forest
 pub same_spaces : {X Y : Type 0} (h : X → List FlatRange) (f : Forest) (g : SpaceId → Y) (spaces : List (SpaceId × RegionId)) (atlases : List (SpaceId × X)) →
@@ -39,7 +40,8 @@ same_spaces {X = X} {Y = Y} h f g spaces atlases e =
     firsts h g [] = refl
     firsts h g (x ∷ xs) = ap (λ rest. g x.0 ∷ rest) (firsts h g xs)
 
-    seconds : (qs : List (SpaceId × RegionId)) → map (λ p. g p.0) qs ≡ map (λ (t : SpaceId × List FlatRange). g t.0) (map {B = SpaceId × List FlatRange} (λ p. (p.0, view_of f p.0)) qs)
+    seconds : (qs : List (SpaceId × RegionId)) → map (λ p. g p.0) qs
+        ≡ map (λ (t : SpaceId × List FlatRange). g t.0) (map {B = SpaceId × List FlatRange} (λ p. (p.0, view_of f p.0)) qs)
     seconds [] = refl
     seconds (q ∷ qs) = ap (λ rest. g q.0 ∷ rest) (seconds qs)
 

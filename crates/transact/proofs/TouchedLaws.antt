@@ -43,7 +43,8 @@ found_reach f s (p ∷ ps) = go (found_reach f s ps) (eqb p.0.0 s.0) refl
   where
     go : regions_at (find (λ p. p.0.0 == s.0) (map {B = SpaceId × List RegionId} (λ p. (p.0, reached f p.0)) ps)) ≡ at_space f s (find (is_space s) ps)
         → (b : Bool) → eqb p.0.0 s.0 ≡ b →
-        regions_at (find (λ p. p.0.0 == s.0) (map {B = SpaceId × List RegionId} (λ p. (p.0, reached f p.0)) (p ∷ ps))) ≡ at_space f s (find (is_space s) (p ∷ ps))
+        regions_at (find (λ p. p.0.0 == s.0) (map {B = SpaceId × List RegionId} (λ p. (p.0, reached f p.0)) (p ∷ ps)))
+        ≡ at_space f s (find (is_space s) (p ∷ ps))
     go ih true e =
         let same : p.0.0 ≡ s.0 = grind (arith, nat_tests, e) in
         let space : p.0 ≡ s = ap (λ (n : ℕ). let t : SpaceId = record { 0 = n } in t) same in
