@@ -142,5 +142,3 @@ steps_generations g events.Reap x r os = still g (history_entry events.Reap x r)
 pub generations_own : (xs : List HistoryEntry) (s : Shared) → (after_shared_entries s xs).generations ≡ generations_after_all s.generations (own_entries 0 xs)
 generations_own [] s = refl
 generations_own (x ∷ xs) s = generations_own xs (after_shared_entry s x) ∙ steps_generations s.generations x.event x.carried x.reply (own_entries 0 xs)
-
--- the writer is who a turn says

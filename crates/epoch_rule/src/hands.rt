@@ -1,4 +1,4 @@
-// Who may touch the cabinet's words.
+// Who touches the cabinet's words.
 ghost use Rattle.std.specs.Prelude.{◌≡◌, ℕ, List, Some};
 ghost use Rattle.std.proofs.Common.{refl, sym, ap, subst, ◌∙◌};
 ghost use Rattle.atomic_table.specs.Seated.{TableId};
@@ -19,7 +19,7 @@ use crate::touches::{Touch, touch_word};
 use crate::writers::WriterSeat;
 use mem_base::{Edition, Hand as Actor, PassId, Place};
 
-/// Who may touch the cabinet's words: `Pass` and `WriterSeat`, and no others.
+/// Who touches the cabinet's words: implemented by `Pass` and `WriterSeat`.
 pub trait Hand<E: Edition + Drop> {
     /// The cabinet that made it.
     ghost made_by: { Self → TableId };
