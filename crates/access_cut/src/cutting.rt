@@ -114,8 +114,9 @@ fn piece_at(ops: &Ops, offset: u64, left: u64) -> Piece
 
 /// Cuts an access of `len` bytes to the device from this offset on into pieces.
 ///
-/// The largest size that is valid comes first, made smaller as the alignment asks where the callbacks are aligned, and
-/// then to a power of two. A piece of a size or at an offset that the device does not take is given too, and is not valid.
+/// A piece has the bytes that are left, but at most the greatest valid size; where the callbacks take aligned offsets
+/// alone, at most the largest power of two that divides its offset; and of that the largest power of two. A piece that
+/// the device does not take, for its size or its offset, is given too, and is not valid.
 pub fn cut(ops: &Ops, offset: u64, len: u64) -> Cuts
     requires good { AreGood ops.now }
     requires within { offset + len ≤ 2 ^ 64 }

@@ -26,8 +26,8 @@ fn highest_first(bytes: &[u8]) -> u64
     }
 }
 
-/// The number that at most 8 bytes are in the order of addresses: the first is the lowest, or in a big-endian device the
-/// highest.
+/// The number that at most 8 bytes are in the order of addresses: the first is the lowest, or in a big-endian device
+/// the highest.
 pub fn number_of(bytes: &[u8], big: bool) -> u64
     requires { length bytes.now ≤ 8 }
     ensures { result ≡ number_of_bytes bytes.now big }
