@@ -84,7 +84,7 @@ module _ {S : Type 0} (Copy : ℕ → Generation → S → Type 0) (z : Sizes) w
           subst (λ (c : ℕ). c + 1 < 18446744073709551616) (sym is) k.shown.small,
           λ b role'. let same : p ≡ b = (let e = same_number (p + 1) (b + 1) (sym role ∙ role') in omega arith) in
               subst (λ (y : ℕ). ComesNext (y + 1) me.0 (events.Look (pass_id y)) Nothing r v') same
-              (adds Copy z s k id me.0 at (p + 1) (events.Look (pass_id p)) Nothing r me.0.held me.0.next role may is),
+              (adds Copy z s k id me.0 at (p + 1) (events.Look (pass_id p)) Nothing r me.0.held me.0.next role may is refl),
         ),
       )
 
@@ -117,7 +117,7 @@ module _ {S : Type 0} (Copy : ℕ → Generation → S → Type 0) (z : Sizes) w
           refl,
           λ b role'. let same : p ≡ b = (let e = same_number (p + 1) (b + 1) (sym role ∙ role') in omega arith) in
               subst (λ (y : ℕ). ComesNext (y + 1) me.0 (events.Announce (pass_id y)) Nothing 0 v') same
-              (adds Copy z s k id me.0 at (p + 1) (events.Announce (pass_id p)) Nothing 0 me.0.held me.0.next role may refl),
+              (adds Copy z s k id me.0 at (p + 1) (events.Announce (pass_id p)) Nothing 0 me.0.held me.0.next role may refl refl),
         ),
       )
 
@@ -170,7 +170,7 @@ module _ {S : Type 0} (Copy : ℕ → Generation → S → Type 0) (z : Sizes) w
             (λ y. (refl, refl))),
         (λ b role'. let same : p ≡ b = (let e = same_number (p + 1) (b + 1) (sym role ∙ role') in omega arith) in (
           subst (λ (y : ℕ). ComesNext (y + 1) me.0 (events.Enter (pass_id y)) Nothing r v') same
-              (adds Copy z s k id me.0 at (p + 1) (events.Enter (pass_id p)) Nothing r me.0.held me.0.next role may is),
+              (adds Copy z s k id me.0 at (p + 1) (events.Enter (pass_id p)) Nothing r me.0.held me.0.next role may is refl),
           (
             copy.0,
             ap (λ (y : ℕ). (8 * y + r % 8, copy.0) ∷ me.1) same,
@@ -225,7 +225,7 @@ module _ {S : Type 0} (Copy : ℕ → Generation → S → Type 0) (z : Sizes) w
           refl,
           λ b role'. let same : p ≡ b = (let e = same_number (p + 1) (b + 1) (sym role ∙ role') in omega arith) in
               subst (λ (q : ℕ). ComesNext (q + 1) me.0 (events.Leave (pass_id q)) Nothing 0 v') same
-              (adds Copy z s k id me.0 at (p + 1) (events.Leave (pass_id p)) Nothing 0 me.0.held me.0.next role may refl),
+              (adds Copy z s k id me.0 at (p + 1) (events.Leave (pass_id p)) Nothing 0 me.0.held me.0.next role may refl refl),
         ),
       )
 
@@ -264,7 +264,7 @@ module _ {S : Type 0} (Copy : ℕ → Generation → S → Type 0) (z : Sizes) w
           (refl, refl),
           λ b word. let same : p ≡ b = omega arith in
               subst (λ (q : ℕ). ComesNext 0 me.0 (events.Sweep (pass_id q)) Nothing r v') same
-              (adds Copy z s k id me.0 at 0 (events.Sweep (pass_id p)) Nothing r me.0.held me.0.next role may is),
+              (adds Copy z s k id me.0 at 0 (events.Sweep (pass_id p)) Nothing r me.0.held me.0.next role may is refl),
         ),
       )
 
@@ -327,6 +327,8 @@ module _ {S : Type 0} (Copy : ℕ → Generation → S → Type 0) (z : Sizes) w
                 all = seat.all;
                 goes = seat.goes;
                 counts = λ is. let n = seat.counts is in (n.0, refl, n.2);
+                stay = seat.stay;
+                brought = seat.brought;
                 home = seat.home;
               })
               (λ (t : (j ≢ id) × (get_elem? s.views j ≡ some w)). let f = k.seats j w t.1 in record {
@@ -340,6 +342,8 @@ module _ {S : Type 0} (Copy : ℕ → Generation → S → Type 0) (z : Sizes) w
                 all = f.all;
                 goes = f.goes;
                 counts = λ is. absurd (t.0 (sym (f.sits 0 is) ∙ seat.sits 0 role));
+                stay = f.stay;
+                brought = f.brought;
                 home = f.home;
               })
               (at_set s.views id j v' w there);
@@ -406,7 +410,7 @@ module _ {S : Type 0} (Copy : ℕ → Generation → S → Type 0) (z : Sizes) w
           refl,
           λ b word. let same : p ≡ b = omega arith in
               subst (λ (q : ℕ). ComesNext 0 me.0 (events.Place (pass_id q)) Nothing 0 v') same
-              (adds Copy z s k id me.0 at 0 (events.Place (pass_id p)) Nothing 0 0 m role may refl),
+              (adds Copy z s k id me.0 at 0 (events.Place (pass_id p)) Nothing 0 0 m role may refl refl),
         ),
       )
 
@@ -450,7 +454,7 @@ module _ {S : Type 0} (Copy : ℕ → Generation → S → Type 0) (z : Sizes) w
         tt,
         extends Copy z s k id me.0 at 0 events.Publish x new (set s.words 0 new) s.homes k.held k.next me.0.held me.0.next role refl may is shown
             (every_snoc (PlacesFit z.words) gs m k.roomy roomy) slots' (λ _. let n = seat.counts role in (n.1, n.2)) (λ q. absurd (q refl)),
-        (refl, (refl, refl), adds Copy z s k id me.0 at 0 events.Publish x new me.0.held me.0.next role may is),
+        (refl, (refl, refl), adds Copy z s k id me.0 at 0 events.Publish x new me.0.held me.0.next role may is refl),
       )
 
 published_grows : (xs : List HistoryEntry) (gs : List Generation) → IsPrefix gs (published_from gs xs)

@@ -1,5 +1,5 @@
 -- What a step that makes an entry owes, and what a seat knows before it.
-use Rattle.std.proofs.Common.{◌≡◌, ◌≢◌, ℕ, ◌+◌, ◌*◌, ◌<◌, true, false, List, [], ◌∷◌, ◌++◌, length, get_or, set, sym, refl, ap, ◌∙◌, subst, ⊎_elim, arith, length-set, get_or-set_other, get_or-set_same, append-nil, Some}
+use Rattle.std.proofs.Common.{◌≡◌, ◌≢◌, ℕ, ◌+◌, ◌*◌, ◌<◌, Bool, true, false, List, [], ◌∷◌, ◌++◌, length, get_or, set, sym, refl, ap, ◌∙◌, subst, ⊎_elim, arith, length-set, get_or-set_other, get_or-set_same, append-nil, Some}
 use Rattle.std.proofs.lemmas.List.{append_cancel_left}
 use Rattle.std.proofs.lemmas.Bool.{both_ways}
 use mathlib.Core.Logic.{dite}
@@ -79,6 +79,8 @@ module _ {S : Type 0} (Copy : ℕ → Generation → S → Type 0) (z : Sizes) (
           all = λ b is'. refl;
           goes = f.goes;
           counts = λ is'. let w = writes (same_number a 0 (sym role ∙ is')) in ((f.counts is').0, w.0, w.1);
+          stay = λ is' q l ne. refl;
+          brought = λ is' q l e. refl;
           home = λ is' p l. refl;
         }))
         (λ (t : (j ≢ id) × (get_elem? s.views j ≡ some w)). let f = k.seats j w t.1 in let mate = k.seats id v at in
@@ -93,6 +95,8 @@ module _ {S : Type 0} (Copy : ℕ → Generation → S → Type 0) (z : Sizes) (
           all = λ b is'. f.all b is' ∙ sym (own_other b k.log e x r (λ q. apart b is' (sym mine ∙ q)));
           goes = f.goes;
           counts = λ is'. let c = f.counts is' in let d = keeps' (apart 0 is') in (c.0, c.1 ∙ sym d.0, c.2 ∙ sym d.1);
+          stay = f.stay;
+          brought = f.brought;
           home = λ is' p l. f.home is' p l ∙ sym (own_other (p + 1) k.log e x r
               (λ q. let there = mate.goes p (role ∙ ap (λ (y : ℕ). Some y) (sym mine ∙ q)) in both_ways _ l there));
         })
@@ -100,8 +104,8 @@ module _ {S : Type 0} (Copy : ℕ → Generation → S → Type 0) (z : Sizes) (
   }
 
   pub adds : (a : ℕ) (e : Event) (x : Carried) (r h : ℕ) (q : Picked) → v.role ≡ Some a → shared_possible (state_of z k.log) e x ≡ true
-      → r ≡ shared_reply (state_of z k.log) e x → ComesNext a v e x r (grown v (k.log ++ history_entry e x r ∷ []) h q)
-  adds a e x r h q role may is = let f = k.seats id v at in record {
+      → r ≡ shared_reply (state_of z k.log) e x → actor_of e ≡ a → ComesNext a v e x r (grown v (k.log ++ history_entry e x r ∷ []) h q)
+  adds a e x r h q role may is mine = let f = k.seats id v at in record {
     role = refl;
     out = refl;
     sizes = refl;
@@ -111,6 +115,9 @@ module _ {S : Type 0} (Copy : ℕ → Generation → S → Type 0) (z : Sizes) (
     others = append_cancel_left (own_entries a v.seen) (own_entries a f.begins.0) []
         (sym (own_append a v.seen f.begins.0) ∙ (ap (own_entries a) f.begins.1 ∙ (sym (f.all a role) ∙ sym (append-nil (own_entries a v.seen)))));
     seen = ap (λ l. l ++ history_entry e x r ∷ []) (sym f.begins.1);
+    home = λ first p l. let writer : v.role ≡ Some 0 = role ∙ ap (λ (y : ℕ). Some y) first in
+        own_other (p + 1) k.log e x r (λ y. omega arith)
+        ∙ sym (f.home writer p (ap (λ (o : List Bool). get_or o p false) (sym (f.counts writer).0) ∙ l));
   }
 
   pub knows_pass : (p : ℕ) → p < z.passes → v.role ≡ Some (p + 1) → pass_of (state_of z k.log).passes (pass_id p) ≡ pass_seen p v

@@ -77,6 +77,8 @@ module _ {S : Type 0} (Copy : ℕ → Generation → S → Type 0) (z : Sizes) w
           all = λ a is. refl;
           goes = λ p is. absurd (let q = same_number 0 (p + 1) is in omega arith);
           counts = λ is. (refl, refl, refl);
+          stay = λ is q l ne. refl;
+          brought = λ is q l e. refl;
           home = λ is p l. refl;
         })
         (λ (t : (j ≢ 0) × (get_elem? (first_view z ∷ []) j ≡ some v)). absurd (alone j v t.0 t.1))

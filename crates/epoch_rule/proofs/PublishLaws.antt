@@ -1,5 +1,5 @@
 -- The writer's seat after its calls.
-use Rattle.std.proofs.Common.{◌≡◌, ℕ, zero, suc, ◌+◌, ◌-◌, ◌≤◌, min, Bool, true, false, List, [], ◌∷◌, ◌++◌, length, map, drop, sym, refl, ap, ◌∙◌, subst, arith, append_assoc, Option, Some, None, if◌then◌else◌}
+use Rattle.std.proofs.Common.{◌≡◌, ℕ, zero, suc, ◌+◌, ◌-◌, ◌≤◌, min, Bool, true, false, List, [], ◌∷◌, ◌++◌, length, map, drop, sym, refl, ap, ◌∙◌, subst, arith, append_assoc, Option, Some, None, if◌then◌else◌, get_or}
 use Rattle.std.specs.Prelude.{option_map, nat_le}
 use Rattle.std.specs.Arc.{arc_value}
 use Rattle.std.specs.declared.sync.Arc.{Arc}
@@ -44,6 +44,7 @@ writes_both v es w fs u h k = record {
   begins = prefix_trans v.seen w.seen u.seen h.begins k.begins;
   lawful = subst (λ (z : Sizes). IsLegal z u.seen) h.sizes k.lawful;
   events = k.events ∙ (ap (λ l. l ++ fs) h.events ∙ append_assoc (own_entries 0 v.seen) es fs);
+  home = λ q l. k.home q (ap (λ (o : List Bool). get_or o q false) h.out ∙ l) ∙ h.home q l;
 }
 
 -- after a sweep of each pass

@@ -101,7 +101,12 @@ first_is [] = refl
 first_is (true ∷ bs) = first_is bs
 first_is (false ∷ bs) = refl
 
-set_free : (out : List Bool) (f p : ℕ) (b : Bool) → p ≢ f → get_or (set out f b) p false ≡ get_or out p false
+pub set_false : (out : List Bool) (i : ℕ) → get_or (set out i false) i false ≡ false
+set_false [] i = refl
+set_false (b ∷ bs) zero = refl
+set_false (b ∷ bs) (suc i) = set_false bs i
+
+pub set_free : (out : List Bool) (f p : ℕ) (b : Bool) → p ≢ f → get_or (set out f b) p false ≡ get_or out p false
 set_free out f p b other = get_or-set_other out f p b false other
 
 module _ {S : Type 0} (Copy : ℕ → Generation → S → Type 0) (z : Sizes) where
@@ -137,6 +142,8 @@ module _ {S : Type 0} (Copy : ℕ → Generation → S → Type 0) (z : Sizes) w
     all = λ a is. absurd (none_is_no_number a (sym r ∙ is));
     goes = λ p is. absurd (none_is_no_number (p + 1) (sym r ∙ is));
     counts = λ is. absurd (none_is_no_number 0 (sym r ∙ is));
+    stay = λ is. absurd (none_is_no_number 0 (sym r ∙ is));
+    brought = λ is. absurd (none_is_no_number 0 (sym r ∙ is));
     home = λ is. absurd (none_is_no_number 0 (sym r ∙ is));
   }
 
@@ -163,6 +170,8 @@ module _ {S : Type 0} (Copy : ℕ → Generation → S → Type 0) (z : Sizes) w
         all = λ a is. squeezed a v.seen (longer v.seen w.seen) log first whole (f.all a is);
         goes = f.goes;
         counts = f.counts;
+        stay = λ is q l ne. f.home is q l ∙ sym (squeezed (q + 1) v.seen (longer v.seen w.seen) log first whole (f.home is q l));
+        brought = λ is q l e. absurd (omega arith);
         home = λ is p l. squeezed (p + 1) v.seen (longer v.seen w.seen) log first whole (f.home is p l);
       }
 
@@ -204,6 +213,8 @@ module _ {S : Type 0} (Copy : ℕ → Generation → S → Type 0) (z : Sizes) w
         all = g.all;
         goes = λ p is. set_free k.out f p true (λ q. both_ways _ was (subst (λ (y : ℕ). get_or k.out y false ≡ true) q (g.goes p is))) ∙ g.goes p is;
         counts = λ is. let c = g.counts is in (new is, c.1, c.2);
+        stay = λ is q l ne. g.stay is q (rest q l) ne;
+        brought = λ is q l e. g.brought is q (rest q l) e;
         home = λ is p l. g.home is p (rest p l);
       } in
       reseat s k (vs ++ next_pass v ∷ []) owner' out' (λ p l. k.rest p (rest p l))
@@ -227,6 +238,8 @@ module _ {S : Type 0} (Copy : ℕ → Generation → S → Type 0) (z : Sizes) w
         all = λ a is. subst (λ (y : ℕ). own_entries y v.seen ≡ own_entries y k.log) (same_number (f + 1) a is) (mine.home role f was);
         goes = λ p is. let e : f ≡ p = (let q = same_number (f + 1) (p + 1) is in omega arith) in subst (λ (y : ℕ). get_or out' y false ≡ true) e now;
         counts = λ is. absurd (let q = same_number (f + 1) 0 is in omega arith);
+        stay = λ is. absurd (let q = same_number (f + 1) 0 is in omega arith);
+        brought = λ is. absurd (let q = same_number (f + 1) 0 is in omega arith);
         home = λ is. absurd (let q = same_number (f + 1) 0 is in omega arith);
       })
       (at_end vs (next_pass v) w j e))
@@ -262,6 +275,12 @@ module _ {S : Type 0} (Copy : ℕ → Generation → S → Type 0) (z : Sizes) w
         all = met.all;
         goes = λ b is. absurd (let x = same_number 0 (b + 1) (sym role ∙ is) in omega arith);
         counts = λ is. let c = mine.counts role in (ap (λ (o : List Bool). set o m false) c.0, c.1, c.2);
+        stay = λ is b l ne. let apart : b ≢ p = λ same. ne (let q : unwrap_or w.role 0 ≡ p + 1 = ap (λ (r : Option ℕ). unwrap_or r 0) pass in omega arith) in
+            let there = mine.home role b (sym (set_free k.out m b false (λ x. apart (x ∙ is_p))) ∙ l) in
+            there ∙ sym (squeezed (b + 1) v.seen all k.log first whole there);
+        brought = λ is b l e. let same : b ≡ p = (let q : unwrap_or w.role 0 ≡ p + 1 = ap (λ (r : Option ℕ). unwrap_or r 0) pass in omega arith) in
+            let there = theirs.all (b + 1) (pass ∙ ap (λ (y : ℕ). Some (y + 1)) (sym same)) in
+            there ∙ sym (squeezed (b + 1) w.seen all k.log second whole there);
         home = λ is b l. dite (ℕ_discrete b p)
             (λ same. squeezed (b + 1) w.seen all k.log second whole (theirs.all (b + 1) (pass ∙ ap (λ (y : ℕ). Some (y + 1)) (sym same))))
             (λ ne. squeezed (b + 1) v.seen all k.log first whole (mine.home role b (sym (set_free k.out m b false (λ x. ne (x ∙ is_p))) ∙ l)));
@@ -278,6 +297,8 @@ module _ {S : Type 0} (Copy : ℕ → Generation → S → Type 0) (z : Sizes) w
         goes = λ b is. set_free k.out m b false (λ x. t.0 (sym (g.sits (b + 1) is) ∙ (ap (λ (y : ℕ). k.owner (y + 1)) (x ∙ is_p) ∙ theirs.sits (p + 1) pass)))
             ∙ g.goes b is;
         counts = λ is. absurd (q.0 (sym (g.sits 0 is) ∙ mine.sits 0 role));
+        stay = λ is. absurd (q.0 (sym (g.sits 0 is) ∙ mine.sits 0 role));
+        brought = λ is. absurd (q.0 (sym (g.sits 0 is) ∙ mine.sits 0 role));
         home = λ is. absurd (q.0 (sym (g.sits 0 is) ∙ mine.sits 0 role));
       })
       (at_set s.views id j (taken_in v w) u t.1))
@@ -321,6 +342,8 @@ module _ {S : Type 0} (Copy : ℕ → Generation → S → Type 0) (z : Sizes) w
             was = f.was;
             told = f.told;
             quiet = f.quiet a is;
+            stay = λ r q l ne. f.stay r q (ap (λ (o : List Bool). get_or o q false) (sym (f.counts r).0) ∙ l) ne;
+            brought = λ r q l e. f.brought r q (ap (λ (o : List Bool). get_or o q false) (sym (f.counts r).0) ∙ l) e;
             fresh = f.fresh;
             lawful = subst (λ (y : Sizes). IsLegal y me.0.seen) (sym (f.knows a is))
                 (legal_start me.0.seen f.begins.0 (shared_opening z.words z.passes) (subst (IsSharedLegal z.words z.passes) (sym f.begins.1) k.lawful));

@@ -67,7 +67,15 @@ writes_generations v es w h = (λ i. generations_after_all (first_generations (h
     ∙ generations_by_append (own_entries 0 v.seen) es (first_generations v.sizes.passes)
 
 pub writes_nothing : (v : View) → IsLegal v.sizes v.seen → HasWritten v [] v
-writes_nothing v l = record { role = refl; out = refl; sizes = refl; begins = prefix_refl v.seen; lawful = l; events = sym (append-nil (own_entries 0 v.seen)) }
+writes_nothing v l = record {
+  role = refl;
+  out = refl;
+  sizes = refl;
+  begins = prefix_refl v.seen;
+  lawful = l;
+  events = sym (append-nil (own_entries 0 v.seen));
+  home = λ q l. refl;
+}
 
 pub writes_more : (v : View) (es : List HistoryEntry) (w : View) (e : Event) (x : Carried) (r : ℕ) (u : View) → actor_of e ≡ 0 → HasWritten v es w
     → ComesNext 0 w e x r u → HasWritten v (es ++ history_entry e x r ∷ []) u
@@ -79,6 +87,7 @@ writes_more v es w e x r u mine h a = record {
   lawful = subst (λ (z : Sizes). IsLegal z u.seen) h.sizes a.lawful;
   events = own_added 0 w e x r u mine a ∙ (ap (λ l. l ++ history_entry e x r ∷ []) h.events
       ∙ append_assoc (own_entries 0 v.seen) es (history_entry e x r ∷ []));
+  home = λ q l. a.home refl q (ap (λ (o : List Bool). get_or o q false) h.out ∙ l) ∙ h.home q l;
 }
 
 pub sweeping_first : (v : View) (known : List Found) → IsLegal v.sizes v.seen → known ≡ map stored (generations_seen v).passes → HasSwept v v known 0

@@ -35,7 +35,7 @@ use Rattle.epoch_rule.specs.declared.touches.Touch.TheVariants as touches
 use Rattle.mem_base.specs.machine.Passes.{pass_id}
 use Rattle.mem_base.specs.machine.Turns.{history_entry}
 use Rattle.mem_base.specs.machine.Actors.{actor_of, actor_of_hand, own_entries, pass_after_all}
-use Rattle.epoch_rule.specs.Rule.{state_of, IsLegal, pass_seen, generations_seen, ComesNext, KeepsSlot}
+use Rattle.epoch_rule.specs.Rule.{state_of, IsLegal, pass_seen, generations_seen, ComesNext, KeepsSlot, KeepsHome}
 use Rattle.epoch_rule.specs.Copies.{shown_by, IsEnteredIn}
 use Rattle.epoch_rule.specs.Touches.{TouchesWord, IsReady, IsTouch, Told, ToldStep, event_of, touch_at}
 use Rattle.epoch_rule.specs.Wrote.{Wrote, WordWas}
@@ -336,6 +336,13 @@ generations_kept p word touch v r w k h = let kind = kinds hands.Writer p word t
     (λ (e : w ≡ v). ap generations_seen e)
     (λ (t : (q : ℕ) × ComesNext 0 v (event_of hands.Writer p word touch) (At p) q w).
     generations_added v (event_of hands.Writer p word touch) (At p) t.0 w kind.mine t.1 ∙ kind.generations (generations_seen v) t.0)
+    (told_either hands.Writer p word touch v r w k h)
+
+pub home_kept : (p : Place) (word : ℕ) (touch : Touch) (v : View) (r : ℕ) (w : View) → IsTouch hands.Writer p word touch
+    → Told hands.Writer p word touch v r w → KeepsHome v.out v.seen w.seen
+home_kept p word touch v r w k h = ⊎_elim
+    (λ (e : w ≡ v). λ q l. ap (λ (x : View). own_entries (q + 1) x.seen) e)
+    (λ (t : (n : ℕ) × ComesNext 0 v (event_of hands.Writer p word touch) (At p) n w). t.1.home refl)
     (told_either hands.Writer p word touch v r w k h)
 
 -- the writer's seat after a step that changes no generation

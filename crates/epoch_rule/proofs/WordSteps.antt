@@ -86,7 +86,7 @@ module _ {S : Type 0} (Copy : ℕ → Generation → S → Type 0) (z : Sizes) w
         (
           refl,
           (refl, refl),
-          adds Copy z s k id me.0 at a e (At p) r me.0.held me.0.next role may is,
+          adds Copy z s k id me.0 at a e (At p) r me.0.held me.0.next role may is kind.mine,
           (k.log, had_word Copy z s k id me at a role t.word inside, refl),
         ),
       )

@@ -26,7 +26,7 @@ use Rattle.epoch_rule.specs.declared.writers.Held.{Held}
 use Rattle.mem_base.specs.machine.Passes.{pass_id}
 use Rattle.mem_base.specs.machine.Turns.{history_entry}
 use Rattle.mem_base.specs.machine.Actors.{own_entries, generations_after_all}
-use Rattle.epoch_rule.specs.Rule.{IsLegal, generations_seen, KeepsSlot}
+use Rattle.epoch_rule.specs.Rule.{IsLegal, generations_seen, KeepsSlot, KeepsHome}
 use Rattle.epoch_rule.specs.Writing.{stored}
 
 -- a sweep of each pass from `first` on, with what it found
@@ -51,6 +51,7 @@ pub record HasWritten (v : View) (es : List HistoryEntry) (w : View) : Type 0 wh
   pub begins : IsPrefix v.seen w.seen
   pub lawful : IsLegal v.sizes w.seen
   pub events : own_entries 0 w.seen ≡ own_entries 0 v.seen ++ es
+  pub home : KeepsHome v.out v.seen w.seen
 
 -- the first `n` passes were swept, and what was found is stored
 pub record HasSwept (v w : View) (known : List Found) (n : ℕ) : Type 0 where

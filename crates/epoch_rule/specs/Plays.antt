@@ -1,5 +1,5 @@
 -- What each step on the table tells the seat that makes it.
-use Rattle.std.specs.Prelude.{◌≡◌, ℕ, ◌+◌, ◌-◌, ◌*◌, ◌%◌, ◌<◌, true, false, [], ◌∷◌, replicate, slice_set, Some, None}
+use Rattle.std.specs.Prelude.{◌≡◌, ◌≢◌, slice_index_or, ℕ, ◌+◌, ◌-◌, ◌*◌, ◌%◌, ◌<◌, true, false, [], ◌∷◌, replicate, slice_set, Some, None}
 use Rattle.std.specs.Option.{unwrap_or}
 use Rattle.mem_base.specs.map.Calls.{empty}
 use Rattle.epoch_rule.specs.declared.views.Sizes.{Sizes}
@@ -65,6 +65,7 @@ spent_view = record {
   seen = [];
   was = [];
   told = [];
+  came = 0;
   fresh = false;
   out = [];
   held = 0;
@@ -73,7 +74,7 @@ spent_view = record {
 
 -- the view of a seat that met a note: what it has seen is the longer one
 abbrev pub met_view : View → View → View
-met_view v w = record v { seen = longer v.seen w.seen; was = v.seen; told = w.seen; fresh = false }
+met_view v w = record v { seen = longer v.seen w.seen; was = v.seen; told = w.seen; came = 0; fresh = false }
 
 -- the writer's view after it handed out the least pass that is not out, and that pass's view
 abbrev pub with_least_out : View → View
@@ -84,7 +85,7 @@ next_pass v = record v { role = Some (first_free v.out + 1); was = v.seen; told 
 
 -- the writer's view after it took a pass in
 abbrev pub taken_in : View → View → View
-taken_in v w = record (met_view v w) { out = slice_set v.out (unwrap_or w.role 0 - 1) false }
+taken_in v w = record (met_view v w) { came = unwrap_or w.role 0; out = slice_set v.out (unwrap_or w.role 0 - 1) false }
 
 -- the first seat's view
 abbrev pub first_view : Sizes → View
@@ -94,6 +95,7 @@ first_view z = record {
   seen = [];
   was = [];
   told = [];
+  came = 0;
   fresh = false;
   out = replicate z.passes false;
   held = 0;
@@ -107,6 +109,10 @@ pub record IsSettled (a : ℕ) (v w : View) : Type 0 where
   pub was : IsPrefix v.was v.seen
   pub told : IsPrefix v.told v.seen
   pub quiet : own_entries a v.was ≡ own_entries a v.seen
+  -- of passes that are not out, no entries came, but for those of the pass that was taken in
+  pub stay : v.role ≡ Some 0 → (q : ℕ) → slice_index_or v.out q false ≡ false → v.came ≢ q + 1 → own_entries (q + 1) v.was ≡ own_entries (q + 1) v.seen
+  pub brought : v.role ≡ Some 0 → (q : ℕ) → slice_index_or v.out q false ≡ false → v.came ≡ q + 1
+      → own_entries (q + 1) v.told ≡ own_entries (q + 1) v.seen
   pub lawful : IsLegal v.sizes v.seen
   pub fresh : v.fresh ≡ true → (p : ℕ) → v.role ≡ Some (p + 1) → pass_seen p v ≡ idle
 

@@ -95,6 +95,10 @@ pub record SeatKnows (z : Sizes) (log : List HistoryEntry) (owner : ℕ → ℕ)
   pub was : IsPrefix v.was v.seen
   pub told : IsPrefix v.told v.seen
   pub quiet : (a : ℕ) → v.role ≡ Some a → own_entries a v.was ≡ own_entries a v.seen
+  -- of the passes that are not out, no entries came with a seat that was joined, but for those of the pass taken in
+  pub stay : v.role ≡ Some 0 → (q : ℕ) → slice_index_or out q false ≡ false → v.came ≢ q + 1 → own_entries (q + 1) v.was ≡ own_entries (q + 1) v.seen
+  pub brought : v.role ≡ Some 0 → (q : ℕ) → slice_index_or out q false ≡ false → v.came ≡ q + 1
+      → own_entries (q + 1) v.told ≡ own_entries (q + 1) v.seen
   -- a pass that was just handed out is idle
   pub fresh : v.fresh ≡ true → (p : ℕ) → v.role ≡ Some (p + 1) → pass_seen p v ≡ idle
   -- an actor has one seat, which has seen all that the actor did
@@ -121,6 +125,10 @@ pub record IsRuled {S : Type 0} (Copy : ℕ → Generation → S → Type 0) (z 
   pub slots : AllSlots Copy z.passes (state_of z log) (generations_published log) held (generation_of_pick next) s.homes
   pub seats : (j : ℕ) (v : View) → get_elem? s.views j ≡ some v → SeatKnows z log owner out held next j v
 
+-- of the passes that are not out, no entries were added
+abbrev pub KeepsHome : List Bool → List HistoryEntry → List HistoryEntry → Type 0
+KeepsHome out before after = (q : ℕ) → slice_index_or out q false ≡ false → own_entries (q + 1) after ≡ own_entries (q + 1) before
+
 -- The actor's event came next in a legal history that begins with all that its seat had seen. What came between is of
 -- other actors
 pub record ComesNext (a : ℕ) (v : View) (e : Event) (x : Carried) (reply : ℕ) (w : View) : Type 0 where
@@ -131,6 +139,8 @@ pub record ComesNext (a : ℕ) (v : View) (e : Event) (x : Carried) (reply : ℕ
   pub between : List HistoryEntry
   pub others : own_entries a between ≡ []
   pub seen : w.seen ≡ (v.seen ++ between) ++ history_entry e x reply ∷ []
+  -- the writer had seen all that the passes did which are not out
+  pub home : a ≡ 0 → KeepsHome v.out v.seen w.seen
 
 -- the writer holds the same slot, if any, for the same generation
 abbrev pub KeepsSlot : View → View → Type 0

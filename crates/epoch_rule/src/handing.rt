@@ -1,7 +1,8 @@
 // Passes that are handed out and taken in.
-ghost use Rattle.std.specs.Prelude.{◌≡◌, ◌≤◌, [], length, None, MatchOption, slice_set, true, false};
+ghost use Rattle.std.specs.Prelude.{◌≡◌, ◌≢◌, ℕ, ◌+◌, ◌≤◌, slice_index_or, [], length, None, MatchOption, slice_set, true, false};
 ghost use Rattle.mem_base.specs.declared.machine.events.Hand.TheVariants.{Writer};
 ghost use Rattle.epoch_rule.specs.Values.{first_free as first_free_in};
+ghost use Rattle.mem_base.specs.machine.Actors.{own_entries};
 ghost use Rattle.epoch_rule.specs.Wrote.{IsNewPass, Wrote, longer};
 ghost use mathlib.Core.List.{IsPrefix};
 
@@ -47,13 +48,16 @@ impl<E: Edition + Drop> Cabinet<E> {
         })
     }
 
-    /// The pass is out no more, and the writer has seen all that it had seen. The pass must not be entered.
+    /// The pass is out no more, and the writer has seen all that it had seen: of this pass's entries just those, and
+    /// of the other passes that are not out no new ones. The pass must not be entered.
     pub fn take_in(&self, writer: &mut WriterSeat<E>, pass: Pass<E>)
         requires own { (writer.old.cabinet ≡ self.now.id) × (pass.cabinet ≡ self.now.id) }
         requires out { pass.edition ≡ None }
         ensures longer { writer.new.seen ≡ longer writer.old.seen pass.seen }
         ensures seen { IsPrefix pass.seen writer.new.seen }
         ensures wrote { Wrote Writer writer.old.sizes writer.old.seen [] writer.new.seen }
+        ensures brought { own_entries (pass.number + 1) writer.new.seen ≡ own_entries (pass.number + 1) pass.seen }
+        ensures others { (q : ℕ) → q ≢ pass.number → slice_index_or writer.old.out q false ≡ false → own_entries (q + 1) writer.new.seen ≡ own_entries (q + 1) writer.old.seen }
         ensures out { writer.new.out ≡ slice_set writer.old.out pass.number false }
         ensures same { (writer.new.cabinet ≡ writer.old.cabinet) × (writer.new.sizes ≡ writer.old.sizes) }
     {

@@ -1,5 +1,5 @@
 // Who touches the cabinet's words.
-ghost use Rattle.std.specs.Prelude.{◌≡◌, ℕ, List, Some};
+ghost use Rattle.std.specs.Prelude.{◌≡◌, ℕ, List, Some, slice_index_or, false};
 ghost use Rattle.std.proofs.Common.{refl, sym, ap, subst, ◌∙◌};
 ghost use Rattle.atomic_table.specs.Seated.{TableId};
 ghost use Rattle.mem_base.specs.declared.machine.events.Hand.{Hand as Actor};
@@ -10,6 +10,7 @@ ghost use Rattle.epoch_rule.specs.declared.views.Sizes.{Sizes};
 ghost use Rattle.epoch_rule.specs.declared.touches.Touch.{Touch};
 ghost use Rattle.epoch_rule.specs.declared.touches.Touch.TheVariants.{Look, Try};
 ghost use Rattle.mem_base.specs.machine.Passes.{pass_id};
+ghost use Rattle.epoch_rule.specs.Rule.{KeepsHome};
 ghost use Rattle.epoch_rule.specs.Touches.{IsTouch};
 ghost use Rattle.epoch_rule.specs.Shown.{PassMay, ShowsTouch, WriterMay};
 
@@ -106,11 +107,11 @@ impl<E: Edition + Drop> Hand<E> for WriterSeat<E> {
 
     ghost may = { λ w place word touch. WriterMay w.sizes place word };
 
-    ghost stays = { λ w v. (v.cabinet ≡ w.cabinet) × (v.sizes ≡ w.sizes) × (v.out ≡ w.out) };
+    ghost stays = { λ w v. (v.cabinet ≡ w.cabinet) × (v.sizes ≡ w.sizes) × (v.out ≡ w.out) × KeepsHome w.out w.seen v.seen };
 
     ghost lasts = { λ x y s. (s.0, s.1, refl, λ p word t m. subst (λ z. WriterMay z p word) (sym s.1) m) };
 
-    ghost joins = { λ x y z s t. (t.0 ∙ s.0, t.1 ∙ s.1, t.2 ∙ s.2) };
+    ghost joins = { λ x y z s t. (t.0 ∙ s.0, t.1 ∙ s.1, t.2 ∙ s.2, λ q l. t.3 q (ap (λ o. slice_index_or o q false) s.2 ∙ l) ∙ s.3 q l) };
 
     ghost tries = { λ x p word old first bytes value m. m };
 

@@ -4,7 +4,7 @@ ghost use Rattle.mem_base.specs.declared.machine.events.Hand.TheVariants.{Writer
 ghost use Rattle.mem_base.specs.declared.machine.events.Carried.TheVariants.{Edition as EditionCarried};
 ghost use Rattle.mem_base.specs.machine.Generations.{least_lowest};
 ghost use Rattle.mem_base.specs.machine.Actors.{number_seen};
-ghost use Rattle.epoch_rule.specs.Rule.{PlacesFit};
+ghost use Rattle.epoch_rule.specs.Rule.{KeepsHome, PlacesFit};
 ghost use Rattle.epoch_rule.specs.Copies.{shown_by};
 ghost use Rattle.epoch_rule.specs.Wrote.{Wrote, longer};
 ghost use Rattle.epoch_rule.specs.Calls.{HeldUp, IsLeastPassAt, Published, generations_in_seen, sweeps_of};
@@ -30,11 +30,12 @@ impl<E: Edition + Drop> Cabinet<E> {
         }
     }
 
-    /// The writer has then seen all that the note tells of.
+    /// The writer has then seen all that the note tells of; of passes that are not out it had seen all before.
     pub fn hear(&self, writer: &mut WriterSeat<E>, note: Note<E>)
         requires own { (writer.old.cabinet ≡ self.now.id) × (note.cabinet ≡ self.now.id) }
         ensures longer { writer.new.seen ≡ longer writer.old.seen note.seen }
         ensures seen { IsPrefix note.seen writer.new.seen }
+        ensures home { KeepsHome writer.old.out writer.old.seen writer.new.seen }
         ensures wrote { Wrote Writer writer.old.sizes writer.old.seen [] writer.new.seen }
         ensures same { (writer.new.cabinet ≡ writer.old.cabinet) × (writer.new.sizes ≡ writer.old.sizes) × (writer.new.out ≡ writer.old.out) }
     {
@@ -50,6 +51,7 @@ impl<E: Edition + Drop> Cabinet<E> {
         requires own { writer.old.cabinet ≡ self.now.id }
         ensures swept { (rs : List ℕ) × (length rs ≡ writer.old.sizes.passes) × Wrote Writer writer.old.sizes writer.old.seen (sweeps_of 0 rs) writer.new.seen }
         ensures lowest { result.lowest ≡ least_lowest (generations_in_seen writer.old.sizes writer.new.seen).current (generations_in_seen writer.old.sizes writer.new.seen).passes }
+        ensures home { KeepsHome writer.old.out writer.old.seen writer.new.seen }
         ensures pass { IsLeastPassAt (generations_in_seen writer.old.sizes writer.new.seen) result.lowest result.pass }
         ensures same { (writer.new.cabinet ≡ writer.old.cabinet) × (writer.new.sizes ≡ writer.old.sizes) × (writer.new.out ≡ writer.old.out) }
     {
@@ -84,6 +86,7 @@ impl<E: Edition + Drop> Cabinet<E> {
         ensures done { MatchResult result
             (λ number. (number ≡ E.counted next.edition) × Published writer.old.sizes writer.old.seen (EditionCarried (E.forest next.edition) (E.places next.edition)) number writer.new.seen)
             (λ h. (h.1 ≡ next) × HeldUp writer.old.sizes writer.old.seen h.0 writer.new.seen) }
+        ensures home { KeepsHome writer.old.out writer.old.seen writer.new.seen }
         ensures current { MatchResult result (λ number. number_seen writer.new.seen ≡ number) (λ h. number_seen writer.new.seen ≡ number_seen writer.old.seen) }
         ensures same { (writer.new.cabinet ≡ writer.old.cabinet) × (writer.new.sizes ≡ writer.old.sizes) × (writer.new.out ≡ writer.old.out) }
     {

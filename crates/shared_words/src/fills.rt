@@ -2,6 +2,7 @@
 ghost use Rattle.std.specs.Prelude.{◌≡◌, ◌≤◌};
 ghost use Rattle.mem_base.specs.declared.machine.events.Hand.TheVariants.{Writer};
 ghost use Rattle.mem_base.specs.access.Places.{past};
+ghost use Rattle.epoch_rule.specs.Rule.{KeepsHome};
 ghost use Rattle.epoch_rule.specs.Wrote.{Wrote};
 ghost use Rattle.shared_words.specs.Fills.{fills_of};
 
@@ -14,6 +15,7 @@ pub fn fill<E: Edition + Drop>(cabinet: &Cabinet<E>, writer: &mut WriterSeat<E>,
     requires own { writer.old.cabinet ≡ cabinet.now.id }
     requires within { past place.now ≤ writer.old.sizes.words }
     ensures wrote { Wrote Writer writer.old.sizes writer.old.seen (fills_of place.now place.now.words) writer.new.seen }
+    ensures home { KeepsHome writer.old.out writer.old.seen writer.new.seen }
     ensures same { (writer.new.cabinet ≡ writer.old.cabinet) × (writer.new.sizes ≡ writer.old.sizes) × (writer.new.out ≡ writer.old.out) }
 {
     writer.has_seen_legal();

@@ -8,6 +8,7 @@ ghost use Rattle.mem_base.specs.access.Places.{extent, mark_word as mark_word_of
 ghost use Rattle.mem_base.specs.machine.Passes.{pass_id};
 ghost use Rattle.mem_base.specs.machine.SharedHistory.{is_same_place};
 ghost use Rattle.mem_base.specs.machine.Turns.{history_entry};
+ghost use Rattle.epoch_rule.specs.Rule.{KeepsHome};
 ghost use Rattle.epoch_rule.specs.Wrote.{Made, Wrote};
 
 use epoch_rule::{Cabinet, Pass, Touch, WriterSeat};
@@ -69,6 +70,7 @@ pub fn harvest<E: Edition + Drop>(
     requires words { place.now.words ≡ words_of (extent place.now.bytes place.now.regs) }
     requires index { index < mark_words_of place.now.bytes }
     ensures wrote { Wrote hands.Writer writer.old.sizes writer.old.seen (history_entry (events.Harvest place.now.region client index) (At place.now) result ∷ []) writer.new.seen }
+    ensures home { KeepsHome writer.old.out writer.old.seen writer.new.seen }
     ensures same { (writer.new.cabinet ≡ writer.old.cabinet) × (writer.new.sizes ≡ writer.old.sizes) × (writer.new.out ≡ writer.old.out) }
 {
     let word = mark_word(place, client, index as u64);

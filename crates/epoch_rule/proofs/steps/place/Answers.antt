@@ -88,4 +88,4 @@ returns-clause-adds g c =
     let did = (c.load-2.ensures.2 _ _ holds).3 p refl in
     let h : ComesNext 0 (record v { held = p + 1 }) (Place (pass_id p)) Nothing 0 c.load-2.new.seat.me.0 =
     subst (λ w. ComesNext 0 w (Place (pass_id p)) Nothing 0 c.load-2.new.seat.me.0) view did in
-    record { role = h.role; out = h.out; sizes = h.sizes; lawful = h.lawful; between = h.between; others = h.others; seen = h.seen }
+    record { role = h.role; out = h.out; sizes = h.sizes; lawful = h.lawful; between = h.between; others = h.others; seen = h.seen; home = h.home }

@@ -1,4 +1,4 @@
-use Rattle.std.proofs.Common.{arith, ◌≡◌, ℕ, suc, ◌+◌, [], ◌∷◌, ◌∙◌, subst}
+use Rattle.std.proofs.Common.{arith, ◌≡◌, ℕ, suc, ◌+◌, [], ◌∷◌, ◌∙◌, ap, get_or, false, subst}
 use Rattle.mem_base.specs.declared.machine.events.Hand.TheVariants.{Writer}
 use Rattle.mem_base.specs.declared.machine.events.Event.TheVariants.{Fill}
 use Rattle.mem_base.specs.declared.machine.events.Carried.TheVariants.{At}
@@ -22,4 +22,5 @@ loop-word-preserved g c =
       stays.0 ∙ inv.1,
       stays.1 ∙ inv.2,
       stays.2 ∙ inv.3,
+      λ q l. stays.3 q (ap (λ o. get_or o q false) inv.3 ∙ l) ∙ inv.4 q l,
     )

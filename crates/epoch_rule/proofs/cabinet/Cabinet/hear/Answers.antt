@@ -1,4 +1,4 @@
-use Rattle.std.proofs.Common.{arith, ◌≡◌, sym, refl, ap, ◌∙◌, subst, append-nil}
+use Rattle.std.proofs.Common.{arith, ◌≡◌, ◌+◌, get_or, false, sym, refl, ap, ◌∙◌, subst, append-nil}
 use Rattle.mem_base.specs.machine.Generations.{first_generations}
 use Rattle.epoch_rule.specs.declared.views.View.{View}
 use Rattle.mem_base.specs.machine.Actors.{own_entries, generations_after_all}
@@ -105,3 +105,15 @@ returns-clause-same g c =
     let h : IsSettled 0 met c.load.new.seat.me.0 = subst (λ m. IsSettled 0 m.0 c.load.new.seat.me.0) j.2
     (c.load.ensures.2.1 0 (ap (λ m. m.0.role) j.2 ∙ inv.role)) in
     rw (sym c.writer.view_is) (c.load.ensures.0 ∙ j.0, ap (λ w. w.sizes) h.same, refl)
+
+pub returns-clause-home : goal.returns-clause-home
+returns-clause-home g c q out =
+    let inv = c.writer.invariant in
+    let j = c.join_seat.ensures in
+    let v : View = c.writer.inside.seat.me.0 in
+    let met : View = met_view v c.note.inside.seat.me.0 in
+    let h : IsSettled 0 met c.load.new.seat.me.0 = subst (λ m. IsSettled 0 m.0 c.load.new.seat.me.0) j.2
+    (c.load.ensures.2.1 0 (ap (λ m. m.0.role) j.2 ∙ inv.role)) in
+    let free : get_or v.out q false ≡ false = ap (λ l. get_or l q false) (sym inv.is_out) ∙ (ap (λ w. get_or w.out q false) c.writer.view_is ∙ out) in
+    ap (λ w. own_entries (q + 1) w.seen) h.same
+    ∙ (sym (h.stay inv.role q free (λ e. omega arith)) ∙ ap (λ w. own_entries (q + 1) w.seen) c.writer.view_is)

@@ -1,4 +1,4 @@
-use Rattle.std.proofs.Common.{arith, ◌≡◌, ℕ, ◌+◌, ◌<◌, [], ◌∷◌, ◌++◌, length, sym, refl, ap, ◌∙◌, subst, Some, None}
+use Rattle.std.proofs.Common.{arith, ◌≡◌, ℕ, ◌+◌, ◌<◌, [], ◌∷◌, ◌++◌, length, sym, refl, ap, ◌∙◌, subst, Some, None, false, get_or}
 use Rattle.std.specs.Arc.{arc_value}
 use lib.ListN.{length-map}
 use Rattle.mem_base.specs.declared.machine.events.Event.TheVariants as events
@@ -14,6 +14,7 @@ use Rattle.mem_base.specs.machine.Actors.{number_seen}
 use Rattle.epoch_rule.specs.Wrote.{Wrote}
 use Rattle.epoch_rule.specs.Writing.{stored}
 use Rattle.epoch_rule.specs.Calls.{generations_in_seen, refusal_of, sweeps_of, places_of, held_in, HasSwept}
+use Rattle.mem_base.specs.machine.Actors.{own_entries}
 use Rattle.epoch_rule.proofs.SweepLaws.{sweeping_current, all_near, all_free, writes_more}
 use Rattle.epoch_rule.proofs.PublishLaws.{wrote_of, writes_both, swept_writing, placed_all, placed_current, published_writing, held_is, copies_of, held_not}
 use Rattle.epoch_rule.proofs.PassLaws.{ends_added}
@@ -425,3 +426,48 @@ returns-clause-same g c =
           ∙ (p.writes.sizes ∙ s.writes.sizes),
       refl,
     )
+
+pub returns-in-Some-clause-home : goal.returns-in-Some-clause-home
+returns-in-Some-clause-home g c q out =
+    let s = c.sweep_all.ensures.swept in
+    let free = ap (λ l. get_or l q false) (sym (c.writer.invariant.is_out)) ∙ (ap (λ w. get_or w.out q false) c.writer.view_is ∙ out) in
+    s.writes.home q free ∙ ap (λ w. own_entries (q + 1) w.seen) c.writer.view_is
+
+pub returns-clause-home : goal.returns-clause-home
+returns-clause-home g c q out =
+    let num = g.E.Edition.counted in
+    let forest = g.E.Edition.forest in
+    let places = g.E.Edition.places in
+    let suits = c.self.invariant.suits in
+    let counts = c.self.invariant.counts in
+    let inv = c.writer.invariant in
+    let v : View = c.writer.inside.seat.me.0 in
+    let t = ap (λ x. x.cabinet) c.writer.view_is ∙ (c.requires.own ∙ sym (ap (λ w. w.id) c.self.view_is)) in
+    let words = ap (λ y. y.words) t in
+    let slots = ap (λ y. y.slots) t in
+    let a = suits.0 in
+    let b = suits.1 in
+    let d = inv.suits.0 in
+    let e = inv.suits.1 in
+    let many = inv.many in
+    let n : ℕ = c.self.inside.passes in
+    let all : n ≡ length (generations_seen v).passes = omega arith in
+    let w : View = c.sweep_all.new.seat.me.0 in
+    let s = c.sweep_all.ensures.swept in
+    let now = sweeping_current v w c.sweep_all.new.known.items n s in
+    let edition = arc_value c.next.inside.edition in
+    let x : Picked = picked forest places edition in
+    let cur : ℕ = c.writer.inside.current in
+    let number : num edition ≡ cur + 1 = ap (λ y. num y.edition) c.next.view_is
+    ∙ (c.requires.next ∙ (ap (λ y. number_seen y.seen + 1) (sym c.writer.view_is)
+    ∙ ap (λ (y : ℕ). y + 1) (sym (inv.is_current ∙ current_seen v.sizes v.seen inv.lawful)))) in
+    let copies = copies_of num forest places (cur + 1) edition c.next.inside.copies.items number c.next.invariant in
+    let u : View = c.place_all.new.seat.me.0 in
+    let p = c.place_all.ensures.placed x copies in
+    let long : n ≡ length (generations_seen w).passes = all ∙ sym now.1 in
+    let some = c.self.invariant.some in
+    let is_next : u.next ≡ x = p.is_next (omega arith) in
+    let done = writes_more v (sweeps_of 0 s.rs ++ places_of n) u events.Publish (carried_pick u.next) (cur + 1) c.publish.new.seat.me.0 refl
+    (writes_both v (sweeps_of 0 s.rs) w (places_of n) u s.writes p.writes) c.publish.ensures.adds in
+    let free = ap (λ l. get_or l q false) (sym (c.writer.invariant.is_out)) ∙ (ap (λ w. get_or w.out q false) c.writer.view_is ∙ out) in
+    done.home q free ∙ ap (λ w. own_entries (q + 1) w.seen) c.writer.view_is

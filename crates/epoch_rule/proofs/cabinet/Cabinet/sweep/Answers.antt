@@ -1,10 +1,11 @@
-use Rattle.std.proofs.Common.{arith, ◌≡◌, ℕ, length, map, sym, refl, ap, ◌∙◌}
+use Rattle.std.proofs.Common.{arith, ◌≡◌, ℕ, length, map, sym, refl, ap, ◌∙◌, ◌+◌, false, get_or}
 use Rattle.epoch_rule.specs.declared.views.Sizes.{Sizes}
 use Rattle.epoch_rule.specs.declared.views.View.{View}
 use Rattle.epoch_rule.specs.Rule.{generations_seen}
 use Rattle.epoch_rule.specs.Writing.{stored}
 use Rattle.mem_base.specs.machine.Generations.{least_lowest}
 use Rattle.epoch_rule.specs.Calls.{generations_in_seen, least_in, sweeps_of}
+use Rattle.mem_base.specs.machine.Actors.{own_entries}
 use Rattle.epoch_rule.proofs.SweepLaws.{sweeping_current}
 use Rattle.epoch_rule.proofs.LeastLaws.{swept_pass}
 use Rattle.epoch_rule.proofs.PublishLaws.{wrote_of, swept_writing, least_is}
@@ -126,3 +127,9 @@ overflow_cast-pass g c =
     let least = swept_pass v.sizes w.seen s.writes.lawful
     (omega arith) c.as_slice-known.result.now found c.least-lowest.result c.first_at.result low c.first_at.ensures in
     let inside = least.1 in let few = c.self.invariant.few in omega arith
+
+pub returns-clause-home : goal.returns-clause-home
+returns-clause-home g c q out =
+    let s = c.sweep_all.ensures.swept in
+    let free = ap (λ l. get_or l q false) (sym (c.writer.invariant.is_out)) ∙ (ap (λ w. get_or w.out q false) c.writer.view_is ∙ out) in
+    s.writes.home q free ∙ ap (λ w. own_entries (q + 1) w.seen) c.writer.view_is

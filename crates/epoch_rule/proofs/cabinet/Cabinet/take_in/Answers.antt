@@ -1,4 +1,4 @@
-use Rattle.std.proofs.Common.{arith, ◌≡◌, ℕ, ◌-◌, length-set, sym, ap, ◌∙◌, subst, append-nil, false}
+use Rattle.std.proofs.Common.{arith, ◌≡◌, ℕ, ◌+◌, ◌-◌, get_or, set, length-set, sym, ap, ◌∙◌, subst, append-nil, false, Option}
 use Rattle.std.specs.Prelude.{slice_set}
 use Rattle.std.specs.Option.{unwrap_or}
 use Rattle.mem_base.specs.machine.Generations.{first_generations}
@@ -8,7 +8,7 @@ use Rattle.epoch_rule.specs.Rule.{IsLegal}
 use Rattle.epoch_rule.specs.Plays.{taken_in, IsSettled}
 use Rattle.epoch_rule.specs.Copies.{IsCopy}
 use Rattle.view_laws.proofs.Tests.{none_is_not_some}
-use Rattle.epoch_rule.proofs.SeatSteps.{less_one_more, takes_in, settle}
+use Rattle.epoch_rule.proofs.SeatSteps.{less_one_more, set_false, set_free, takes_in, settle}
 use Rattle.epoch_rule.proofs.PassLaws.{stands_out}
 use Rattle.epoch_rule.proofs.PublishLaws.{writing_seat}
 use Rattle.epoch_rule.proofs.cabinet.Cabinet.take_in.Goals as goal
@@ -111,3 +111,31 @@ returns-clause-same g c =
     let h : IsSettled 0 met c.load.new.seat.me.0 = subst (λ m. IsSettled 0 m.0 c.load.new.seat.me.0) j.2
     (c.load.ensures.2.1 0 (ap (λ m. m.0.role) j.2 ∙ inv.role)) in
     rw (sym c.writer.view_is) (c.load.ensures.0 ∙ j.0, ap (λ w. w.sizes) h.same)
+
+pub returns-clause-brought : goal.returns-clause-brought
+returns-clause-brought g c =
+    let inv = c.writer.invariant in let theirs = c.pass.invariant in let p : ℕ = c.pass.inside.number in
+    let j = c.join_seat.ensures in
+    let v : View = c.writer.inside.seat.me.0 in
+    let met : View = taken_in v c.pass.inside.seat.me.0 in
+    let h : IsSettled 0 met c.load.new.seat.me.0 = subst (λ m. IsSettled 0 m.0 c.load.new.seat.me.0) j.2
+    (c.load.ensures.2.1 0 (ap (λ m. m.0.role) j.2 ∙ inv.role)) in
+    let came : met.came ≡ p + 1 = ap (λ (r : Option ℕ). unwrap_or r 0) theirs.0 in
+    let index : p ≡ unwrap_or c.pass.inside.seat.me.0.role 0 - 1 = omega arith in
+    let free : get_or met.out p false ≡ false = subst (λ (i : ℕ). get_or (set v.out i false) p false ≡ false) index (set_false v.out p) in
+    rw (sym c.pass.view_is) (ap (λ w. own_entries (p + 1) w.seen) h.same ∙ sym (h.brought inv.role p free came))
+
+pub returns-clause-others : goal.returns-clause-others
+returns-clause-others g c q ne out =
+    let inv = c.writer.invariant in let theirs = c.pass.invariant in let p : ℕ = c.pass.inside.number in
+    let j = c.join_seat.ensures in
+    let v : View = c.writer.inside.seat.me.0 in
+    let met : View = taken_in v c.pass.inside.seat.me.0 in
+    let h : IsSettled 0 met c.load.new.seat.me.0 = subst (λ m. IsSettled 0 m.0 c.load.new.seat.me.0) j.2
+    (c.load.ensures.2.1 0 (ap (λ m. m.0.role) j.2 ∙ inv.role)) in
+    let came : met.came ≡ p + 1 = ap (λ (r : Option ℕ). unwrap_or r 0) theirs.0 in
+    let number : p ≡ c.args.pass.number = ap (λ w. w.number) c.pass.view_is in
+    let before : get_or v.out q false ≡ false = ap (λ l. get_or l q false) (sym inv.is_out) ∙ (ap (λ w. get_or w.out q false) c.writer.view_is ∙ out) in
+    let free : get_or met.out q false ≡ false = set_free v.out (unwrap_or c.pass.inside.seat.me.0.role 0 - 1) q false (λ e. ne (omega arith)) ∙ before in
+    ap (λ w. own_entries (q + 1) w.seen) h.same
+    ∙ (sym (h.stay inv.role q free (λ e. ne (omega arith))) ∙ ap (λ w. own_entries (q + 1) w.seen) c.writer.view_is)

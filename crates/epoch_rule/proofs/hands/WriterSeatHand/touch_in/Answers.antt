@@ -1,8 +1,8 @@
-use Rattle.std.proofs.Common.{arith, sym, refl, ap, ◌∙◌, subst}
+use Rattle.std.proofs.Common.{arith, sym, refl, ap, ◌∙◌, subst, false, get_or}
 use Rattle.mem_base.specs.declared.machine.events.Hand.TheVariants.{Writer}
 use Rattle.epoch_rule.specs.declared.views.Sizes.{Sizes}
 use Rattle.epoch_rule.specs.Shown.{WriterMay}
-use Rattle.epoch_rule.proofs.TouchLaws.{ready_writer, kept, generations_kept, shown, writing_kept}
+use Rattle.epoch_rule.proofs.TouchLaws.{ready_writer, kept, generations_kept, shown, writing_kept, home_kept}
 use Rattle.epoch_rule.proofs.hands.WriterSeatHand.touch_in.Goals as goal
 
 pub touch_word-requires-clause-ready : goal.touch_word-requires-clause-ready
@@ -54,4 +54,6 @@ pub returns-clause-stays : goal.returns-clause-stays
 returns-clause-stays g c =
     let k = kept Writer c.args.place.now c.args.word c.args.touch c.self.inside.seat.me.0 c.touch_word.result c.touch_word.new.seat.me.0 c.requires.kind
     c.touch_word.ensures.told in
-    rw (sym c.self.view_is) (c.touch_word.ensures.table, k.sizes, refl)
+    let home = home_kept c.args.place.now c.args.word c.args.touch c.self.inside.seat.me.0 c.touch_word.result c.touch_word.new.seat.me.0 c.requires.kind
+    c.touch_word.ensures.told in
+    rw (sym c.self.view_is) (c.touch_word.ensures.table, k.sizes, refl, λ q l. home q (ap (λ o. get_or o q false) (sym c.self.invariant.is_out) ∙ l))
