@@ -101,7 +101,7 @@ fn round(rt: HostRuntime, map: &Map, views: u32) -> Result<(Facts, Times), Faile
     let start = Instant::now(&rt)?;
     let found = look_up(&tree);
     let finds = nanos(start.elapsed(&rt)?);
-    let (ranges, view) = view(rt, &tree, views)?;
+    let (ranges, view) = renderings(rt, &tree, views)?;
     let facts = Facts {
         refused,
         ranges,
@@ -117,7 +117,7 @@ fn round(rt: HostRuntime, map: &Map, views: u32) -> Result<(Facts, Times), Faile
 }
 
 /// How many ranges the view of space 0 has, and the least time that some renderings of it took.
-fn view(rt: HostRuntime, tree: &Tree, views: u32) -> Result<(u64, u64), Failed> {
+fn renderings(rt: HostRuntime, tree: &Tree, views: u32) -> Result<(u64, u64), Failed> {
     let mut count = 0;
     let mut least = u64::MAX;
     for _ in 0..views {
