@@ -43,7 +43,8 @@ Takes-Stays written holds a b c x p q = record {
 -- the rest of a piece, cut at n
 pub pieces_regroup : (piece front rest back : List ℕ) (n : ℕ) → piece ≡ front ++ rest → back ≡ drop n rest → piece ≡ (front ++ take n rest) ++ back
 pieces_regroup piece front rest back n e b =
-    e ∙ ap (λ v. front ++ v) (sym (take-append-drop n rest)) ∙ sym (append_assoc front (take n rest) (drop n rest)) ∙ ap (λ v. (front ++ take n rest) ++ v) (sym b)
+    e ∙ ap (λ v. front ++ v) (sym (take-append-drop n rest)) ∙ sym (append_assoc front (take n rest) (drop n rest))
+    ∙ ap (λ v. (front ++ take n rest) ++ v) (sym b)
 
 -- nothing is a prefix of each text
 pub TakesPrefix-nil : {K : Type 0} (written : K → Option (List ℕ)) (holds : K → List ℕ → Type 0) (s : K) (text : List ℕ) → TakesPrefix written holds s s text

@@ -38,7 +38,8 @@ container_place slots q None h = missing_container slots q h
 container_place slots q (Some i) h = (
   h.0,
   λ d.
-      let same : (get_or slots i d).node.id.0 ≡ q.0 = ap (λ (r : RegionId). r.0) (id_of (nodes_of slots) q (get_or slots i d).node (h.1 d)) in grind (arith, nat_tests),
+      let same : (get_or slots i d).node.id.0 ≡ q.0 = ap (λ (r : RegionId). r.0) (id_of (nodes_of slots) q (get_or slots i d).node (h.1 d)) in
+      grind (arith, nat_tests),
 )
 
 -- the call gives this size
@@ -86,7 +87,8 @@ module _ (r : RegionId) (last : ℕ) (xs cs : List Child) (i : ℕ) (d : Child) 
       changed_before (one_resized r last) (i + 1) cs
   resized_next e =
       let t : eqb at_place.id.0 r.0 ≡ true = grind (arith, nat_tests) in
-      ap (λ b. set xs i (cond b (let c : Child = record { id = at_place.id; offset = at_place.offset; last = last; priority = at_place.priority } in c) at_place))
+      ap (λ b. set xs i (cond b
+      (let c : Child = record { id = at_place.id; offset = at_place.offset; last = last; priority = at_place.priority } in c) at_place))
       (sym t)
       ∙ ap (λ l. set l i (one_resized r last (get_or l i d))) so_far
       ∙ changed_next (one_resized r last) i cs d within

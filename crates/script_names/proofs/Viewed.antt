@@ -47,7 +47,8 @@ pub rebinds : (old new : List (Vec ℕ × ℕ)) (name : List ℕ) → KeepsOther
 rebinds old new name h gone other =
     let before : Option ℕ = number_of (map seen old) other in
     sym (number_of-view new other) ∙ ⊎_elim
-    (λ y. subst (λ q. lookup (λ k. bytes_eq q k.items) new ≡ None) ((bytes_eq-Decides name other).0 y) gone ∙ sym (cond-true (bytes_eq name other) None before y))
+    (λ y. subst (λ q. lookup (λ k. bytes_eq q k.items) new ≡ None) ((bytes_eq-Decides name other).0 y) gone
+    ∙ sym (cond-true (bytes_eq name other) None before y))
     (λ n. others old new name h (λ k. bytes_eq other k.items) (λ x y. nat_list_eq_equiv.congr other x.items y.items) (λ k. apart name other k.items n)
     ∙ number_of-view old other ∙ sym (cond-false (bytes_eq name other) None before n))
     (cases_Bool (bytes_eq name other))

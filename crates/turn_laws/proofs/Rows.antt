@@ -118,7 +118,8 @@ pub published_desk : (vs : List PassId) (h : Writer) (ns : List ℕ) → (writer
 published_desk [] h ns = refl
 published_desk (v ∷ vs) h ns = published_desk vs (writer_after h (events.Place v) (carried_by h.desk (events.Place v)) (first_or_zero ns)) (drop 1 ns)
 
-pub published_passes : (vs : List PassId) (h : Writer) (ns : List ℕ) → length (writer_played h (publishes_of vs) ns).generations.passes ≡ length h.generations.passes
+pub published_passes : (vs : List PassId) (h : Writer) (ns : List ℕ)
+    → length (writer_played h (publishes_of vs) ns).generations.passes ≡ length h.generations.passes
 published_passes [] h ns = length_map _ h.generations.passes
 published_passes (v ∷ vs) h ns = published_passes vs (writer_after h (events.Place v) (carried_by h.desk (events.Place v)) (first_or_zero ns))
     (drop 1 ns) ∙ length-set h.generations.passes v.0 _
@@ -141,7 +142,8 @@ filled_one h c n = writer_after h (events.Fill c) (carried_by h.desk (events.Fil
 left_to_fill : (h : Writer) (c : Cell) (cs : List Cell) (n : ℕ) → h.desk.unfilled ≡ c ∷ cs → Distinct (c ∷ cs) → (filled_one h c n).desk.unfilled ≡ cs
 left_to_fill h c cs n e d = ap (λ (xs : List Cell). filter (λ x. not (is_same_cell c x)) xs) e ∙ one_less c cs d.0
 
-pub filled_desk : (cs : List Cell) (h : Writer) (ns : List ℕ) → h.desk.unfilled ≡ cs → Distinct cs → (writer_played h (fills_of cs) ns).desk ≡ with_unfilled [] h.desk
+pub filled_desk : (cs : List Cell) (h : Writer) (ns : List ℕ) → h.desk.unfilled ≡ cs → Distinct cs
+    → (writer_played h (fills_of cs) ns).desk ≡ with_unfilled [] h.desk
 filled_desk [] h ns e d = λ i. with_unfilled (e i) h.desk
 filled_desk (c ∷ cs) h ns e d = filled_desk cs (filled_one h c (first_or_zero ns)) (drop 1 ns) (left_to_fill h c cs (first_or_zero ns) e d) d.1
 

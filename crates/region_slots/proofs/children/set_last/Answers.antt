@@ -15,7 +15,8 @@ loop-child-preserved c =
     let xs = c.loop-child.placed in
     elim c.if-child-id.branch [
       | then-child-id w ↦
-          w.placed-is ∙ resized_next c.args.id c.args.last xs cs c.loop-child.child-index no_child c.loop-child.invariant c.loop-child-test.true w.if-child-id.true
+          w.placed-is
+          ∙ resized_next c.args.id c.args.last xs cs c.loop-child.child-index no_child c.loop-child.invariant c.loop-child-test.true w.if-child-id.true
       | else-child-id w ↦
           w.placed-is ∙ set-get_or xs c.loop-child.child-index no_child
           ∙ kept_next c.args.id c.args.last xs cs c.loop-child.child-index no_child c.loop-child.invariant c.loop-child-test.true w.if-child-id.false
