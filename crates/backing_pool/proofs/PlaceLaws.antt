@@ -1,5 +1,7 @@
 -- Laws of places: which words are free, and what a place more or less changes.
-use Rattle.std.proofs.Common.{◌≡◌, ◌≢◌, ◌⊎◌, inl, inr, ℕ, zero, suc, ◌<◌, ◌≤◌, Bool, true, false, not, ◌==◌, ◌&&◌, ◌||◌, nat_le, nat_lt, ne_eqb, eq-eqb, List, [], ◌∷◌, ◌++◌, length, get_or, drop, filter, Some, None, sym, refl, ap, subst, ◌∙◌, arith, if◌then◌else◌, true≢false}
+use Rattle.std.proofs.Common.{◌≡◌, ◌≢◌, ◌⊎◌, inl, inr, ℕ, zero, suc, ◌<◌, ◌≤◌, Bool, true, false, not, ◌==◌, ◌&&◌, ◌||◌, nat_le, nat_lt}
+use Rattle.std.proofs.Common.{ne_eqb, eq-eqb, List, [], ◌∷◌, ◌++◌, length, get_or, drop, filter, Some, None, sym, refl, ap, subst, ◌∙◌}
+use Rattle.std.proofs.Common.{arith, if◌then◌else◌, true≢false}
 use Rattle.std.specs.Prelude.{remove}
 use Rattle.std.specs.List.{list_any, slice_get}
 use Rattle.std.proofs.lemmas.Bool.{cases_lt, eqb-true, eqb-false}

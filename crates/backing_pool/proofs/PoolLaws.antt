@@ -1,5 +1,7 @@
 -- Laws of a pool after a place was taken or given back.
-use Rattle.std.proofs.Common.{◌≡◌, ℕ, zero, suc, ◌+◌, ◌%◌, ◌<◌, ◌≤◌, ◌^◌, Bool, true, false, not, ◌==◌, nat_le, List, [], ◌∷◌, ◌++◌, length, get_or, take, drop, map, find, Option, Some, None, option_map, Result, Ok, Err, sym, refl, ap, subst, ◌∙◌, arith, if◌then◌else◌}
+use Rattle.std.proofs.Common.{◌≡◌, ℕ, zero, suc, ◌+◌, ◌%◌, ◌<◌, ◌≤◌, ◌^◌, Bool, true, false, not, ◌==◌, nat_le, List, [], ◌∷◌, ◌++◌, length}
+use Rattle.std.proofs.Common.{get_or, take, drop, map, find, Option, Some, None, option_map, Result, Ok, Err, sym, refl, ap, subst, ◌∙◌}
+use Rattle.std.proofs.Common.{arith, if◌then◌else◌}
 use Rattle.std.specs.Prelude.{remove}
 use Rattle.std.specs.List.{slice_get}
 use Rattle.std.proofs.lemmas.List.{append_assoc}
@@ -21,7 +23,8 @@ use Rattle.backing_pool.specs.Holes.{hole_of, end_of, AreHoles, IsGiven, cut}
 use Rattle.backing_pool.specs.Backing.{Backing, IsBacked, AreBacked}
 use Rattle.backing_pool.proofs.HoleLaws.{cut_in, put_in, holes_end}
 use Rattle.backing_pool.proofs.RunLaws.{holes_of}
-use Rattle.backing_pool.proofs.PlaceLaws.{found_region, removed_at, without, was_taken, given_inside, given_below, given_above, found_backed, pair_filter, pair_push, new_apart, taken_below, taken_inside, taken_above}
+use Rattle.backing_pool.proofs.PlaceLaws.{found_region, removed_at, without, was_taken, given_inside, given_below, given_above}
+use Rattle.backing_pool.proofs.PlaceLaws.{found_backed, pair_filter, pair_push, new_apart, taken_below, taken_inside, taken_above}
 
 abbrev pub backing : ℕ → List Place → Backing
 backing pool_words places = record { pool_words = pool_words; places = places }

@@ -1,5 +1,6 @@
 -- The generations of the tests are editions.
-use Rattle.std.proofs.Common.{◌≡◌, ◌⊎◌, ℕ, zero, suc, ◌+◌, ◌<◌, true, false, Bool, ne_eqb, List, [], ◌∷◌, length, Some, None, Option, refl, sym, ap, ◌∙◌, inl, arith}
+use Rattle.std.proofs.Common.{◌≡◌, ◌⊎◌, ℕ, zero, suc, ◌+◌, ◌<◌, true, false, Bool, ne_eqb, List, [], ◌∷◌, length, Some, None, Option, refl}
+use Rattle.std.proofs.Common.{sym, ap, ◌∙◌, inl, arith}
 use Rattle.std.specs.Prelude.{IsSomeAnd}
 use Rattle.std.specs.List.{list_any}
 use Rattle.mem_base.specs.declared.map.ids.RegionId.{RegionId}

@@ -1,5 +1,7 @@
 -- The kinds of step on the current number, the passes' words and the slots.
-use Rattle.std.proofs.Common.{◌≡◌, ◌≢◌, ℕ, zero, suc, ◌+◌, ◌*◌, ◌%◌, ◌<◌, ◌≤◌, true, false, List, [], ◌∷◌, ◌++◌, length, get_or, set, sym, refl, ap, ◌∙◌, subst, ⊎_elim, arith, length-set, length-append, get_or-set_other, get_or-set_same, Option, Some, None}
+use Rattle.std.proofs.Common.{◌≡◌, ◌≢◌, ℕ, zero, suc, ◌+◌, ◌*◌, ◌%◌, ◌<◌, ◌≤◌, true, false, List, [], ◌∷◌, ◌++◌, length, get_or, set, sym}
+use Rattle.std.proofs.Common.{refl, ap, ◌∙◌, subst, ⊎_elim, arith, length-set, length-append, get_or-set_other, get_or-set_same, Option}
+use Rattle.std.proofs.Common.{Some, None}
 use Rattle.std.specs.Prelude.{is_some, is_none, not}
 use Rattle.std.proofs.lemmas.Bool.{lt-ltb, le-leb}
 use mathlib.Core.Logic.{dite}
@@ -27,7 +29,8 @@ use Rattle.epoch_rule.specs.declared.views.View.{View}
 use Rattle.mem_base.specs.machine.Passes.{pass_id}
 use Rattle.mem_base.specs.machine.Turns.{history_entry}
 use Rattle.mem_base.specs.machine.Actors.{generations_published, published_from, published_with, generation_published, first_generation}
-use Rattle.epoch_rule.specs.Rule.{state_of, IsLegal, generation_of_pick, carried_pick, pass_seen, generations_seen, WordsShow, PlacesFit, PassSlots, SlotsOfPass, AllSlots, SeatKnows, IsRuled, ComesNext}
+use Rattle.epoch_rule.specs.Rule.{state_of, IsLegal, generation_of_pick, carried_pick, pass_seen, generations_seen, WordsShow, PlacesFit}
+use Rattle.epoch_rule.specs.Rule.{PassSlots, SlotsOfPass, AllSlots, SeatKnows, IsRuled, ComesNext}
 use Rattle.epoch_rule.specs.Plays.{looks, announces, enters, leaves, sweeps, reaches, places, publishes}
 use Rattle.std.specs.Arc.{arc_value}
 use Rattle.std.specs.Option.{unwrap_or}

@@ -1,5 +1,6 @@
 -- What a step that makes an entry owes, and what a seat knows before it.
-use Rattle.std.proofs.Common.{◌≡◌, ◌≢◌, ℕ, ◌+◌, ◌*◌, ◌<◌, Bool, true, false, List, [], ◌∷◌, ◌++◌, length, get_or, set, sym, refl, ap, ◌∙◌, subst, ⊎_elim, arith, length-set, get_or-set_other, get_or-set_same, append-nil, Some}
+use Rattle.std.proofs.Common.{◌≡◌, ◌≢◌, ℕ, ◌+◌, ◌*◌, ◌<◌, Bool, true, false, List, [], ◌∷◌, ◌++◌, length, get_or, set, sym, refl, ap, ◌∙◌}
+use Rattle.std.proofs.Common.{subst, ⊎_elim, arith, length-set, get_or-set_other, get_or-set_same, append-nil, Some}
 use Rattle.std.proofs.lemmas.List.{append_cancel_left}
 use Rattle.std.proofs.lemmas.Bool.{both_ways}
 use mathlib.Core.Logic.{dite}
@@ -24,7 +25,8 @@ use Rattle.mem_base.specs.machine.Passes.{pass_id}
 use Rattle.mem_base.specs.machine.Turns.{history_entry}
 use Rattle.mem_base.specs.machine.Actors.{actor_of, own_entries, pass_after_all, generations_after_all, generations_published, published_with, first_generation}
 use Rattle.history_laws.specs.Numbers.{HasSoundNumbers}
-use Rattle.epoch_rule.specs.Rule.{state_of, IsLegal, generation_of_pick, pass_seen, generations_seen, WordsShow, PlacesFit, PassSlots, SlotsOfPass, AllSlots, SeatKnows, IsRuled, ComesNext}
+use Rattle.epoch_rule.specs.Rule.{state_of, IsLegal, generation_of_pick, pass_seen, generations_seen, WordsShow, PlacesFit, PassSlots}
+use Rattle.epoch_rule.specs.Rule.{SlotsOfPass, AllSlots, SeatKnows, IsRuled, ComesNext}
 use Rattle.view_laws.proofs.Tests.{same_number}
 use Rattle.epoch_rule.proofs.HistoryLaws.{after_append, published_append, legal_snoc, own_append, own_other, pass_owns, generations_own}
 use Rattle.history_laws.proofs.NumberLaws.{sound}

@@ -1,5 +1,6 @@
 -- What a seat's own entries make of its view.
-use Rattle.std.proofs.Common.{◌≡◌, ℕ, ◌+◌, ◌*◌, ◌%◌, ◌<◌, Bool, true, false, List, [], ◌∷◌, ◌++◌, length, sym, refl, ap, ◌∙◌, subst, arith, eq-eqb, if◌then◌else◌, append_assoc, append-nil, Option, Some, None}
+use Rattle.std.proofs.Common.{◌≡◌, ℕ, ◌+◌, ◌*◌, ◌%◌, ◌<◌, Bool, true, false, List, [], ◌∷◌, ◌++◌, length, sym, refl, ap, ◌∙◌, subst, arith}
+use Rattle.std.proofs.Common.{eq-eqb, if◌then◌else◌, append_assoc, append-nil, Option, Some, None}
 use mathlib.Core.List.{IsPrefix}
 use base.Growing.{prefix_trans}
 use Rattle.std.specs.Arc.{arc_value}
@@ -21,7 +22,8 @@ use Rattle.epoch_rule.specs.declared.views.Sizes.{Sizes}
 use Rattle.epoch_rule.specs.declared.views.View.{View}
 use Rattle.mem_base.specs.machine.Passes.{pass_id}
 use Rattle.mem_base.specs.machine.Turns.{history_entry}
-use Rattle.mem_base.specs.machine.Actors.{actor_of, own_entries, pass_after_all, generations_after_all, generations_published, generation_published, first_generation}
+use Rattle.mem_base.specs.machine.Actors.{actor_of, own_entries, pass_after_all, generations_after_all, generations_published}
+use Rattle.mem_base.specs.machine.Actors.{generation_published, first_generation}
 use Rattle.epoch_rule.specs.Rule.{state_of, IsLegal, pass_seen, generations_seen, PlacesFit, ComesNext}
 use Rattle.epoch_rule.specs.Copies.{Suits, shown_by, IsCopy, IsEnteredIn, HasItsEdition, value_in}
 use Rattle.epoch_rule.proofs.HistoryLaws.{own_append, pass_by_append, generations_by_append, published_append, legal_start, last_reply}

@@ -1,5 +1,6 @@
 -- The writer's seat after its calls.
-use Rattle.std.proofs.Common.{◌≡◌, ℕ, zero, suc, ◌+◌, ◌-◌, ◌≤◌, min, Bool, true, false, List, [], ◌∷◌, ◌++◌, length, map, drop, sym, refl, ap, ◌∙◌, subst, arith, append_assoc, Option, Some, None, if◌then◌else◌, get_or}
+use Rattle.std.proofs.Common.{◌≡◌, ℕ, zero, suc, ◌+◌, ◌-◌, ◌≤◌, min, Bool, true, false, List, [], ◌∷◌, ◌++◌, length, map, drop, sym, refl}
+use Rattle.std.proofs.Common.{ap, ◌∙◌, subst, arith, append_assoc, Option, Some, None, if◌then◌else◌, get_or}
 use Rattle.std.specs.Prelude.{option_map, nat_le}
 use Rattle.std.specs.Arc.{arc_value}
 use Rattle.std.specs.declared.sync.Arc.{Arc}
@@ -30,7 +31,8 @@ use Rattle.epoch_rule.specs.Writing.{IsWriting, stored}
 use Rattle.epoch_rule.specs.Calls.{sweeps_of, HasWritten, HasSwept, HasPlaced, AreCopies, held_in, least_in, refusal_of}
 use Rattle.history_laws.proofs.NumberLaws.{none_placed}
 use Rattle.epoch_rule.proofs.PassLaws.{generations_added, suits_on}
-use Rattle.epoch_rule.proofs.SweepLaws.{found_pin, sweeping_current, all_free, placing_generations, places_current, places_done, places_stored, unplaced_stored, all_from, writes_generations}
+use Rattle.epoch_rule.proofs.SweepLaws.{found_pin, sweeping_current, all_free, placing_generations, places_current, places_done}
+use Rattle.epoch_rule.proofs.SweepLaws.{places_stored, unplaced_stored, all_from, writes_generations}
 
 pub wrote_of : (v : View) (es : List HistoryEntry) (w : View) → HasWritten v es w → EndsWith es w.seen → Wrote hands.Writer v.sizes v.seen es w.seen
 wrote_of v es w h ends = record { begins = h.begins; lawful = h.lawful; events = h.events; ends = ends }

@@ -1,5 +1,7 @@
 -- A call that makes an event for each pass, step by step.
-use Rattle.std.proofs.Common.{◌≡◌, ℕ, zero, suc, ◌+◌, ◌-◌, ◌<◌, ◌≤◌, max, ne_eqb, Bool, true, false, List, [], ◌∷◌, ◌++◌, length, map, get_or, set, sym, refl, ap, ◌∙◌, subst, arith, length-set, length-append, append_assoc, append-nil, Option, Some, None, if◌then◌else◌}
+use Rattle.std.proofs.Common.{◌≡◌, ℕ, zero, suc, ◌+◌, ◌-◌, ◌<◌, ◌≤◌, max, ne_eqb, Bool, true, false, List, [], ◌∷◌, ◌++◌, length, map}
+use Rattle.std.proofs.Common.{get_or, set, sym, refl, ap, ◌∙◌, subst, arith, length-set, length-append, append_assoc, append-nil, Option}
+use Rattle.std.proofs.Common.{Some, None, if◌then◌else◌}
 use Rattle.std.proofs.Common.{get_or-set_other, get_or-set_same}
 use Rattle.std.proofs.lemmas.Bool.{leb-false, both_ways}
 use Rattle.std.specs.Option.{option_to_list}
@@ -16,7 +18,8 @@ use Rattle.mem_base.specs.declared.machine.events.Event.TheVariants as events
 use Rattle.mem_base.specs.declared.machine.events.Carried.{Carried}
 use Rattle.mem_base.specs.declared.machine.events.Carried.TheVariants.{Nothing}
 use Rattle.mem_base.specs.declared.machine.events.HistoryEntry.{HistoryEntry}
-use Rattle.mem_base.specs.machine.Generations.{Generations, PassTrack, nothing_known, known_of, known_after_sweep, pin_word, number_pinned, first_generations, with_known, with_placed, all_placed}
+use Rattle.mem_base.specs.machine.Generations.{Generations, PassTrack, nothing_known, known_of, known_after_sweep, pin_word, number_pinned}
+use Rattle.mem_base.specs.machine.Generations.{first_generations, with_known, with_placed, all_placed}
 use Rattle.epoch_rule.specs.declared.views.Sizes.{Sizes}
 use Rattle.epoch_rule.specs.declared.views.View.{View}
 use Rattle.epoch_rule.specs.declared.writers.Found.{Found}

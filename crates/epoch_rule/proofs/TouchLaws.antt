@@ -1,5 +1,6 @@
 -- What an actor may touch, and what its touch shows.
-use Rattle.std.proofs.Common.{◌≡◌, ◌⊎◌, ℕ, ◌+◌, ◌<◌, ◌≤◌, eqb, Bool, true, false, ◌&&◌, ◌||◌, List, [], ◌∷◌, length, map, sym, refl, ap, ◌∙◌, subst, ⊎_elim, inl, inr, append-nil, arith, Option, Some, None}
+use Rattle.std.proofs.Common.{◌≡◌, ◌⊎◌, ℕ, ◌+◌, ◌<◌, ◌≤◌, eqb, Bool, true, false, ◌&&◌, ◌||◌, List, [], ◌∷◌, length, map, sym, refl, ap}
+use Rattle.std.proofs.Common.{◌∙◌, subst, ⊎_elim, inl, inr, append-nil, arith, Option, Some, None}
 use Rattle.std.specs.Prelude.{MatchBool, nat_lt, IsSomeAnd}
 use Rattle.std.specs.List.{list_any}
 use Rattle.std.proofs.lemmas.Bool.{lt-ltb, ltb-true, le-leb, eqb-true, eq-eqb}
@@ -22,7 +23,8 @@ use Rattle.mem_base.specs.declared.machine.events.HistoryEntry.{HistoryEntry}
 use Rattle.mem_base.specs.lists.Every.{Every}
 use Rattle.mem_base.specs.access.EditionPlaces.{IsRegionPlace, IsNotifiersPlace, IsEdition}
 use Rattle.mem_base.specs.views.Naming.{names}
-use Rattle.mem_base.specs.access.Places.{extent, extent_of, words_of, place_from, past, pages_in, is_data_or_register, word_of_page, notifiers_place, is_notifiers}
+use Rattle.mem_base.specs.access.Places.{extent, extent_of, words_of, place_from, past, pages_in, is_data_or_register, word_of_page}
+use Rattle.mem_base.specs.access.Places.{notifiers_place, is_notifiers}
 use Rattle.mem_base.specs.access.Cells.{cell}
 use Rattle.mem_base.specs.machine.Passes.{PassState, idle, pass_of, pass_after}
 use Rattle.mem_base.specs.machine.Generations.{Generation, generation, Generations, known_of, entered_generation}

@@ -47,7 +47,8 @@ impl<E: Edition + Drop> Cabinet<E> {
         ensures events { (looked : ℕ) × Made pass.old (entries_of_enter (pass_id pass.old.number) looked result) pass.new }
         ensures current { result ≡ number_seen pass.new.seen }
         ensures newest { number_seen pass.old.seen ≤ result }
-        ensures edition { (e : E) × (pass.new.edition ≡ Some e) × (E.counted e ≡ result) × (shown_by E.forest E.places e ≡ generation_published pass.new.seen result) }
+        ensures edition { (e : E) × (pass.new.edition ≡ Some e) × (E.counted e ≡ result)
+            × (shown_by E.forest E.places e ≡ generation_published pass.new.seen result) }
     {
         let shared = &self.table.shared;
         let looked = shared.load::<Looks>(&mut pass.seat, 0);

@@ -57,7 +57,8 @@ impl<E: Edition + Drop> Cabinet<E> {
         ensures seen { IsPrefix pass.seen writer.new.seen }
         ensures wrote { Wrote Writer writer.old.sizes writer.old.seen [] writer.new.seen }
         ensures brought { own_entries (pass.number + 1) writer.new.seen ≡ own_entries (pass.number + 1) pass.seen }
-        ensures others { (q : ℕ) → q ≢ pass.number → slice_index_or writer.old.out q false ≡ false → own_entries (q + 1) writer.new.seen ≡ own_entries (q + 1) writer.old.seen }
+        ensures others { (q : ℕ) → q ≢ pass.number → slice_index_or writer.old.out q false ≡ false
+            → own_entries (q + 1) writer.new.seen ≡ own_entries (q + 1) writer.old.seen }
         ensures out { writer.new.out ≡ slice_set writer.old.out pass.number false }
         ensures same { (writer.new.cabinet ≡ writer.old.cabinet) × (writer.new.sizes ≡ writer.old.sizes) }
     {

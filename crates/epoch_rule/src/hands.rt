@@ -49,7 +49,8 @@ pub trait Hand<E: Edition + Drop> {
         ensures stays { stays self.old self.new };
 
     /// Where all but what was seen is as it was, it may do what it might.
-    ghost lasts: { (x y : Self) → stays x y → (made_by y ≡ made_by x) × (sizes y ≡ sizes x) × (actor y ≡ actor x) × ((p : Place) (word : ℕ) (t : Touch) → may x p word t → may y p word t) };
+    ghost lasts: { (x y : Self) → stays x y → (made_by y ≡ made_by x) × (sizes y ≡ sizes x) × (actor y ≡ actor x)
+        × ((p : Place) (word : ℕ) (t : Touch) → may x p word t → may y p word t) };
 
     /// What stays over two calls stays over both.
     ghost joins: { (x y z : Self) → stays x y → stays y z → stays x z };

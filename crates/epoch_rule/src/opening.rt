@@ -69,7 +69,8 @@ impl<E: Edition + Drop> Cabinet<E> {
     ) -> Result<(Cabinet<E>, WriterSeat<E>), AllocError>
         requires count { (0 < passes) × (passes ≤ 16) × (words ≤ 2 ^ 26 + 64) }
         requires first { (E.counted (arc_value first) ≡ 0) × (E.forest (arc_value first) ≡ empty) × (E.places (arc_value first) ≡ []) }
-        ensures { IfOk result (λ r. (r.1.cabinet ≡ r.0.id) × (r.0.sizes ≡ r.1.sizes) × (r.1.sizes.passes ≡ passes) × (r.1.sizes.words ≡ words) × (r.1.seen ≡ []) × (r.1.out ≡ replicate passes false)) }
+        ensures { IfOk result (λ r. (r.1.cabinet ≡ r.0.id) × (r.0.sizes ≡ r.1.sizes) × (r.1.sizes.passes ≡ passes)
+            × (r.1.sizes.words ≡ words) × (r.1.seen ≡ []) × (r.1.out ≡ replicate passes false)) }
     {
         let none = Found { word: 0, lowest: 0 };
         let known = filled(alloc, passes as usize, none)?;

@@ -76,7 +76,8 @@ impl<E: Edition, J: Plan> Play<Slot<E>, View> for Tries<J> {
     ghost use Rattle.epoch_rule.specs.Wrote.{WordWas};
     ghost use Rattle.epoch_rule.specs.Touches.{touched};
 
-    ghost then = { λ st m r w. MatchBool (r == st.first) (touched J.actor J.event J.place J.touch m r w) ((w ≡ m) × WordWas m.0.sizes m.0.seen J.touch.word r) };
+    ghost then = { λ st m r w. MatchBool (r == st.first) (touched J.actor J.event J.place J.touch m r w)
+        ((w ≡ m) × WordWas m.0.sizes m.0.seen J.touch.word r) };
 }
 
 /// A load that shows no event.
@@ -208,7 +209,8 @@ pub(crate) fn try_as<E: Edition + Drop, J: Plan>(
     requires index { index ≡ shared.now.key.passes + 1 + J.touch.word }
     requires step { new ≡ word_after J.touch.touch.step old }
     ensures table { seat.new.table_id ≡ seat.old.table_id }
-    ensures told { MatchBool (result == old) (touched J.actor J.event J.place J.touch seat.old.me result seat.new.me) ((seat.new.me ≡ seat.old.me) × WordWas seat.old.me.0.sizes seat.old.me.0.seen J.touch.word result) }
+    ensures told { MatchBool (result == old) (touched J.actor J.event J.place J.touch seat.old.me result seat.new.me)
+        ((seat.new.me ≡ seat.old.me) × WordWas seat.old.me.0.sizes seat.old.me.0.seen J.touch.word result) }
 {
     shared.compare_exchange::<Tries<J>>(seat, index, old, new)
 }

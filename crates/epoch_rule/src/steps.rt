@@ -45,8 +45,10 @@ pub(crate) fn place<E: Edition + Drop>(
     requires next { next ≡ (generations_seen seat.old.me.0).current + 1 }
     requires near { (generations_seen seat.old.me.0).current ≤ (known_of (generations_seen seat.old.me.0) (pass_id pass)).lowest + 6 }
     requires free { (known_of (generations_seen seat.old.me.0) (pass_id pass)).placed ≡ false }
-    requires copy { (E.counted (arc_value copy) ≡ next) × ((v : ℕ) → (known_of (generations_seen seat.old.me.0) (pass_id v)).placed ≡ true → seat.old.me.0.next ≡ picked E.forest E.places (arc_value copy)) }
-    ensures seat { (seat.new.table_id ≡ seat.old.table_id) × (seat.new.me.1 ≡ []) × (seat.new.me.0.held ≡ 0) × (seat.new.me.0.next ≡ picked E.forest E.places (arc_value copy)) }
+    requires copy { (E.counted (arc_value copy) ≡ next) × ((v : ℕ) → (known_of (generations_seen seat.old.me.0) (pass_id v)).placed ≡ true
+        → seat.old.me.0.next ≡ picked E.forest E.places (arc_value copy)) }
+    ensures seat { (seat.new.table_id ≡ seat.old.table_id) × (seat.new.me.1 ≡ []) × (seat.new.me.0.held ≡ 0)
+        × (seat.new.me.0.next ≡ picked E.forest E.places (arc_value copy)) }
     ensures adds { ComesNext 0 seat.old.me.0 (Place (pass_id pass)) Nothing 0 seat.new.me.0 }
 {
     shared.load::<Reaches>(seat, pass as usize + 1);

@@ -50,7 +50,8 @@ impl<E: Edition + Drop> Cabinet<E> {
     pub fn sweep(&self, writer: &mut WriterSeat<E>) -> Swept
         requires own { writer.old.cabinet ≡ self.now.id }
         ensures swept { (rs : List ℕ) × (length rs ≡ writer.old.sizes.passes) × Wrote Writer writer.old.sizes writer.old.seen (sweeps_of 0 rs) writer.new.seen }
-        ensures lowest { result.lowest ≡ least_lowest (generations_in_seen writer.old.sizes writer.new.seen).current (generations_in_seen writer.old.sizes writer.new.seen).passes }
+        ensures lowest { result.lowest ≡ least_lowest (generations_in_seen writer.old.sizes writer.new.seen).current
+            (generations_in_seen writer.old.sizes writer.new.seen).passes }
         ensures home { KeepsHome writer.old.out writer.old.seen writer.new.seen }
         ensures pass { IsLeastPassAt (generations_in_seen writer.old.sizes writer.new.seen) result.lowest result.pass }
         ensures same { (writer.new.cabinet ≡ writer.old.cabinet) × (writer.new.sizes ≡ writer.old.sizes) × (writer.new.out ≡ writer.old.out) }
@@ -84,7 +85,8 @@ impl<E: Edition + Drop> Cabinet<E> {
         requires small { E.counted next.edition + 1 < 2 ^ 64 }
         requires roomy { PlacesFit writer.old.sizes.words (shown_by E.forest E.places next.edition) }
         ensures done { MatchResult result
-            (λ number. (number ≡ E.counted next.edition) × Published writer.old.sizes writer.old.seen (EditionCarried (E.forest next.edition) (E.places next.edition)) number writer.new.seen)
+            (λ number. (number ≡ E.counted next.edition) × Published writer.old.sizes writer.old.seen
+                (EditionCarried (E.forest next.edition) (E.places next.edition)) number writer.new.seen)
             (λ h. (h.1 ≡ next) × HeldUp writer.old.sizes writer.old.seen h.0 writer.new.seen) }
         ensures home { KeepsHome writer.old.out writer.old.seen writer.new.seen }
         ensures current { MatchResult result (λ number. number_seen writer.new.seen ≡ number) (λ h. number_seen writer.new.seen ≡ number_seen writer.old.seen) }

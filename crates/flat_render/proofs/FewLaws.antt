@@ -1,5 +1,6 @@
 -- Laws of children that are rendered one after another, by halves, or not at all.
-use Rattle.std.proofs.Common.{◌≡◌, ℕ, zero, suc, ◌+◌, ◌-◌, ◌<◌, ◌≤◌, Bool, true, false, cond, List, [], ◌∷◌, length, get_or, take, drop, pos, None, Option, refl, sym, ap, subst, ◌∙◌, arith, add-one}
+use Rattle.std.proofs.Common.{◌≡◌, ℕ, zero, suc, ◌+◌, ◌-◌, ◌<◌, ◌≤◌, Bool, true, false, cond, List, [], ◌∷◌, length, get_or, take, drop}
+use Rattle.std.proofs.Common.{pos, None, Option, refl, sym, ap, subst, ◌∙◌, arith, add-one}
 use Rattle.std.specs.Prelude.{option_map}
 use Rattle.std.specs.Option.{option_or}
 use Rattle.mem_base.specs.declared.map.ids.RegionId.{RegionId}

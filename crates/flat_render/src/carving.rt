@@ -28,7 +28,8 @@ fn push_part<L: Ledger>(
     requires ranges { AreCuts 0 (min (last + 1) (max from cut.now.range.start)) new.old.items }
     ensures ranges { AreCuts 0 (min (last + 1) (max from (cut.now.range.last + 1))) new.new.items }
     ensures shown { OnOk result ((a : ℕ) → shown new.new.items a ≡ option_or (shown new.old.items a) (between (seen cut.now) from (last + 1) a)) }
-    ensures edges { (p : ℕ → Bool) → OnlyEdges p new.old.items → p cut.now.range.start ≡ true → p (cut.now.range.last + 1) ≡ true → (0 < from → p from ≡ true) → (last + 1 < 2 ^ 64 → p (last + 1) ≡ true) → OnlyEdges p new.new.items }
+    ensures edges { (p : ℕ → Bool) → OnlyEdges p new.old.items → p cut.now.range.start ≡ true → p (cut.now.range.last + 1) ≡ true
+        → (0 < from → p from ≡ true) → (last + 1 < 2 ^ 64 → p (last + 1) ≡ true) → OnlyEdges p new.new.items }
     ensures steps { steps.new + length new.old.items ≡ steps.old + length new.new.items }
 {
     let Some(part) = cut.part(from, last) else {
@@ -57,7 +58,8 @@ fn push_between<L: Ledger>(
     requires ascending { from ≤ last }
     ensures ranges { AreCuts 0 (last + 1) new.new.items }
     ensures shown { OnOk result ((a : ℕ) → shown new.new.items a ≡ option_or (shown new.old.items a) (between (shown back.now) from (last + 1) a)) }
-    ensures edges { (p : ℕ → Bool) → OnlyEdges p new.old.items → OnlyEdges p back.now → (0 < from → p from ≡ true) → (last + 1 < 2 ^ 64 → p (last + 1) ≡ true) → OnlyEdges p new.new.items }
+    ensures edges { (p : ℕ → Bool) → OnlyEdges p new.old.items → OnlyEdges p back.now → (0 < from → p from ≡ true)
+        → (last + 1 < 2 ^ 64 → p (last + 1) ≡ true) → OnlyEdges p new.new.items }
     ensures steps { steps.new + length new.old.items ≡ steps.old + length new.new.items }
     ensures at { IfOk result (λ next. next ≤ length back.now) }
     ensures left { IfOk result (λ next. (a : ℕ) → last < a → shown (drop next back.now) a ≡ shown back.now a) }
@@ -89,7 +91,8 @@ fn fill<L: Ledger>(
     requires ascending { from ≤ before }
     ensures ranges { AreCuts 0 before new.new.items }
     ensures shown { OnOk result ((a : ℕ) → shown new.new.items a ≡ option_or (shown new.old.items a) (between (shown back.now) from before a)) }
-    ensures edges { (p : ℕ → Bool) → OnlyEdges p new.old.items → OnlyEdges p back.now → (0 < from → p from ≡ true) → p before ≡ true → OnlyEdges p new.new.items }
+    ensures edges { (p : ℕ → Bool) → OnlyEdges p new.old.items → OnlyEdges p back.now → (0 < from → p from ≡ true) → p before ≡ true
+        → OnlyEdges p new.new.items }
     ensures steps { steps.new + length new.old.items ≡ steps.old + length new.new.items }
     ensures at { IfOk result (λ next. next ≤ length back.now) }
     ensures left { IfOk result (λ next. (a : ℕ) → before ≤ a → shown (drop next back.now) a ≡ shown back.now a) }

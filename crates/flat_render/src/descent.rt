@@ -50,7 +50,8 @@ pub(crate) fn render_from<L: Ledger>(
     requires ordered { window.old.first ≤ window.old.last }
     requires cuts { AreCuts 0 (2 ^ 64) cuts.old.items }
     ensures forest { IsOrderedForest tree.now }
-    ensures renders { OnOk result (Renders window.old (found_in tree.now depth region) (weight_by (steps_of tree.now.nodes) depth region) scratch.old.notes.items scratch.new.notes.items cuts.old.items cuts.new.items) }
+    ensures renders { OnOk result (Renders window.old (found_in tree.now depth region)
+        (weight_by (steps_of tree.now.nodes) depth region) scratch.old.notes.items scratch.new.notes.items cuts.old.items cuts.new.items) }
     ensures carves { Carves cuts.old.items (weight_by (steps_of tree.now.nodes) depth region) steps.old steps.new }
 {
     let Some(node) = tree.node(region) else {
@@ -76,7 +77,8 @@ fn render_at<L: Ledger>(
     requires sound { IsClosedForest tree.now }
     requires ordered { window.old.first ≤ window.old.last }
     requires cuts { AreCuts 0 (2 ^ 64) cuts.old.items }
-    ensures renders { OnOk result (Renders window.old (found_in tree.now depth node.now.id) (weight_by (steps_of tree.now.nodes) depth node.now.id) scratch.old.notes.items scratch.new.notes.items cuts.old.items cuts.new.items) }
+    ensures renders { OnOk result (Renders window.old (found_in tree.now depth node.now.id)
+        (weight_by (steps_of tree.now.nodes) depth node.now.id) scratch.old.notes.items scratch.new.notes.items cuts.old.items cuts.new.items) }
     ensures carves { Carves cuts.old.items (weight_by (steps_of tree.now.nodes) depth node.now.id) steps.old steps.new }
 {
     if depth == 0 {
@@ -111,7 +113,8 @@ fn render_inside<L: Ledger>(
     requires fits { window.old.at + (window.old.last - window.old.first) < 2 ^ 64 }
     requires ordered { window.old.first ≤ window.old.last }
     requires cuts { AreCuts 0 (2 ^ 64) cuts.old.items }
-    ensures renders { OnOk result (Renders window.old (inside tree.now (found_in tree.now depth) node.now.kind node.now) (weight_of_ids tree.now.nodes depth (steps_at tree.now.nodes node.now.kind node.now) + 1) scratch.old.notes.items scratch.new.notes.items cuts.old.items cuts.new.items) }
+    ensures renders { OnOk result (Renders window.old (inside tree.now (found_in tree.now depth) node.now.kind node.now)
+        (weight_of_ids tree.now.nodes depth (steps_at tree.now.nodes node.now.kind node.now) + 1) scratch.old.notes.items scratch.new.notes.items cuts.old.items cuts.new.items) }
     ensures carves { Carves cuts.old.items (weight_of_ids tree.now.nodes depth (steps_at tree.now.nodes node.now.kind node.now) + 1) steps.old steps.new }
 {
     if let Kind::Alias { target, offset } = node.kind {
@@ -143,7 +146,8 @@ fn render_target<L: Ledger>(
     requires sound { IsClosedForest tree.now }
     requires ordered { window.old.first ≤ window.old.last }
     requires cuts { AreCuts 0 (2 ^ 64) cuts.old.items }
-    ensures renders { OnOk result (Renders window.old (in_alias offset (found_in tree.now depth target)) (weight_by (steps_of tree.now.nodes) depth target) scratch.old.notes.items scratch.new.notes.items cuts.old.items cuts.new.items) }
+    ensures renders { OnOk result (Renders window.old (in_alias offset (found_in tree.now depth target))
+        (weight_by (steps_of tree.now.nodes) depth target) scratch.old.notes.items scratch.new.notes.items cuts.old.items cuts.new.items) }
     ensures carves { Carves cuts.old.items (weight_by (steps_of tree.now.nodes) depth target) steps.old steps.new }
 {
     let Some(node) = tree.node(target) else {
@@ -171,7 +175,8 @@ fn render_below<L: Ledger>(
     requires children { Every (IsChild tree.now.nodes) children.now }
     requires ordered { window.now.first ≤ window.now.last }
     requires cuts { AreCuts 0 (2 ^ 64) cuts.old.items }
-    ensures renders { OnOk result (Renders window.now (first_of_ids tree.now.nodes (found_in tree.now depth) (ids_in children.now)) (weight_of_ids tree.now.nodes depth (ids_in children.now)) scratch.old.notes.items scratch.new.notes.items cuts.old.items cuts.new.items) }
+    ensures renders { OnOk result (Renders window.now (first_of_ids tree.now.nodes (found_in tree.now depth) (ids_in children.now))
+        (weight_of_ids tree.now.nodes depth (ids_in children.now)) scratch.old.notes.items scratch.new.notes.items cuts.old.items cuts.new.items) }
     ensures carves { Carves cuts.old.items (weight_of_ids tree.now.nodes depth (ids_in children.now)) steps.old steps.new }
 {
     if children.is_empty() {
@@ -206,7 +211,8 @@ fn render_children<L: Ledger>(
     requires children { Every (IsChild tree.now.nodes) children.now }
     requires ordered { window.now.first ≤ window.now.last }
     requires cuts { AreCuts 0 (2 ^ 64) cuts.old.items }
-    ensures renders { OnOk result (Renders window.now (first_of_ids tree.now.nodes (found_in tree.now depth) (ids_in children.now)) (weight_of_ids tree.now.nodes depth (ids_in children.now)) scratch.old.notes.items scratch.new.notes.items cuts.old.items cuts.new.items) }
+    ensures renders { OnOk result (Renders window.now (first_of_ids tree.now.nodes (found_in tree.now depth) (ids_in children.now))
+        (weight_of_ids tree.now.nodes depth (ids_in children.now)) scratch.old.notes.items scratch.new.notes.items cuts.old.items cuts.new.items) }
     ensures carves { Carves cuts.old.items (weight_of_ids tree.now.nodes depth (ids_in children.now)) steps.old steps.new }
 {
     if children.len() <= FEW || ascend(children) {
@@ -256,7 +262,8 @@ fn render_forth<L: Ledger>(
     requires children { Every (IsChild tree.now.nodes) children.now }
     requires ordered { window.now.first ≤ window.now.last }
     requires cuts { AreCuts 0 (2 ^ 64) cuts.old.items }
-    ensures renders { OnOk result (Renders window.now (first_of_ids tree.now.nodes (found_in tree.now depth) (ids_in children.now)) (weight_of_ids tree.now.nodes depth (ids_in children.now)) scratch.old.notes.items scratch.new.notes.items cuts.old.items cuts.new.items) }
+    ensures renders { OnOk result (Renders window.now (first_of_ids tree.now.nodes (found_in tree.now depth) (ids_in children.now))
+        (weight_of_ids tree.now.nodes depth (ids_in children.now)) scratch.old.notes.items scratch.new.notes.items cuts.old.items cuts.new.items) }
     ensures carves { Carves cuts.old.items (weight_of_ids tree.now.nodes depth (ids_in children.now)) steps.old steps.new }
 {
     for child in children {
@@ -281,7 +288,8 @@ fn render_back<L: Ledger>(
     requires descending { IsDescending children.now }
     requires ordered { window.now.first ≤ window.now.last }
     requires cuts { AreCuts 0 (2 ^ 64) cuts.old.items }
-    ensures renders { OnOk result (Renders window.now (first_of_ids tree.now.nodes (found_in tree.now depth) (ids_in children.now)) (weight_of_ids tree.now.nodes depth (ids_in children.now)) scratch.old.notes.items scratch.new.notes.items cuts.old.items cuts.new.items) }
+    ensures renders { OnOk result (Renders window.now (first_of_ids tree.now.nodes (found_in tree.now depth) (ids_in children.now))
+        (weight_of_ids tree.now.nodes depth (ids_in children.now)) scratch.old.notes.items scratch.new.notes.items cuts.old.items cuts.new.items) }
     ensures carves { Carves cuts.old.items (weight_of_ids tree.now.nodes depth (ids_in children.now)) steps.old steps.new }
 {
     let mut left = children.len();
@@ -308,7 +316,8 @@ fn render_child<L: Ledger>(
     requires child { IsChild tree.now.nodes child.now }
     requires ordered { window.now.first ≤ window.now.last }
     requires cuts { AreCuts 0 (2 ^ 64) cuts.old.items }
-    ensures renders { OnOk result (Renders window.now (in_child (found_in tree.now depth) child.now.id (node_of tree.now.nodes child.now.id)) (weight_by (steps_of tree.now.nodes) depth child.now.id) scratch.old.notes.items scratch.new.notes.items cuts.old.items cuts.new.items) }
+    ensures renders { OnOk result (Renders window.now (in_child (found_in tree.now depth) child.now.id
+        (node_of tree.now.nodes child.now.id)) (weight_by (steps_of tree.now.nodes) depth child.now.id) scratch.old.notes.items scratch.new.notes.items cuts.old.items cuts.new.items) }
     ensures carves { Carves cuts.old.items (weight_by (steps_of tree.now.nodes) depth child.now.id) steps.old steps.new }
 {
     let Some(mut part) = window.on_child(child.offset) else {
@@ -330,7 +339,8 @@ fn own_cut(global: bool, node: &Node, window: &Window) -> Option<Cut>
     requires fits { window.now.at + (window.now.last - window.now.first) < 2 ^ 64 }
     requires ordered { window.now.first ≤ window.now.last }
     ensures some { IfSome result (λ c. (c.range.start ≤ c.range.last) × (c.range.offset + (c.range.last - c.range.start) < 2 ^ 64)) }
-    ensures shown { IfSome result (λ c. (notes : List Note) (path : List RegionId) (a : ℕ) → IsPath notes window.now.note path → Matches notes (seen c a) (through path window.now (itself global node.now.kind node.now) a)) }
+    ensures shown { IfSome result (λ c. (notes : List Note) (path : List RegionId) (a : ℕ) → IsPath notes window.now.note path
+        → Matches notes (seen c a) (through path window.now (itself global node.now.kind node.now) a)) }
     ensures none { IfNone result ((path : List RegionId) (a : ℕ) → through path window.now (itself global node.now.kind node.now) a ≡ None) }
 {
     let spot = node.own_spot(global, window.at)?;

@@ -56,7 +56,8 @@ pub fn render<L: Ledger>(
     ensures tells { IfOk result (λ pieces. Tells tree.now space pieces) }
     ensures agrees { IfOk result (λ pieces. Agrees tree.now space (ranges_of pieces)) }
     ensures counted { IfOk result (λ pieces. pieces ≢ [] → steps.old + 1 ≤ steps.new) }
-    ensures carves { (root : RegionId) → root_of tree.now space ≡ Some root → steps.new ≤ steps.old + weight_of tree.now.nodes root * weight_of tree.now.nodes root }
+    ensures carves { (root : RegionId) → root_of tree.now space ≡ Some root
+        → steps.new ≤ steps.old + weight_of tree.now.nodes root * weight_of tree.now.nodes root }
 {
     let Some(root) = tree.root(space) else {
         unreachable!();

@@ -64,7 +64,8 @@ impl Window {
     /// Passes a region, of which a note is taken: what is seen has the region's flags.
     #[inline(always)]
     pub(crate) fn pass(&mut self, node: &Node, note: usize)
-        ensures through { (path : List RegionId) (found : Offsets) (a : ℕ) → through (path ++ node.now.id ∷ []) self.new found a ≡ through path self.old (λ b. option_map (passed node.now) (found b)) a }
+        ensures through { (path : List RegionId) (found : Offsets) (a : ℕ)
+            → through (path ++ node.now.id ∷ []) self.new found a ≡ through path self.old (λ b. option_map (passed node.now) (found b)) a }
         ensures first { self.new.first ≡ self.old.first }
         ensures last { self.new.last ≡ self.old.last }
         ensures at { self.new.at ≡ self.old.at }
@@ -116,7 +117,8 @@ impl Window {
     #[inline(always)]
     pub(crate) fn follow(&mut self, offset: u64) -> bool
         ensures some { result ≡ true → Sees self.new self.old (in_alias offset) }
-        ensures none { result ≡ false → (path : List RegionId) (found : Offsets) (a : ℕ) → ((b : ℕ) → 2 ^ 64 ≤ b → found b ≡ None) → through path self.old (in_alias offset found) a ≡ None }
+        ensures none { result ≡ false → (path : List RegionId) (found : Offsets) (a : ℕ) → ((b : ℕ) → 2 ^ 64 ≤ b → found b ≡ None)
+            → through path self.old (in_alias offset found) a ≡ None }
         ensures first { self.new.first ≡ self.old.first }
         ensures last { self.new.last ≡ self.old.last }
         ensures note { self.new.note ≡ self.old.note }

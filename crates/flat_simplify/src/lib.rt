@@ -33,7 +33,8 @@ fn may_join(unmergeable: bool, paths: &Paths, i: usize) -> bool
 fn merges(range: &FlatRange, next: &FlatRange, paths: &Paths, i: usize) -> bool
     requires some { 0 < i }
     requires within { i < length paths.now }
-    ensures { (told : ℕ → List RegionId) → slice_get paths.now (i - 1) ≡ Some (told range.now.last) → slice_get paths.now i ≡ Some (told next.now.start) → IsTrue result ↔ Merges told range.now next.now }
+    ensures { (told : ℕ → List RegionId) → slice_get paths.now (i - 1) ≡ Some (told range.now.last)
+        → slice_get paths.now i ≡ Some (told next.now.start) → IsTrue result ↔ Merges told range.now next.now }
 {
     range.goes_on(next) && may_join(range.attrs.unmergeable, paths, i)
 }
@@ -92,7 +93,9 @@ pub fn simplify(pieces: Pieces) -> View
     ensures paths { Every (IsOnOnePath (path_told pieces)) result }
     ensures ranges { IsRanges 0 (2 ^ 64) result }
     ensures view { (f : Forest) (s : SpaceId) → Tells f s pieces → IsView f s result }
-    ensures only { (other : List FlatRange) → IsRanges 0 (2 ^ 64) other → IsMerged (path_told pieces) other → Every (IsOnOnePath (path_told pieces)) other → ((a : ℕ) → a < 2 ^ 64 → shown other a ≡ shown (ranges_of pieces) a) → other ≡ result }
+    ensures only { (other : List FlatRange) → IsRanges 0 (2 ^ 64) other → IsMerged (path_told pieces) other
+        → Every (IsOnOnePath (path_told pieces)) other → ((a : ℕ) → a < 2 ^ 64 → shown other a ≡ shown (ranges_of pieces) a)
+        → other ≡ result }
 {
     let (ranges, paths) = pieces.into_parts();
     View::new(merged(ranges, &paths))

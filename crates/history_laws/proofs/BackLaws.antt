@@ -1,5 +1,6 @@
 -- In every legal history the desk's places back its forest, and each generation shows just its own.
-use Rattle.std.proofs.Common.{◌≡◌, ◌⊎◌, ℕ, ◌+◌, ◌<◌, ◌≤◌, ne_eqb, eq-eqb, Bool, true, false, ◌&&◌, cond, List, [], ◌∷◌, ◌++◌, sym, refl, ap, ◌∙◌, subst, inl, inr, arith, if◌then◌else◌, Option, Some, None}
+use Rattle.std.proofs.Common.{◌≡◌, ◌⊎◌, ℕ, ◌+◌, ◌<◌, ◌≤◌, ne_eqb, eq-eqb, Bool, true, false, ◌&&◌, cond, List, [], ◌∷◌, ◌++◌, sym, refl, ap}
+use Rattle.std.proofs.Common.{◌∙◌, subst, inl, inr, arith, if◌then◌else◌, Option, Some, None}
 use Rattle.std.specs.Prelude.{◌==◌, ◌^◌, ◌-◌, not, filter, option_map, is_some, IsSome, Result, Ok, Err}
 use Rattle.std.proofs.lemmas.Bool.{eqb-true, eqb-false}
 use mathlib.Core.Logic.{dite}

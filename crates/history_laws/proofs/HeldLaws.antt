@@ -1,5 +1,6 @@
 -- At most eight generations are held, and each is kept.
-use Rattle.std.proofs.Common.{◌≡◌, ℕ, zero, suc, ◌+◌, ◌-◌, ◌<◌, ◌≤◌, min, Bool, true, false, ◌&&◌, ◌||◌, List, [], ◌∷◌, length, get_or, sym, refl, subst, arith, length-take, if◌then◌else◌, None}
+use Rattle.std.proofs.Common.{◌≡◌, ℕ, zero, suc, ◌+◌, ◌-◌, ◌<◌, ◌≤◌, min, Bool, true, false, ◌&&◌, ◌||◌, List, [], ◌∷◌, length, get_or, sym}
+use Rattle.std.proofs.Common.{refl, subst, arith, length-take, if◌then◌else◌, None}
 use Rattle.std.specs.Prelude.{slice_get, nat_le, ◌==◌, IsSome}
 use Rattle.std.specs.List.{list_any}
 use Rattle.std.proofs.lemmas.Bool.{leb-true, le-leb, eqb-true}

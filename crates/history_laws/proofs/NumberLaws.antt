@@ -1,5 +1,7 @@
 -- What holds after every legal history of the running machine.
-use Rattle.std.proofs.Common.{◌≡◌, ℕ, zero, suc, ◌+◌, ◌-◌, ◌<◌, ◌≤◌, max, ne_eqb, true, false, List, [], ◌∷◌, ◌++◌, length, get_or, set, sym, refl, ap, ◌∙◌, subst, arith, length-set, length-append, map, take, get_or-set_other, get_or-set_same, Option, Some, None}
+use Rattle.std.proofs.Common.{◌≡◌, ℕ, zero, suc, ◌+◌, ◌-◌, ◌<◌, ◌≤◌, max, ne_eqb, true, false, List, [], ◌∷◌, ◌++◌, length, get_or, set}
+use Rattle.std.proofs.Common.{sym, refl, ap, ◌∙◌, subst, arith, length-set, length-append, map, take, get_or-set_other, get_or-set_same}
+use Rattle.std.proofs.Common.{Option, Some, None}
 use Rattle.std.specs.Prelude.{is_some, slice_get}
 use Rattle.std.proofs.lemmas.Bool.{ltb-true, leb-true}
 use mathlib.Core.Logic.{dite}
@@ -11,8 +13,10 @@ use Rattle.mem_base.specs.declared.machine.events.Carried.{Carried}
 use Rattle.mem_base.specs.declared.machine.events.Carried.TheVariants.{Nothing, Edition, At}
 use Rattle.mem_base.specs.declared.machine.events.HistoryEntry.{HistoryEntry}
 use Rattle.mem_base.specs.machine.Passes.{PassState, idle, pass_id, pass_of, with_pass}
-use Rattle.mem_base.specs.machine.Generations.{Generation, generation, PassTrack, nothing_known, known_of, known_after_sweep, with_known, with_placed, pin_word, all_placed}
-use Rattle.mem_base.specs.machine.SharedHistory.{Shared, shared, PoolTouch, pool_after, pool_touch_of, shared_possible, shared_reply, after_shared_entry, after_shared_entries, shared_opening, IsSharedLegalFrom}
+use Rattle.mem_base.specs.machine.Generations.{Generation, generation, PassTrack, nothing_known, known_of, known_after_sweep, with_known}
+use Rattle.mem_base.specs.machine.Generations.{with_placed, pin_word, all_placed}
+use Rattle.mem_base.specs.machine.SharedHistory.{Shared, shared, PoolTouch, pool_after, pool_touch_of, shared_possible, shared_reply}
+use Rattle.mem_base.specs.machine.SharedHistory.{after_shared_entry, after_shared_entries, shared_opening, IsSharedLegalFrom}
 use Rattle.mem_base.specs.machine.Actors.{published_with, published_from, first_generation}
 use Rattle.mem_base.specs.machine.Turns.{history_entry}
 use Rattle.history_laws.specs.Numbers.{InNumbers, HasSoundNumbers, SharedHistoriesAreSound}

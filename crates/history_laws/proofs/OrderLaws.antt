@@ -1,5 +1,7 @@
 -- Four facts of every pass hold in every legal history, and each event keeps them.
-use Rattle.std.proofs.Common.{◌≡◌, ℕ, zero, suc, ◌+◌, ◌-◌, ◌<◌, ◌≤◌, max, min, ne_eqb, Bool, true, false, ◌&&◌, List, [], ◌∷◌, length, map, take, get_or, set, sym, refl, ap, ◌∙◌, subst, arith, length-set, length-take, get_or-set_other, get_or-set_same, if◌then◌else◌, Option, Some, None}
+use Rattle.std.proofs.Common.{◌≡◌, ℕ, zero, suc, ◌+◌, ◌-◌, ◌<◌, ◌≤◌, max, min, ne_eqb, Bool, true, false, ◌&&◌, List, [], ◌∷◌, length, map}
+use Rattle.std.proofs.Common.{take, get_or, set, sym, refl, ap, ◌∙◌, subst, arith, length-set, length-take, get_or-set_other}
+use Rattle.std.proofs.Common.{get_or-set_same, if◌then◌else◌, Option, Some, None}
 use Rattle.std.specs.Prelude.{is_some, not, nat_le, Ok, Err, Result, ◌==◌}
 use Rattle.std.specs.List.{list_all}
 use Rattle.std.proofs.lemmas.Bool.{ltb-true, leb-false}

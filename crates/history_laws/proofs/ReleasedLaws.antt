@@ -1,5 +1,7 @@
 -- A reap releases just the dropped regions that no held generation names.
-use Rattle.std.proofs.Common.{◌≡◌, ◌⊎◌, ℕ, zero, suc, ◌+◌, ◌-◌, ◌<◌, ◌≤◌, min, eq-eqb, Bool, true, false, ◌&&◌, ◌||◌, List, [], ◌∷◌, length, take, get_or, set, map, sym, refl, ap, ◌∙◌, subst, inl, inr, arith, length-set, get_or-set_other, get_or-set_same, Option, Some, None}
+use Rattle.std.proofs.Common.{◌≡◌, ◌⊎◌, ℕ, zero, suc, ◌+◌, ◌-◌, ◌<◌, ◌≤◌, min, eq-eqb, Bool, true, false, ◌&&◌, ◌||◌, List, [], ◌∷◌, length}
+use Rattle.std.proofs.Common.{take, get_or, set, map, sym, refl, ap, ◌∙◌, subst, inl, inr, arith, length-set, get_or-set_other}
+use Rattle.std.proofs.Common.{get_or-set_same, Option, Some, None}
 use Rattle.std.specs.Prelude.{slice_get, nat_le, not, ◌==◌, Contains, IsSomeAnd}
 use Rattle.std.specs.List.{list_any, range_with_len}
 use Rattle.std.proofs.lemmas.Bool.{leb-true, le-leb, leb-false, eqb-true}
@@ -13,7 +15,8 @@ use Rattle.mem_base.specs.declared.machine.events.Event.TheVariants as events
 use Rattle.mem_base.specs.lists.Every.{Every}
 use Rattle.mem_base.specs.views.Naming.{names}
 use Rattle.mem_base.specs.machine.Passes.{pass_of}
-use Rattle.mem_base.specs.machine.Generations.{Generation, Generations, PassTrack, nothing_known, known_of, known_after_sweep, lowest_after, pin_word, is_held, generation_of, least_lowest}
+use Rattle.mem_base.specs.machine.Generations.{Generation, Generations, PassTrack, nothing_known, known_of, known_after_sweep, lowest_after}
+use Rattle.mem_base.specs.machine.Generations.{pin_word, is_held, generation_of, least_lowest}
 use Rattle.mem_base.specs.machine.Publishing.{current_forest, forest_in}
 use Rattle.mem_base.specs.machine.Reaps.{Writer, is_named, is_among, released, reaped}
 use Rattle.mem_base.specs.machine.Orders.{sweeps}

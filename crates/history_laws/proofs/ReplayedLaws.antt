@@ -1,5 +1,6 @@
 -- The calls of each listener replay to what it is to have, in every legal history.
-use Rattle.std.proofs.Common.{◌≡◌, ℕ, ◌+◌, ◌-◌, ◌≤◌, ne_eqb, eq-eqb, drop, take, length, Bool, true, false, ◌&&◌, ◌||◌, List, [], ◌∷◌, ◌++◌, append_assoc, length-append, sym, refl, ap, ◌∙◌, subst, arith, if◌then◌else◌, Option, Some, None}
+use Rattle.std.proofs.Common.{◌≡◌, ℕ, ◌+◌, ◌-◌, ◌≤◌, ne_eqb, eq-eqb, drop, take, length, Bool, true, false, ◌&&◌, ◌||◌, List, [], ◌∷◌, ◌++◌}
+use Rattle.std.proofs.Common.{append_assoc, length-append, sym, refl, ap, ◌∙◌, subst, arith, if◌then◌else◌, Option, Some, None}
 use Rattle.std.specs.Prelude.{filter, find, not, nat_le, is_some, is_none, ◌==◌, Result, Ok, Err, option_map}
 use Rattle.std.specs.List.{list_any}
 use Rattle.std.proofs.lemmas.Bool.{eqb-true, eqb-false}
@@ -36,7 +37,9 @@ use Rattle.mem_base.specs.views.LiveEvents.{lives_of}
 use Rattle.mem_base.specs.access.Places.{Extent, extent_of, words_of, first_fit}
 use Rattle.mem_base.specs.views.Replay.{ListenerState, nothing_heard, listener_after_all, replay}
 use Rattle.mem_base.specs.machine.Generations.{Generations}
-use Rattle.mem_base.specs.views.Listening.{Listening, Delivery, is_listener, listens, deliveries_to, ascending, deliveries_of_changes, changes_between, delivered, joined, joining, join_refusal, left, leaving, leave_refusal, calls_to}
+use Rattle.mem_base.specs.views.Listening.{Listening, Delivery, is_listener, listens, deliveries_to, ascending, deliveries_of_changes}
+use Rattle.mem_base.specs.views.Listening.{changes_between, delivered, joined, joining, join_refusal, left, leaving, leave_refusal}
+use Rattle.mem_base.specs.views.Listening.{calls_to}
 use Rattle.mem_base.specs.machine.Desk.{Desk}
 use Rattle.mem_base.specs.machine.Publishing.{Settled, settled, refused_desk, unless_refused, held_up, readied, publishing, current_forest}
 use Rattle.mem_base.specs.machine.Configs.{configured, answers, made, backed, kept_back, after_call, begun, committed, listened, unlistened, without_listener}

@@ -9,7 +9,8 @@ use Rattle.mem_base.specs.declared.views.listening.Listener.{Listener}
 use Rattle.mem_base.specs.declared.views.listening.ListenerEvent.{ListenerEvent}
 use Rattle.mem_base.specs.declared.views.listening.ListenerEvent.TheVariants.{Begin, Range, Commit}
 use Rattle.mem_base.specs.lists.Sorting.{put_by, sorted_by}
-use Rattle.mem_base.specs.views.Listening.{switch, switch_order, switches, switched, in_direction, goes_down, hears, calls_of, deliver_each, deliveries_of, deliveries_of_changes}
+use Rattle.mem_base.specs.views.Listening.{switch, switch_order, switches, switched, in_direction, goes_down, hears, calls_of, deliver_each}
+use Rattle.mem_base.specs.views.Listening.{deliveries_of, deliveries_of_changes}
 
 length_directed : (down : Bool) (ls : List Listener) → length (in_direction down ls) ≡ length ls
 length_directed true ls = length-reverse ls

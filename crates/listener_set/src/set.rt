@@ -78,7 +78,8 @@ impl Set {
         view: &View,
         events: &[Live],
     ) -> Result<(), Refusal>
-        ensures joined { OnOk result (self.new.listening ≡ joined self.old.listening (record { listener = listener; space = space; priority = priority }) view.now events.now) }
+        ensures joined { OnOk result (self.new.listening ≡ joined self.old.listening
+            (record { listener = listener; space = space; priority = priority }) view.now events.now) }
         ensures accepted { OnOk result (join_refusal self.old.listening listener ≡ None) }
         ensures refused { (why : Refusal) → why ≢ Memory → ((result ≡ Err why) ↔ (join_refusal self.old.listening listener ≡ Some why)) }
         ensures unchanged { OnErr result (self.new.listening ≡ self.old.listening) }

@@ -14,7 +14,8 @@ use Rattle.mem_base.specs.map.Forest.{IsOrderedForest, IsTargetBefore}
 use Rattle.mem_base.specs.map.Steps.{steps_of, steps_from, steps_at, greatest, depth_by, weight_by, depth_of, weight_of, greatest_depth, greatest_weight}
 use Rattle.mem_base.proofs.EveryLaws.{weaker, every_map}
 use Rattle.mem_base.proofs.ForestLaws.{children_of-made, every_node_of, every_child, no_children}
-use Rattle.mem_base.proofs.StepLaws.{map_agree, depth_by-inside, weight_by-inside, depth_by-end, weight_by-end, depth_by-one, weight_by-one, depth_by-further, weight_by-further, greatest_push}
+use Rattle.mem_base.proofs.StepLaws.{map_agree, depth_by-inside, weight_by-inside, depth_by-end, weight_by-end, depth_by-one, weight_by-one}
+use Rattle.mem_base.proofs.StepLaws.{depth_by-further, weight_by-further, greatest_push}
 use Rattle.mem_base.proofs.JoinLaws.{steps_alike, steps_children, within_forest}
 
 node_of-push : (nodes : List Node) (n : Node) (q : RegionId) → has_id q n ≡ false → node_of (nodes ++ n ∷ []) q ≡ node_of nodes q

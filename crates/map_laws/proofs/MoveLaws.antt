@@ -16,7 +16,8 @@ use Rattle.mem_base.specs.map.Forest.{IsOrderedForest, IsPlacedBefore, IsTargetB
 use Rattle.mem_base.specs.map.Changes.{changed_at, changed, moved, moves}
 use Rattle.mem_base.specs.map.Calls.{counted}
 use Rattle.mem_base.proofs.EveryLaws.{weaker}
-use Rattle.mem_base.proofs.ForestLaws.{every_changed_at, ascending_changed_at, only_node, every_node_of, child_before, trial_apart, children_of-joined, filter-changed_at}
+use Rattle.mem_base.proofs.ForestLaws.{every_changed_at, ascending_changed_at, only_node, every_node_of, child_before, trial_apart}
+use Rattle.mem_base.proofs.ForestLaws.{children_of-joined, filter-changed_at}
 use Rattle.mem_base.proofs.DelLaws.{children_of-left}
 use Rattle.mem_base.proofs.JoinLaws.{node_of-changed_at}
 use Rattle.map_laws.proofs.LeadLaws.{KeepsSteps, greatest_depth-kept, greatest_weight-kept}

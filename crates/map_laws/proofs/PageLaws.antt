@@ -1,6 +1,7 @@
 -- Laws of pages: a page whose size is a power of two, and which begins at a multiple of it, ends in the range of
 -- addresses.
-use Rattle.std.proofs.Common.{◌≡◌, ◌≢◌, ℕ, zero, suc, ◌+◌, ◌-◌, ◌*◌, ◌/◌, ◌%◌, ◌^◌, ◌<◌, ◌≤◌, Bool, true, false, not, ◌||◌, eqb, ltb, ◌⊎◌, inl, inr, None, count_ones, refl, sym, ap, ◌∙◌, arith}
+use Rattle.std.proofs.Common.{◌≡◌, ◌≢◌, ℕ, zero, suc, ◌+◌, ◌-◌, ◌*◌, ◌/◌, ◌%◌, ◌^◌, ◌<◌, ◌≤◌, Bool, true, false, not, ◌||◌, eqb, ltb, ◌⊎◌}
+use Rattle.std.proofs.Common.{inl, inr, None, count_ones, refl, sym, ap, ◌∙◌, arith}
 use Rattle.std.proofs.lemmas.Bool.Decides.{nat_tests}
 use Rattle.std.proofs.lemmas.Nat.{ones_cat, zero_from_ones, pow-add, pow_below, div-add-mod', mod_below, mul-le, ones_le_self}
 use Rattle.mem_base.specs.declared.map.refusals.Refusal.TheVariants.{BadPage}

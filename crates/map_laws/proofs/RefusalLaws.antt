@@ -15,7 +15,9 @@ use Rattle.mem_base.specs.declared.map.refusals.What.TheVariants as what
 use Rattle.mem_base.specs.lists.Every.{Every}
 use Rattle.mem_base.specs.map.Region.{node_of, is_child_of}
 use Rattle.mem_base.specs.map.Forest.{IsOrderedForest, IsTargetBefore}
-use Rattle.mem_base.specs.map.Refusals.{first_refusal, refuse_if, refuse_where, unknown_region, unknown_target, has_container, container_of, in_container, in_use, in_use_by_region, in_use_by_space, first_id, targets, has_root, least_space, too_deep, too_wide}
+use Rattle.mem_base.specs.map.Refusals.{first_refusal, refuse_if, refuse_where, unknown_region, unknown_target, has_container, container_of}
+use Rattle.mem_base.specs.map.Refusals.{in_container, in_use, in_use_by_region, in_use_by_space, first_id, targets, has_root, least_space}
+use Rattle.mem_base.specs.map.Refusals.{too_deep, too_wide}
 use Rattle.mem_base.specs.map.Steps.{greatest_depth, greatest_weight}
 use Rattle.mem_base.proofs.ForestLaws.{known_below}
 

@@ -1,5 +1,6 @@
 -- Every accepted call keeps what holds of a forest's regions and spaces: call by call.
-use Rattle.std.proofs.Common.{◌≡◌, ◌≢◌, ℕ, ◌+◌, ◌-◌, ◌<◌, ◌≤◌, ◌^◌, Bool, true, false, not, ◌&&◌, ◌||◌, cond, eqb, ℤ, List, [], ◌∷◌, ◌++◌, length, filter, find, Option, Some, None, IsSome, is_some, Ok, Err, refl, sym, ap, subst, ◌∙◌, arith}
+use Rattle.std.proofs.Common.{◌≡◌, ◌≢◌, ℕ, ◌+◌, ◌-◌, ◌<◌, ◌≤◌, ◌^◌, Bool, true, false, not, ◌&&◌, ◌||◌, cond, eqb, ℤ, List, [], ◌∷◌, ◌++◌}
+use Rattle.std.proofs.Common.{length, filter, find, Option, Some, None, IsSome, is_some, Ok, Err, refl, sym, ap, subst, ◌∙◌, arith}
 use Rattle.std.specs.Prelude.{option_map, option_and_then, nat_lt, is_none, ◌%◌}
 use Rattle.std.specs.Option.{option_or}
 use Rattle.std.proofs.lemmas.Bool.Decides.{nat_tests}
@@ -41,7 +42,9 @@ use Rattle.map_laws.proofs.DropLaws.{without, every_without}
 use Rattle.map_laws.proofs.RefusalLaws.{each_none, refuse_if-none, refuse_where-none, is_known, known_node, find-none, in_use-none}
 use Rattle.map_laws.proofs.PageLaws.{bad_page-none}
 use Rattle.map_laws.proofs.PairLaws.{pairs_push, pairs_filter, length-push, length-filter}
-use Rattle.map_laws.proofs.RegionLaws.{container_changed, there_more, target_more, region_more, there_without, region_without, region_at, region_moved, region_resized, region_romd, region_logged, region_retargeted, region_mapped, region_unmapped, region_with_event, region_without_event}
+use Rattle.map_laws.proofs.RegionLaws.{container_changed, there_more, target_more, region_more, there_without, region_without, region_at}
+use Rattle.map_laws.proofs.RegionLaws.{region_moved, region_resized, region_romd, region_logged, region_retargeted, region_mapped}
+use Rattle.map_laws.proofs.RegionLaws.{region_unmapped, region_with_event, region_without_event}
 use Rattle.map_laws.proofs.CallLaws.{IsOrderedForest-left_by, IsOrderedForest-empty, after-accepted}
 use Rattle.map_laws.proofs.SoundLaws.{at_limit-none, few_calls_yet, count-none, with_nodes, one_changed, field_changed, fresh_placing}
 

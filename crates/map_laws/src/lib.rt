@@ -31,7 +31,8 @@ pub fn forests_are_sound()
 /// What the search finds in every such forest: exactly what the rules of QEMU's manual find ("The memory API",
 /// "Visibility"), which have no bound on depth.
 pub fn search_is_the_manuals()
-    ensures finds { (list : List Call) (s : SpaceId) (r : RegionId) (a : ℕ) → root_of (after_all empty list) s ≡ Some r → Finds (after_all empty list) r a (found_at (after_all empty list) s a) }
+    ensures finds { (list : List Call) (s : SpaceId) (r : RegionId) (a : ℕ) → root_of (after_all empty list) s ≡ Some r
+        → Finds (after_all empty list) r a (found_at (after_all empty list) s a) }
     ensures one { (f : Forest) (r : RegionId) (a : ℕ) (x y : Option Found) → Finds f r a x → Finds f r a y → x ≡ y }
 {}
 
@@ -40,7 +41,8 @@ pub fn search_is_the_manuals()
 pub fn depths_are_whole()
     ensures depth { (list : List Call) (r : RegionId) → HasDepth (steps_of (after_all empty list).nodes) r (depth_of (after_all empty list).nodes r) }
     ensures weight { (list : List Call) (r : RegionId) → HasWeight (steps_of (after_all empty list).nodes) r (weight_of (after_all empty list).nodes r) }
-    ensures reach { (list : List Call) (r to : RegionId) → (reaches (after_all empty list).nodes r to ≡ true) ↔ Leads (steps_of (after_all empty list).nodes) r to }
+    ensures reach { (list : List Call) (r to : RegionId) → (reaches (after_all empty list).nodes r to ≡ true) ↔ Leads
+        (steps_of (after_all empty list).nodes) r to }
 {}
 
 /// What is found has a path of at most 32 regions, which ends at the leaf.

@@ -1,7 +1,8 @@
 // How refusals, spots and ranges are written.
 ghost use Rattle.std.specs.Prelude.{◌≡◌, ◌++◌, [], OnOk, if◌then◌else◌};
 ghost use Rattle.mem_base.specs.map.Region.{node_of};
-ghost use Rattle.mem_base.specs.script.FirstOutput.{attrs_text, found_text, held_text, kind_text, kind_word, limit_text, log_text, range_line, refusal_text, spot_text, user_text, what_text, which_text};
+ghost use Rattle.mem_base.specs.script.FirstOutput.{attrs_text, found_text, held_text, kind_text, kind_word, limit_text, log_text};
+ghost use Rattle.mem_base.specs.script.FirstOutput.{range_line, refusal_text, spot_text, user_text, what_text, which_text};
 
 use crate::lines::Line;
 use crate::names::Names;

@@ -1,6 +1,7 @@
 // The forms of lines.
 ghost use Rattle.std.specs.Prelude.{◌≡◌, map};
-ghost use Rattle.mem_base.specs.script.FirstForm.{add, at, command_named, command_of, command_of_tokens, plain_latch, region, region_named, region_of_kind, show, space};
+ghost use Rattle.mem_base.specs.script.FirstForm.{add, at, command_named, command_of, command_of_tokens, plain_latch, region, region_named};
+ghost use Rattle.mem_base.specs.script.FirstForm.{region_of_kind, show, space};
 ghost use Rattle.mtree.specs.Reads.{Reads};
 
 use crate::tokens::{LineStop, Tokens, tokens_of};

@@ -1,7 +1,8 @@
 // A script's text: its lines, and what holds of all of them together.
 ghost use Rattle.std.specs.Prelude.{◌≡◌, ◌==◌, ◌≤◌, ◌<◌, ◌^◌, ◌++◌, List, ℕ, [], IfOk, filter_map, length, map, option_map, position};
 ghost use Rattle.std.specs.Option.{option_to_list};
-ghost use Rattle.mem_base.specs.script.FirstScripts.{are_distinct, child_fits, children_fit, faulty, has_text, lines_fit, lines_of, names_fit, parents_with, region_made, script_of, space_made};
+ghost use Rattle.mem_base.specs.script.FirstScripts.{are_distinct, child_fits, children_fit, faulty, has_text, lines_fit, lines_of};
+ghost use Rattle.mem_base.specs.script.FirstScripts.{names_fit, parents_with, region_made, script_of, space_made};
 ghost use Rattle.mtree.specs.Parses.{ReadsLines, ReadsScript};
 ghost use Rattle.mtree.specs.declared.scripts.ParseFault.TheVariants.{Memory};
 

@@ -84,7 +84,8 @@ fn run_text<K: Sink>(alloc: Global, text: &[u8], sink: &mut K) -> Ending
 
 // Runs the script that the source gives.
 fn run_source<S: Source, K: Sink>(alloc: Global, source: &mut S, sink: &mut K) -> Ending
-    ensures done { result ≡ Ending.Done → (bytes : List ℕ) × (lines : List Line) × AllCame (S.left source.old) (S.left source.new) bytes × (script_of bytes ≡ Ok lines)
+    ensures done { result ≡ Ending.Done → (bytes : List ℕ) × (lines : List Line) × AllCame (S.left source.old) (S.left source.new) bytes
+        × (script_of bytes ≡ Ok lines)
         × Takes K.written K.holds sink.old sink.new (text_of lines) }
     ensures bad { IfBad result (λ bad. (bytes : List ℕ) × Came (S.left source.old) (S.left source.new) bytes × (script_of bytes ≡ Err bad)
         × Takes K.written K.holds sink.old sink.new (bad_line bad)) }
@@ -169,7 +170,8 @@ pub fn exit_code<R: Threads + Wait + Sync, S: Source, K: Sink>(
     source: &mut S,
     sink: &mut K,
 ) -> ExitCode
-    ensures { ExitsWith result (λ ending. Ends S.left S.faults K.written K.holds K.faults source.old source.new sink.old sink.new ending (map string_bytes words.now)) }
+    ensures { ExitsWith result (λ ending. Ends S.left S.faults K.written K.holds K.faults source.old source.new sink.old sink.new ending
+        (map string_bytes words.now)) }
 {
     let ending = mtree(rt, alloc, words, source, sink, &OpenGate);
     ExitCode::from(ending.status())

@@ -1,5 +1,6 @@
 -- Laws of what a tree keeps beside its regions: what each call makes of it.
-use Rattle.std.proofs.Common.{◌≡◌, ◌≢◌, ℕ, zero, suc, ◌+◌, ◌<◌, ◌≤◌, max, min, Bool, true, false, cond, eqb, ltb, ◌||◌, ℤ, List, [], ◌∷◌, ◌++◌, length, get_or, set, map, filter, Option, Some, None, refl, sym, ap, subst, ◌∙◌, arith}
+use Rattle.std.proofs.Common.{◌≡◌, ◌≢◌, ℕ, zero, suc, ◌+◌, ◌<◌, ◌≤◌, max, min, Bool, true, false, cond, eqb, ltb, ◌||◌, ℤ, List, [], ◌∷◌}
+use Rattle.std.proofs.Common.{◌++◌, length, get_or, set, map, filter, Option, Some, None, refl, sym, ap, subst, ◌∙◌, arith}
 use Rattle.std.specs.Prelude.{is_some, IsSome, IfSome}
 use Rattle.std.proofs.lemmas.Bool.Decides.{nat_tests}
 use Rattle.std.proofs.lemmas.List.{get_or-map}
@@ -17,14 +18,16 @@ use Rattle.mem_base.specs.map.Region.{node_of, has_id}
 use Rattle.mem_base.specs.map.Order.{children_of, ids_of}
 use Rattle.mem_base.specs.map.Region.{IsAscending}
 use Rattle.mem_base.specs.map.Forest.{IsOrderedForest, IsTargetBefore}
-use Rattle.mem_base.specs.map.Refusals.{targets, unknown_target, first_refusal, refuse_if, makes_loop, too_deep, too_wide, alias_parent, has_container, in_container, container_of}
+use Rattle.mem_base.specs.map.Refusals.{targets, unknown_target, first_refusal, refuse_if, makes_loop, too_deep, too_wide, alias_parent}
+use Rattle.mem_base.specs.map.Refusals.{has_container, in_container, container_of}
 use Rattle.std.specs.Prelude.{not, ◌-◌}
 use Rattle.mem_base.specs.declared.map.calls.Call.{Call}
 use Rattle.mem_base.specs.map.Edits.{edited}
 use Rattle.map_laws.proofs.CallLaws.{edited_field}
 use Rattle.mem_base.specs.map.Changes.{changed, changed_at, placed, moved}
 use Rattle.map_laws.proofs.MoveLaws.{moved_keeps}
-use Rattle.mem_base.specs.map.Steps.{Steps, steps_of, steps_from, depth_by, weight_by, depth_of, weight_of, greatest, total, reaches, greatest_depth, greatest_weight}
+use Rattle.mem_base.specs.map.Steps.{Steps, steps_of, steps_from, depth_by, weight_by, depth_of, weight_of, greatest, total, reaches}
+use Rattle.mem_base.specs.map.Steps.{greatest_depth, greatest_weight}
 use Rattle.mem_base.proofs.EveryLaws.{weaker, every_at}
 use Rattle.mem_base.proofs.StepLaws.{every_of}
 use Rattle.mem_base.proofs.ForestLaws.{id_of, node_of-itself, children_of-made, no_children}
@@ -38,7 +41,8 @@ use Rattle.region_extents.specs.declared.extents.Join.{Join}
 use Rattle.region_extents.specs.declared.kept.Kept.{Kept}
 use Rattle.region_slots.specs.Slots.{nodes_of}
 use Rattle.region_extents.specs.Extents.{told_of, alone, steps_with, extent_by, extents_by}
-use Rattle.region_extents.specs.Kept.{aliases_of, aliases_in, extent_in, extents_in, steps_plus, IsSettledBy, IsShort, IsBeside, one_above, made_extent, enlisted}
+use Rattle.region_extents.specs.Kept.{aliases_of, aliases_in, extent_in, extents_in, steps_plus, IsSettledBy, IsShort, IsBeside, one_above}
+use Rattle.region_extents.specs.Kept.{made_extent, enlisted}
 use Rattle.region_extents.proofs.RaiseLaws.{steps_fall, reaches_down}
 use Rattle.region_extents.proofs.JoinedLaws.{map_changed_at, map_by, extents_new, within_limits}
 use Rattle.region_extents.proofs.ExtentsLaws.{steps_to_children}

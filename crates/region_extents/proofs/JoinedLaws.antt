@@ -1,5 +1,6 @@
 -- Laws of the extents after a region was placed in a container, found by setting right what stands above it.
-use Rattle.std.proofs.Common.{◌≡◌, ◌≢◌, ℕ, zero, suc, ◌+◌, ◌<◌, ◌≤◌, max, Bool, true, false, cond, eqb, ltb, ◌||◌, ℤ, List, [], ◌∷◌, ◌++◌, length, get_or, take, replicate, map, Option, Some, None, refl, sym, ap, subst, ◌∙◌, arith}
+use Rattle.std.proofs.Common.{◌≡◌, ◌≢◌, ℕ, zero, suc, ◌+◌, ◌<◌, ◌≤◌, max, Bool, true, false, cond, eqb, ltb, ◌||◌, ℤ, List, [], ◌∷◌, ◌++◌}
+use Rattle.std.proofs.Common.{length, get_or, take, replicate, map, Option, Some, None, refl, sym, ap, subst, ◌∙◌, arith}
 use Rattle.std.specs.Prelude.{is_some, option_map}
 use Rattle.std.specs.List.{list_any}
 use Rattle.std.proofs.lemmas.Bool.Decides.{nat_tests}
@@ -12,7 +13,8 @@ use Rattle.mem_base.specs.map.Region.{IsAscending}
 use Rattle.mem_base.specs.map.Forest.{IsOrderedForest}
 use Rattle.mem_base.specs.map.Changes.{changed_at}
 use Rattle.mem_base.specs.map.Order.{ids_of}
-use Rattle.mem_base.specs.map.Steps.{Steps, steps_of, steps_from, greatest, total, depth_by, weight_by, reaches_by, depth_of, weight_of, greatest_depth, greatest_weight}
+use Rattle.mem_base.specs.map.Steps.{Steps, steps_of, steps_from, greatest, total, depth_by, weight_by, reaches_by, depth_of, weight_of}
+use Rattle.mem_base.specs.map.Steps.{greatest_depth, greatest_weight}
 use Rattle.mem_base.proofs.EveryLaws.{weaker}
 use Rattle.mem_base.proofs.StepLaws.{map_agree, every_of, IsWithin, depth_by-further, weight_by-further, depth_by-alike, weight_by-alike, Alike, joined_steps}
 use Rattle.mem_base.proofs.ForestLaws.{id_of}

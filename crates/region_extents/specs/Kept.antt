@@ -1,5 +1,6 @@
 -- What a tree keeps beside its regions: how deep and how wide each is, and which aliases it has.
-use Rattle.std.specs.Prelude.{not, ℕ, ◌≡◌, ◌≤◌, ◌+◌, ◌==◌, ◌++◌, Bool, true, min, max, slice_index_or as get_or, slice_set as set, List, [], ◌∷◌, map, filter, Option, Some, None}
+use Rattle.std.specs.Prelude.{not, ℕ, ◌≡◌, ◌≤◌, ◌+◌, ◌==◌, ◌++◌, Bool, true, min, max, slice_index_or as get_or, slice_set as set, List, []}
+use Rattle.std.specs.Prelude.{◌∷◌, map, filter, Option, Some, None}
 use Rattle.std.specs.List.{list_any}
 use Rattle.mem_base.specs.declared.map.ids.RegionId.{RegionId}
 use Rattle.mem_base.specs.declared.map.forests.Node.{Node}

@@ -76,8 +76,10 @@ fn told_below(slots: &[Slot], known: &[Extent], slot: &Slot) -> Option<Extent>
     requires ascending { IsAscending (nodes_of slots.now) }
     requires all { length known.now ≡ length slots.now }
     requires steps { HasItsSteps (nodes_of slots.now) slot.now }
-    ensures depth { IfSome result (λ e. e.depth ≡ greatest (map (λ q. (told_of slots.now known.now q).depth) (steps_of (nodes_of slots.now) slot.now.node.id))) }
-    ensures weight { IfSome result (λ e. e.weight ≡ total (map (λ q. (told_of slots.now known.now q).weight) (steps_of (nodes_of slots.now) slot.now.node.id))) }
+    ensures depth { IfSome result (λ e. e.depth ≡ greatest (map
+        (λ q. (told_of slots.now known.now q).depth) (steps_of (nodes_of slots.now) slot.now.node.id))) }
+    ensures weight { IfSome result (λ e. e.weight ≡ total (map
+        (λ q. (told_of slots.now known.now q).weight) (steps_of (nodes_of slots.now) slot.now.node.id))) }
 {
     match slot.node.kind.target() {
         Some(target) => Some(told_over(slots, known, &[target])?),

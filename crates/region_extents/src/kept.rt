@@ -1,6 +1,7 @@
 // What a tree keeps beside its regions.
 
-ghost use Rattle.std.specs.Prelude.{◌≡◌, ◌≢◌, ◌<◌, ◌≤◌, ◌++◌, ◌∷◌, ℕ, List, [], length, slice_index_or, false, true, IfOk, IfSome, IsSome, IsTrue, OnOk, OnErr, Some, None};
+ghost use Rattle.std.specs.Prelude.{◌≡◌, ◌≢◌, ◌<◌, ◌≤◌, ◌++◌, ◌∷◌, ℕ, List, [], length, slice_index_or, false, true, IfOk, IfSome, IsSome};
+ghost use Rattle.std.specs.Prelude.{IsTrue, OnOk, OnErr, Some, None};
 ghost use Rattle.std.specs.List.{remove};
 ghost use Rattle.mem_base.specs.declared.map.ids.RegionId.{RegionId as Region};
 ghost use Rattle.mem_base.specs.declared.map.forests.Forest.{Forest};
@@ -12,7 +13,8 @@ ghost use Rattle.mem_base.specs.map.Order.{ids_of};
 ghost use Rattle.mem_base.specs.map.Refusals.{targets};
 ghost use Rattle.region_slots.specs.Slots.{nodes_of};
 ghost use Rattle.region_extents.specs.Extents.{HasItsSteps};
-ghost use Rattle.region_extents.specs.Kept.{extent_in, aliases_of, aliases_in, made_extent, one_above, with_child, enlisted, delisted, steps_plus, undone, IsBeside, IsSettledBy, IsShort};
+ghost use Rattle.region_extents.specs.Kept.{extent_in, aliases_of, aliases_in, made_extent, one_above, with_child, enlisted, delisted};
+ghost use Rattle.region_extents.specs.Kept.{steps_plus, undone, IsBeside, IsSettledBy, IsShort};
 
 use crate::extents::{Extent, Join, told};
 use crate::ids::Ids;
@@ -221,7 +223,8 @@ impl Kept {
         requires steps { Every (HasItsSteps (nodes_of slots.now)) slots.now }
         requires all { IsTrue self.old.fresh → length self.old.extents.items ≡ length slots.now }
         requires aliases { IsTrue self.old.fresh → self.old.aliases.items ≡ aliases_in (nodes_of slots.now) }
-        requires others { IsTrue self.old.fresh → (v : Region) → v.0 ≢ region.0 → IsSettledBy (steps_plus (nodes_of slots.now) None) slots.now self.old.extents.items v }
+        requires others { IsTrue self.old.fresh → (v : Region) → v.0 ≢ region.0
+            → IsSettledBy (steps_plus (nodes_of slots.now) None) slots.now self.old.extents.items v }
         requires short { IsTrue self.old.fresh → Every IsShort self.old.extents.items }
         ensures aliases { IsTrue self.new.fresh → self.new.aliases.items ≡ aliases_in (nodes_of slots.now) }
         ensures all { IsTrue self.new.fresh → length self.new.extents.items ≡ length slots.now }

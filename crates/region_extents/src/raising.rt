@@ -31,7 +31,10 @@ fn reset(
     ensures short { Every IsShort known.old → Every IsShort known.new }
     ensures undone { undone journal.new.items known.new ≡ undone journal.old.items known.old }
     ensures all { length known.new ≡ length known.old }
-    ensures settled { IfOk result (λ o. IfSome o (λ changed. (v : Region) → (v.0 ≢ region.0 → IsSettledBy (steps_plus (nodes_of slots.now) extra) slots.now known.old v) → (IsTrue changed → listed region (steps_plus (nodes_of slots.now) extra v) ≡ false) → IsSettledBy (steps_plus (nodes_of slots.now) extra) slots.now known.new v)) }
+    ensures settled { IfOk result (λ o. IfSome o (λ changed. (v : Region)
+        → (v.0 ≢ region.0 → IsSettledBy (steps_plus (nodes_of slots.now) extra) slots.now known.old v)
+        → (IsTrue changed → listed region (steps_plus (nodes_of slots.now) extra v) ≡ false)
+        → IsSettledBy (steps_plus (nodes_of slots.now) extra) slots.now known.new v)) }
 {
     let Some(at) = place_of(slots, region) else {
         return Ok(None);
@@ -136,7 +139,8 @@ pub(crate) fn await_users(
     requires aliases { aliases.now ≡ aliases_in (nodes_of slots.now) }
     requires there { IsSome (node_of (nodes_of slots.now) region) }
     requires apart { IfSome extra (λ join. region.0 ≢ join.child.0) }
-    ensures { OnOk result ((v : Region) → listed v waiting.new ≡ false → (listed v waiting.old ≡ false) × (IsTrue changed → listed region (steps_plus (nodes_of slots.now) extra v) ≡ false)) }
+    ensures { OnOk result ((v : Region) → listed v waiting.new ≡ false
+        → (listed v waiting.old ≡ false) × (IsTrue changed → listed region (steps_plus (nodes_of slots.now) extra v) ≡ false)) }
 {
     if !changed {
         return Ok(());

@@ -1,5 +1,6 @@
 -- Laws of why an Add is refused.
-use Rattle.std.proofs.Common.{◌≡◌, ◌≢◌, ℕ, zero, suc, ◌+◌, ◌<◌, ◌≤◌, Bool, true, false, cond, ltb, leb, ◌^◌, ℤ, List, [], ◌∷◌, ◌++◌, length, map, Option, Some, None, refl, sym, ap, subst, ◌∙◌, arith}
+use Rattle.std.proofs.Common.{◌≡◌, ◌≢◌, ℕ, zero, suc, ◌+◌, ◌<◌, ◌≤◌, Bool, true, false, cond, ltb, leb, ◌^◌, ℤ, List, [], ◌∷◌, ◌++◌, length}
+use Rattle.std.proofs.Common.{map, Option, Some, None, refl, sym, ap, subst, ◌∙◌, arith}
 use Rattle.std.specs.Prelude.{is_some}
 use Rattle.std.specs.Option.{option_or}
 use Rattle.std.proofs.lemmas.Bool.Decides.{nat_tests}
@@ -10,7 +11,8 @@ use Rattle.mem_base.specs.declared.map.refusals.Refusal.TheVariants.{TooDeep, To
 use Rattle.mem_base.specs.declared.map.refusals.What.TheVariants as what
 use Rattle.mem_base.specs.declared.map.calls.Call.TheVariants as calls
 use Rattle.mem_base.specs.map.Region.{node_of}
-use Rattle.mem_base.specs.map.Refusals.{first_refusal, refuse_if, unknown_region, has_container, alias_parent, makes_loop, too_deep, too_wide, in_container, container_of}
+use Rattle.mem_base.specs.map.Refusals.{first_refusal, refuse_if, unknown_region, has_container, alias_parent, makes_loop, too_deep}
+use Rattle.mem_base.specs.map.Refusals.{too_wide, in_container, container_of}
 use Rattle.mem_base.specs.map.TableRefusals.{no_more_calls}
 use Rattle.mem_base.specs.map.Changes.{changed}
 use Rattle.std.specs.Prelude.{Result, Ok, Err}

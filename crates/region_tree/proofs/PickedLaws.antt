@@ -1,5 +1,6 @@
 -- Laws of regions picked by marks beside them.
-use Rattle.std.proofs.Common.{◌≡◌, ℕ, zero, suc, ◌+◌, ◌<◌, Bool, true, false, cond, None, List, [], ◌∷◌, ◌++◌, length, replicate, filter, take, get_or, refl, sym, ap, ◌∙◌, arith, add-one}
+use Rattle.std.proofs.Common.{◌≡◌, ℕ, zero, suc, ◌+◌, ◌<◌, Bool, true, false, cond, None, List, [], ◌∷◌, ◌++◌, length, replicate, filter}
+use Rattle.std.proofs.Common.{take, get_or, refl, sym, ap, ◌∙◌, arith, add-one}
 use Rattle.std.proofs.lemmas.List.{get_or-map, take-map}
 use Rattle.region_slots.specs.declared.slots.Slot.{Slot}
 use Rattle.region_slots.specs.Slots.{nodes_of}

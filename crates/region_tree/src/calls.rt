@@ -93,7 +93,8 @@ impl Tree {
         child: RegionId,
         priority: i32,
     ) -> Result<Applied, Refusal>
-        ensures applied { IfOk result (λ x. (after self.old (Call.Add parent offset child priority) ≡ Ok self.new) × (x ≡ answer_of self.old (Call.Add parent offset child priority))) }
+        ensures applied { IfOk result (λ x. (after self.old (Call.Add parent offset child priority) ≡ Ok self.new)
+            × (x ≡ answer_of self.old (Call.Add parent offset child priority))) }
         ensures refused { IfErr result (λ why. why ≢ Refusal.Memory → after self.old (Call.Add parent offset child priority) ≡ Err why) }
         ensures unchanged { OnErr result (self.new ≡ self.old) }
     {
@@ -136,7 +137,8 @@ impl Tree {
         child: RegionId,
         priority: i32,
     ) -> Result<Applied, Refusal>
-        ensures applied { IfOk result (λ x. (after self.old (Call.Add parent offset child priority) ≡ Ok self.new) × (x ≡ answer_of self.old (Call.Add parent offset child priority))) }
+        ensures applied { IfOk result (λ x. (after self.old (Call.Add parent offset child priority) ≡ Ok self.new)
+            × (x ≡ answer_of self.old (Call.Add parent offset child priority))) }
         ensures refused { IfErr result (λ why. why ≢ Refusal.Memory → after self.old (Call.Add parent offset child priority) ≡ Err why) }
         ensures unchanged { OnErr result (self.new ≡ self.old) }
     {

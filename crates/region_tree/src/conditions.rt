@@ -152,7 +152,8 @@ pub(crate) fn no_more_calls(tree: &Tree) -> Option<Refusal>
 
 /// What stands against an Add before loops and the lengths of paths.
 pub(crate) fn no_place(tree: &Tree, parent: RegionId, child: RegionId) -> Option<Refusal>
-    ensures { result ≡ conditions.first_refusal (conditions.unknown_region tree.now parent ∷ conditions.unknown_region tree.now child ∷ conditions.has_container tree.now child ∷ conditions.alias_parent tree.now parent ∷ []) }
+    ensures { result ≡ conditions.first_refusal (conditions.unknown_region tree.now parent ∷ conditions.unknown_region tree.now child
+        ∷ conditions.has_container tree.now child ∷ conditions.alias_parent tree.now parent ∷ []) }
 {
     unknown_region(tree, parent)
         .or(unknown_region(tree, child))
@@ -162,7 +163,8 @@ pub(crate) fn no_place(tree: &Tree, parent: RegionId, child: RegionId) -> Option
 
 /// What stands against the lengths of paths.
 pub(crate) fn too_long(most: Extent) -> Option<Refusal>
-    ensures { result ≡ conditions.first_refusal (conditions.refuse_if (nat_lt 32 most.depth) (Refusal.TooDeep most.depth) ∷ conditions.refuse_if (nat_lt 65536 most.weight) (Refusal.TooWide most.weight) ∷ []) }
+    ensures { result ≡ conditions.first_refusal (conditions.refuse_if (nat_lt 32 most.depth) (Refusal.TooDeep most.depth)
+        ∷ conditions.refuse_if (nat_lt 65536 most.weight) (Refusal.TooWide most.weight) ∷ []) }
 {
     if most.depth > MOST_DEPTH {
         Some(Refusal::TooDeep(most.depth))
@@ -187,7 +189,9 @@ pub(crate) fn alias_too_long(tree: &Tree, kind: Kind) -> Option<Refusal>
 /// Paths through one more region before this one that are too long.
 fn longer_than(tree: &Tree, target: RegionId) -> Option<Refusal>
     requires { IsSome (node_of tree.now.nodes target) }
-    ensures refused { result ≡ option_or (conditions.refuse_if (nat_le 32 (depth_of tree.now.nodes target)) (Refusal.TooDeep (depth_of tree.now.nodes target + 1))) (conditions.refuse_if (nat_le 65536 (weight_of tree.now.nodes target)) (Refusal.TooWide (weight_of tree.now.nodes target + 1))) }
+    ensures refused { result ≡ option_or (conditions.refuse_if (nat_le 32 (depth_of tree.now.nodes target))
+        (Refusal.TooDeep (depth_of tree.now.nodes target + 1)))
+        (conditions.refuse_if (nat_le 65536 (weight_of tree.now.nodes target)) (Refusal.TooWide (weight_of tree.now.nodes target + 1))) }
     ensures forest { IsOrderedForest tree.now }
 {
     let _ = tree.node(target);

@@ -91,8 +91,10 @@ impl Tree {
         requires no_alias { alias_parent self.now parent ≡ None }
         requires free { has_container self.now child ≡ None }
         requires no_loop { reaches self.now.nodes child parent ≡ false }
-        ensures depth { IfOk result (λ most. (offset : ℕ) (priority : ℤ) → most.depth ≡ greatest_depth (changed self.now (Call.Add parent offset child priority)).nodes) }
-        ensures weight { IfOk result (λ most. (offset : ℕ) (priority : ℤ) → most.weight ≡ greatest_weight (changed self.now (Call.Add parent offset child priority)).nodes) }
+        ensures depth { IfOk result (λ most. (offset : ℕ) (priority : ℤ)
+            → most.depth ≡ greatest_depth (changed self.now (Call.Add parent offset child priority)).nodes) }
+        ensures weight { IfOk result (λ most. (offset : ℕ) (priority : ℤ)
+            → most.weight ≡ greatest_weight (changed self.now (Call.Add parent offset child priority)).nodes) }
     {
         let found = lengthened(self.alloc, self.slots.as_slice(), Join { parent, child })?;
         Ok(widest(found.as_slice()))

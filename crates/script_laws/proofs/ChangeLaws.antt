@@ -5,7 +5,8 @@ use Rattle.mem_base.specs.declared.script.changes.MapChange.TheVariants as chang
 use Rattle.mem_base.specs.declared.script.commands.Command.TheVariants as commands
 use Rattle.mem_base.specs.script.Spelling.{Text, digits, number_of}
 use Rattle.mem_base.specs.script.Operands.{Form}
-use Rattle.mem_base.specs.script.ChangeForms.{add, change, change_forms, del, disable, enable, event, global, log, map_page, move, nonvolatile, readonly, resize, retarget, romd, unevent, unmap, unmergeable}
+use Rattle.mem_base.specs.script.ChangeForms.{add, change, change_forms, del, disable, enable, event, global, log, map_page, move}
+use Rattle.mem_base.specs.script.ChangeForms.{nonvolatile, readonly, resize, retarget, romd, unevent, unmap, unmergeable}
 use Rattle.mem_base.specs.script.Forms.{command}
 use Rattle.mem_base.specs.script.Printing.{change_tokens}
 use Rattle.script_laws.proofs.Tokens.{Law, are_tokens}

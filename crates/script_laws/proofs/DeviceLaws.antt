@@ -1,5 +1,6 @@
 -- A device that was read is printed so that it reads as the same, with its defaults left out.
-use Rattle.std.proofs.Common.{◌≡◌, ◌==◌, ◌&&◌, ◌++◌, ℕ, List, [], ◌∷◌, Bool, true, false, not, cond, Some, Option, Ok, Err, refl, sym, ap, ap₂, subst, ◌∙◌, arith, codes, decimal, bytes_eq, eqb-true}
+use Rattle.std.proofs.Common.{◌≡◌, ◌==◌, ◌&&◌, ◌++◌, ℕ, List, [], ◌∷◌, Bool, true, false, not, cond, Some, Option, Ok, Err, refl, sym, ap}
+use Rattle.std.proofs.Common.{ap₂, subst, ◌∙◌, arith, codes, decimal, bytes_eq, eqb-true}
 use Rattle.std.proofs.lemmas.List.Folds.{list_all-append}
 use Rattle.mem_base.specs.declared.script.faults.Cause.{Cause}
 use Rattle.mem_base.specs.declared.script.faults.Cause.TheVariants as causes

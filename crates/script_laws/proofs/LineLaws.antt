@@ -1,5 +1,6 @@
 -- A line that is printed in single spaces is read as its tokens.
-use Rattle.std.proofs.Common.{◌≡◌, ◌==◌, ◌-◌, ◌&&◌, ℕ, List, [], ◌∷◌, Bool, true, false, not, cond, nat_lt, Some, None, Ok, Err, refl, sym, ap, ◌∙◌, subst, arith, length, take, filter}
+use Rattle.std.proofs.Common.{◌≡◌, ◌==◌, ◌-◌, ◌&&◌, ℕ, List, [], ◌∷◌, Bool, true, false, not, cond, nat_lt, Some, None, Ok, Err, refl, sym}
+use Rattle.std.proofs.Common.{ap, ◌∙◌, subst, arith, length, take, filter}
 use Rattle.std.specs.List.{All, list_all, position_or_len}
 use Rattle.std.proofs.lemmas.Bool.Decides.{nat_tests}
 use Rattle.std.proofs.lemmas.List.Elements.{All-cons, All-nil}

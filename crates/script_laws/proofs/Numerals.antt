@@ -1,5 +1,6 @@
 -- Printed numbers read as what was printed.
-use Rattle.std.proofs.Common.{◌≡◌, ◌==◌, ◌<◌, ◌≤◌, ◌+◌, ◌-◌, ◌*◌, ◌^◌, ℕ, List, [], ◌∷◌, Bool, true, false, not, cond, nat_lt, nat_le, None, Some, Option, refl, ap, ◌∙◌, arith, length, take, drop, codes, bytes_eq}
+use Rattle.std.proofs.Common.{◌≡◌, ◌==◌, ◌<◌, ◌≤◌, ◌+◌, ◌-◌, ◌*◌, ◌^◌, ℕ, List, [], ◌∷◌, Bool, true, false, not, cond, nat_lt, nat_le, None}
+use Rattle.std.proofs.Common.{Some, Option, refl, ap, ◌∙◌, arith, length, take, drop, codes, bytes_eq}
 use Rattle.std.specs.Char.{digit_value}
 use Rattle.std.specs.List.{list_all}
 use Rattle.std.specs.Str.Parse.{AllDigits, IsNumeral, digits_value, digits_value_after}

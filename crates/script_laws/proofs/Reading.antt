@@ -1,11 +1,13 @@
 -- A form that gave something, taken apart: what each of its operands read.
-use Rattle.std.proofs.Common.{◌≡◌, ℕ, zero, suc, List, [], ◌∷◌, Bool, true, false, cond, None, Some, Option, Ok, Err, Result, refl, sym, ap, subst, ◌∙◌, arith, codes, bytes_eq, ℤ, pos, negsuc, is_ok, true≢false}
+use Rattle.std.proofs.Common.{◌≡◌, ℕ, zero, suc, List, [], ◌∷◌, Bool, true, false, cond, None, Some, Option, Ok, Err, Result, refl, sym, ap}
+use Rattle.std.proofs.Common.{subst, ◌∙◌, arith, codes, bytes_eq, ℤ, pos, negsuc, is_ok, true≢false}
 use Rattle.std.specs.Fmt.{signed_decimal}
 use Rattle.std.proofs.lemmas.Option.{none-some, same_Some}
 use Rattle.mem_base.specs.declared.script.faults.Cause.{Cause}
 use Rattle.mem_base.specs.declared.script.faults.Cause.TheVariants as causes
 use Rattle.mem_base.specs.script.Spelling.{Text, most_address, most_size, number_of, priority_of}
-use Rattle.mem_base.specs.script.Operands.{◌>>=◌, Form, Operand, address, ends, ends_after_options, give, last_data, last_option, last_priority, priority, then_read, token_as, value_in, with_value}
+use Rattle.mem_base.specs.script.Operands.{◌>>=◌, Form, Operand, address, ends, ends_after_options, give, last_data, last_option}
+use Rattle.mem_base.specs.script.Operands.{last_priority, priority, then_read, token_as, value_in, with_value}
 use Rattle.mem_base.specs.script.Printing.{data_tokens, number_text, prio_tokens}
 use Rattle.script_laws.proofs.Tokens.{Law, Spelled, are_tokens}
 use Rattle.script_laws.proofs.Spelled.{number_law, priority_law}

@@ -1,5 +1,6 @@
 -- A script that was read, printed, reads as the same commands on lines 1, 2, 3 and so on.
-use Rattle.std.proofs.Common.{◌≡◌, ◌==◌, ◌<◌, ◌≤◌, ◌+◌, ℕ, List, [], ◌∷◌, Bool, true, false, cond, nat_le, Option, Some, None, Result, Ok, Err, is_ok, true≢false, refl, sym, ap, ◌∙◌, subst, arith, length, option_map}
+use Rattle.std.proofs.Common.{◌≡◌, ◌==◌, ◌<◌, ◌≤◌, ◌+◌, ℕ, List, [], ◌∷◌, Bool, true, false, cond, nat_le, Option, Some, None, Result, Ok}
+use Rattle.std.proofs.Common.{Err, is_ok, true≢false, refl, sym, ap, ◌∙◌, subst, arith, length, option_map}
 use Rattle.std.specs.List.{slice_split}
 use Rattle.std.proofs.lemmas.Bool.{le-leb}
 use Rattle.std.proofs.lemmas.List.Splits.{length-slice_split, slice_split_at}

@@ -1,5 +1,7 @@
 -- Each kind of operand: what was read, printed, reads as the same.
-use Rattle.std.proofs.Common.{◌≡◌, ◌==◌, ◌<◌, ◌≤◌, ◌+◌, ◌-◌, ◌*◌, ◌/◌, ◌%◌, ◌^◌, ◌++◌, ◌&&◌, ℕ, zero, suc, List, [], ◌∷◌, Bool, true, false, not, cond, nat_lt, nat_le, None, Some, Option, refl, sym, ap, ap₂, subst, ◌∙◌, arith, length, take, drop, codes, decimal, bytes_eq, ℤ, pos, negsuc, neg_ℤ, option_map, option_and_then, position, true≢false, eqb-true}
+use Rattle.std.proofs.Common.{◌≡◌, ◌==◌, ◌<◌, ◌≤◌, ◌+◌, ◌-◌, ◌*◌, ◌/◌, ◌%◌, ◌^◌, ◌++◌, ◌&&◌, ℕ, zero, suc, List, [], ◌∷◌, Bool, true, false}
+use Rattle.std.proofs.Common.{not, cond, nat_lt, nat_le, None, Some, Option, refl, sym, ap, ap₂, subst, ◌∙◌, arith, length, take, drop}
+use Rattle.std.proofs.Common.{codes, decimal, bytes_eq, ℤ, pos, negsuc, neg_ℤ, option_map, option_and_then, position, true≢false, eqb-true}
 use Rattle.std.proofs.lemmas.Bool.{eqb-false, lt-ltb}
 use Rattle.std.proofs.lemmas.List.{drop-drop, length-append}
 use Rattle.std.proofs.lemmas.List.Folds.{list_all-append}
@@ -11,12 +13,15 @@ use Rattle.std.proofs.lemmas.Option.{cond_some, option_and_then_some, none-some,
 use Rattle.mem_base.specs.declared.map.kinds.Client.TheVariants.{Vga, Code, Migration}
 use Rattle.mem_base.specs.declared.map.translations.Perm.TheVariants.{Nothing, Read, Write, Both}
 use Rattle.mem_base.specs.declared.map.kinds.DeviceKind.TheVariants.{Latch, Count, Bell, Fault}
-use Rattle.mem_base.specs.script.Spelling.{Text, between, byte_of, byte_pairs, bytes_of, digit_of, digits, is_name, leads_with_no_zero, length_of, machine_size, name_of, nonzero, number_of, pair_of, pass_of, priority_of, range_at, range_of, whole_pages}
+use Rattle.mem_base.specs.script.Spelling.{Text, between, byte_of, byte_pairs, bytes_of, digit_of, digits, is_name, leads_with_no_zero}
+use Rattle.mem_base.specs.script.Spelling.{length_of, machine_size, name_of, nonzero, number_of, pair_of, pass_of, priority_of, range_at}
+use Rattle.mem_base.specs.script.Spelling.{range_of, whole_pages}
 use Rattle.mem_base.specs.script.Operands.{clients, perms, switches, value_in}
 use Rattle.mem_base.specs.script.RegionForms.{device_kinds}
 use Rattle.mem_base.specs.script.Printing.{bytes_text, client_text, device_kind_text, number_text, pass_text, perm_text, range_text, switch_text}
 use Rattle.script_laws.proofs.Tokens.{Law, Spelled, and_both, and_true, is_graphic, is_token, name-token, token_more}
-use Rattle.script_laws.proofs.Numerals.{decimal_reads, decimal_token, digits_fit, digits_graphic, number_fits, number_reads, number_token, no_digit, short_number_reads, ten}
+use Rattle.script_laws.proofs.Numerals.{decimal_reads, decimal_token, digits_fit, digits_graphic, number_fits, number_reads, number_token}
+use Rattle.script_laws.proofs.Numerals.{no_digit, short_number_reads, ten}
 
 pub name_law : Law name_of (λ n. n)
 name_law token x e =

@@ -1,6 +1,8 @@
 // The text of a command, as its tokens are written.
 ghost use Rattle.std.specs.Prelude.{◌≡◌, ◌++◌, [], ◌∷◌, OnOk, codes, decimal};
-ghost use Rattle.mem_base.specs.script.Printing.{bytes_text, change_tokens, client_text, command_tokens, data_tokens, device_kind_text, device_tokens, flag_tokens, number_text, pass_text, perm_text, prio_tokens, range_text, range_tokens, region_tokens, regs_tokens, switch_text};
+ghost use Rattle.mem_base.specs.script.Printing.{bytes_text, change_tokens, client_text, command_tokens, data_tokens, device_kind_text};
+ghost use Rattle.mem_base.specs.script.Printing.{device_tokens, flag_tokens, number_text, pass_text, perm_text, prio_tokens, range_text};
+ghost use Rattle.mem_base.specs.script.Printing.{range_tokens, region_tokens, regs_tokens, switch_text};
 ghost use Rattle.script_lines.specs.Tokens.{after_spaces};
 
 use crate::numbers::{push_bytes, push_decimal, push_hex, push_signed};
@@ -259,7 +261,8 @@ fn push_map(
     translated: u64,
     perm: Perm,
 ) -> Result<(), AllocError>
-    ensures { OnOk result (text.new.items ≡ text.old.items ++ after_spaces (codes "map" ∷ region.now ∷ number_text iova ∷ number_text size ∷ space.now ∷ number_text translated ∷ perm_text perm ∷ [])) }
+    ensures { OnOk result (text.new.items ≡ text.old.items ++ after_spaces
+        (codes "map" ∷ region.now ∷ number_text iova ∷ number_text size ∷ space.now ∷ number_text translated ∷ perm_text perm ∷ [])) }
 {
     push_numbered(text, b"map", region, iova)?;
     push_size(text, size)?;
@@ -277,7 +280,8 @@ fn push_event(
     number: u32,
     value: Option<u64>,
 ) -> Result<(), AllocError>
-    ensures { OnOk result (text.new.items ≡ text.old.items ++ after_spaces (codes "event" ∷ region.now ∷ number_text offset ∷ decimal size ∷ decimal number ∷ data_tokens value)) }
+    ensures { OnOk result (text.new.items ≡ text.old.items ++ after_spaces
+        (codes "event" ∷ region.now ∷ number_text offset ∷ decimal size ∷ decimal number ∷ data_tokens value)) }
 {
     push_numbered(text, b"event", region, offset)?;
     push_decimal_token(text, u64::from(size))?;
@@ -293,7 +297,8 @@ fn push_unevent(
     size: u8,
     value: Option<u64>,
 ) -> Result<(), AllocError>
-    ensures { OnOk result (text.new.items ≡ text.old.items ++ after_spaces (codes "unevent" ∷ region.now ∷ number_text offset ∷ decimal size ∷ data_tokens value)) }
+    ensures { OnOk result (text.new.items ≡ text.old.items ++ after_spaces
+        (codes "unevent" ∷ region.now ∷ number_text offset ∷ decimal size ∷ data_tokens value)) }
 {
     push_numbered(text, b"unevent", region, offset)?;
     push_decimal_token(text, u64::from(size))?;
@@ -427,7 +432,8 @@ fn push_region_alias(
     target: &Name,
     offset: u64,
 ) -> Result<(), AllocError>
-    ensures { OnOk result (text.new.items ≡ text.old.items ++ after_spaces (region_tokens name.now (codes "alias") size (target.now ∷ number_text offset ∷ []))) }
+    ensures { OnOk result (text.new.items ≡ text.old.items ++ after_spaces
+        (region_tokens name.now (codes "alias") size (target.now ∷ number_text offset ∷ []))) }
 {
     push_region(text, name, b"alias", size)?;
     push_word(text, target.as_bytes())?;
@@ -468,7 +474,8 @@ fn push_watch(
     first: u64,
     last: u64,
 ) -> Result<(), AllocError>
-    ensures { OnOk result (text.new.items ≡ text.old.items ++ after_spaces (codes "watch" ∷ name.now ∷ region.now ∷ number_text first ∷ number_text last ∷ [])) }
+    ensures { OnOk result (text.new.items ≡ text.old.items ++ after_spaces
+        (codes "watch" ∷ name.now ∷ region.now ∷ number_text first ∷ number_text last ∷ [])) }
 {
     push_two_named(text, b"watch", name, region)?;
     push_number(text, first)?;
@@ -515,7 +522,8 @@ fn push_pass_write(
     addr: u64,
     bytes: &Bytes,
 ) -> Result<(), AllocError>
-    ensures { OnOk result (text.new.items ≡ text.old.items ++ after_spaces (pass_text pass ∷ codes "write" ∷ space.now ∷ number_text addr ∷ bytes_text bytes.now ∷ [])) }
+    ensures { OnOk result (text.new.items ≡ text.old.items ++ after_spaces
+        (pass_text pass ∷ codes "write" ∷ space.now ∷ number_text addr ∷ bytes_text bytes.now ∷ [])) }
 {
     push_pass(text, pass)?;
     push_numbered(text, b"write", space, addr)?;
@@ -532,7 +540,9 @@ fn push_pass_dma(
     to_space: &Name,
     to_addr: u64,
 ) -> Result<(), AllocError>
-    ensures { OnOk result (text.new.items ≡ text.old.items ++ after_spaces (pass_text pass ∷ codes "dma" ∷ space.now ∷ number_text addr ∷ decimal len ∷ codes "to" ∷ to_space.now ∷ number_text to_addr ∷ [])) }
+    ensures { OnOk result (text.new.items ≡ text.old.items ++ after_spaces
+        (pass_text pass ∷ codes "dma" ∷ space.now ∷ number_text addr ∷ decimal len ∷ codes "to" ∷ to_space.now ∷ number_text to_addr
+        ∷ [])) }
 {
     push_pass(text, pass)?;
     push_numbered(text, b"dma", space, addr)?;

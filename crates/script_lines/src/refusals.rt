@@ -1,6 +1,7 @@
 // The line of a refused command, and that of a text which is no script.
 ghost use Rattle.std.specs.Prelude.{◌≡◌, ◌++◌, IfOk, OnOk};
-ghost use Rattle.mem_base.specs.script.RefusalLines.{bad_line, cause_text, held_text, limit_text, refusal_text, refused_line, taken_text, unknown_text, user_text, what_text, which_text};
+ghost use Rattle.mem_base.specs.script.RefusalLines.{bad_line, cause_text, held_text, limit_text, refusal_text, refused_line, taken_text};
+ghost use Rattle.mem_base.specs.script.RefusalLines.{unknown_text, user_text, what_text, which_text};
 ghost use Rattle.script_names.specs.Tables.{printed_names};
 
 use crate::line::Line;

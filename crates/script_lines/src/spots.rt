@@ -1,6 +1,7 @@
 // The lines of views and searches.
 ghost use Rattle.std.specs.Prelude.{◌≡◌, ◌++◌, IfOk, OnOk};
-ghost use Rattle.mem_base.specs.script.SpotLines.{at_line, attrs_text, flag_text, found_text, kind_text, kind_word, log_text, range_line, range_text, spot_text, view_line};
+ghost use Rattle.mem_base.specs.script.SpotLines.{at_line, attrs_text, flag_text, found_text, kind_text, kind_word, log_text, range_line};
+ghost use Rattle.mem_base.specs.script.SpotLines.{range_text, spot_text, view_line};
 ghost use Rattle.script_names.specs.Tables.{printed_names};
 
 use crate::line::Line;

@@ -1,9 +1,12 @@
 -- One turn of each list of draws.
-use Rattle.std.proofs.Common.{◌≡◌, ◌+◌, ◌-◌, ◌%◌, ◌==◌, Bool, true, false, if◌then◌else◌, ◌<◌, ◌≤◌, ◌++◌, ℕ, zero, suc, List, [], ◌∷◌, Option, None, append_assoc, refl, sym, ap, ◌∙◌, arith, ℤ}
+use Rattle.std.proofs.Common.{◌≡◌, ◌+◌, ◌-◌, ◌%◌, ◌==◌, Bool, true, false, if◌then◌else◌, ◌<◌, ◌≤◌, ◌++◌, ℕ, zero, suc, List, [], ◌∷◌}
+use Rattle.std.proofs.Common.{Option, None, append_assoc, refl, sym, ap, ◌∙◌, arith, ℤ}
 use Rattle.mem_base.specs.declared.map.ids.PassId.{PassId}
 use Rattle.mem_base.specs.declared.script.commands.Command.{Command}
-use Rattle.mem_base.specs.script.Make.{Generator, added, draw, draw_access, draw_accesses, draw_bytes, draw_kind, draw_move, draw_move_at, give, draw_page, draw_place, draw_region, draw_regions, draw_way, latest_after, made, made_of}
-use Rattle.script_make.specs.Draws.{AccessDrawn, AccessPushed, Appended, Pushed, RegionPushed, draw_len, draw_priority, first_accesses, first_regions, one_access, onto}
+use Rattle.mem_base.specs.script.Make.{Generator, added, draw, draw_access, draw_accesses, draw_bytes, draw_kind, draw_move, draw_move_at}
+use Rattle.mem_base.specs.script.Make.{give, draw_page, draw_place, draw_region, draw_regions, draw_way, latest_after, made, made_of}
+use Rattle.script_make.specs.Draws.{AccessDrawn, AccessPushed, Appended, Pushed, RegionPushed, draw_len, draw_priority, first_accesses}
+use Rattle.script_make.specs.Draws.{first_regions, one_access, onto}
 
 -- a place was drawn; the line has a priority that is equal to the one drawn
 pub place_drawn : {G : Type 0} (next : Generator G) (i : ℕ) (latest : Option ℕ) (offset chosen : ℕ) (priority written : ℤ) (command : Command) (g g1 g2 g3 : G)

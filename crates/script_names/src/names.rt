@@ -113,7 +113,8 @@ impl Names {
         requires free { number_of self.old.regions.bound name.now ≡ None }
         requires room { length self.old.regions.made < 2 ^ 32 }
         ensures id { IfOk result (λ region. region.0 ≡ length self.old.regions.made) }
-        ensures regions { IfOk result (λ region. self.new.regions ≡ table (self.old.regions.bound ++ (name.now, region.0) ∷ []) (self.old.regions.made ++ name.now ∷ [])) }
+        ensures regions { IfOk result (λ region. self.new.regions
+            ≡ table (self.old.regions.bound ++ (name.now, region.0) ∷ []) (self.old.regions.made ++ name.now ∷ [])) }
         ensures kinds { OnOk result (self.new.kinds ≡ self.old.kinds ++ kind ∷ []) }
         ensures others { OnOk result (self.new ≡ record self.old { regions = self.new.regions; kinds = self.new.kinds }) }
     {
@@ -127,7 +128,8 @@ impl Names {
         requires free { number_of self.old.spaces.bound name.now ≡ None }
         requires room { length self.old.spaces.made < 2 ^ 32 }
         ensures id { IfOk result (λ space. space.0 ≡ length self.old.spaces.made) }
-        ensures spaces { IfOk result (λ space. self.new.spaces ≡ table (self.old.spaces.bound ++ (name.now, space.0) ∷ []) (self.old.spaces.made ++ name.now ∷ [])) }
+        ensures spaces { IfOk result (λ space. self.new.spaces
+            ≡ table (self.old.spaces.bound ++ (name.now, space.0) ∷ []) (self.old.spaces.made ++ name.now ∷ [])) }
         ensures others { OnOk result (self.new ≡ record self.old { spaces = self.new.spaces }) }
     {
         let number = self.spaces.bind(alloc, name)?;
@@ -139,7 +141,8 @@ impl Names {
         requires free { number_of self.old.listeners.bound name.now ≡ None }
         requires room { length self.old.listeners.made < 2 ^ 32 }
         ensures id { IfOk result (λ listener. listener.0 ≡ length self.old.listeners.made) }
-        ensures listeners { IfOk result (λ listener. self.new.listeners ≡ table (self.old.listeners.bound ++ (name.now, listener.0) ∷ []) (self.old.listeners.made ++ name.now ∷ [])) }
+        ensures listeners { IfOk result (λ listener. self.new.listeners
+            ≡ table (self.old.listeners.bound ++ (name.now, listener.0) ∷ []) (self.old.listeners.made ++ name.now ∷ [])) }
         ensures others { OnOk result (self.new ≡ record self.old { listeners = self.new.listeners }) }
     {
         let number = self.listeners.bind(alloc, name)?;
@@ -151,7 +154,8 @@ impl Names {
         requires free { number_of self.old.notifiers.bound name.now ≡ None }
         requires room { length self.old.notifiers.made < 2 ^ 32 }
         ensures id { IfOk result (λ notifier. notifier.0 ≡ length self.old.notifiers.made) }
-        ensures notifiers { IfOk result (λ notifier. self.new.notifiers ≡ table (self.old.notifiers.bound ++ (name.now, notifier.0) ∷ []) (self.old.notifiers.made ++ name.now ∷ [])) }
+        ensures notifiers { IfOk result (λ notifier. self.new.notifiers
+            ≡ table (self.old.notifiers.bound ++ (name.now, notifier.0) ∷ []) (self.old.notifiers.made ++ name.now ∷ [])) }
         ensures others { OnOk result (self.new ≡ record self.old { notifiers = self.new.notifiers }) }
     {
         let number = self.notifiers.bind(alloc, name)?;

@@ -1,5 +1,6 @@
 -- A text that is cut at the first byte which passes a test, and the tokens of a text that is cut at a space or a tab.
-use Rattle.std.proofs.Common.{◌≡◌, ◌<◌, ◌≤◌, ◌+◌, ℕ, List, [], ◌∷◌, Bool, true, false, cond, length, take, drop, position, filter, refl, sym, ap, ◌∙◌, arith, None, Some}
+use Rattle.std.proofs.Common.{◌≡◌, ◌<◌, ◌≤◌, ◌+◌, ℕ, List, [], ◌∷◌, Bool, true, false, cond, length, take, drop, position, filter, refl}
+use Rattle.std.proofs.Common.{sym, ap, ◌∙◌, arith, None, Some}
 use Rattle.std.specs.List.{slice_split, position_or_len}
 use Rattle.std.proofs.lemmas.Bool.{lt-ltb, ltb-true, ltb-false}
 use Rattle.std.proofs.lemmas.Option.{cond_some}

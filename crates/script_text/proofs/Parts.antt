@@ -1,5 +1,6 @@
 -- The commands of a text, from its first line on.
-use Rattle.std.proofs.Common.{◌≡◌, ◌==◌, ◌<◌, ◌+◌, ℕ, List, [], ◌∷◌, ◌++◌, Bool, length, take, drop, position, refl, sym, ap, ◌∙◌, arith, None, Some, Ok, Err, append_assoc}
+use Rattle.std.proofs.Common.{◌≡◌, ◌==◌, ◌<◌, ◌+◌, ℕ, List, [], ◌∷◌, ◌++◌, Bool, length, take, drop, position, refl, sym, ap, ◌∙◌, arith}
+use Rattle.std.proofs.Common.{None, Some, Ok, Err, append_assoc}
 use Rattle.std.specs.declared.option.Option.{Option}
 use Rattle.std.specs.List.{slice_split}
 use Rattle.std.proofs.lemmas.List.Splits.{length-slice_split}

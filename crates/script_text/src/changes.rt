@@ -1,6 +1,7 @@
 // The lines that change the map: one function for one form.
 ghost use Rattle.mem_base.specs.script.Operands.{value_in};
-ghost use Rattle.mem_base.specs.script.ChangeForms.{add, change, change_forms, del, disable, enable, event, global, log, map_page, move, nonvolatile, readonly, resize, retarget, romd, unevent, unmap, unmergeable};
+ghost use Rattle.mem_base.specs.script.ChangeForms.{add, change, change_forms, del, disable, enable, event, global, log, map_page, move};
+ghost use Rattle.mem_base.specs.script.ChangeForms.{nonvolatile, readonly, resize, retarget, romd, unevent, unmap, unmergeable};
 ghost use Rattle.script_text.specs.Reads.{Reads, tried};
 
 use crate::stops::LineStop;

@@ -1,7 +1,9 @@
 // How names, numbers and bytes are spelled: one function for one definition.
 ghost use Rattle.std.specs.Prelude.{◌≡◌, ◌≤◌, ◌<◌, ◌-◌, ◌^◌, ◌==◌, ◌++◌, IfSome, IfOk, MatchOption, option_map, position, length, take, drop, ◌∷◌, pos, neg_ℤ};
 ghost use Rattle.std.specs.List.{list_all};
-ghost use Rattle.mem_base.specs.script.Spelling.{byte_of, bytes_of, digit_of, digits, is_letter, is_name, leads_with_no_zero, length_of, machine_size, may_follow, number_of, pair_of, pass_of, plain_number, priority_of, range_of, scale_of};
+ghost use Rattle.mem_base.specs.script.Spelling.{byte_of, bytes_of, digit_of, digits, is_letter, is_name, leads_with_no_zero, length_of};
+ghost use Rattle.mem_base.specs.script.Spelling.{machine_size, may_follow, number_of, pair_of, pass_of, plain_number, priority_of};
+ghost use Rattle.mem_base.specs.script.Spelling.{range_of, scale_of};
 
 use std::alloc::{AllocError, Global};
 

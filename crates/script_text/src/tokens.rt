@@ -1,7 +1,9 @@
 // The tokens of a line, each operand taken from the front.
-ghost use Rattle.std.specs.Prelude.{◌≡◌, ◌<◌, List, ℕ, [], ◌∷◌, Ok, Err, IfOk, IfSome, MatchResult, MatchOption, IsTrue, nat_lt, length, position, if◌then◌else◌, codes};
+ghost use Rattle.std.specs.Prelude.{◌≡◌, ◌<◌, List, ℕ, [], ◌∷◌, Ok, Err, IfOk, IfSome, MatchResult, MatchOption, IsTrue, nat_lt, length};
+ghost use Rattle.std.specs.Prelude.{position, if◌then◌else◌, codes};
 ghost use Rattle.mem_base.specs.script.Lines.{is_gap, tokens_of};
-ghost use Rattle.mem_base.specs.script.Operands.{address, bytes, client, decimal_number, flag, keyword, last_data, last_priority, len, memory_size, name, notifier, perm, range, size, switch, optional};
+ghost use Rattle.mem_base.specs.script.Operands.{address, bytes, client, decimal_number, flag, keyword, last_data, last_priority, len};
+ghost use Rattle.mem_base.specs.script.Operands.{memory_size, name, notifier, perm, range, size, switch, optional};
 ghost use Rattle.mem_base.specs.script.RegionForms.{device_kind};
 ghost use Rattle.mem_base.specs.declared.script.faults.Cause.TheVariants.{Count, Word};
 ghost use Rattle.script_text.specs.Reads.{Stops};

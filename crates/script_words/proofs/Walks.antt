@@ -1,10 +1,12 @@
 -- What clap makes of words none of which begins with a hyphen.
-use Rattle.std.proofs.Common.{◌≡◌, ◌==◌, ◌||◌, ◌++◌, ℕ, List, [], ◌∷◌, Bool, true, false, None, Some, codes, refl, sym, ap, ◌∙◌, fold, append_assoc, inl, inr, true≢false, subst, ap₂, eqb-true, ◌&&◌}
+use Rattle.std.proofs.Common.{◌≡◌, ◌==◌, ◌||◌, ◌++◌, ℕ, List, [], ◌∷◌, Bool, true, false, None, Some, codes, refl, sym, ap, ◌∙◌, fold}
+use Rattle.std.proofs.Common.{append_assoc, inl, inr, true≢false, subst, ap₂, eqb-true, ◌&&◌}
 use Rattle.std.specs.Str.{bytes_eq}
 use Rattle.std.proofs.lemmas.Cmp.{nat_list_eq_equiv}
 use Rattle.std.specs.List.{list_any}
 use Rattle.std.specs.declared.option.Option.{Option}
-use Rattle.clap.specs.Words.{App, HasKind, HasMatchesOf, kind_of, is_simple, is_simple_and_free, subcommand_rows_of, Kinds, Row, Rule, Shape, Text, built, fault_of, subcommand_of}
+use Rattle.clap.specs.Words.{App, HasKind, HasMatchesOf, kind_of, is_simple, is_simple_and_free, subcommand_rows_of, Kinds, Row, Rule}
+use Rattle.clap.specs.Words.{Shape, Text, built, fault_of, subcommand_of}
 use Rattle.clap.specs.Faults.{walk_fault}
 use Rattle.clap.specs.Lexer.{long_of, short_of}
 use Rattle.clap.specs.Simple.{names_of}

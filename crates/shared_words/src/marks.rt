@@ -69,7 +69,8 @@ pub fn harvest<E: Edition + Drop>(
     requires within { past place.now ≤ writer.old.sizes.words }
     requires words { place.now.words ≡ words_of (extent place.now.bytes place.now.regs) }
     requires index { index < mark_words_of place.now.bytes }
-    ensures wrote { Wrote hands.Writer writer.old.sizes writer.old.seen (history_entry (events.Harvest place.now.region client index) (At place.now) result ∷ []) writer.new.seen }
+    ensures wrote { Wrote hands.Writer writer.old.sizes writer.old.seen
+        (history_entry (events.Harvest place.now.region client index) (At place.now) result ∷ []) writer.new.seen }
     ensures home { KeepsHome writer.old.out writer.old.seen writer.new.seen }
     ensures same { (writer.new.cabinet ≡ writer.old.cabinet) × (writer.new.sizes ≡ writer.old.sizes) × (writer.new.out ≡ writer.old.out) }
 {

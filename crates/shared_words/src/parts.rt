@@ -35,7 +35,8 @@ pub fn store_part<E: Edition + Drop, H: Hand<E>, R: Wait>(
     requires own { H.made_by hand.old ≡ cabinet.now.id }
     requires part { (0 < length bytes.now) × (first + length bytes.now ≤ 8) }
     requires may { H.may hand.old place.now word Look }
-    ensures wrote { (old : ℕ) × WroteStep (H.actor hand.old) (H.sizes hand.old) place.now word (steps.Replace first (length bytes.now) (little_endian bytes.now)) old (H.seen hand.old) (H.seen hand.new) }
+    ensures wrote { (old : ℕ) × WroteStep (H.actor hand.old) (H.sizes hand.old) place.now word
+        (steps.Replace first (length bytes.now) (little_endian bytes.now)) old (H.seen hand.old) (H.seen hand.new) }
     ensures stays { H.stays hand.old hand.new }
 {
     let value = number(bytes);

@@ -33,7 +33,8 @@ pub fn store8<E: Edition + Drop, H: Hand<E>>(
 )
     requires own { H.made_by hand.old ≡ cabinet.now.id }
     requires may { H.may hand.old place.now word (Step (steps.Replace 0 8 value)) }
-    ensures wrote { (old : ℕ) × WroteStep (H.actor hand.old) (H.sizes hand.old) place.now word (steps.Replace 0 8 value) old (H.seen hand.old) (H.seen hand.new) }
+    ensures wrote { (old : ℕ) × WroteStep (H.actor hand.old) (H.sizes hand.old) place.now word (steps.Replace 0 8 value) old
+        (H.seen hand.old) (H.seen hand.new) }
     ensures stays { H.stays hand.old hand.new }
 {
     let step = WordStep::Replace {

@@ -151,7 +151,8 @@ impl Desk {
     /// It is refused for the forest's first reason, or where memory runs out, and then nothing changes.
     pub fn call(&mut self, call: &Call) -> Result<Applied, Refusal>
         requires { (self.old.state.depth == 0) && not (is_quiet call.now) ≡ false }
-        ensures applied { IfOk result (λ x. (after self.old.state.forest call.now ≡ Ok self.new.state.forest) × (x ≡ answer_of self.old.state.forest call.now)) }
+        ensures applied { IfOk result (λ x. (after self.old.state.forest call.now ≡ Ok self.new.state.forest)
+            × (x ≡ answer_of self.old.state.forest call.now)) }
         ensures state { OnOk result (self.new ≡ with_state (transaction_after self.old.state (configs.Call call.now)) self.old) }
         ensures refused { IfErr result (λ why. why ≢ Refusal.Memory → after self.old.state.forest call.now ≡ Err why) }
         ensures unchanged { OnErr result (self.new ≡ self.old) }

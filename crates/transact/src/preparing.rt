@@ -69,7 +69,8 @@ fn kept(
     notifies: bool,
     places: &[Place],
 ) -> Result<Vec<Place>, AllocError>
-    ensures { IfOk result (λ list. list.items ≡ filter (λ q. if is_notifiers q.region then notifies else list_any (λ p. has_leaf q.region (arc_value p.1)) atlases.now) places.now) }
+    ensures { IfOk result (λ list. list.items ≡ filter (λ q. if is_notifiers q.region then notifies else list_any
+        (λ p. has_leaf q.region (arc_value p.1)) atlases.now) places.now) }
 {
     let mut list = Vec::new(alloc);
     for place in places {

@@ -77,7 +77,8 @@ pub(crate) fn is_same_region(x: Option<RegionId>, y: Option<RegionId>) -> bool
 
 // Whether two regions stand in one place: container, offset, priority and placing agree.
 fn is_placed_alike(x: &Node, y: &Node) -> bool
-    ensures { result ≡ (is_same_region x.now.parent y.now.parent && (x.now.offset == y.now.offset) && is_eq (int_cmp x.now.priority y.now.priority) && (x.now.placing == y.now.placing)) }
+    ensures { result ≡ (is_same_region x.now.parent y.now.parent && (x.now.offset == y.now.offset)
+        && is_eq (int_cmp x.now.priority y.now.priority) && (x.now.placing == y.now.placing)) }
 {
     is_same_region(x.parent, y.parent)
         && x.offset == y.offset
@@ -87,7 +88,9 @@ fn is_placed_alike(x: &Node, y: &Node) -> bool
 
 // Whether flags and logging mask of two regions agree.
 fn is_flagged_alike(x: &Node, y: &Node) -> bool
-    ensures { result ≡ (bool_eq x.now.enabled y.now.enabled && bool_eq x.now.readonly y.now.readonly && bool_eq x.now.nonvolatile y.now.nonvolatile && bool_eq x.now.romd y.now.romd && bool_eq x.now.unmergeable y.now.unmergeable && (x.now.log == y.now.log)) }
+    ensures { result ≡ (bool_eq x.now.enabled y.now.enabled && bool_eq x.now.readonly y.now.readonly
+        && bool_eq x.now.nonvolatile y.now.nonvolatile && bool_eq x.now.romd y.now.romd && bool_eq x.now.unmergeable y.now.unmergeable
+        && (x.now.log == y.now.log)) }
 {
     x.enabled == y.enabled
         && x.readonly == y.readonly

@@ -14,7 +14,8 @@ use Rattle.mem_base.specs.machine.History.{PureEntry, pure_entry, after_entry, a
 use Rattle.mem_base.specs.machine.SharedHistory.{Shared, pool_after, pool_touch_of}
 use Rattle.mem_base.specs.machine.SharedHistory as running
 use Rattle.mem_base.specs.machine.Turns.{history_entry, is_writers, writers_of}
-use Rattle.mem_base.specs.machine.JoinedHistory.{RowPart, next_entry, after_last, before_next, before_entry, at_once, past_at_once, past_entry, put_in, read, reply_read}
+use Rattle.mem_base.specs.machine.JoinedHistory.{RowPart, next_entry, after_last, before_next, before_entry, at_once, past_at_once}
+use Rattle.mem_base.specs.machine.JoinedHistory.{past_entry, put_in, read, reply_read}
 use Rattle.turn_laws.proofs.Coupled.{Coupled, Follows, seen}
 use Rattle.turn_laws.proofs.PassSteps.{passes_follow}
 

@@ -1,5 +1,6 @@
 -- At first the two machines are coupled.
-use Rattle.std.proofs.Common.{◌≡◌, ℕ, zero, suc, ◌+◌, ◌-◌, ◌≤◌, eqb, eq-eqb, Bool, true, false, List, [], ◌∷◌, length, take, replicate, sym, refl, ap, ◌∙◌, subst, arith, Some, None, if◌then◌else◌}
+use Rattle.std.proofs.Common.{◌≡◌, ℕ, zero, suc, ◌+◌, ◌-◌, ◌≤◌, eqb, eq-eqb, Bool, true, false, List, [], ◌∷◌, length, take, replicate, sym}
+use Rattle.std.proofs.Common.{refl, ap, ◌∙◌, subst, arith, Some, None, if◌then◌else◌}
 use Rattle.std.specs.Prelude.{slice_index, ◌^◌}
 use Rattle.std.proofs.lemmas.Bool.{eqb-true}
 use lib.ListN.{length-replicate}

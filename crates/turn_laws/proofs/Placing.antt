@@ -8,7 +8,8 @@ use Rattle.mem_base.specs.declared.machine.events.HistoryEntry.{HistoryEntry}
 use Rattle.mem_base.specs.machine.Histories.{last_of, first_of}
 use Rattle.mem_base.specs.machine.History.{PureEntry}
 use Rattle.mem_base.specs.machine.Turns.{is_writers, writers_of}
-use Rattle.mem_base.specs.machine.JoinedHistory.{RowPart, next_entry, after_last, before_next, read, before_entry, at_once, past_at_once, past_entry, put_in, is_private}
+use Rattle.mem_base.specs.machine.JoinedHistory.{RowPart, next_entry, after_last, before_next, read, before_entry, at_once, past_at_once}
+use Rattle.mem_base.specs.machine.JoinedHistory.{past_entry, put_in, is_private}
 use Rattle.view_laws.proofs.Tests.{true_is_not_false}
 
 -- the private entries of a row are private events of the writer

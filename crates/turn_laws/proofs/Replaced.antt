@@ -1,5 +1,6 @@
 -- The cells of the pure machine after a private event, which makes them anew by the places that stand.
-use Rattle.std.proofs.Common.{◌≡◌, ℕ, ◌+◌, ne_eqb, Bool, true, false, List, [], ◌∷◌, ◌++◌, length, map, replicate, sym, refl, ap, ◌∙◌, subst, arith, if◌then◌else◌, Option, Some, None}
+use Rattle.std.proofs.Common.{◌≡◌, ℕ, ◌+◌, ne_eqb, Bool, true, false, List, [], ◌∷◌, ◌++◌, length, map, replicate, sym, refl, ap, ◌∙◌}
+use Rattle.std.proofs.Common.{subst, arith, if◌then◌else◌, Option, Some, None}
 use Rattle.std.specs.Prelude.{slice_index, filter, ◌==◌}
 use Rattle.std.proofs.lemmas.Bool.{eqb-true}
 use mathlib.Core.Logic.{dite}

@@ -1,5 +1,7 @@
 -- Rows of events of one sort: what they make of the writer's part, that they are ready, and which forests they carry.
-use Rattle.std.proofs.Common.{◌≡◌, ℕ, zero, suc, ◌+◌, ◌<◌, ◌≤◌, eq-eqb, Bool, true, false, List, [], ◌∷◌, ◌++◌, length, map, drop, get_or, set, length-set, get_or-set_same, get_or-set_other, append_assoc, sym, refl, ap, ◌∙◌, subst, arith, Option, Some, None}
+use Rattle.std.proofs.Common.{◌≡◌, ℕ, zero, suc, ◌+◌, ◌<◌, ◌≤◌, eq-eqb, Bool, true, false, List, [], ◌∷◌, ◌++◌, length, map, drop, get_or}
+use Rattle.std.proofs.Common.{set, length-set, get_or-set_same, get_or-set_other, append_assoc, sym, refl, ap, ◌∙◌, subst, arith, Option}
+use Rattle.std.proofs.Common.{Some, None}
 use Rattle.std.specs.Prelude.{filter, not}
 use Rattle.std.specs.List.{list_all}
 use mathlib.Core.Logic.{dite}

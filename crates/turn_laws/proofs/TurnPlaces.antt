@@ -1,5 +1,6 @@
 -- A joined history keeps the entries of the shared history and of the turns, and each private one stands at its place.
-use Rattle.std.proofs.Common.{◌≡◌, Bool, true, false, ◌&&◌, List, [], ◌∷◌, ◌++◌, map, length, append_assoc, arith, ne_eqb, sym, refl, ap, ◌∙◌, subst, if◌then◌else◌, Some}
+use Rattle.std.proofs.Common.{◌≡◌, Bool, true, false, ◌&&◌, List, [], ◌∷◌, ◌++◌, map, length, append_assoc, arith, ne_eqb, sym, refl, ap}
+use Rattle.std.proofs.Common.{◌∙◌, subst, if◌then◌else◌, Some}
 use Rattle.std.specs.Prelude.{flat_map, filter, not, ◌==◌}
 use Rattle.mem_base.specs.declared.machine.events.Event.{Event}
 use Rattle.mem_base.specs.declared.machine.events.Event.TheVariants as events
@@ -12,7 +13,9 @@ use Rattle.mem_base.specs.machine.History.{PureEntry}
 use Rattle.mem_base.specs.machine.SharedHistory.{Shared}
 use Rattle.mem_base.specs.machine.SharedHistory as running
 use Rattle.mem_base.specs.machine.Turns.{WriterCall, entries_of_turn, is_writers, writers_of}
-use Rattle.mem_base.specs.machine.JoinedHistory.{RowPart, next_entry, after_last, before_next, read, waits_for_fill, private_part, row_of, before_entry, at_once, past_at_once, past_entry, put_in, joined_history, is_private, shared_entries, private_entries_in, IsWritersOrNone, StandsBeside, IsPlaced}
+use Rattle.mem_base.specs.machine.JoinedHistory.{RowPart, next_entry, after_last, before_next, read, waits_for_fill, private_part, row_of}
+use Rattle.mem_base.specs.machine.JoinedHistory.{before_entry, at_once, past_at_once, past_entry, put_in, joined_history, is_private}
+use Rattle.mem_base.specs.machine.JoinedHistory.{shared_entries, private_entries_in, IsWritersOrNone, StandsBeside, IsPlaced}
 use Rattle.mem_base.proofs.EveryLaws.{every_filter}
 use Rattle.turn_laws.proofs.Placing.{ArePrivate, privates_in, Fits, row_entries, left_over, private_at, Starts, Placement, placed_all}
 

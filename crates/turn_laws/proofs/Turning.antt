@@ -1,6 +1,7 @@
 -- Each turn of the writer, from an idle part of the machine: it goes, it ends idle, and it publishes what its private
 -- event commits.
-use Rattle.std.proofs.Common.{◌≡◌, ℕ, zero, suc, ◌+◌, ◌<◌, ◌≤◌, Bool, true, false, ◌||◌, List, [], ◌∷◌, ◌++◌, length, map, append_assoc, sym, refl, ap, ◌∙◌, subst, arith, if◌then◌else◌, Option, Some, None}
+use Rattle.std.proofs.Common.{◌≡◌, ℕ, zero, suc, ◌+◌, ◌<◌, ◌≤◌, Bool, true, false, ◌||◌, List, [], ◌∷◌, ◌++◌, length, map, append_assoc}
+use Rattle.std.proofs.Common.{sym, refl, ap, ◌∙◌, subst, arith, if◌then◌else◌, Option, Some, None}
 use Rattle.std.specs.Prelude.{not, ◌/◌}
 use Rattle.std.specs.List.{range_with_len}
 use Rattle.mem_base.specs.declared.map.ids.RegionId.{RegionId}
@@ -26,7 +27,8 @@ use Rattle.mem_base.specs.machine.Reaps.{Writer, writer}
 use Rattle.mem_base.specs.machine.Publishing.{would_publish}
 use Rattle.mem_base.specs.machine.Configs.{configured, answers}
 use Rattle.mem_base.specs.machine.World.{is_at_rest}
-use Rattle.mem_base.specs.machine.Orders.{Order, configure, reap, load, harvest, notified, journal, current, sweeps, publishes, pass_ids, events_after, unless, loads, harvests, mark_words_at, load_refusal, harvest_refusal}
+use Rattle.mem_base.specs.machine.Orders.{Order, configure, reap, load, harvest, notified, journal, current, sweeps, publishes, pass_ids}
+use Rattle.mem_base.specs.machine.Orders.{events_after, unless, loads, harvests, mark_words_at, load_refusal, harvest_refusal}
 use Rattle.mem_base.specs.machine.Turns.{turn, played, private_entries, after_private, entries_of_turn}
 use Rattle.mem_base.specs.machine.JoinedHistory.{published_forests, accepted, accepted_one}
 use Rattle.mem_base.proofs.EveryLaws.{weaker, every_map}
@@ -36,7 +38,10 @@ use Rattle.view_laws.proofs.SortedLaws.{every_filter}
 use Rattle.turn_laws.proofs.Readies.{Ready, Due}
 use Rattle.turn_laws.proofs.TurnGoes.{AllDue, TurnReady}
 use Rattle.history_laws.proofs.Idles.{IsSoundDesk, Idle, fresh}
-use Rattle.turn_laws.proofs.Rows.{AreReady, writer_played, forests_in, forests_both, no_forest_at, with_swept, with_due, with_unfilled, flags_after, swept_desk, swept_passes, swept_length, sweeps_forests, all_swept, sweeps_ready, published_desk, published_passes, publish_forests, publish_ready, filled_desk, filled_generations, fill_forests, fills_ready, IsSteady, steady_after, steady_forests, steady_ready}
+use Rattle.turn_laws.proofs.Rows.{AreReady, writer_played, forests_in, forests_both, no_forest_at, with_swept, with_due, with_unfilled}
+use Rattle.turn_laws.proofs.Rows.{flags_after, swept_desk, swept_passes, swept_length, sweeps_forests, all_swept, sweeps_ready}
+use Rattle.turn_laws.proofs.Rows.{published_desk, published_passes, publish_forests, publish_ready, filled_desk, filled_generations}
+use Rattle.turn_laws.proofs.Rows.{fill_forests, fills_ready, IsSteady, steady_after, steady_forests, steady_ready}
 
 -- nothing is due or unfilled in an idle desk
 at_rest : (d : Desk) → d.due ≡ false → d.unfilled ≡ [] → is_at_rest d ≡ true

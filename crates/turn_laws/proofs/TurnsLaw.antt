@@ -20,7 +20,8 @@ use Rattle.mem_base.specs.machine.SharedHistory as running
 use Rattle.mem_base.specs.lists.Every.{Every}
 use Rattle.mem_base.specs.machine.Orders.{Order, configure, reap, events_before, private_of}
 use Rattle.mem_base.specs.machine.Turns.{Answered, played, private_entries, turn, turns, entries_of_turn, last_writer, is_writers, writers_of}
-use Rattle.mem_base.specs.machine.JoinedHistory.{row_of, joined_history, accepted, accepted_one, accepted_in, forest_carried, published_forests, is_private, IsJoined}
+use Rattle.mem_base.specs.machine.JoinedHistory.{row_of, joined_history, accepted, accepted_one, accepted_in, forest_carried}
+use Rattle.mem_base.specs.machine.JoinedHistory.{published_forests, is_private, IsJoined}
 use Rattle.history_laws.proofs.Idles.{opens_idle, Idle}
 use Rattle.turn_laws.proofs.Openings.{opens}
 use Rattle.turn_laws.proofs.Joining.{Goes, Reaches, reaches_legal, joins_all}

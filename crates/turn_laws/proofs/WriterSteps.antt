@@ -1,5 +1,6 @@
 -- What the writer does on the running machine it does on the pure one, where its turn has come so far.
-use Rattle.std.proofs.Common.{◌≡◌, ℕ, zero, suc, ◌+◌, ◌-◌, ◌<◌, ◌≤◌, ne_eqb, Bool, true, false, ◌||◌, List, [], ◌∷◌, map, take, get_or, set, sym, refl, ap, subst, arith, if◌then◌else◌, Option, Some}
+use Rattle.std.proofs.Common.{◌≡◌, ℕ, zero, suc, ◌+◌, ◌-◌, ◌<◌, ◌≤◌, ne_eqb, Bool, true, false, ◌||◌, List, [], ◌∷◌, map, take, get_or, set}
+use Rattle.std.proofs.Common.{sym, refl, ap, subst, arith, if◌then◌else◌, Option, Some}
 use Rattle.std.specs.Prelude.{nat_lt, Ok}
 use Rattle.std.proofs.lemmas.Bool.{ltb-true, lt-ltb}
 use Rattle.mem_base.specs.declared.map.ids.RegionId.{RegionId}
@@ -17,7 +18,8 @@ use Rattle.mem_base.specs.access.PlacesByRegion.{place_in}
 use Rattle.mem_base.specs.views.Naming.{names, shows_events}
 use Rattle.mem_base.specs.access.Places.{is_notifiers, mark_words, mark_word}
 use Rattle.mem_base.specs.machine.Passes.{pass_of}
-use Rattle.mem_base.specs.machine.Generations.{Generation, generation, Generations, PassTrack, nothing_known, known_of, known_after_sweep, pin_word, with_placed, with_known, least_lowest, held_generations}
+use Rattle.mem_base.specs.machine.Generations.{Generation, generation, Generations, PassTrack, nothing_known, known_of, known_after_sweep}
+use Rattle.mem_base.specs.machine.Generations.{pin_word, with_placed, with_known, least_lowest, held_generations}
 use Rattle.mem_base.specs.machine.Desk.{Desk, places_of, is_shown_place, shown_places, carried_by}
 use Rattle.mem_base.specs.machine.World.{World, possible, if_placed}
 use Rattle.mem_base.specs.machine.SharedHistory as running

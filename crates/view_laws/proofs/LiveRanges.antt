@@ -1,5 +1,6 @@
 -- What is live at the addresses is what is live by the ranges that show them.
-use Rattle.std.proofs.Common.{◌≡◌, ◌⊎◌, ℕ, zero, suc, ◌+◌, ◌-◌, ◌^◌, ◌<◌, ◌≤◌, Bool, true, false, ◌&&◌, List, [], ◌∷◌, ◌++◌, map, sym, refl, ap, ◌∙◌, subst, inl, inr, arith, if◌then◌else◌, Option, Some, None, ⊎_elim, ℤ, pos}
+use Rattle.std.proofs.Common.{◌≡◌, ◌⊎◌, ℕ, zero, suc, ◌+◌, ◌-◌, ◌^◌, ◌<◌, ◌≤◌, Bool, true, false, ◌&&◌, List, [], ◌∷◌, ◌++◌, map, sym, refl}
+use Rattle.std.proofs.Common.{ap, ◌∙◌, subst, inl, inr, arith, if◌then◌else◌, Option, Some, None, ⊎_elim, ℤ, pos}
 use Rattle.std.specs.Prelude.{filter, flat_map, negsuc, ◌+ℤ◌, ◌-ℤ◌, int_lt, int_le}
 use Rattle.std.specs.Option.{option_or}
 use Rattle.std.proofs.lemmas.Int.{ints}

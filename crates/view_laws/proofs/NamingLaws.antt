@@ -1,5 +1,6 @@
 -- The test whether a forest names a region says whether some address has it as its leaf.
-use Rattle.std.proofs.Common.{◌≡◌, ◌⊎◌, ℕ, zero, suc, ◌+◌, ◌^◌, ◌<◌, ◌≤◌, Bool, true, false, ◌||◌, List, [], ◌∷◌, sym, refl, ap, subst, inl, inr, arith, if◌then◌else◌, Option, Some, None, ⊎_elim, eq-eqb}
+use Rattle.std.proofs.Common.{◌≡◌, ◌⊎◌, ℕ, zero, suc, ◌+◌, ◌^◌, ◌<◌, ◌≤◌, Bool, true, false, ◌||◌, List, [], ◌∷◌, sym, refl, ap, subst, inl}
+use Rattle.std.proofs.Common.{inr, arith, if◌then◌else◌, Option, Some, None, ⊎_elim, eq-eqb}
 use Rattle.std.specs.Prelude.{◌==◌, IsSomeAnd, find, option_map, option_and_then}
 use Rattle.std.specs.List.{list_any}
 use Rattle.std.proofs.lemmas.Bool.{eqb-true, cases_lt}

@@ -1,5 +1,6 @@
 -- What two listeners of one space get of the calls of a publish.
-use Rattle.std.proofs.Common.{◌≡◌, inl, inr, ne_eqb, eq-eqb, Bool, true, false, List, [], ◌∷◌, ◌++◌, map, sym, refl, ap, ◌∙◌, arith, if◌then◌else◌, ◌≤ℤ◌, ◌<ℤ◌, ℤ, int_cmp, Some}
+use Rattle.std.proofs.Common.{◌≡◌, inl, inr, ne_eqb, eq-eqb, Bool, true, false, List, [], ◌∷◌, ◌++◌, map, sym, refl, ap, ◌∙◌, arith}
+use Rattle.std.proofs.Common.{if◌then◌else◌, ◌≤ℤ◌, ◌<ℤ◌, ℤ, int_cmp, Some}
 use Rattle.std.proofs.lemmas.List.{append-nil}
 use Rattle.std.proofs.lemmas.Int.{ints}
 use Rattle.std.proofs.lemmas.List.Concat.{flat_map-append}
@@ -19,7 +20,8 @@ use Rattle.mem_base.specs.declared.views.listening.ListenerEvent.TheVariants.{Be
 use Rattle.mem_base.specs.lists.Every.{Every, EveryPair}
 use Rattle.mem_base.specs.map.Forest.{AreOtherSpaces}
 use Rattle.mem_base.specs.map.Search.{is_space}
-use Rattle.mem_base.specs.views.Listening.{Delivery, ascending, goes_down, in_direction, deliver_each, calls_of, hears, deliveries_of, deliveries_of_changes, change_of, changes_between}
+use Rattle.mem_base.specs.views.Listening.{Delivery, ascending, goes_down, in_direction, deliver_each, calls_of, hears, deliveries_of}
+use Rattle.mem_base.specs.views.Listening.{deliveries_of_changes, change_of, changes_between}
 use Rattle.mem_base.proofs.EveryLaws.{weaker}
 use Rattle.view_laws.specs.Priorities.{is_either, those_two, StandsBelow, told_in_turn, CallsGoByPriority}
 use Rattle.view_laws.proofs.Projections.{reverse_filter, filter_swap}

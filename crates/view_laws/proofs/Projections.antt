@@ -1,5 +1,6 @@
 -- What one listener gets of the calls of a publish.
-use Rattle.std.proofs.Common.{◌≡◌, ne_eqb, eq-eqb, drop, Bool, true, false, List, [], ◌∷◌, ◌++◌, map, reverse, sym, refl, ap, ◌∙◌, arith, if◌then◌else◌, Option, Some, None}
+use Rattle.std.proofs.Common.{◌≡◌, ne_eqb, eq-eqb, drop, Bool, true, false, List, [], ◌∷◌, ◌++◌, map, reverse, sym, refl, ap, ◌∙◌, arith}
+use Rattle.std.proofs.Common.{if◌then◌else◌, Option, Some, None}
 use Rattle.std.proofs.lemmas.List.{append-nil}
 use Rattle.std.proofs.lemmas.List.Elements.{filter-append}
 use Rattle.std.specs.Prelude.{filter, find, flat_map, is_some, ◌==◌}
@@ -20,7 +21,9 @@ use Rattle.mem_base.specs.lists.Every.{Every, EveryPair}
 use Rattle.mem_base.specs.map.Forest.{AreOtherSpaces}
 use Rattle.mem_base.specs.map.Search.{is_space}
 use Rattle.mem_base.specs.lists.Sorting.{put_by}
-use Rattle.mem_base.specs.views.Listening.{Delivery, is_listener, deliveries_to, priority_order, ascending, goes_down, in_direction, deliver_each, calls_of, hears, deliveries_of, deliveries_of_changes, change_of, changes_between, calls_to}
+use Rattle.mem_base.specs.views.Listening.{Delivery, is_listener, deliveries_to, priority_order, ascending, goes_down, in_direction}
+use Rattle.mem_base.specs.views.Listening.{deliver_each, calls_of, hears, deliveries_of, deliveries_of_changes, change_of, changes_between}
+use Rattle.mem_base.specs.views.Listening.{calls_to}
 use Rattle.mem_base.proofs.EveryLaws.{weaker}
 
 -- one list of calls after another

@@ -1,5 +1,6 @@
 -- What a listener makes of range calls, and of ioeventfds that are lost and gained in one row.
-use Rattle.std.proofs.Common.{◌≡◌, ◌⊎◌, Bool, true, false, ◌||◌, List, [], ◌∷◌, ◌++◌, map, sym, refl, ap, ◌∙◌, subst, inl, inr, arith, if◌then◌else◌, Option, Some, None}
+use Rattle.std.proofs.Common.{◌≡◌, ◌⊎◌, Bool, true, false, ◌||◌, List, [], ◌∷◌, ◌++◌, map, sym, refl, ap, ◌∙◌, subst, inl, inr, arith}
+use Rattle.std.proofs.Common.{if◌then◌else◌, Option, Some, None}
 use Rattle.std.specs.Prelude.{filter, not, option_and_then, option_map}
 use Rattle.std.specs.List.{list_any}
 use Rattle.std.specs.declared.cmp.Ordering.{Ordering}
@@ -28,7 +29,8 @@ use Rattle.view_laws.proofs.WalkLaws.{walk_replays_apart}
 use Rattle.view_laws.proofs.LiveLaws.{In, unique, every_in, put_in, put_out, put_rising, same_live, order_itself, not_itself}
 use Rattle.view_laws.proofs.ViewRanges.{view_apart}
 use Rattle.view_laws.proofs.LiveMembers.{lists_live}
-use Rattle.view_laws.proofs.SortedLaws.{every_put, every_sorted, filter_in, filter_out, each_in, map_in, map_out, append_in, append_left, append_right, sorted_in, sorted_out}
+use Rattle.view_laws.proofs.SortedLaws.{every_put, every_sorted, filter_in, filter_out, each_in, map_in, map_out, append_in, append_left}
+use Rattle.view_laws.proofs.SortedLaws.{append_right, sorted_in, sorted_out}
 
 abbrev pub heard : List FlatRange → List Live → Bool → ListenerState
 heard ranges lives begun = record { ranges = ranges; lives = lives; begun = begun }

@@ -1,5 +1,6 @@
 -- A space that is not touched has the same view in both forests.
-use Rattle.std.proofs.Common.{◌≡◌, ℕ, zero, suc, ◌+◌, ◌-◌, ◌<◌, ◌≤◌, eq-eqb, Bool, true, false, ◌&&◌, ◌||◌, List, [], ◌∷◌, ◌++◌, map, sym, refl, ap, ◌∙◌, subst, inl, inr, arith, if◌then◌else◌, Option, Some, None}
+use Rattle.std.proofs.Common.{◌≡◌, ℕ, zero, suc, ◌+◌, ◌-◌, ◌<◌, ◌≤◌, eq-eqb, Bool, true, false, ◌&&◌, ◌||◌, List, [], ◌∷◌, ◌++◌, map, sym}
+use Rattle.std.proofs.Common.{refl, ap, ◌∙◌, subst, inl, inr, arith, if◌then◌else◌, Option, Some, None}
 use Rattle.std.specs.Prelude.{◌==◌, ◌^◌, not, nat_lt, nat_le, filter, is_some, option_map, option_and_then}
 use Rattle.std.specs.Option.{option_or}
 use Rattle.std.specs.List.{list_any}
@@ -26,7 +27,8 @@ use Rattle.mem_base.specs.map.Kinds.{is_alias}
 use Rattle.mem_base.specs.map.Order.{trial_order, children_of, ids_of}
 use Rattle.mem_base.specs.map.Steps.{Steps, steps_at, steps_of, reaches_by, longest}
 use Rattle.mem_base.specs.map.Search.{Found, Search, passed, itself, first_of_children, inside, at_node, found_in, found_at, root_of, spot_of, path_of}
-use Rattle.mem_base.specs.map.Touched.{is_reached, is_reached_from, reached, is_same_region, is_same_device_kind, is_same_ops, is_same_device, is_same_kind, looks_alike, stays_alike, is_touched}
+use Rattle.mem_base.specs.map.Touched.{is_reached, is_reached_from, reached, is_same_region, is_same_device_kind, is_same_ops}
+use Rattle.mem_base.specs.map.Touched.{is_same_device, is_same_kind, looks_alike, stays_alike, is_touched}
 use Rattle.mem_base.specs.views.Flattened.{ranges_from, view_of}
 use Rattle.mem_base.proofs.ForestLaws.{id_of, node_of-itself}
 use Rattle.view_laws.proofs.Tests.{both_of, or_left, or_right, none_is_not_some, same_some, true_is_not_false, same_region}

@@ -1,5 +1,6 @@
 -- A walk, replayed on the view that it begins from, gives the view that it ends in.
-use Rattle.std.proofs.Common.{◌≡◌, ℕ, ◌<◌, ◌≤◌, ne_eqb, Bool, true, false, ◌||◌, List, [], ◌∷◌, ◌++◌, map, append_assoc, sym, refl, ap, ◌∙◌, subst, arith, if◌then◌else◌, Option, Some, None}
+use Rattle.std.proofs.Common.{◌≡◌, ℕ, ◌<◌, ◌≤◌, ne_eqb, Bool, true, false, ◌||◌, List, [], ◌∷◌, ◌++◌, map, append_assoc, sym, refl, ap, ◌∙◌}
+use Rattle.std.proofs.Common.{subst, arith, if◌then◌else◌, Option, Some, None}
 use Rattle.std.specs.Prelude.{filter, filter_map, find, not, nat_lt, bit_or, option_and_then}
 use Rattle.std.specs.List.{list_any, cons_option}
 use Rattle.std.specs.Ordering.{is_lt, nat_cmp}
@@ -15,7 +16,8 @@ use Rattle.mem_base.specs.views.Walk.{is_same_range, has_more_bits, log_started,
 use Rattle.mem_base.specs.views.Replay.{is_equal_range, meets_range, range_order, with_log, relogged, if_fits, ranges_after, ranges_after_all}
 use Rattle.mem_base.proofs.EveryLaws.{weaker, every_push}
 use Rattle.view_laws.proofs.Tests.{same_some, true_is_not_false, none_is_not_some}
-use Rattle.view_laws.proofs.RangeLaws.{Apart, apart, Same, same_of, same_itself, equal_itself, not_same, not_equal, with_its_log, any_middle, none_any, takes_out}
+use Rattle.view_laws.proofs.RangeLaws.{Apart, apart, Same, same_of, same_itself, equal_itself, not_same, not_equal, with_its_log}
+use Rattle.view_laws.proofs.RangeLaws.{any_middle, none_any, takes_out}
 
 -- events one after another
 

@@ -1,5 +1,6 @@
 -- How the two parts of a walk go on with the next range.
-use Rattle.std.proofs.Common.{◌≡◌, ℕ, ◌<◌, ◌≤◌, ◌+◌, Bool, true, false, ◌&&◌, cond, List, [], ◌∷◌, ◌++◌, Option, Some, None, map, refl, sym, ap, ◌∙◌, subst, arith, nat_le, eqb, eqb-true, ne_eqb, append_assoc, append-nil, drop, drop-drop, length, ◌^◌}
+use Rattle.std.proofs.Common.{◌≡◌, ℕ, ◌<◌, ◌≤◌, ◌+◌, Bool, true, false, ◌&&◌, cond, List, [], ◌∷◌, ◌++◌, Option, Some, None, map, refl, sym}
+use Rattle.std.proofs.Common.{ap, ◌∙◌, subst, arith, nat_le, eqb, eqb-true, ne_eqb, append_assoc, append-nil, drop, drop-drop, length, ◌^◌}
 use Rattle.view_walk.specs.declared.sides.Side.{Side}
 use Rattle.view_walk.specs.declared.sides.Side.TheVariants.{OldOnly, Both, NewOnly}
 use Rattle.view_walk.specs.Sides.{first_of, side_of}

@@ -2,7 +2,8 @@
 -- QEMU's core, `access_with_adjusted_size` and `memory_region_dispatch_write_eventfds`. The four devices, what a
 -- callback that is wider than its piece reads and writes, and that each piece of a write sets a notifier by itself are this
 -- project's own rules.
-use Rattle.std.specs.Prelude.{◌≡◌, ℕ, ◌+◌, ◌-◌, ◌*◌, ◌/◌, ◌%◌, ◌^◌, Bool, true, false, ◌==◌, ◌&&◌, ◌||◌, not, if◌then◌else◌, List, [], ◌∷◌, ◌++◌, map, take, length, replicate, flat_map, Option, Some, None, option_map, find}
+use Rattle.std.specs.Prelude.{◌≡◌, ℕ, ◌+◌, ◌-◌, ◌*◌, ◌/◌, ◌%◌, ◌^◌, Bool, true, false, ◌==◌, ◌&&◌, ◌||◌, not, if◌then◌else◌, List, [], ◌∷◌}
+use Rattle.std.specs.Prelude.{◌++◌, map, take, length, replicate, flat_map, Option, Some, None, option_map, find}
 use Rattle.mem_base.specs.declared.map.ids.RegionId.{RegionId}
 use Rattle.mem_base.specs.declared.map.forests.Node.{Node}
 use Rattle.mem_base.specs.declared.map.kinds.Device.{Device}
@@ -18,7 +19,8 @@ use Rattle.mem_base.specs.map.Limits.{word_size}
 use Rattle.mem_base.specs.access.Words.{number_of_bytes, in_word, bytes_from, bytes_of}
 use Rattle.mem_base.specs.access.Cells.{cell, notifier_cell}
 use Rattle.mem_base.specs.access.Pieces.{pieces, callbacks}
-use Rattle.mem_base.specs.access.AccessSteps.{Transfer, reading, writing, read_length, part, ShownPart, shown_part, shown_bytes, nothing_shown, AccessStep, blank, steps, tx, unanswered}
+use Rattle.mem_base.specs.access.AccessSteps.{Transfer, reading, writing, read_length, part, ShownPart, shown_part, shown_bytes}
+use Rattle.mem_base.specs.access.AccessSteps.{nothing_shown, AccessStep, blank, steps, tx, unanswered}
 
 -- a write of a number of `size` bytes: only the bytes that lie in the register are written
 abbrev pub stores : ℕ → ℕ → ℕ → WordStep

@@ -1,7 +1,8 @@
 -- The parts of a range of an IOMMU region's table, and what a watcher of the range is told as they change.
 -- QEMU's manual, "The memory API", IOMMU regions, and `IOMMUNotifier` with its range of QEMU's core. That a watcher
 -- is told after a publish, and of the whole difference at once, is this project's own rule.
-use Rattle.std.specs.Prelude.{ℕ, ◌+◌, min, max, Bool, true, false, ◌==◌, ◌&&◌, not, nat_lt, nat_le, if◌then◌else◌, List, [], ◌∷◌, ◌++◌, map, filter, Option, Some, option_and_then}
+use Rattle.std.specs.Prelude.{ℕ, ◌+◌, min, max, Bool, true, false, ◌==◌, ◌&&◌, not, nat_lt, nat_le, if◌then◌else◌, List, [], ◌∷◌, ◌++◌, map}
+use Rattle.std.specs.Prelude.{filter, Option, Some, option_and_then}
 use Rattle.std.specs.List.{list_any}
 use Rattle.std.specs.Ordering.{nat_cmp}
 use Rattle.std.specs.declared.cmp.Ordering.{Ordering}

@@ -1,7 +1,8 @@
 -- The writer's private events: calls, transactions and listeners, with their refusals, and what they leave.
 -- QEMU's core, `memory_region_transaction_begin` and `_commit` and the functions that change regions between them.
 -- That there are at most 64 open transactions, and that a region may find no backing, are this project's own rules.
-use Rattle.std.specs.Prelude.{ℕ, ◌+◌, ◌-◌, true, false, ◌==◌, ◌&&◌, not, if◌then◌else◌, List, [], ◌∷◌, ◌++◌, slice_set, filter, Option, Some, None, Result, Ok, Err}
+use Rattle.std.specs.Prelude.{ℕ, ◌+◌, ◌-◌, true, false, ◌==◌, ◌&&◌, not, if◌then◌else◌, List, [], ◌∷◌, ◌++◌, slice_set, filter, Option}
+use Rattle.std.specs.Prelude.{Some, None, Result, Ok, Err}
 use Rattle.mem_base.specs.declared.map.ids.RegionId.{RegionId}
 use Rattle.mem_base.specs.declared.map.ids.ListenerId.{ListenerId}
 use Rattle.mem_base.specs.declared.map.forests.Forest.{Forest}

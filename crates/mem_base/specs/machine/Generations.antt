@@ -2,7 +2,8 @@
 -- all of this.
 -- This project's own rule: a generation is published by one store, at most eight are kept, and one is held while it
 -- is current or may still be used by a pass.
-use Rattle.std.specs.Prelude.{ℕ, ◌+◌, ◌-◌, ◌==◌, ◌&&◌, ◌||◌, max, min, Bool, true, false, not, nat_le, if◌then◌else◌, List, [], ◌∷◌, take, map, replicate, slice_set, slice_index_or, slice_get, Option, Some, None, is_some, is_none}
+use Rattle.std.specs.Prelude.{ℕ, ◌+◌, ◌-◌, ◌==◌, ◌&&◌, ◌||◌, max, min, Bool, true, false, not, nat_le, if◌then◌else◌, List, [], ◌∷◌, take}
+use Rattle.std.specs.Prelude.{map, replicate, slice_set, slice_index_or, slice_get, Option, Some, None, is_some, is_none}
 use Rattle.std.specs.List.{list_any, list_all}
 use Rattle.mem_base.specs.declared.map.ids.PassId.{PassId}
 use Rattle.mem_base.specs.declared.map.forests.Forest.{Forest}

@@ -3,7 +3,8 @@
 --   it stands directly after the last Sweep of its call;
 --   where its call has no Sweep, it stands directly before the call's first Fill (in a machine without passes, its Publish);
 --   where its call has no shared event, it stands directly after the writer's last entry before it.
-use Rattle.std.specs.Prelude.{◌≡◌, ℕ, ◌+◌, Bool, true, false, ◌==◌, ◌&&◌, not, if◌then◌else◌, List, [], ◌∷◌, ◌++◌, map, filter, length, flat_map, Option, Some, None, Result, Ok}
+use Rattle.std.specs.Prelude.{◌≡◌, ℕ, ◌+◌, Bool, true, false, ◌==◌, ◌&&◌, not, if◌then◌else◌, List, [], ◌∷◌, ◌++◌, map, filter, length}
+use Rattle.std.specs.Prelude.{flat_map, Option, Some, None, Result, Ok}
 use Rattle.mem_base.specs.declared.map.forests.Forest.{Forest}
 use Rattle.mem_base.specs.declared.map.calls.Config.{Config}
 use Rattle.mem_base.specs.declared.map.refusals.Refusal.{Refusal}

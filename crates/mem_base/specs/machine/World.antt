@@ -1,7 +1,8 @@
 -- The pure machine: which events are possible, what each answers, and what it leaves.
 -- This project's own: all that a machine has, as if one lock were round it, namely the desk, the generations that are
 -- kept, the passes, and the cells of the notifiers and of all regions that have a place.
-use Rattle.std.specs.Prelude.{ℕ, Bool, false, ◌&&◌, ◌||◌, not, nat_lt, if◌then◌else◌, List, [], map, replicate, slice_index, Option, Some, None, option_and_then, Result, Ok}
+use Rattle.std.specs.Prelude.{ℕ, Bool, false, ◌&&◌, ◌||◌, not, nat_lt, if◌then◌else◌, List, [], map, replicate, slice_index, Option, Some}
+use Rattle.std.specs.Prelude.{None, option_and_then, Result, Ok}
 use Rattle.mem_base.specs.declared.map.ids.RegionId.{RegionId}
 use Rattle.mem_base.specs.declared.map.refusals.Refusal.{Refusal}
 use Rattle.mem_base.specs.declared.access.cells.Place.{Place}

@@ -11,8 +11,11 @@ use Rattle.mem_base.specs.declared.map.calls.Applied.{Applied}
 use Rattle.mem_base.specs.declared.map.calls.Applied.TheVariants.{Made, Done}
 use Rattle.mem_base.specs.declared.map.refusals.Refusal.{Refusal}
 use Rattle.mem_base.specs.map.Kinds.{is_alias, has_bytes, is_rom_device, is_iommu, takes_events, device_of}
-use Rattle.mem_base.specs.map.Refusals.{first_refusal, unknown_region, unknown_space, unknown_target, taken_space, wrong_kind, zero_size, bad_size, has_container, not_child_of, not_in_container, alias_parent, in_use, makes_loop, too_deep, too_wide}
-use Rattle.mem_base.specs.map.TableRefusals.{unknown_entry, unknown_event, bad_device, bad_event, bad_page, page_overlap, event_taken, no_more_calls, no_more_regions, no_more_spaces, no_more_entries, no_more_events}
+use Rattle.mem_base.specs.map.Refusals.{first_refusal, unknown_region, unknown_space, unknown_target, taken_space, wrong_kind, zero_size}
+use Rattle.mem_base.specs.map.Refusals.{bad_size, has_container, not_child_of, not_in_container, alias_parent, in_use, makes_loop, too_deep}
+use Rattle.mem_base.specs.map.Refusals.{too_wide}
+use Rattle.mem_base.specs.map.TableRefusals.{unknown_entry, unknown_event, bad_device, bad_event, bad_page, page_overlap, event_taken}
+use Rattle.mem_base.specs.map.TableRefusals.{no_more_calls, no_more_regions, no_more_spaces, no_more_entries, no_more_events}
 use Rattle.mem_base.specs.map.Changes.{changed}
 
 -- no region, no space, and nothing done yet

@@ -1,7 +1,8 @@
 -- Why a call is refused: each condition by itself, as the refusal that it gives where it stands. But for Unknown, a
 -- condition on a region that is not there does not stand. What QEMU's core asserts, or leaves undefined, is a refusal
 -- with a name here; the names and the bounds are this project's own.
-use Rattle.std.specs.Prelude.{ℕ, ◌%◌, ◌==◌, ◌&&◌, ◌||◌, not, Bool, false, nat_lt, if◌then◌else◌, List, [], ◌∷◌, Option, Some, None, is_some, is_none, option_map, find, filter}
+use Rattle.std.specs.Prelude.{ℕ, ◌%◌, ◌==◌, ◌&&◌, ◌||◌, not, Bool, false, nat_lt, if◌then◌else◌, List, [], ◌∷◌, Option, Some, None, is_some}
+use Rattle.std.specs.Prelude.{is_none, option_map, find, filter}
 use Rattle.std.specs.Option.{option_or}
 use Rattle.mem_base.specs.declared.map.ids.RegionId.{RegionId}
 use Rattle.mem_base.specs.declared.map.ids.SpaceId.{SpaceId}
@@ -10,7 +11,8 @@ use Rattle.mem_base.specs.declared.map.forests.Forest.{Forest}
 use Rattle.mem_base.specs.declared.map.kinds.Kind.{Kind}
 use Rattle.mem_base.specs.declared.map.kinds.Kind.TheVariants.{Alias}
 use Rattle.mem_base.specs.declared.map.refusals.Refusal.{Refusal}
-use Rattle.mem_base.specs.declared.map.refusals.Refusal.TheVariants.{Unknown, NameTaken, HasContainer, NotChild, AliasParent, Loop, TooDeep, TooWide, BadSize, WrongKind, InUse}
+use Rattle.mem_base.specs.declared.map.refusals.Refusal.TheVariants.{Unknown, NameTaken, HasContainer, NotChild, AliasParent, Loop, TooDeep}
+use Rattle.mem_base.specs.declared.map.refusals.Refusal.TheVariants.{TooWide, BadSize, WrongKind, InUse}
 use Rattle.mem_base.specs.declared.map.refusals.What.TheVariants as what
 use Rattle.mem_base.specs.declared.map.refusals.User.TheVariants as user
 use Rattle.mem_base.specs.map.Limits.{most_depth, most_weight, page_size, most_bytes}

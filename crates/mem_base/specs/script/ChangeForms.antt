@@ -4,7 +4,8 @@ use Rattle.std.specs.Prelude.{List, [], ◌∷◌, codes}
 use Rattle.mem_base.specs.declared.script.changes.MapChange.{MapChange}
 use Rattle.mem_base.specs.declared.script.changes.MapChange.TheVariants as changes
 use Rattle.mem_base.specs.script.Spelling.{Text}
-use Rattle.mem_base.specs.script.Operands.{◌>>=◌, Form, address, client, decimal_number, ends, last_data, last_priority, name, notifier, one_of, perm, size, switch}
+use Rattle.mem_base.specs.script.Operands.{◌>>=◌, Form, address, client, decimal_number, ends, last_data, last_priority, name, notifier}
+use Rattle.mem_base.specs.script.Operands.{one_of, perm, size, switch}
 
 -- add REGION OFFSET REGION [prio N]
 abbrev pub add : Form MapChange

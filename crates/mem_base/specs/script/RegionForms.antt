@@ -6,7 +6,8 @@ use Rattle.mem_base.specs.declared.map.kinds.DeviceKind.TheVariants.{Latch, Coun
 use Rattle.mem_base.specs.declared.script.commands.Command.{Command}
 use Rattle.mem_base.specs.declared.script.commands.Command.TheVariants as commands
 use Rattle.mem_base.specs.script.Spelling.{Text}
-use Rattle.mem_base.specs.script.Operands.{◌>>=◌, Form, Operand, address, decimal_number, ends, ends_after_options, flag, give, name, one_of, optional, range, size}
+use Rattle.mem_base.specs.script.Operands.{◌>>=◌, Form, Operand, address, decimal_number, ends, ends_after_options, flag, give, name}
+use Rattle.mem_base.specs.script.Operands.{one_of, optional, range, size}
 
 abbrev pub device_with : DeviceKind → ℕ → ℕ × ℕ → ℕ × ℕ → Bool → Bool → Bool → Device
 device_with kind regs valid impl valid_unaligned impl_unaligned big = record {

@@ -14,7 +14,8 @@ use Rattle.mem_base.specs.script.Spelling.{Text}
 use Rattle.mem_base.specs.script.Scripts.{Line}
 use Rattle.mem_base.specs.script.Named.{no_names}
 use Rattle.mem_base.specs.script.States.{Outcome, listener_named, watcher_named, writes, where_known, with_region, with_space, State}
-use Rattle.mem_base.specs.script.WriterSteps.{ordered, does, calls_map, make_region, make_space, listen, with_call, released_in, pages_in, value_in, published_in}
+use Rattle.mem_base.specs.script.WriterSteps.{ordered, does, calls_map, make_region, make_space, listen, with_call, released_in, pages_in}
+use Rattle.mem_base.specs.script.WriterSteps.{value_in, published_in}
 use Rattle.mem_base.specs.script.Shows.{show, at, watch, unwatch, catches_up}
 use Rattle.mem_base.specs.script.PassSteps.{enter, leave, read, write, copy}
 

@@ -1,5 +1,6 @@
 -- The summary that `demo` writes: seven numbers, counted over the text of a run.
-use Rattle.std.specs.Prelude.{ℕ, ◌+◌, ◌-◌, ◌==◌, ◌||◌, Bool, if◌then◌else◌, List, [], ◌∷◌, ◌++◌, take, drop, length, filter, reverse, Option, Some, None, option_and_then, unwrap_or, slice_get, codes, decimal}
+use Rattle.std.specs.Prelude.{ℕ, ◌+◌, ◌-◌, ◌==◌, ◌||◌, Bool, if◌then◌else◌, List, [], ◌∷◌, ◌++◌, take, drop, length, filter, reverse}
+use Rattle.std.specs.Prelude.{Option, Some, None, option_and_then, unwrap_or, slice_get, codes, decimal}
 use Rattle.std.specs.Str.{bytes_eq}
 use Rattle.std.specs.List.{slice_split}
 use Rattle.mem_base.specs.script.Spelling.{Text, digits, most_address}

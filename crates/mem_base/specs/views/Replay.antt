@@ -1,6 +1,7 @@
 -- What the calls that one listener got make of nothing: ranges, by ascending start, and live ioeventfds in order.
 -- QEMU's manual, "The memory API": a listener such as KVM's or vhost's keeps its own map by these calls alone.
-use Rattle.std.specs.Prelude.{ℕ, Bool, true, false, ◌==◌, ◌&&◌, ◌||◌, not, nat_lt, if◌then◌else◌, List, [], ◌∷◌, map, filter, Option, Some, None, option_and_then, option_map}
+use Rattle.std.specs.Prelude.{ℕ, Bool, true, false, ◌==◌, ◌&&◌, ◌||◌, not, nat_lt, if◌then◌else◌, List, [], ◌∷◌, map, filter, Option, Some}
+use Rattle.std.specs.Prelude.{None, option_and_then, option_map}
 use Rattle.std.specs.List.{list_any}
 use Rattle.std.specs.Ordering.{nat_cmp}
 use Rattle.std.specs.declared.cmp.Ordering.{Ordering}

@@ -11,7 +11,8 @@ use Rattle.region_slots.specs.Told.{IsChild}
 use Rattle.region_slots.proofs.SlotsLaws.{ids_placed}
 use Rattle.region_slots.proofs.ToldLaws.{children_are}
 use Rattle.flat_render.proofs.DescendingLaws.{back_next, weight_back, weight_drop, drop_past}
-use Rattle.flat_render.proofs.FewLaws.{no_child, first_next, first_single, weight_next, weight_single, weight_take, ids_take, ids_drop, every_take, every_drop, child_seen, through_past}
+use Rattle.flat_render.proofs.FewLaws.{no_child, first_next, first_single, weight_next, weight_single, weight_take, ids_take, ids_drop}
+use Rattle.flat_render.proofs.FewLaws.{every_take, every_drop, child_seen, through_past}
 use Rattle.mem_base.specs.map.Steps.{steps_at, steps_of, weight_by}
 use Rattle.map_laws.proofs.SearchLaws.{found_in_zero, found_in_missing}
 use Rattle.mem_base.proofs.ForestLaws.{id_of}
@@ -22,7 +23,8 @@ use Rattle.flat_render.specs.Edges.{Carves}
 use Rattle.flat_render.specs.Rendered.{Renders}
 use Rattle.flat_render.proofs.EdgeLaws.{carves_none, carves_more, carves_then, carves_apart, carves_over}
 use Rattle.flat_render.proofs.WeightLaws.{weight_step, weight_of_ids-halves, weight_target, steps_at-children}
-use Rattle.flat_render.proofs.ThroughLaws.{through_same, through_none, found_at_node, node_disabled, node_enabled, found_itself, found_past, first_of_ids-halves, inside_both, inside_container}
+use Rattle.flat_render.proofs.ThroughLaws.{through_same, through_none, found_at_node, node_disabled, node_enabled, found_itself, found_past}
+use Rattle.flat_render.proofs.ThroughLaws.{first_of_ids-halves, inside_both, inside_container}
 use Rattle.flat_render.proofs.RenderLaws.{renders_none, renders_same, renders_more, renders_weight, renders_then, renders_over, renders_past}
 use Rattle.flat_render.proofs.descent.+render.Goals as goal
 

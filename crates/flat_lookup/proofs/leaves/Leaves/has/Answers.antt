@@ -13,5 +13,6 @@ pub returns-in-Err : goal.returns-in-Err
 returns-in-Err c =
     let same : c.deref.result.now ≡ c.args.self.now = search rules in
     let within : c.deref.result.now ≡ c.self.inside.items.items = c.deref.ensures.value in
-    sym (rw within (number_missing c.self.inside.items.items c.args.region.0 c.in-Err.field-0 c.self.invariant (rw (sym within) c.in-Err.ensures.bound) (rw (sym within) c.in-Err.ensures.position)))
+    sym (rw within (number_missing c.self.inside.items.items c.args.region.0 c.in-Err.field-0 c.self.invariant
+        (rw (sym within) c.in-Err.ensures.bound) (rw (sym within) c.in-Err.ensures.position)))
     ∙ ap (has_number c.args.region.0) same
