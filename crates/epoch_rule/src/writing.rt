@@ -86,7 +86,7 @@ impl<E: Edition + Drop> Cabinet<E> {
         requires roomy { PlacesFit writer.old.sizes.words (shown_by E.forest E.places next.edition) }
         ensures done { MatchResult result
             (λ number. (number ≡ E.counted next.edition) × Published writer.old.sizes writer.old.seen
-                (EditionCarried (E.forest next.edition) (E.places next.edition)) number writer.new.seen)
+            (EditionCarried (E.forest next.edition) (E.places next.edition)) number writer.new.seen)
             (λ h. (h.1 ≡ next) × HeldUp writer.old.sizes writer.old.seen h.0 writer.new.seen) }
         ensures home { KeepsHome writer.old.out writer.old.seen writer.new.seen }
         ensures current { MatchResult result (λ number. number_seen writer.new.seen ≡ number) (λ h. number_seen writer.new.seen ≡ number_seen writer.old.seen) }

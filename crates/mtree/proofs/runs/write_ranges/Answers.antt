@@ -13,7 +13,7 @@ returns-in_err-write_range g c =
       prefix = on_err c.from_residual.result _ (TakesPrefix-after g.K.Sink.written g.K.Sink.holds _ _ _ _ inv.0 _
           (range_lines names f (drop (c.loop-range.range-index + 1) rs))
           inv.1 c.in_err-write_range.ensures.prefix (next_range names f
-              (range_lines names f rs) inv.0 rs c.loop-range.range-index _ c.loop-range-test.true inv.2));
+          (range_lines names f rs) inv.0 rs c.loop-range.range-index _ c.loop-range-test.true inv.2));
       failed = search rules;
       later = search rules;
     }

@@ -14,5 +14,5 @@ returns-in-Err c =
     let same : c.deref.result.now ≡ c.args.self.now = search rules in
     let within : c.deref.result.now ≡ c.self.inside.items.items = c.deref.ensures.value in
     sym (rw within (number_missing c.self.inside.items.items c.args.region.0 c.in-Err.field-0 c.self.invariant
-        (rw (sym within) c.in-Err.ensures.bound) (rw (sym within) c.in-Err.ensures.position)))
+    (rw (sym within) c.in-Err.ensures.bound) (rw (sym within) c.in-Err.ensures.position)))
     ∙ ap (has_number c.args.region.0) same

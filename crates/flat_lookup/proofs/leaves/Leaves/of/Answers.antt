@@ -12,4 +12,4 @@ pub returns : goal.returns
 returns c =
     let from : c.in_ok-items.items.items ≡ leaf_numbers c.args.ranges.now = search rules in
     sorted_leaves c.args.ranges.now c.sort_unstable.new.self.items
-        (subst (λ ns. IsPermutation ns c.sort_unstable.new.self.items) from c.sort_unstable.ensures.permutation)
+    (subst (λ ns. IsPermutation ns c.sort_unstable.new.self.items) from c.sort_unstable.ensures.permutation)
