@@ -3,30 +3,26 @@
 ghost use Rattle.std.specs.Prelude.{◌≡◌, ◌+◌, ◌-◌, ◌<◌, ◌≤◌, ◌^◌, ℕ, List, Some, None, IsSome, IfSome, IfNone, OnOk, length};
 ghost use Rattle.mem_base.specs.lists.Every.{Every};
 ghost use Rattle.mem_base.specs.map.Region.{node_of};
-ghost use Rattle.mem_base.specs.map.Forest.{IsOrderedForest, IsClosedForest};
+ghost use Rattle.mem_base.specs.map.Forest.{IsOrderedForest};
 ghost use Rattle.mem_base.specs.map.Search.{found_in, at_node, inside, itself};
 ghost use Rattle.mem_base.specs.map.Steps.{steps_of, steps_at, weight_by};
 ghost use Rattle.mem_base.specs.declared.map.ids.RegionId.{RegionId};
 ghost use Rattle.mem_base.specs.declared.views.notes.Note.{Note};
 ghost use Rattle.region_slots.specs.Slots.{ids_in};
 ghost use Rattle.region_slots.specs.Told.{IsChild};
-ghost use Rattle.flat_render.specs.Cuts.{AreCuts, seen};
+ghost use Rattle.flat_render.specs.Cuts.{seen};
 ghost use Rattle.flat_render.specs.Notes.{IsPath, Matches};
 ghost use Rattle.flat_render.specs.Windows.{in_alias, through};
 ghost use Rattle.flat_render.specs.Rendered.{Renders};
-ghost use Rattle.flat_render.specs.Edges.{Carves};
 ghost use Rattle.flat_render.specs.Descending.{IsDescending};
 ghost use Rattle.flat_render.specs.Ids.{in_child, first_of_ids, weight_of_ids};
 
-use crate::carving::over;
+use crate::canvas::Canvas;
 use crate::cuts::Cut;
-use crate::notes::noted;
 use crate::orders::{ascend, descend};
-use crate::placing::put;
-use crate::scratch::Scratch;
 use crate::windows::Window;
 use mem_base::{Attrs, FlatRange, Kind, Node, RegionId};
-use region_tree::{Child, Tree};
+use region_tree::Child;
 use std::alloc::AllocError;
 use std::sync::ledger::Ledger;
 use step_counter::Steps;
@@ -39,47 +35,37 @@ const SHORT: usize = 64;
 
 /// From a region, down to this depth.
 pub(crate) fn render_from<L: Ledger>(
-    tree: &Tree,
+    canvas: &mut Canvas,
     depth: u32,
     region: RegionId,
     window: &mut Window,
-    cuts: &mut Vec<Cut>,
-    scratch: &mut Scratch,
     steps: &mut Steps<L>,
 ) -> Result<(), AllocError>
-    requires ordered { window.old.first ≤ window.old.last }
-    requires cuts { AreCuts 0 (2 ^ 64) cuts.old.items }
-    ensures forest { IsOrderedForest tree.now }
-    ensures renders { OnOk result (Renders window.old (found_in tree.now depth region)
-        (weight_by (steps_of tree.now.nodes) depth region) scratch.old.notes.items scratch.new.notes.items cuts.old.items cuts.new.items) }
-    ensures carves { Carves cuts.old.items (weight_by (steps_of tree.now.nodes) depth region) steps.old steps.new }
+    requires { window.old.first ≤ window.old.last }
+    ensures forest { IsOrderedForest canvas.old.tree }
+    ensures renders { Renders window.old (found_in canvas.old.tree depth region)
+        (weight_by (steps_of canvas.old.tree.nodes) depth region) canvas.old canvas.new steps.old steps.new result }
 {
-    let Some(node) = tree.node(region) else {
+    let Some(node) = canvas.node(region) else {
         return Ok(());
     };
-    render_at(tree, depth, node, window, cuts, scratch, steps)?;
-    Ok(())
+    render_at(canvas, depth, node, window, steps)
 }
 
 /// From a node. A region that is disabled, or that the window does not meet, is left out.
 #[cycle(render)]
 fn render_at<L: Ledger>(
-    tree: &Tree,
+    canvas: &mut Canvas,
     depth: u32,
     node: &Node,
     window: &mut Window,
-    cuts: &mut Vec<Cut>,
-    scratch: &mut Scratch,
     steps: &mut Steps<L>,
 ) -> Result<(), AllocError>
-    requires known { node_of tree.now.nodes node.now.id ≡ Some node.now }
-    requires forest { IsOrderedForest tree.now }
-    requires sound { IsClosedForest tree.now }
+    requires known { node_of canvas.old.tree.nodes node.now.id ≡ Some node.now }
+    requires forest { IsOrderedForest canvas.old.tree }
     requires ordered { window.old.first ≤ window.old.last }
-    requires cuts { AreCuts 0 (2 ^ 64) cuts.old.items }
-    ensures renders { OnOk result (Renders window.old (found_in tree.now depth node.now.id)
-        (weight_by (steps_of tree.now.nodes) depth node.now.id) scratch.old.notes.items scratch.new.notes.items cuts.old.items cuts.new.items) }
-    ensures carves { Carves cuts.old.items (weight_by (steps_of tree.now.nodes) depth node.now.id) steps.old steps.new }
+    ensures { Renders window.old (found_in canvas.old.tree depth node.now.id)
+        (weight_by (steps_of canvas.old.tree.nodes) depth node.now.id) canvas.old canvas.new steps.old steps.new result }
 {
     if depth == 0 {
         return Ok(());
@@ -90,184 +76,154 @@ fn render_at<L: Ledger>(
     if !window.cut(node.size.get()) {
         return Ok(());
     }
-    window.pass(node, noted(&mut scratch.notes, node.id, window.note)?);
-    render_inside(tree, depth - 1, node, window, cuts, scratch, steps)?;
-    Ok(())
+    window.pass(node, canvas.note(node.id, window.note)?);
+    render_inside(canvas, depth - 1, node, window, steps)
 }
 
 /// The target of an alias, or the children of a region and then the region itself.
 #[cycle(render)]
 #[inline(always)]
 fn render_inside<L: Ledger>(
-    tree: &Tree,
+    canvas: &mut Canvas,
     depth: u32,
     node: &Node,
     window: &mut Window,
-    cuts: &mut Vec<Cut>,
-    scratch: &mut Scratch,
     steps: &mut Steps<L>,
 ) -> Result<(), AllocError>
-    requires known { IsSome (node_of tree.now.nodes node.now.id) }
-    requires forest { IsOrderedForest tree.now }
-    requires sound { IsClosedForest tree.now }
+    requires known { IsSome (node_of canvas.old.tree.nodes node.now.id) }
+    requires forest { IsOrderedForest canvas.old.tree }
     requires fits { window.old.at + (window.old.last - window.old.first) < 2 ^ 64 }
     requires ordered { window.old.first ≤ window.old.last }
-    requires cuts { AreCuts 0 (2 ^ 64) cuts.old.items }
-    ensures renders { OnOk result (Renders window.old (inside tree.now (found_in tree.now depth) node.now.kind node.now)
-        (weight_of_ids tree.now.nodes depth (steps_at tree.now.nodes node.now.kind node.now) + 1) scratch.old.notes.items scratch.new.notes.items cuts.old.items cuts.new.items) }
-    ensures carves { Carves cuts.old.items (weight_of_ids tree.now.nodes depth (steps_at tree.now.nodes node.now.kind node.now) + 1) steps.old steps.new }
+    ensures { Renders window.old (inside canvas.old.tree (found_in canvas.old.tree depth) node.now.kind node.now)
+        (weight_of_ids canvas.old.tree.nodes depth (steps_at canvas.old.tree.nodes node.now.kind node.now) + 1)
+        canvas.old canvas.new steps.old steps.new result }
 {
     if let Kind::Alias { target, offset } = node.kind {
-        render_target(tree, depth, target, offset, window, cuts, scratch, steps)?;
-        return Ok(());
+        return render_target(canvas, depth, target, offset, window, steps);
     }
-    let children = tree.placed_children(node.id);
-    render_below(tree, depth, children, window, cuts, scratch, steps)?;
+    let global = canvas.is_global();
+    let children = canvas.children(node.id);
+    render_below(canvas, depth, children, window, steps)?;
     if node.kind.is_container() {
         return Ok(());
     }
-    put_own(tree.is_global(), node, window, cuts, scratch, steps)?;
-    Ok(())
+    put_own(canvas, global, node, window, steps)
 }
 
 /// The target of an alias that begins at an offset in it.
 #[cycle(render)]
 #[inline(always)]
 fn render_target<L: Ledger>(
-    tree: &Tree,
+    canvas: &mut Canvas,
     depth: u32,
     target: RegionId,
     offset: u64,
     window: &mut Window,
-    cuts: &mut Vec<Cut>,
-    scratch: &mut Scratch,
     steps: &mut Steps<L>,
 ) -> Result<(), AllocError>
-    requires sound { IsClosedForest tree.now }
-    requires ordered { window.old.first ≤ window.old.last }
-    requires cuts { AreCuts 0 (2 ^ 64) cuts.old.items }
-    ensures renders { OnOk result (Renders window.old (in_alias offset (found_in tree.now depth target))
-        (weight_by (steps_of tree.now.nodes) depth target) scratch.old.notes.items scratch.new.notes.items cuts.old.items cuts.new.items) }
-    ensures carves { Carves cuts.old.items (weight_by (steps_of tree.now.nodes) depth target) steps.old steps.new }
+    requires { window.old.first ≤ window.old.last }
+    ensures { Renders window.old (in_alias offset (found_in canvas.old.tree depth target))
+        (weight_by (steps_of canvas.old.tree.nodes) depth target) canvas.old canvas.new steps.old steps.new result }
 {
-    let Some(node) = tree.node(target) else {
+    let Some(node) = canvas.node(target) else {
         return Ok(());
     };
     if !window.follow(offset) {
         return Ok(());
     }
-    render_at(tree, depth, node, window, cuts, scratch, steps)?;
-    Ok(())
+    render_at(canvas, depth, node, window, steps)
 }
 
 /// These children of a region, under a list that may be long.
 #[cycle(render)]
 #[inline(always)]
 fn render_below<L: Ledger>(
-    tree: &Tree,
+    canvas: &mut Canvas,
     depth: u32,
     children: &[Child],
     window: &Window,
-    cuts: &mut Vec<Cut>,
-    scratch: &mut Scratch,
     steps: &mut Steps<L>,
 ) -> Result<(), AllocError>
-    requires children { Every (IsChild tree.now.nodes) children.now }
+    requires children { Every (IsChild canvas.old.tree.nodes) children.now }
     requires ordered { window.now.first ≤ window.now.last }
-    requires cuts { AreCuts 0 (2 ^ 64) cuts.old.items }
-    ensures renders { OnOk result (Renders window.now (first_of_ids tree.now.nodes (found_in tree.now depth) (ids_in children.now))
-        (weight_of_ids tree.now.nodes depth (ids_in children.now)) scratch.old.notes.items scratch.new.notes.items cuts.old.items cuts.new.items) }
-    ensures carves { Carves cuts.old.items (weight_of_ids tree.now.nodes depth (ids_in children.now)) steps.old steps.new }
+    ensures { Renders window.now (first_of_ids canvas.old.tree.nodes (found_in canvas.old.tree depth) (ids_in children.now))
+        (weight_of_ids canvas.old.tree.nodes depth (ids_in children.now)) canvas.old canvas.new steps.old steps.new result }
 {
     if children.is_empty() {
         return Ok(());
     }
     if children.len() == 1 {
-        render_child(tree, depth, &children[0], window, cuts, scratch, steps)?;
-        return Ok(());
+        return render_child(canvas, depth, &children[0], window, steps);
     }
-    if cuts.is_empty() || cuts.len() <= SHORT && children.len() <= FEW {
-        render_children(tree, depth, children, window, cuts, scratch, steps)?;
-        return Ok(());
+    if canvas.len() == 0 || canvas.len() <= SHORT && children.len() <= FEW {
+        return render_children(canvas, depth, children, window, steps);
     }
-    let mut back = scratch.take();
-    render_children(tree, depth, children, window, &mut back, scratch, steps)?;
-    over(cuts, back, scratch, steps)?;
-    Ok(())
+    render_apart(canvas, depth, children, window, steps)
+}
+
+/// These children of a region, into a list of its own, which is then put under the cuts.
+#[cycle(render)]
+#[inline(always)]
+fn render_apart<L: Ledger>(
+    canvas: &mut Canvas,
+    depth: u32,
+    children: &[Child],
+    window: &Window,
+    steps: &mut Steps<L>,
+) -> Result<(), AllocError>
+    requires children { Every (IsChild canvas.old.tree.nodes) children.now }
+    requires ordered { window.now.first ≤ window.now.last }
+    ensures { Renders window.now (first_of_ids canvas.old.tree.nodes (found_in canvas.old.tree depth) (ids_in children.now))
+        (weight_of_ids canvas.old.tree.nodes depth (ids_in children.now)) canvas.old canvas.new steps.old steps.new result }
+{
+    let front = canvas.set_aside();
+    render_children(canvas, depth, children, window, steps)?;
+    canvas.put_under(front, steps)
 }
 
 /// These children of a region: one after another where their addresses ascend or descend, so that each is put after
 /// those before it, or where they are few; else by halves, the first half over the second.
 #[cycle(render)]
 fn render_children<L: Ledger>(
-    tree: &Tree,
+    canvas: &mut Canvas,
     depth: u32,
     children: &[Child],
     window: &Window,
-    cuts: &mut Vec<Cut>,
-    scratch: &mut Scratch,
     steps: &mut Steps<L>,
 ) -> Result<(), AllocError>
-    requires children { Every (IsChild tree.now.nodes) children.now }
+    requires children { Every (IsChild canvas.old.tree.nodes) children.now }
     requires ordered { window.now.first ≤ window.now.last }
-    requires cuts { AreCuts 0 (2 ^ 64) cuts.old.items }
-    ensures renders { OnOk result (Renders window.now (first_of_ids tree.now.nodes (found_in tree.now depth) (ids_in children.now))
-        (weight_of_ids tree.now.nodes depth (ids_in children.now)) scratch.old.notes.items scratch.new.notes.items cuts.old.items cuts.new.items) }
-    ensures carves { Carves cuts.old.items (weight_of_ids tree.now.nodes depth (ids_in children.now)) steps.old steps.new }
+    ensures { Renders window.now (first_of_ids canvas.old.tree.nodes (found_in canvas.old.tree depth) (ids_in children.now))
+        (weight_of_ids canvas.old.tree.nodes depth (ids_in children.now)) canvas.old canvas.new steps.old steps.new result }
 {
     if children.len() <= FEW || ascend(children) {
-        render_forth(tree, depth, children, window, cuts, scratch, steps)?;
-        return Ok(());
+        return render_forth(canvas, depth, children, window, steps);
     }
     if descend(children) {
-        render_back(tree, depth, children, window, cuts, scratch, steps)?;
-        return Ok(());
+        return render_back(canvas, depth, children, window, steps);
     }
     let middle = children.len() / 2;
-    render_children(
-        tree,
-        depth,
-        &children[..middle],
-        window,
-        cuts,
-        scratch,
-        steps,
-    )?;
-    let mut back = scratch.take();
-    render_children(
-        tree,
-        depth,
-        &children[middle..],
-        window,
-        &mut back,
-        scratch,
-        steps,
-    )?;
-    over(cuts, back, scratch, steps)?;
-    Ok(())
+    render_children(canvas, depth, &children[..middle], window, steps)?;
+    render_apart(canvas, depth, &children[middle..], window, steps)
 }
 
 /// These children of a region, from the first to the last.
 #[cycle(render)]
 #[inline(always)]
 fn render_forth<L: Ledger>(
-    tree: &Tree,
+    canvas: &mut Canvas,
     depth: u32,
     children: &[Child],
     window: &Window,
-    cuts: &mut Vec<Cut>,
-    scratch: &mut Scratch,
     steps: &mut Steps<L>,
 ) -> Result<(), AllocError>
-    requires children { Every (IsChild tree.now.nodes) children.now }
+    requires children { Every (IsChild canvas.old.tree.nodes) children.now }
     requires ordered { window.now.first ≤ window.now.last }
-    requires cuts { AreCuts 0 (2 ^ 64) cuts.old.items }
-    ensures renders { OnOk result (Renders window.now (first_of_ids tree.now.nodes (found_in tree.now depth) (ids_in children.now))
-        (weight_of_ids tree.now.nodes depth (ids_in children.now)) scratch.old.notes.items scratch.new.notes.items cuts.old.items cuts.new.items) }
-    ensures carves { Carves cuts.old.items (weight_of_ids tree.now.nodes depth (ids_in children.now)) steps.old steps.new }
+    ensures { Renders window.now (first_of_ids canvas.old.tree.nodes (found_in canvas.old.tree depth) (ids_in children.now))
+        (weight_of_ids canvas.old.tree.nodes depth (ids_in children.now)) canvas.old canvas.new steps.old steps.new result }
 {
     for child in children {
-        render_child(tree, depth, child, window, cuts, scratch, steps)?;
+        render_child(canvas, depth, child, window, steps)?;
     }
     Ok(())
 }
@@ -276,27 +232,23 @@ fn render_forth<L: Ledger>(
 #[cycle(render)]
 #[inline(always)]
 fn render_back<L: Ledger>(
-    tree: &Tree,
+    canvas: &mut Canvas,
     depth: u32,
     children: &[Child],
     window: &Window,
-    cuts: &mut Vec<Cut>,
-    scratch: &mut Scratch,
     steps: &mut Steps<L>,
 ) -> Result<(), AllocError>
-    requires children { Every (IsChild tree.now.nodes) children.now }
+    requires children { Every (IsChild canvas.old.tree.nodes) children.now }
     requires descending { IsDescending children.now }
     requires ordered { window.now.first ≤ window.now.last }
-    requires cuts { AreCuts 0 (2 ^ 64) cuts.old.items }
-    ensures renders { OnOk result (Renders window.now (first_of_ids tree.now.nodes (found_in tree.now depth) (ids_in children.now))
-        (weight_of_ids tree.now.nodes depth (ids_in children.now)) scratch.old.notes.items scratch.new.notes.items cuts.old.items cuts.new.items) }
-    ensures carves { Carves cuts.old.items (weight_of_ids tree.now.nodes depth (ids_in children.now)) steps.old steps.new }
+    ensures { Renders window.now (first_of_ids canvas.old.tree.nodes (found_in canvas.old.tree depth) (ids_in children.now))
+        (weight_of_ids canvas.old.tree.nodes depth (ids_in children.now)) canvas.old canvas.new steps.old steps.new result }
 {
     let mut left = children.len();
     while left > 0 {
         left -= 1;
         let child = &children[left];
-        render_child(tree, depth, child, window, cuts, scratch, steps)?;
+        render_child(canvas, depth, child, window, steps)?;
     }
     Ok(())
 }
@@ -305,20 +257,16 @@ fn render_back<L: Ledger>(
 #[cycle(render)]
 #[inline(always)]
 fn render_child<L: Ledger>(
-    tree: &Tree,
+    canvas: &mut Canvas,
     depth: u32,
     child: &Child,
     window: &Window,
-    cuts: &mut Vec<Cut>,
-    scratch: &mut Scratch,
     steps: &mut Steps<L>,
 ) -> Result<(), AllocError>
-    requires child { IsChild tree.now.nodes child.now }
+    requires child { IsChild canvas.old.tree.nodes child.now }
     requires ordered { window.now.first ≤ window.now.last }
-    requires cuts { AreCuts 0 (2 ^ 64) cuts.old.items }
-    ensures renders { OnOk result (Renders window.now (in_child (found_in tree.now depth) child.now.id
-        (node_of tree.now.nodes child.now.id)) (weight_by (steps_of tree.now.nodes) depth child.now.id) scratch.old.notes.items scratch.new.notes.items cuts.old.items cuts.new.items) }
-    ensures carves { Carves cuts.old.items (weight_by (steps_of tree.now.nodes) depth child.now.id) steps.old steps.new }
+    ensures { Renders window.now (in_child (found_in canvas.old.tree depth) child.now.id (node_of canvas.old.tree.nodes child.now.id))
+        (weight_by (steps_of canvas.old.tree.nodes) depth child.now.id) canvas.old canvas.new steps.old steps.new result }
 {
     let Some(mut part) = window.on_child(child.offset) else {
         return Ok(());
@@ -326,11 +274,10 @@ fn render_child<L: Ledger>(
     if child.last < part.at {
         return Ok(());
     }
-    let Some(node) = tree.node(child.id) else {
+    let Some(node) = canvas.node(child.id) else {
         return Ok(());
     };
-    render_at(tree, depth, node, &mut part, cuts, scratch, steps)?;
-    Ok(())
+    render_at(canvas, depth, node, &mut part, steps)
 }
 
 /// The range that a region answers itself through a window that lies in it, if it does.
@@ -364,22 +311,18 @@ fn own_cut(global: bool, node: &Node, window: &Window) -> Option<Cut>
 
 /// Puts what a region answers itself under the cuts.
 fn put_own<L: Ledger>(
+    canvas: &mut Canvas,
     global: bool,
     node: &Node,
     window: &Window,
-    cuts: &mut Vec<Cut>,
-    scratch: &mut Scratch,
     steps: &mut Steps<L>,
 ) -> Result<(), AllocError>
     requires fits { window.now.at + (window.now.last - window.now.first) < 2 ^ 64 }
     requires ordered { window.now.first ≤ window.now.last }
-    requires cuts { AreCuts 0 (2 ^ 64) cuts.old.items }
-    ensures renders { OnOk result (Renders window.now (itself global node.now.kind node.now) 1 scratch.old.notes.items scratch.new.notes.items cuts.old.items cuts.new.items) }
-    ensures carves { Carves cuts.old.items 1 steps.old steps.new }
+    ensures { Renders window.now (itself global node.now.kind node.now) 1 canvas.old canvas.new steps.old steps.new result }
 {
     let Some(cut) = own_cut(global, node, window) else {
         return Ok(());
     };
-    put(cuts, cut, scratch, steps)?;
-    Ok(())
+    canvas.put(cut, steps)
 }

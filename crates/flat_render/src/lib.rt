@@ -17,6 +17,7 @@ ghost use Rattle.mem_base.specs.map.Steps.{weight_of};
 ghost use Rattle.mem_base.specs.views.View.{Agrees};
 ghost use Rattle.mem_base.specs.views.Slices.{ranges_of, Tells};
 
+mod canvas;
 mod carving;
 mod cuts;
 mod descent;
@@ -29,11 +30,11 @@ mod scratch;
 mod tests;
 mod windows;
 
+use canvas::Canvas;
 use descent::render_from;
 use mem_base::{MOST_DEPTH, Pieces, SpaceId};
 use pieces::{counted, pieces_of};
 use region_tree::Tree;
-use scratch::Scratch;
 use std::alloc::{AllocError, Global};
 use std::sync::ledger::Ledger;
 use step_counter::Steps;
@@ -62,19 +63,11 @@ pub fn render<L: Ledger>(
     let Some(root) = tree.root(space) else {
         unreachable!();
     };
-    let mut scratch = Scratch::new(alloc);
-    let mut cuts = Vec::new(alloc);
+    let mut canvas = Canvas::new(alloc, tree);
     let mut window = Window::whole();
-    render_from(
-        tree,
-        MOST_DEPTH,
-        root,
-        &mut window,
-        &mut cuts,
-        &mut scratch,
-        steps,
-    )?;
+    render_from(&mut canvas, MOST_DEPTH, root, &mut window, steps)?;
+    let (cuts, notes) = canvas.done();
     counted(cuts.as_slice(), steps);
-    let pieces = pieces_of(alloc, cuts.as_slice(), scratch.notes)?;
+    let pieces = pieces_of(alloc, cuts.as_slice(), notes)?;
     Ok(pieces)
 }
