@@ -126,6 +126,27 @@ impl Atlas {
         end_after(ranges, at, addr)
     }
 
+    /// What `at` and `run_to` answer together, by one search: what the view shows at an address, and the last address of the
+    /// range or hole that holds it.
+    ///
+    /// It takes no memory, and at most as many probes as `at`.
+    pub fn run_at<L: Ledger>(&self, addr: u64, steps: &mut Steps<L>) -> (Option<Spot>, u64)
+        ensures spot { result.0 ≡ shown self.now addr }
+        ensures last { result.1 ≡ run_end self.now addr }
+        ensures holds { addr ≤ result.1 }
+        ensures probes { AreProbes (steps.new - steps.old) (length self.now) }
+    {
+        let ranges = self.ranges.as_slice();
+        if ranges.is_empty() {
+            return (None, u64::MAX);
+        }
+        if addr < ranges[0].start {
+            return (None, ranges[0].start - 1);
+        }
+        let at = place(self.levels.as_slice(), addr, steps);
+        (ranges[at].spot(addr), end_after(ranges, at, addr))
+    }
+
     /// Whether some range has this leaf. It takes no memory, and time that grows with the logarithm of the ranges.
     pub fn has_leaf(&self, region: RegionId) -> bool
         ensures { result ≡ has_leaf region self.now }

@@ -1,19 +1,24 @@
 // A generation: a forest with the atlases of its spaces and the places of what it names.
-ghost use Rattle.std.specs.Prelude.{◌≡◌, ◌↔◌, None, IsNone, IfSome, map};
+ghost use Rattle.std.specs.Prelude.{◌≡◌, ◌↔◌, ◌+◌, None, IsNone, IfSome, false, map};
+ghost use Rattle.std.specs.List.{list_any};
 ghost use Rattle.std.specs.Arc.{arc_value};
+ghost use Rattle.mem_base.specs.lists.Every.{Every};
+ghost use Rattle.mem_base.specs.map.Entries.{AreEntries};
+ghost use Rattle.mem_base.specs.map.Kinds.{is_iommu};
+ghost use Rattle.mem_base.specs.map.TableRefusals.{bad_page};
 ghost use Rattle.mem_base.specs.map.Search.{root_of};
 ghost use Rattle.mem_base.specs.map.Forest.{IsMade};
 ghost use Rattle.mem_base.specs.views.Flattened.{view_of};
 ghost use Rattle.mem_base.specs.views.LiveEvents.{events_of};
 ghost use Rattle.mem_base.specs.views.Naming.{names};
-ghost use Rattle.mem_base.specs.access.Translations.{entries_of};
+ghost use Rattle.mem_base.specs.access.Translations.{entries_of, translates};
 ghost use Rattle.mem_base.specs.access.EditionPlaces.{IsEdition};
 ghost use Rattle.generation.specs.Published.{views_of, AscendByRegion};
 
 use crate::atlases::{atlas_among, is_leaf_among};
 use crate::places::place_among;
 use flat_lookup::Atlas;
-use mem_base::{Edition, Entry, Forest, Ioevent, Place, RegionId, SpaceId};
+use mem_base::{Edition, Entry, Forest, Ioevent, Kind, Node, Place, RegionId, SpaceId};
 use std::alloc::Global;
 use std::marker::Model;
 use std::sync::Arc;
@@ -25,6 +30,8 @@ pub struct Generation {
     forest: Forest,
     atlases: Vec<(SpaceId, Arc<Atlas, Global>)>,
     places: Vec<Place>,
+    // Whether some region of the forest is an IOMMU region.
+    has_iommu: bool,
 }
 
 impl Model for Generation {
@@ -36,7 +43,7 @@ impl Model for Generation {
 
     ghost view = { λ g. published g.number g.forest g.places.items };
 
-    ghost invariant = { λ g. IsGeneration g.forest (map (λ p. (p.0, arc_value p.1)) g.atlases.items) g.places.items };
+    ghost invariant = { λ g. IsGeneration g.forest (map (λ p. (p.0, arc_value p.1)) g.atlases.items) g.places.items g.has_iommu };
 }
 
 impl Generation {
@@ -58,11 +65,13 @@ impl Generation {
         ensures forest { result.forest ≡ forest }
         ensures places { result.places ≡ places.items }
     {
+        let has_iommu = has_iommu(forest.nodes.as_slice());
         Generation {
             number,
             forest,
             atlases,
             places,
+            has_iommu,
         }
     }
 
@@ -106,6 +115,24 @@ impl Generation {
         }
     }
 
+    /// The same translations of an IOMMU region alone: `None` exactly where the region is no IOMMU region of the forest. Their
+    /// pages are such as a translation may have. Where the forest has no IOMMU region, the region is not looked for.
+    pub fn table(&self, region: RegionId) -> Option<&[Entry]>
+        ensures none { IsNone result ↔ translates self.now.forest region ≡ false }
+        ensures some { IfSome result (λ entries. entries.now ≡ entries_of self.now.forest region) }
+        ensures sorted { IfSome result (λ entries. AreEntries entries.now) }
+        ensures pages { IfSome result (λ entries. Every (λ e. bad_page e.iova (e.mask + 1) ≡ None) entries.now) }
+    {
+        if !self.has_iommu {
+            return None;
+        }
+        let node = self.forest.nodes.get(region)?;
+        match node.kind {
+            Kind::Iommu => Some(node.entries.as_slice()),
+            _ => None,
+        }
+    }
+
     /// The ioeventfds of a region, in order; none where it is no device of the forest.
     pub fn events(&self, region: RegionId) -> &[Ioevent]
         ensures { result.now ≡ events_of self.now.forest region }
@@ -122,6 +149,13 @@ impl Generation {
     {
         is_leaf_among(self.atlases.as_slice(), region)
     }
+}
+
+// Whether one of these regions is an IOMMU region.
+fn has_iommu(nodes: &[Node]) -> bool
+    ensures { result ≡ list_any (λ n. is_iommu n.kind) nodes.now }
+{
+    nodes.iter().any(|node| matches!(node.kind, Kind::Iommu))
 }
 
 impl Edition for Generation {
