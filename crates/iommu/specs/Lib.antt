@@ -1,4 +1,5 @@
 pub mod Places
 pub mod Pages
 pub mod Probes
+pub mod Ways
 pub mod Hops

@@ -1,9 +1,12 @@
 // One hop of a route: one search, and what the region that is found does with the address.
-ghost use Rattle.std.specs.Prelude.{◌≡◌, ◌+◌, ◌-◌, ◌≤◌, ◌^◌, ◌<◌, ℕ, suc, Bool, None, []};
+ghost use Rattle.std.specs.Prelude.{◌≡◌, ◌+◌, ◌≤◌, ◌^◌, ◌<◌, ℕ, suc, Bool, None, IfSome, []};
 ghost use Rattle.mem_base.specs.map.Entries.{AreEntries};
-ghost use Rattle.mem_base.specs.map.Search.{found_at};
+ghost use Rattle.mem_base.specs.map.Search.{found_at, look};
 ghost use Rattle.mem_base.specs.access.Translations.{translation_at, if_permitted};
 ghost use Rattle.iommu.specs.Pages.{ArePages};
+ghost use Rattle.iommu.specs.Probes.{IsBoundOfAll};
+ghost use Rattle.iommu.specs.Ways.{IsStretch, way, way_within};
+ghost use Rattle.iommu.specs.Hops.{FitsLeaf, IsShutFor, IsThrough, way_of, Narrows};
 
 use crate::tables;
 use generation::Generation;
@@ -31,7 +34,13 @@ fn search<L: Ledger>(
 ) -> (Option<Spot>, u64)
     requires some { 0 < limit }
     requires within { addr + limit ≤ 2 ^ 64 }
+    ensures spot { result.0 ≡ look g.now.forest space addr }
+    ensures stretch { IsStretch (found_at g.now.forest space) addr result.1 limit }
+    ensures offsets { IfSome result.0 (λ spot. spot.offset + result.1 ≤ 2 ^ 64) }
+    ensures probes { (k : ℕ) → IsBoundOfAll g.now.forest k → steps.new ≤ steps.old + k }
 {
+    // It tells that the forest is one that calls make, whose views show what a search finds.
+    g.forest();
     let Some(atlas) = g.atlas(space) else {
         return (None, limit);
     };
@@ -45,6 +54,7 @@ fn shut_for(entries: &[Entry], offset: u64, run: u64, write: bool) -> u64
     requires pages { ArePages entries.now }
     requires some { 0 < run }
     requires shut { if_permitted write (translation_at entries.now offset) ≡ None }
+    ensures { IsShutFor entries.now write offset run result }
 {
     match tables::next(entries, offset, write) {
         Some(entry) => run.min(entry.iova - offset),
@@ -57,6 +67,7 @@ fn through(entries: &[Entry], offset: u64, run: u64, write: bool) -> Hop
     requires sorted { AreEntries entries.now }
     requires pages { ArePages entries.now }
     requires some { 0 < run }
+    ensures { IsThrough entries.now write offset run result }
 {
     match tables::used(entries, offset, write) {
         Some(entry) => Hop::On {
@@ -82,6 +93,9 @@ pub(crate) fn hop_from<L: Ledger>(
 ) -> Hop
     requires some { 0 < len }
     requires within { addr + len ≤ 2 ^ 64 }
+    ensures route { (left : ℕ) → way_within g.now.forest write (suc left) space addr len ≡ way_of g.now.forest write left result }
+    ensures narrows { Narrows len result }
+    ensures probes { (k : ℕ) → IsBoundOfAll g.now.forest k → steps.new ≤ steps.old + k }
 {
     let (found, run) = search(g, space, addr, len, steps);
     let Some(spot) = found else {
@@ -109,6 +123,11 @@ pub(crate) fn last<L: Ledger>(
 ) -> (Target, u64)
     requires some { 0 < len }
     requires within { addr + len ≤ 2 ^ 64 }
+    ensures route { (write : Bool) → way_within g.now.forest write 0 space addr len ≡ way result.0 result.1 [] }
+    ensures some { 0 < result.1 }
+    ensures within { result.1 ≤ len }
+    ensures offsets { FitsLeaf result.0 result.1 }
+    ensures probes { (k : ℕ) → IsBoundOfAll g.now.forest k → steps.new ≤ steps.old + k }
 {
     let (found, run) = search(g, space, addr, len, steps);
     let Some(spot) = found else {

@@ -39,24 +39,16 @@ pub fn route<L: Ledger>(
     ensures probes { (k : ℕ) → IsBoundOfAll g.now.forest k → steps.new ≤ steps.old + 9 * k }
 {
     let mut used = Used::new();
-    let mut space = space;
-    let mut addr = addr;
-    let mut len = len;
+    let (mut here, mut from, mut count) = (space, addr, len);
     for _ in 0..MOST_TRANSLATIONS {
-        match hop_from(g, space, addr, len, write, steps) {
+        match hop_from(g, here, from, count, write, steps) {
             Hop::End { target, len } => return Route { target, len, used },
-            Hop::On {
-                entry,
-                addr: next,
-                len: run,
-            } => {
+            Hop::On { entry, addr, len } => {
                 used.push(entry);
-                space = entry.space;
-                addr = next;
-                len = run;
+                (here, from, count) = (entry.space, addr, len);
             }
         }
     }
-    let (target, len) = last(g, space, addr, len, steps);
+    let (target, len) = last(g, here, from, count, steps);
     Route { target, len, used }
 }

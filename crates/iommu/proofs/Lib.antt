@@ -1,0 +1,9 @@
+pub mod PageLaws
+pub mod TableLaws
+pub mod RunLaws
+pub mod FoundLaws
+pub mod TrailLaws
+pub mod WayLaws
+pub mod StretchLaws
+pub mod HopLaws
+pub mod RouteLaws

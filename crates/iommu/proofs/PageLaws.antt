@@ -1,0 +1,141 @@
+-- Pages of translations: each is as large as a power of two, it covers the offsets from its iova to its end, and they go on at
+-- addresses in a row.
+use Rattle.std.proofs.Common.{◌≡◌, ◌≢◌, ℕ, zero, suc, ◌+◌, ◌-◌, ◌*◌, ◌/◌, ◌%◌, ◌^◌, ◌<◌, ◌≤◌, Bool, true, false, not, ◌||◌, eqb, List, [], ◌∷◌, None}
+use Rattle.std.proofs.Common.{◌⊎◌, inl, inr, count_ones, sym, refl, ap, ◌∙◌, arith}
+use Rattle.std.specs.Prelude.{bit_and, bit_or}
+use Rattle.std.proofs.lemmas.Bool.Decides.{nat_tests}
+use Rattle.std.proofs.lemmas.Nat.{ones_cat, zero_from_ones, ones_le_self, pow-add, and_mask, or_shifted, div-mul-add, mod-mul-add, div-add-mod', mod_below}
+use Rattle.mem_base.specs.declared.map.translations.Entry.{Entry}
+use Rattle.mem_base.specs.access.Translations.{without_mask, covers, translated_address}
+use Rattle.mem_base.specs.lists.Every.{Every}
+use Rattle.mem_base.specs.map.TableRefusals.{bad_page}
+use Rattle.mem_base.specs.declared.map.refusals.Refusal.TheVariants.{BadPage}
+use Rattle.map_laws.proofs.RefusalLaws.{refuse_if-none}
+use Rattle.iommu.specs.Pages.{ArePages}
+
+-- the page's size is a power of two, and it begins at a multiple of it
+pub record IsPage (e : Entry) : Type 0 where
+  pub power : ℕ
+  pub size : e.mask + 1 ≡ 2 ^ power
+  pub whole : e.iova % (2 ^ power) ≡ 0
+
+one_has : count_ones 1 ≢ 0
+one_has e = let z = zero_from_ones 1 e in omega arith
+
+-- the one digit of a number is its lowest, or stands further up
+last_digit : (q r : ℕ) → r < 2 → count_ones (q * 2 + r) ≡ 1 → ((r ≡ 1) × (q ≡ 0)) ⊎ ((r ≡ 0) × (count_ones q ≡ 1))
+last_digit q zero l e = let h = ones_cat 1 q 0 (omega arith) in let z = ones_le_self 0 in inr (refl, omega arith)
+last_digit q (suc zero) l e =
+    let h = ones_cat 1 q 1 (omega arith) in
+    let some = one_has in
+    let none : count_ones q ≡ 0 = omega arith in
+    inl (refl, zero_from_ones q none)
+last_digit q (suc (suc r)) l e = absurd (omega arith)
+
+doubled : (n q r : ℕ) → q * 2 + r ≡ n → ((n' : ℕ) → n' ≡ q → count_ones n' ≡ 1 → (k : ℕ) × (n' ≡ 2 ^ k))
+    → ((r ≡ 1) × (q ≡ 0)) ⊎ ((r ≡ 0) × (count_ones q ≡ 1)) → (k : ℕ) × (n ≡ 2 ^ k)
+doubled n q r is up (inl (one, none)) = (0, omega arith)
+doubled n q r is up (inr (even, rest)) =
+    let h = up q refl rest in
+    let e = h.1 in
+    let p = pow-add 2 h.0 1 in
+    (h.0 + 1, omega arith)
+
+-- a number with one digit in base two is a power of two
+one_digit : (most n : ℕ) → n ≤ most → count_ones n ≡ 1 → (k : ℕ) × (n ≡ 2 ^ k)
+one_digit zero n l e =
+    let z : n ≡ 0 = omega arith in
+    let q : count_ones n ≡ count_ones 0 = ap count_ones z in
+    let h = ones_le_self 0 in
+    absurd (omega arith)
+one_digit (suc most) n l e =
+    let split = div-add-mod' n 2 in
+    let low : n % 2 < 2 = mod_below n 2 (omega arith) in
+    doubled n (n / 2) (n % 2) split (λ q is ones. one_digit most q (omega arith) ones) (last_digit (n / 2) (n % 2) low (ap count_ones split ∙ e))
+
+or_false : (a b : Bool) → a || b ≡ false → (a ≡ false) × (b ≡ false)
+or_false true b e = cc
+or_false false b e = (refl, e)
+
+not_false : (b : Bool) → not b ≡ false → b ≡ true
+not_false true e = refl
+not_false false e = cc
+
+is_page : (e : Entry) → bad_page e.iova (e.mask + 1) ≡ None → IsPage e
+is_page e h =
+    let tests = or_false (not (eqb (count_ones (e.mask + 1)) 1)) (not (eqb (e.iova % (e.mask + 1)) 0)) (refuse_if-none _ BadPage h) in
+    let one_bit = not_false (eqb (count_ones (e.mask + 1)) 1) tests.0 in
+    let multiple = not_false (eqb (e.iova % (e.mask + 1)) 0) tests.1 in
+    let ones : count_ones (e.mask + 1) ≡ 1 = grind (arith, nat_tests) in
+    let whole : e.iova % (e.mask + 1) ≡ 0 = grind (arith, nat_tests) in
+    let p = one_digit (e.mask + 1) (e.mask + 1) (omega arith) ones in
+    record { power = p.0; size = p.1; whole = ap (λ (n : ℕ). e.iova % n) (sym p.1) ∙ whole }
+
+pub are_pages : (es : List Entry) → ArePages es → Every IsPage es
+are_pages [] h = tt
+are_pages (e ∷ es) h = (is_page e h.0, are_pages es h.1)
+
+masked : (n m k : ℕ) → m + 1 ≡ 2 ^ k → bit_and n m ≡ n % (2 ^ k)
+masked n m k e = let is : m ≡ 2 ^ k - 1 = omega arith in ap (bit_and n) is ∙ and_mask n k
+
+-- a number without the bits of a page's mask is the multiple of its size below
+unmasked : (n m k : ℕ) → m + 1 ≡ 2 ^ k → without_mask m n ≡ n / (2 ^ k) * (2 ^ k)
+unmasked n m k e = let h = masked n m k e in let d = div-add-mod' n (2 ^ k) in omega arith
+
+-- where an offset in a page stands
+pub record IsIn (e : Entry) (p : IsPage e) (o : ℕ) : Type 0 where
+  pub quotient : o / (2 ^ p.power) * (2 ^ p.power) ≡ e.iova
+  pub rest : o % (2 ^ p.power) ≡ o - e.iova
+
+pub in_page : (e : Entry) (p : IsPage e) (o : ℕ) → e.iova ≤ o → o ≤ e.iova + e.mask → IsIn e p o
+in_page e p o l u =
+    let size = p.size in
+    let d = div-add-mod' e.iova (2 ^ p.power) in
+    let whole = p.whole in
+    let low : o - e.iova < 2 ^ p.power = omega arith in
+    let at : e.iova / (2 ^ p.power) * (2 ^ p.power) + (o - e.iova) ≡ o = omega arith in
+    let q = div-mul-add (e.iova / (2 ^ p.power)) (2 ^ p.power) (o - e.iova) low in
+    let r = mod-mul-add (e.iova / (2 ^ p.power)) (2 ^ p.power) (o - e.iova) low in
+    record {
+      quotient = ap (λ (x : ℕ). x / (2 ^ p.power) * (2 ^ p.power)) (sym at) ∙ ap (λ (x : ℕ). x * (2 ^ p.power)) q ∙ (let done : e.iova / (2 ^ p.power) * (2 ^ p.power) ≡ e.iova = omega arith in done);
+      rest = ap (λ (x : ℕ). x % (2 ^ p.power)) (sym at) ∙ r;
+    }
+
+pub covers-in : (e : Entry) → IsPage e → (o : ℕ) → e.iova ≤ o → o ≤ e.iova + e.mask → covers o e ≡ true
+covers-in e p o l u =
+    let h = in_page e p o l u in
+    let is : without_mask e.mask o ≡ e.iova = unmasked o e.mask p.power p.size ∙ h.quotient in
+    ap (λ (x : ℕ). eqb x e.iova) is ∙ (let same : eqb e.iova e.iova ≡ true = grind (arith, nat_tests) in same)
+
+-- what is covered lies in the page
+pub covered : (e : Entry) → IsPage e → (o : ℕ) → covers o e ≡ true → (e.iova ≤ o) × (o ≤ e.iova + e.mask)
+covered e p o t =
+    let is : without_mask e.mask o ≡ e.iova = grind (arith, nat_tests) in
+    let size = p.size in
+    let u = unmasked o e.mask p.power p.size in
+    let d = div-add-mod' o (2 ^ p.power) in
+    let low = mod_below o (2 ^ p.power) (omega arith) in
+    (omega arith, omega arith)
+
+no_cover : (b : Bool) (o : ℕ) (e : Entry) → covers o e ≡ b → (covers o e ≡ true → o < o) → covers o e ≡ false
+no_cover true o e t h = let bad = h t in absurd (omega arith)
+no_cover false o e t h = t
+
+pub covers-below : (e : Entry) → IsPage e → (o : ℕ) → o < e.iova → covers o e ≡ false
+covers-below e p o l = no_cover (covers o e) o e refl (λ t. let h = covered e p o t in let x = h.0 in omega arith)
+
+pub covers-above : (e : Entry) → IsPage e → (o : ℕ) → e.iova + e.mask < o → covers o e ≡ false
+covers-above e p o l = no_cover (covers o e) o e refl (λ t. let h = covered e p o t in let x = h.1 in omega arith)
+
+-- the offsets of a page go on at offsets in a row
+pub goes_on : (e : Entry) → IsPage e → (o : ℕ) → e.iova ≤ o → o ≤ e.iova + e.mask → translated_address e o ≡ without_mask e.mask e.translated + (o - e.iova)
+goes_on e p o l u =
+    let h = in_page e p o l u in
+    let size = p.size in
+    let low = mod_below o (2 ^ p.power) (omega arith) in
+    let base = unmasked e.translated e.mask p.power p.size in
+    ap (bit_or (without_mask e.mask e.translated)) (masked o e.mask p.power p.size)
+    ∙ ap (λ (x : ℕ). bit_or x (o % (2 ^ p.power))) base
+    ∙ or_shifted (e.translated / (2 ^ p.power)) p.power (o % (2 ^ p.power)) low
+    ∙ ap (λ (x : ℕ). x + o % (2 ^ p.power)) (sym base)
+    ∙ ap (λ (x : ℕ). without_mask e.mask e.translated + x) h.rest
