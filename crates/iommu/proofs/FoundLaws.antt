@@ -1,5 +1,6 @@
 -- What two neighbouring searches find.
-use Rattle.std.proofs.Common.{◌≡◌, ℕ, ◌+◌, ◌==◌, ◌&&◌, ◌||◌, not, Bool, true, false, eqb, eqb-true, List, [], ◌∷◌, Option, Some, None, sym, refl, ap, ◌∙◌, arith}
+use Rattle.std.proofs.Common.{◌≡◌, ℕ, ◌+◌, ◌==◌, ◌&&◌, ◌||◌, not, Bool, true, false, eqb, eqb-true, List, [], ◌∷◌, Option, Some, None, sym}
+use Rattle.std.proofs.Common.{refl, ap, ◌∙◌, arith}
 use Rattle.std.proofs.lemmas.Bool.Decides.{nat_tests}
 use Rattle.mem_base.specs.declared.map.ids.RegionId.{RegionId}
 use Rattle.mem_base.specs.declared.map.spots.Spot.{Spot}
@@ -40,7 +41,8 @@ same_attrs-is : (x y : Attrs) → same_attrs x y ≡ true → x ≡ y
 same_attrs-is x y e =
     let p = both (bool_eq x.readonly y.readonly && bool_eq x.nonvolatile y.nonvolatile && bool_eq x.romd y.romd && bool_eq x.unmergeable y.unmergeable)
     (x.log == y.log) e in
-    let o = both (bool_eq x.readonly y.readonly && bool_eq x.nonvolatile y.nonvolatile && bool_eq x.romd y.romd) (bool_eq x.unmergeable y.unmergeable) p.0 in
+    let o = both (bool_eq x.readonly y.readonly && bool_eq x.nonvolatile y.nonvolatile && bool_eq x.romd y.romd) (bool_eq x.unmergeable y.unmergeable)
+    p.0 in
     let u : x.unmergeable ≡ y.unmergeable = bool_eq-is x.unmergeable y.unmergeable o.1 in
     let q = both (bool_eq x.readonly y.readonly && bool_eq x.nonvolatile y.nonvolatile) (bool_eq x.romd y.romd) o.0 in
     let r = both (bool_eq x.readonly y.readonly) (bool_eq x.nonvolatile y.nonvolatile) q.0 in
@@ -94,7 +96,8 @@ is_after x y e =
       path = λ u. sym (same_path-is x.1 y.1 (unless_apart x.0.attrs.unmergeable (same_path x.1 y.1) w.1 u));
     }
 
-next_spot : (l : RegionId) (o o' : ℕ) (t : Attrs) → o + 1 ≡ o' → is_next_spot (record { leaf = l; offset = o; attrs = t }) (record { leaf = l; offset = o'; attrs = t }) ≡ true
+next_spot : (l : RegionId) (o o' : ℕ) (t : Attrs) → o + 1 ≡ o'
+    → is_next_spot (record { leaf = l; offset = o; attrs = t }) (record { leaf = l; offset = o'; attrs = t }) ≡ true
 next_spot l o o' t e =
     let at : eqb (o + 1) o' ≡ true = grind (arith, nat_tests) in
     rw (nat_same l.0, same_attrs-same t, at) refl

@@ -1,5 +1,6 @@
 -- One hop: how far none or one translation is used, and what that makes of the route.
-use Rattle.std.proofs.Common.{◌≡◌, ℕ, suc, ◌+◌, ◌-◌, ◌^◌, ◌<◌, ◌≤◌, min, Bool, true, false, eqb, cond, List, Option, Some, None, sym, refl, ap, ◌∙◌, subst, arith}
+use Rattle.std.proofs.Common.{◌≡◌, ℕ, suc, ◌+◌, ◌-◌, ◌^◌, ◌<◌, ◌≤◌, min, Bool, true, false, eqb, cond, List, Option, Some, None, sym, refl}
+use Rattle.std.proofs.Common.{ap, ◌∙◌, subst, arith}
 use Rattle.std.specs.Prelude.{bit_and}
 use Rattle.std.proofs.lemmas.Bool.{false≢true}
 use Rattle.std.proofs.lemmas.Bool.Decides.{nat_tests}
@@ -25,12 +26,14 @@ use Rattle.iommu.proofs.WayLaws.{way_shut, way_open}
 same_of : (u : Option Entry) (e : Entry) → u ≡ Some e → is_same_entry None u ≡ false
 same_of u e h = ap (is_same_entry None) h
 
-pub shut_none : (es : List Entry) (w : Bool) (o run : ℕ) → AreEntries es → ArePages es → 0 < run → if_permitted w (translation_at es o) ≡ None → next_ahead w o es ≡ None → IsShutFor es w o run run
+pub shut_none : (es : List Entry) (w : Bool) (o run : ℕ) → AreEntries es → ArePages es → 0 < run → if_permitted w (translation_at es o) ≡ None
+    → next_ahead w o es ≡ None → IsShutFor es w o run run
 shut_none es w o run h p l t n =
     let k = shut_until w es o h (are_pages es p) t in
     record { some = l; within = omega arith; shut = λ i u. k.none n (o + i) (omega arith); apart = λ u. absurd (omega arith) }
 
-pub shut_some : (es : List Entry) (w : Bool) (o run m : ℕ) (e : Entry) → AreEntries es → ArePages es → 0 < run → if_permitted w (translation_at es o) ≡ None → next_ahead w o es ≡ Some e → m ≡ min run (e.iova - o) → IsShutFor es w o run m
+pub shut_some : (es : List Entry) (w : Bool) (o run m : ℕ) (e : Entry) → AreEntries es → ArePages es → 0 < run
+    → if_permitted w (translation_at es o) ≡ None → next_ahead w o es ≡ Some e → m ≡ min run (e.iova - o) → IsShutFor es w o run m
 shut_some es w o run m e h p l t n is =
     let k = shut_until w es o h (are_pages es p) t in
     let ahead = (k.then_used e n).0 in
@@ -66,7 +69,13 @@ is_used es w o e p t = by (translation_at es o) refl t
         let found : translation_at es o ≡ Some e = f ∙ ap (λ (y : Entry). let r : Option Entry = Some y in r) k.0 in
         let has = found_has IsPage o es e (are_pages es p) found in
         let c = covered e has.0 o has.1 in
-        record { found = found; lets = subst (λ (y : Entry). if_permitted w (Some y) ≡ Some y) k.0 (u ∙ ap (λ (y : Entry). let r : Option Entry = Some y in r) (sym k.0)); page = has.0; low = c.0; high = c.1 }
+        record {
+          found = found;
+          lets = subst (λ (y : Entry). if_permitted w (Some y) ≡ Some y) k.0 (u ∙ ap (λ (y : Entry). let r : Option Entry = Some y in r) (sym k.0));
+          page = has.0;
+          low = c.0;
+          high = c.1;
+        }
 
 -- the address at the page's last offset is one of 64 bits
 address_fits : (e : Entry) (o : ℕ) → e.translated < 2 ^ 64 → e.mask < 2 ^ 64 → translated_address e o < 2 ^ 64
@@ -80,7 +89,9 @@ apart_if w e (Some y) h = by (permits w y.perm)
     by true = let l = h y refl in let no_one : eqb e.iova y.iova ≡ false = grind (arith, nat_tests) in no_one
     by false = refl
 
-pub open_for : (es : List Entry) (w : Bool) (o run b n : ℕ) (e : Entry) → AreEntries es → ArePages es → 0 < run → if_permitted w (translation_at es o) ≡ Some e → e.translated < 2 ^ 64 → e.mask < 2 ^ 64 → b ≡ translated_address e o → n ≡ min (run - 1) (e.mask - (o - e.iova)) + 1 → IsOpenFor es w o run e b n
+pub open_for : (es : List Entry) (w : Bool) (o run b n : ℕ) (e : Entry) → AreEntries es → ArePages es → 0 < run
+    → if_permitted w (translation_at es o) ≡ Some e → e.translated < 2 ^ 64 → e.mask < 2 ^ 64 → b ≡ translated_address e o
+    → n ≡ min (run - 1) (e.mask - (o - e.iova)) + 1 → IsOpenFor es w o run e b n
 open_for es w o run b n e h p l t tr ma bis nis =
     let u = is_used es w o e p t in
     let low = u.low in
@@ -90,7 +101,9 @@ open_for es w o run b n e h p l t tr ma bis nis =
       some = omega arith;
       within = omega arith;
       uses = λ i k. ap (if_permitted w) (found_within es o (o + i) e h (are_pages es p) u.found (omega arith) (omega arith)) ∙ u.lets;
-      apart = λ k. apart_if w e (translation_at es (o + n)) (λ y v. let x = found_past es o (o + n) e y h (are_pages es p) u.found (omega arith) v in omega arith);
+      apart =
+          λ k. apart_if w e (translation_at es (o + n)) (λ y v. let x = found_past es o (o + n) e y h (are_pages es p) u.found (omega arith) v in
+          omega arith);
       goes = λ i k. let x = goes_on e u.page (o + i) (omega arith) (omega arith) in omega arith;
       ends =
           let end = goes_on e u.page (o + (n - 1)) (omega arith) (omega arith) in

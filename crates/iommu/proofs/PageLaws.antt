@@ -97,7 +97,9 @@ in_page e p o l u =
     let q = div-mul-add (e.iova / (2 ^ p.power)) (2 ^ p.power) (o - e.iova) low in
     let r = mod-mul-add (e.iova / (2 ^ p.power)) (2 ^ p.power) (o - e.iova) low in
     record {
-      quotient = ap (λ (x : ℕ). x / (2 ^ p.power) * (2 ^ p.power)) (sym at) ∙ ap (λ (x : ℕ). x * (2 ^ p.power)) q ∙ (let done : e.iova / (2 ^ p.power) * (2 ^ p.power) ≡ e.iova = omega arith in done);
+      quotient =
+          ap (λ (x : ℕ). x / (2 ^ p.power) * (2 ^ p.power)) (sym at) ∙ ap (λ (x : ℕ). x * (2 ^ p.power)) q
+          ∙ (let done : e.iova / (2 ^ p.power) * (2 ^ p.power) ≡ e.iova = omega arith in done);
       rest = ap (λ (x : ℕ). x % (2 ^ p.power)) (sym at) ∙ r;
     }
 

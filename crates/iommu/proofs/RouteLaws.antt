@@ -70,7 +70,8 @@ ended_last f w s0 a0 n0 used i s a n to m h l e =
 
 -- a hop that leads on
 pub went_on : (f : Forest) (w : Bool) (s0 : SpaceId) (a0 n0 : ℕ) (used : List Entry) (i : ℕ) (s : SpaceId) (a n : ℕ) (q : Entry) (b m : ℕ)
-    (more : List Entry) → more ≡ used ++ q ∷ [] → IsOnTheWay f w s0 a0 n0 used i s a n → i < 8 → ((left : ℕ) → way_within f w (suc left) s a n ≡ leads_through q (way_within f w left q.space b m))
+    (more : List Entry) → more ≡ used ++ q ∷ [] → IsOnTheWay f w s0 a0 n0 used i s a n → i < 8
+    → ((left : ℕ) → way_within f w (suc left) s a n ≡ leads_through q (way_within f w left q.space b m))
     → (0 < m) × (m ≤ n) × (b + m ≤ 2 ^ 64) → IsOnTheWay f w s0 a0 n0 more (i + 1) q.space b m
 went_on f w s0 a0 n0 used i s a n q b m more g h l e lead =
     let all = h.all in

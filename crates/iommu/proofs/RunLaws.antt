@@ -27,7 +27,8 @@ shifted j a i = let e : a + 1 + i ≡ a + suc i = omega arith in ap j e
 -- Of the first n numbers from `a` on only the first m count, since the run ends with them at the latest; and among
 -- them neighbours belong together as from `b` on by another test. So the first run is as long as that of m numbers
 -- there.
-pub narrowed : (j k : ℕ → Bool) (m n a b : ℕ) → 0 < m → m ≤ n → ((i : ℕ) → i + 1 < m → j (a + i) ≡ k (b + i)) → ((i : ℕ) → i + 1 ≡ m → m < n → j (a + i) ≡ false) → first_length (runs j a n) ≡ first_length (runs k b m)
+pub narrowed : (j k : ℕ → Bool) (m n a b : ℕ) → 0 < m → m ≤ n → ((i : ℕ) → i + 1 < m → j (a + i) ≡ k (b + i))
+    → ((i : ℕ) → i + 1 ≡ m → m < n → j (a + i) ≡ false) → first_length (runs j a n) ≡ first_length (runs k b m)
 narrowed j k zero n a b l w same ends = absurd (omega arith)
 narrowed j k (suc m) zero a b l w same ends = absurd (omega arith)
 narrowed j k (suc zero) (suc zero) a b l w same ends = first_one j a ∙ sym (first_one k b)
@@ -38,9 +39,11 @@ narrowed j k (suc (suc m)) (suc n) a b l w same ends =
     let at : a + 0 ≡ a = omega arith in
     let bt : b + 0 ≡ b = omega arith in
     let both : j a ≡ k b = ap j (sym at) ∙ same 0 (omega arith) ∙ ap k bt in
-    step (k b) refl both (narrowed j k (suc m) n (a + 1) (b + 1) (omega arith) (omega arith) (λ i l. shifted j a i ∙ same (suc i) (omega arith) ∙ sym (shifted k b i)) (λ i e l. shifted j a i ∙ ends (suc i) (omega arith) (omega arith)))
+    step (k b) refl both (narrowed j k (suc m) n (a + 1) (b + 1) (omega arith) (omega arith)
+    (λ i l. shifted j a i ∙ same (suc i) (omega arith) ∙ sym (shifted k b i)) (λ i e l. shifted j a i ∙ ends (suc i) (omega arith) (omega arith)))
   where
-    step : (t : Bool) → k b ≡ t → j a ≡ k b → first_length (runs j (a + 1) n) ≡ first_length (runs k (b + 1) (suc m)) → first_length (runs j a (suc n)) ≡ first_length (runs k b (suc (suc m)))
+    step : (t : Bool) → k b ≡ t → j a ≡ k b → first_length (runs j (a + 1) n) ≡ first_length (runs k (b + 1) (suc m))
+        → first_length (runs j a (suc n)) ≡ first_length (runs k b (suc (suc m)))
     step true e both h = first_on j a n (both ∙ e) ∙ ap (λ (x : ℕ). x + 1) h ∙ sym (first_on k b (suc m) e)
     step false e both h = first_off j a n (both ∙ e) ∙ sym (first_off k b (suc m) e)
 

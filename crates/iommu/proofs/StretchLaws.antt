@@ -102,7 +102,8 @@ module _ (found : ℕ → Option Found) where
       ))
 
   -- what comes after a range is another thing
-  after_range : (from : ℕ) (r : FlatRange) (qs : List FlatRange) → Shows from (r ∷ qs) → r.last + 1 < 2 ^ 64 → joins (found r.last) (found (r.last + 1)) ≡ false
+  after_range : (from : ℕ) (r : FlatRange) (qs : List FlatRange) → Shows from (r ∷ qs) → r.last + 1 < 2 ^ 64
+      → joins (found r.last) (found (r.last + 1)) ≡ false
   after_range from r qs h w =
       let low = h.ranges.0 in
       let order = h.ranges.1 in
@@ -192,7 +193,8 @@ module _ (found : ℕ → Option Found) where
           (ap (λ (x : ℕ). min (limit - 1) (x - a) + 1) e ∙ f)
       by (inr above) (inr within) ih =
           let e = run_within r qs a above within in
-          stretch_range from a (min (limit - 1) (run_end (r ∷ qs) a - a) + 1) limit r qs h l above within k w (ap (λ (x : ℕ). min (limit - 1) (x - a) + 1) e)
+          stretch_range from a (min (limit - 1) (run_end (r ∷ qs) a - a) + 1) limit r qs h l above within k w
+          (ap (λ (x : ℕ). min (limit - 1) (x - a) + 1) e)
       by (inr above) (inl past) ih =
           let e = run_past r qs a h.ranges.1 past in
           subst (λ (x : ℕ). IsStretch found a (min (limit - 1) (x - a) + 1) limit) (sym e) (ih past)
@@ -253,7 +255,8 @@ is_found f s a n limit view spot last m v e g k l w =
     let count : n ≡ min (limit - 1) (run_end (view_of f s) a - a) + 1 = k ∙ ap (λ (x : ℕ). min (limit - 1) (x - a) + 1) end in
     record {
       spot_is = seen ∙ shows.shows a (omega arith) (omega arith);
-      stretch = subst (λ (n : ℕ). IsStretch (found_at f s) a n limit) (sym count) (stretch_of_run (found_at f s) 0 (view_of f s) a limit shows (omega arith) l w);
+      stretch =
+          subst (λ (n : ℕ). IsStretch (found_at f s) a n limit) (sym count) (stretch_of_run (found_at f s) 0 (view_of f s) a limit shows (omega arith) l w);
       offsets = if_some (λ x. x.offset + n ≤ 2 ^ 64) spot
           (λ x t. run_fits 0 (2 ^ 64) (view_of f s) a n x shows.ranges (omega arith) (sym seen ∙ t) (omega arith));
     }

@@ -76,14 +76,16 @@ parted_none y t u p q = rw (p, q.hops) refl
 none_parted : (x : Found) (t u : Trail) → BeginsAt x t → u.hops ≡ [] → is_next_trail t u ≡ false
 none_parted x t u p q = rw (p.hops, q) refl
 
-pub trails_part : (f : Forest) (w : Bool) (o : Option Onward) (x y : Option Found) → joins x y ≡ false → is_next_trail (trail_at f w o x) (trail_at f w o y) ≡ false
+pub trails_part : (f : Forest) (w : Bool) (o : Option Onward) (x y : Option Found) → joins x y ≡ false
+    → is_next_trail (trail_at f w o x) (trail_at f w o y) ≡ false
 trails_part f w o None None apart = absurd (false≢true (sym apart))
 trails_part f w o None (Some y) apart = parted_none y (trail [] Unassigned) (trail_at f w o (Some y)) refl (begins_at f w o y)
 trails_part f w o (Some x) None apart = none_parted x (trail_at f w o (Some x)) (trail [] Unassigned) (begins_at f w o x) refl
 trails_part f w o (Some x) (Some y) apart = parted x y _ _ (begins_at f w o x) (begins_at f w o y) apart
 
 -- a leaf of another kind ends the trail
-pub leaf_trail : (f : Forest) (w : Bool) (o : Option Onward) (x : Found) → translates f x.0.leaf ≡ false → trail_at f w o (Some x) ≡ trail (hop x None ∷ []) (Leaf x.0)
+pub leaf_trail : (f : Forest) (w : Bool) (o : Option Onward) (x : Found) → translates f x.0.leaf ≡ false
+    → trail_at f w o (Some x) ≡ trail (hop x None ∷ []) (Leaf x.0)
 leaf_trail f w o x e = ap (λ (b : Bool). cond b (through o x (used_at f w x.0.leaf x.0.offset)) (trail (hop x None ∷ []) (Leaf x.0))) e
 
 -- an IOMMU region leads through what is used there
@@ -140,7 +142,8 @@ pub record AreNeighbours (f : Forest) (s : SpaceId) (a i : ℕ) (x : Spot) : Typ
   pub next_spot : next.0 ≡ further (i + 1) x
   pub joined : is_next_found here next ≡ true
 
-pub neighbours : (f : Forest) (s : SpaceId) (a m n : ℕ) (x : Spot) → IsStretch (found_at f s) a m n → spot_of (found_at f s a) ≡ Some x → (i : ℕ) → i + 1 < m
+pub neighbours : (f : Forest) (s : SpaceId) (a m n : ℕ) (x : Spot) → IsStretch (found_at f s) a m n → spot_of (found_at f s a) ≡ Some x → (i : ℕ)
+    → i + 1 < m
     → AreNeighbours f s a i x
 neighbours f s a m n x h e i l =
     let p = some_found (found_at f s (a + i)) (further i x) (h.spots i (omega arith) ∙ ap (option_map (further i)) e) in
