@@ -118,13 +118,13 @@ fn find_below(tree: &Tree, depth: u32, region: RegionId, at: u64, path: &mut Pat
     None
 }
 
-/// Whether a child holds an offset of its container. The first test is false of nearly every child that does not, on
-/// whichever side the offset lies, so that a processor foresees it; the second is for a child that ends past 2^64.
+/// Whether a child holds an offset of its container. One test, which a processor foresees: that the offset lies below the
+/// child is a distance past all that are possible, and nothing of a child lies past 2^64.
 #[inline(always)]
 fn holds(child: &Child, at: u64) -> bool
     ensures { result ≡ holds child.now at }
 {
-    at.wrapping_sub(child.offset) <= child.last && child.offset <= at
+    at.wrapping_sub(child.offset) <= child.last.min(u64::MAX - child.offset)
 }
 
 /// The search in one child, at an offset in its container. A child that lies above the offset, or ends before it, is
