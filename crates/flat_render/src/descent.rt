@@ -99,15 +99,15 @@ fn render_inside<L: Ledger>(
         canvas.old canvas.new steps.old steps.new result }
 {
     if let Kind::Alias { target, offset } = node.kind {
-        return render_target(canvas, depth, target, offset, window, steps);
+        render_target(canvas, depth, target, offset, window, steps)?;
+        return Ok(());
     }
-    let global = canvas.is_global();
     let children = canvas.children(node.id);
     render_below(canvas, depth, children, window, steps)?;
     if node.kind.is_container() {
         return Ok(());
     }
-    put_own(canvas, global, node, window, steps)
+    put_own(canvas, node, window, steps)
 }
 
 /// The target of an alias that begins at an offset in it.
@@ -131,7 +131,8 @@ fn render_target<L: Ledger>(
     if !window.follow(offset) {
         return Ok(());
     }
-    render_at(canvas, depth, node, window, steps)
+    render_at(canvas, depth, node, window, steps)?;
+    Ok(())
 }
 
 /// These children of a region, under a list that may be long.
@@ -312,16 +313,15 @@ fn own_cut(global: bool, node: &Node, window: &Window) -> Option<Cut>
 /// Puts what a region answers itself under the cuts.
 fn put_own<L: Ledger>(
     canvas: &mut Canvas,
-    global: bool,
     node: &Node,
     window: &Window,
     steps: &mut Steps<L>,
 ) -> Result<(), AllocError>
     requires fits { window.now.at + (window.now.last - window.now.first) < 2 ^ 64 }
     requires ordered { window.now.first ≤ window.now.last }
-    ensures { Renders window.now (itself global node.now.kind node.now) 1 canvas.old canvas.new steps.old steps.new result }
+    ensures { Renders window.now (itself canvas.old.tree.global node.now.kind node.now) 1 canvas.old canvas.new steps.old steps.new result }
 {
-    let Some(cut) = own_cut(global, node, window) else {
+    let Some(cut) = own_cut(canvas.is_global(), node, window) else {
         return Ok(());
     };
     canvas.put(cut, steps)

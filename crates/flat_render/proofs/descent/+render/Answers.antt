@@ -318,7 +318,13 @@ render_inside-returns-in-Alias g t c =
     (weight_target f.nodes c.args.depth c.args.node.now.kind c.args.node.now c.in-Alias.target c.in-Alias.offset c.in-Alias.is)
     (renders_same c.args.window.now c.args.window.now _ _ _ _ _ _ _ _ refl
     (λ path a. ap (λ k. through path c.args.window.now (inside f (found_in f c.args.depth) k c.args.node.now) a)
-    (sym c.in-Alias.is)) c.render_target.ensures)
+    (sym c.in-Alias.is)) c.in_ok-render_target.ensures)
+
+pub render_inside-returns-in_err-render_target : goal.render_inside-returns-in_err-render_target
+render_inside-returns-in_err-render_target g t c =
+    renders_failed _ _ _ _ _ _ _ _ c.from_residual.ensures.0 (carves_more c.args.canvas.now.cuts _ _ _ _
+    (weight_target c.args.canvas.now.tree.nodes c.args.depth c.args.node.now.kind c.args.node.now c.in-Alias.target c.in-Alias.offset c.in-Alias.is)
+    c.render_target.ensures.carves)
 
 pub render_inside-render_below-requires : goal.render_inside-render_below-requires
 render_inside-render_below-requires g t c = λ κs l. (
@@ -341,7 +347,7 @@ render_inside-returns-in_err-render_below g t c =
     let named = ap ids_in c.children-children.ensures ∙ ids_placed (children_of f.nodes n.id) in
     let w : weight_of_ids f.nodes c.args.depth (steps_at f.nodes n.kind n) ≡ weight_of_ids f.nodes c.args.depth ids =
     ap (weight_of_ids f.nodes c.args.depth) (steps_at-children f.nodes n.kind n c.in_default.not-Alias ∙ sym named) in
-    renders_failed _ _ _ _ _ _ _ _ c.from_residual.ensures.0
+    renders_failed _ _ _ _ _ _ _ _ c.from_residual-in_err-render_below.ensures.0
     (carves_more c.args.canvas.now.cuts (weight_of_ids f.nodes c.args.depth ids) _ _ _ (omega arith) c.render_below.ensures.carves)
 
 pub render_inside-returns-then-is_container : goal.render_inside-returns-then-is_container
@@ -371,9 +377,11 @@ render_inside-returns g t c =
     renders_weight c.args.window.now _ (weight_of_ids f.nodes c.args.depth ids + 1) _ _ _ _ _ _ (ap (λ x. x + 1) (sym w))
     (renders_same c.args.window.now c.args.window.now _ (inside f (found_in f c.args.depth) n.kind n) _ _ _ _ _ _ refl
     (λ path a. through_same path c.args.window.now _ _ a
-    (λ b. inside_both f (found_in f c.args.depth) n ids c.is_global-global.result b c.requires.forest c.in_default.not-Alias named c.is_global-global.ensures))
+    (λ b. inside_both f (found_in f c.args.depth) n ids c.render_below.new.canvas.tree.global b c.requires.forest
+    c.in_default.not-Alias named (ap (λ (h : Forest). h.global) c.in_ok-render_below.ensures.draws.tree)))
     (renders_then c.args.window.now (first_of_ids f.nodes (found_in f c.args.depth) ids)
-    (itself c.is_global-global.result n.kind n) _ _ _ _ _ _ _ _ _ c.in_ok-render_below.ensures.draws c.render_below.ensures.carves c.put_own.ensures))
+    (itself c.render_below.new.canvas.tree.global n.kind n) _ _ _ _ _ _ _ _ _ c.in_ok-render_below.ensures.draws c.render_below.ensures.carves
+    c.put_own.ensures))
 
 -- render_target
 
@@ -409,4 +417,10 @@ render_target-returns g t c =
     (in_alias c.args.offset (found_in f c.args.depth c.args.target)) _ _ _ _ _ _ c.follow.ensures.note
     (λ path a. c.follow.ensures.some c.if-not-follow.false path (found_in f c.args.depth c.args.target) a)
     (subst (λ q. Renders c.follow.new.self (found_in f c.args.depth q) (weight_by (steps_of f.nodes) c.args.depth q) c.args.canvas.now
-    c.render_at.new.canvas c.args.steps.now c.render_at.new.steps c.render_at.result) same c.render_at.ensures)
+    c.render_at.new.canvas c.args.steps.now c.render_at.new.steps (Ok tt)) same c.in_ok-render_at.ensures)
+
+pub render_target-returns-in_err-render_at : goal.render_target-returns-in_err-render_at
+render_target-returns-in_err-render_at g t c =
+    renders_failed _ _ _ _ _ _ _ _ c.from_residual.ensures.0
+    (subst (λ q. Carves c.args.canvas.now.cuts (weight_by (steps_of c.args.canvas.now.tree.nodes) c.args.depth q) c.args.steps.now c.render_at.new.steps)
+    (id_of c.args.canvas.now.tree.nodes c.args.target c.in-Some.node.now (sym c.in-Some.ensures.value)) c.render_at.ensures.carves)
