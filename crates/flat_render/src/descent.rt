@@ -112,7 +112,7 @@ fn render_inside<L: Ledger>(
 
 /// The target of an alias that begins at an offset in it.
 #[cycle(render)]
-#[inline(always)]
+#[inline(never)]
 fn render_target<L: Ledger>(
     canvas: &mut Canvas,
     depth: u32,
@@ -164,7 +164,7 @@ fn render_below<L: Ledger>(
 
 /// These children of a region, into a list of its own, which is then put under the cuts.
 #[cycle(render)]
-#[inline(always)]
+#[inline(never)]
 fn render_apart<L: Ledger>(
     canvas: &mut Canvas,
     depth: u32,
