@@ -110,7 +110,7 @@ fn render_inside<L: Ledger>(
     put_own(canvas, node, window, steps)
 }
 
-/// The target of an alias that begins at an offset in it.
+/// The target of an alias that begins at an offset in it. Not inlined: the way through a container is the faster for it.
 #[cycle(render)]
 #[inline(never)]
 fn render_target<L: Ledger>(
