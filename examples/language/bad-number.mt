@@ -1,0 +1,2 @@
+region A container 0X10  # the prefix is the small 0x
+space
