@@ -1,5 +1,6 @@
 -- What the calls of a backed desk leave of it.
-use Rattle.std.proofs.Common.{◌≡◌, ℕ, ◌+◌, ◌<◌, ◌≤◌, ◌==◌, ◌^◌, Bool, true, false, not, List, [], ◌∷◌, ◌++◌, Option, Some, None, Ok, Err, ◌≢◌, refl, sym, ap, subst, ◌∙◌}
+use Rattle.std.proofs.Common.{◌≡◌, ℕ, ◌+◌, ◌<◌, ◌≤◌, ◌==◌, ◌^◌, Bool, true, false, not, List, [], ◌∷◌, ◌++◌, Option, Some, None, Ok, Err}
+use Rattle.std.proofs.Common.{◌≢◌, refl, sym, ap, subst, ◌∙◌}
 use Rattle.std.proofs.lemmas.Bool.{eqb-true, eqb-false}
 use Rattle.std.proofs.Common.{arith, ne_eqb, eq-eqb, append-nil, length, filter, ◌-◌, ◌%◌}
 use Rattle.std.specs.Prelude.{◌&&◌, ◌||◌, if◌then◌else◌, is_none, is_some, IsSome, nat_lt, nat_le, Result, IfOk, IfErr, OnErr, ◌↔◌}
@@ -181,8 +182,10 @@ module _ (f g : Forest) (b : Backing) (kind : Kind) (size : ℕ) (whole : IsMade
       go true t = subst (Backs g) (sym (same_backing f b (calls.Region kind size) (rw t refl))) (wordless (eqb-true _ _ t))
       go false t =
           subst (Backs g) (rw t refl)
-          (at (first_fit b.pool_words b.places (words_of (extent_of kind size))) refl (let ne : words_of (extent_of kind size) ≡ 0 → ⊥ = eqb-false _ _ t in omega arith)
-          (subst (λ (z : Bool). refuse_if (not z && is_none (first_fit b.pool_words b.places (words_of (extent_of kind size)))) (NoBacking (words_of (extent_of kind size))) ≡ None) t fits))
+          (at (first_fit b.pool_words b.places (words_of (extent_of kind size))) refl
+          (let ne : words_of (extent_of kind size) ≡ 0 → ⊥ = eqb-false _ _ t in omega arith)
+          (subst (λ (z : Bool). refuse_if (not z && is_none (first_fit b.pool_words b.places (words_of (extent_of kind size))))
+          (NoBacking (words_of (extent_of kind size))) ≡ None) t fits))
 
 -- what an accepted call leaves
 pub called : (f g : Forest) (b : Backing) (call : Call) → IsMade f → after f call ≡ Ok g → no_backing b call ≡ None → Backs f b
@@ -221,7 +224,8 @@ place_in-without (p ∷ ps) region q ne = go (p.region.0 == region.0) refl (plac
 pub released : (f : Forest) (b : Backing) (region : RegionId) → node_of f.nodes region ≡ None → Backs f b → Backs f (backing_without b region)
 released f b region gone k = record {
   backs = record {
-    regions = λ q n e some. subst (λ (o : Option Place). IsSome o) (sym (place_in-without b.places region q (λ same. apart q n e same))) (k.backs.regions q n e some);
+    regions = λ q n e some. subst (λ (o : Option Place). IsSome o) (sym (place_in-without b.places region q (λ same. apart q n e same)))
+        (k.backs.regions q n e some);
     fits = every_filter _ (λ p. not (is_place_of region p)) b.places k.backs.fits;
     inside = every_filter _ (λ p. not (is_place_of region p)) b.places k.backs.inside;
     apart = pairs_filter ArePlacesApart (λ p. not (is_place_of region p)) b.places k.backs.apart;
@@ -315,7 +319,8 @@ pub bytes_fit : (kind : Kind) (size bytes regs : ℕ) → bad_size kind size ≡
     → (bytes % page_size ≡ 0) × (bytes ≤ most_bytes) × (regs ≤ most_registers)
 bytes_fit kind size bytes regs s d e = go kind s d (ap (λ (x : Extent). x.bytes) e) (ap (λ (x : Extent). x.regs) e)
   where
-    pages : (test : Bool) → refuse_if ((size == 0) || (not (size % page_size == 0) || nat_lt most_bytes size)) BadSize ≡ None → (size % page_size ≡ 0) × (size ≤ most_bytes)
+    pages : (test : Bool) → refuse_if ((size == 0) || (not (size % page_size == 0) || nat_lt most_bytes size)) BadSize ≡ None
+        → (size % page_size ≡ 0) × (size ≤ most_bytes)
     pages test h = let t = refuse_if-none _ _ h in (grind (arith, nat_tests), grind (arith, nat_tests))
 
     few : (device : Device) → bad_device (Some device) ≡ None → device.regs ≤ most_registers
@@ -365,7 +370,8 @@ makes_none (calls.Event region event) h = refl
 makes_none (calls.Unevent region offset size matched value) h = refl
 
 -- what a change prepares
-pub ready_change : (s : BackedState) (call : Call) (p : Readied) → s.desk.state.depth ≡ 0 → is_quiet call ≡ false → after (forest_at s) call ≡ Ok p.generation.forest
+pub ready_change : (s : BackedState) (call : Call) (p : Readied) → s.desk.state.depth ≡ 0 → is_quiet call ≡ false
+    → after (forest_at s) call ≡ Ok p.generation.forest
     → p ≡ readied s.desk.current p.generation.forest (all_places s.backing) (Some p.generation.forest) → Backs (forest_at s) s.backing → IsOfBackedDesk s p
 ready_change s call p outside change e same k = record {
   of_desk = record {
@@ -423,7 +429,8 @@ fits_backing b kind size start fit = rw fit (go (not (words_of (extent_of kind s
     go true = refl
     go false = refl
 
-pub inserted : (xs : List Place) (n p : Place) (all : List Place) (at : ℕ) → all ≡ xs ++ n ∷ [] → at ≡ length all - 1 → insert all at p ≡ (xs ++ p ∷ []) ++ n ∷ []
+pub inserted : (xs : List Place) (n p : Place) (all : List Place) (at : ℕ) → all ≡ xs ++ n ∷ [] → at ≡ length all - 1
+    → insert all at p ≡ (xs ++ p ∷ []) ++ n ∷ []
 inserted xs n p all at e l =
     let long : length all ≡ length xs + 1 = ap length e ∙ length-append xs (n ∷ []) in
     let there : at ≡ length xs = omega arith in
@@ -517,26 +524,29 @@ abbrev pub made_after : ℕ → Applied → ℕ
 made_after made (Made region) = region.0 + 1
 made_after made Done = made
 
+number_made : (f : Forest) (call : Call) → made_after f.made (answer_of f call) ≡ (changed f call).made
+number_made f (calls.Region kind size) = refl
+number_made f (calls.Space space root) = refl
+number_made f (calls.Add parent offset child priority) = refl
+number_made f (calls.Del parent child) = refl
+number_made f (calls.Move child offset) = refl
+number_made f (calls.Resize region size) = refl
+number_made f (calls.Retarget alias offset) = refl
+number_made f (calls.Enable region on) = refl
+number_made f (calls.Readonly region on) = refl
+number_made f (calls.Nonvolatile region on) = refl
+number_made f (calls.Unmergeable region on) = refl
+number_made f (calls.Romd region on) = refl
+number_made f (calls.Log region client on) = refl
+number_made f (calls.Global on) = refl
+number_made f (calls.Map region iova size space translated perm) = refl
+number_made f (calls.Unmap region iova) = refl
+number_made f (calls.Event region event) = refl
+number_made f (calls.Unevent region offset size matched value) = refl
+number_made f (calls.Drop region) = refl
+
 pub counts_after : (f g : Forest) (call : Call) (x : Applied) → after f call ≡ Ok g → x ≡ answer_of f call → made_after f.made x ≡ g.made
-counts_after f g (calls.Region kind size) x e a = ap (made_after f.made) a ∙ sym (made_more f g kind size e)
-counts_after f g (calls.Space space root) x e a = ap (made_after f.made) a ∙ sym (ap (λ (y : Forest). y.made) (after-accepted f g (calls.Space space root) e).1)
-counts_after f g (calls.Add parent offset child priority) x e a = ap (made_after f.made) a ∙ sym (ap (λ (y : Forest). y.made) (after-accepted f g (calls.Add parent offset child priority) e).1)
-counts_after f g (calls.Del parent child) x e a = ap (made_after f.made) a ∙ sym (ap (λ (y : Forest). y.made) (after-accepted f g (calls.Del parent child) e).1)
-counts_after f g (calls.Move child offset) x e a = ap (made_after f.made) a ∙ sym (ap (λ (y : Forest). y.made) (after-accepted f g (calls.Move child offset) e).1)
-counts_after f g (calls.Resize region size) x e a = ap (made_after f.made) a ∙ sym (ap (λ (y : Forest). y.made) (after-accepted f g (calls.Resize region size) e).1)
-counts_after f g (calls.Retarget alias offset) x e a = ap (made_after f.made) a ∙ sym (ap (λ (y : Forest). y.made) (after-accepted f g (calls.Retarget alias offset) e).1)
-counts_after f g (calls.Enable region on) x e a = ap (made_after f.made) a ∙ sym (ap (λ (y : Forest). y.made) (after-accepted f g (calls.Enable region on) e).1)
-counts_after f g (calls.Readonly region on) x e a = ap (made_after f.made) a ∙ sym (ap (λ (y : Forest). y.made) (after-accepted f g (calls.Readonly region on) e).1)
-counts_after f g (calls.Nonvolatile region on) x e a = ap (made_after f.made) a ∙ sym (ap (λ (y : Forest). y.made) (after-accepted f g (calls.Nonvolatile region on) e).1)
-counts_after f g (calls.Unmergeable region on) x e a = ap (made_after f.made) a ∙ sym (ap (λ (y : Forest). y.made) (after-accepted f g (calls.Unmergeable region on) e).1)
-counts_after f g (calls.Romd region on) x e a = ap (made_after f.made) a ∙ sym (ap (λ (y : Forest). y.made) (after-accepted f g (calls.Romd region on) e).1)
-counts_after f g (calls.Log region client on) x e a = ap (made_after f.made) a ∙ sym (ap (λ (y : Forest). y.made) (after-accepted f g (calls.Log region client on) e).1)
-counts_after f g (calls.Global on) x e a = ap (made_after f.made) a ∙ sym (ap (λ (y : Forest). y.made) (after-accepted f g (calls.Global on) e).1)
-counts_after f g (calls.Map region iova size space translated perm) x e a = ap (made_after f.made) a ∙ sym (ap (λ (y : Forest). y.made) (after-accepted f g (calls.Map region iova size space translated perm) e).1)
-counts_after f g (calls.Unmap region iova) x e a = ap (made_after f.made) a ∙ sym (ap (λ (y : Forest). y.made) (after-accepted f g (calls.Unmap region iova) e).1)
-counts_after f g (calls.Event region event) x e a = ap (made_after f.made) a ∙ sym (ap (λ (y : Forest). y.made) (after-accepted f g (calls.Event region event) e).1)
-counts_after f g (calls.Unevent region offset size matched value) x e a = ap (made_after f.made) a ∙ sym (ap (λ (y : Forest). y.made) (after-accepted f g (calls.Unevent region offset size matched value) e).1)
-counts_after f g (calls.Drop region) x e a = ap (made_after f.made) a ∙ sym (ap (λ (y : Forest). y.made) (after-accepted f g (calls.Drop region) e).1)
+counts_after f g call x e a = ap (made_after f.made) a ∙ number_made f call ∙ sym (ap (λ (y : Forest). y.made) (after-accepted f g call e).1)
 
 pub few_after : (f g : Forest) (call : Call) (region : RegionId) → IsMade g → after f call ≡ Ok g → Made region ≡ answer_of f call → region.0 + 1 ≤ most_made
 few_after f g call region whole e a =

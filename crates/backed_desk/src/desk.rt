@@ -134,6 +134,7 @@ impl BackedDesk {
         ensures places { result.now ≡ all_places self.now.backing }
         ensures fit { AreDeskPlaces (forest_at self.now) result.now }
     {
+        // They tell that the forest is one that calls make, and what holds of the pool.
         let _ = self.desk.tree();
         let _ = self.pool.place_of(RegionId(0));
         self.places.as_slice()
@@ -189,6 +190,7 @@ impl BackedDesk {
         ensures refused { IfErr result (λ why. why ≢ Refusal.Memory → refusal_at self.old call.now ≡ Some why) }
         ensures unchanged { OnErr result (self.new ≡ self.old) }
     {
+        // It tells that the forest is one that calls make: before the call, and after it.
         let _ = self.desk.tree();
         let applied = self.desk.call(call)?;
         if let Applied::Made(region) = applied {
@@ -262,6 +264,7 @@ impl BackedDesk {
         ensures carves { steps.new ≤ steps.old + most_carves self.old.desk.current.forest (forest_at self.old) }
         ensures spared { IfErr result (λ why. why ≢ Refusal.Memory → steps.new ≡ steps.old) }
     {
+        // It tells that the forest is one that calls make.
         let _ = self.desk.tree();
         self.desk.commit_prepare(self.places.as_slice(), steps)
     }
@@ -284,6 +287,7 @@ impl BackedDesk {
         ensures desk { self.new.desk ≡ self.old.desk }
         ensures backing { self.new.backing ≡ backing_without self.old.backing region }
     {
+        // It tells that the forest is one that calls make.
         let _ = self.desk.tree();
         let place = self.pool.give(region)?;
         forget(&mut self.places, region);
