@@ -1,0 +1,10 @@
+pub mod HandLaws
+pub mod RunLaws
+pub mod ByteLaws
+pub mod MemoryLaws
+pub mod CallbackLaws
+pub mod LeafLaws
+pub mod DeviceLaws
+pub mod AnswerLaws
+pub mod DeviceRunLaws
+pub mod GoodLaws
