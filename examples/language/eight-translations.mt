@@ -1,4 +1,4 @@
-# Eight translations lead on; where a ninth is wanting the address is unassigned.
+# Eight translations lead on; where a ninth would be needed the address is unassigned.
 region D io 8 latch
 space mem D
 region M0 iommu 0x1000

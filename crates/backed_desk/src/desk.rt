@@ -281,6 +281,9 @@ impl BackedDesk {
     }
 
     /// Gives the place of a region back that was dropped: `None` exactly where it has none. It takes no memory.
+    ///
+    /// That no generation which a pass may still use names the region is for the caller to know: its words may be another
+    /// region's from then on.
     pub fn release(&mut self, region: RegionId) -> Option<Place>
         requires { node_of (forest_at self.old).nodes region ≡ None }
         ensures place { result ≡ place_in self.old.backing.places region }

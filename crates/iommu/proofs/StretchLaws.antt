@@ -174,7 +174,7 @@ module _ (found : ℕ → Option Found) where
       spot_further : (r : FlatRange) (a i : ℕ) → r.start ≤ a → let x : Option Spot = Some (spot_at r (a + i)) in x ≡ Some (further i (spot_at r a))
       spot_further r a i l = same_spot r.leaf (r.offset + (a + i - r.start)) (r.offset + (a - r.start) + i) r.attrs (omega arith)
 
-  -- up to the end of the run, at most so many
+  -- up to the end of the run, at most `limit` addresses
   pub stretch_of_run : (from : ℕ) (rs : List FlatRange) (a limit : ℕ) → Shows from rs → from ≤ a → 0 < limit → a + limit ≤ 2 ^ 64
       → IsStretch found a (min (limit - 1) (run_end rs a - a) + 1) limit
   stretch_of_run from [] a limit h l k w =
@@ -235,7 +235,7 @@ run_fits from end (r ∷ qs) a n x h l e k =
         let is = run_past r qs a h.1 past in
         ih past (sym (shown-later r qs a past) ∙ e) (omega arith)
 
--- what a look-up in the view of a space finds, for at most so many addresses
+-- what a look-up in the view of a space finds, for at most `limit` addresses
 pub record IsFound (f : Forest) (s : SpaceId) (a n limit : ℕ) (spot : Option Spot) : Type 0 where
   pub spot_is : spot ≡ look f s a
   pub stretch : IsStretch (found_at f s) a n limit

@@ -18,7 +18,7 @@ use Rattle.mem_base.specs.access.Trails.{is_same_entry, is_leaf, is_next_trail}
 use Rattle.iommu.specs.Ways.{further, is_next_found, joins, IsStretch, shares_within}
 use Rattle.iommu.proofs.FoundLaws.{both, nat_same, some_found}
 
--- how a trail goes on from a translation, where so many may still be used
+-- how a trail goes on from a translation, where `left` of them may still be used
 abbrev pub onward : Forest → Bool → ℕ → Option Onward
 onward f w zero = None
 onward f w (suc left) = Some (trail_within f w left)

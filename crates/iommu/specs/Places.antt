@@ -3,7 +3,7 @@ use Rattle.std.specs.Prelude.{◌≡◌, ℕ, ◌≤◌, List, [], Option, Some,
 use Rattle.mem_base.specs.declared.map.translations.Entry.{Entry}
 use Rattle.mem_base.specs.map.Limits.{most_translations}
 
--- the translations in the places, the first so many of which are taken
+-- the translations in the places, of which the first `count` are taken
 abbrev pub taken : Option (List Entry) → ℕ → List Entry
 taken None count = []
 taken (Some places) count = take count places

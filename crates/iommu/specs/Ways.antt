@@ -10,7 +10,7 @@ use Rattle.mem_base.specs.map.Search.{Found, spot_of}
 use Rattle.mem_base.specs.views.Flattened.{same_path}
 use Rattle.mem_base.specs.access.Trails.{Route, first_length, trail_within, is_next_spot, is_next_trail}
 
--- a spot so many bytes further on
+-- a spot n bytes further on
 abbrev pub further : ℕ → Spot → Spot
 further n s = record { leaf = s.leaf; offset = s.offset + n; attrs = s.attrs }
 

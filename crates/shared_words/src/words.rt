@@ -45,7 +45,7 @@ pub fn store8<E: Edition + Drop, H: Hand<E>>(
     cabinet.touch(hand, place, word, Touch::Step(step));
 }
 
-/// ComesNext one, modulo 2^64, and answers the value before.
+/// Adds one, modulo 2^64, and answers the value before.
 pub fn add<E: Edition + Drop, H: Hand<E>>(
     cabinet: &Cabinet<E>,
     hand: &mut H,
