@@ -100,8 +100,11 @@ fn write_leaf<H: Writes>(hand: &mut H, spot: &Spot, bytes: &[u8]) -> TxResult
     }
 }
 
-/// Reads where some addresses lead, for as many bytes as there is room for.
-pub(crate) fn read<H: Reads>(hand: &mut H, target: &Target, out: &mut [u8]) -> TxResult
+/// Reads where some addresses lead, for as many bytes as there is room for. It takes no memory.
+///
+/// The target is that of a route in the generation that the hand is entered in, and the bytes lie in the leaf's region. Where
+/// nothing answers, zeros are read, with decode error.
+pub fn read<H: Reads>(hand: &mut H, target: &Target, out: &mut [u8]) -> TxResult
     requires { IsTargetRun (H.shows hand.old).forest target.now (length out.old) }
     ensures result { result ≡ result_of (at_target (H.shows hand.old).forest target.now (reading (length out.old))) }
     ensures done { HasDone H.makes (H.pass hand.old) hand.old
@@ -116,8 +119,11 @@ pub(crate) fn read<H: Reads>(hand: &mut H, target: &Target, out: &mut [u8]) -> T
     }
 }
 
-/// Writes where some addresses lead.
-pub(crate) fn write<H: Writes>(hand: &mut H, target: &Target, bytes: &[u8]) -> TxResult
+/// Writes where some addresses lead. It takes no memory.
+///
+/// The target is that of a route in the generation that the hand is entered in, and the bytes lie in the leaf's region; the
+/// hand takes each of the steps. Where nothing answers, or memory is read-only, nothing is written, with decode error.
+pub fn write<H: Writes>(hand: &mut H, target: &Target, bytes: &[u8]) -> TxResult
     requires run { IsTargetRun (H.shows hand.old).forest target.now (length bytes.now) }
     requires takes { TakesAll (H.takes hand.old) (at_target (H.shows hand.old).forest target.now (writing bytes.now)) }
     ensures result { result ≡ result_of (at_target (H.shows hand.old).forest target.now (writing bytes.now)) }
