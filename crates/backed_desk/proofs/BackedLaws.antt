@@ -372,12 +372,12 @@ makes_none (calls.Unevent region offset size matched value) h = refl
 -- what a change prepares
 pub ready_change : (s : BackedState) (call : Call) (p : Readied) → s.desk.state.depth ≡ 0 → is_quiet call ≡ false
     → after (forest_at s) call ≡ Ok p.generation.forest
-    → p ≡ readied s.desk.current p.generation.forest (all_places s.backing) (Some p.generation.forest) → Backs (forest_at s) s.backing → IsOfBackedDesk s p
+    → p ≡ readied s.desk.current p.generation.forest (all_places s.backing) (Some call) → Backs (forest_at s) s.backing → IsOfBackedDesk s p
 ready_change s call p outside change e same k = record {
   of_desk = record {
     number = ap (λ (r : Readied). r.generation.number) same;
     changes = ap (λ (r : Readied). r.changes) same;
-    source = inl (outside, ap (λ (r : Readied). r.tree) same, (call, e));
+    source = inl (outside, (call, ap (λ (r : Readied). r.call) same, e));
   };
   same_made = ap (λ (x : Forest). x.made) (after-accepted (forest_at s) p.generation.forest call e).1 ∙ made_same (forest_at s) call (makes_none call change);
   backs = backs_after s.backing.pool_words (forest_at s) p.generation.forest call s.backing.places e (makes_none call change) k.backs;
@@ -385,7 +385,7 @@ ready_change s call p outside change e same k = record {
 
 pub ready_result : (s : BackedState) (call : Call) (r : Result Readied Refusal) → s.desk.state.depth ≡ 0 → is_quiet call ≡ false
     → IfOk r (λ p. after (forest_at s) call ≡ Ok p.generation.forest)
-    → IfOk r (λ p. p ≡ readied s.desk.current p.generation.forest (all_places s.backing) (Some p.generation.forest)) → Backs (forest_at s) s.backing
+    → IfOk r (λ p. p ≡ readied s.desk.current p.generation.forest (all_places s.backing) (Some call)) → Backs (forest_at s) s.backing
     → IfOk r (IsOfBackedDesk s)
 ready_result s call (Ok p) outside change e same k = ready_change s call p outside change e same k
 ready_result s call (Err why) outside change e same k = tt

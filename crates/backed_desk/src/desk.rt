@@ -234,20 +234,22 @@ impl BackedDesk {
     /// It is refused for the forest's first reason, before anything is carved, or where memory runs out. A step is one carve: at
     /// most the square of the root's weight for each space that the change touches, and none for any other.
     pub fn call_prepare<L: Ledger>(
-        &self,
+        &mut self,
         call: &Call,
         steps: &mut Steps<L>,
     ) -> Result<Prepared, Refusal>
-        requires outside { self.now.desk.state.depth ≡ 0 }
+        requires outside { self.old.desk.state.depth ≡ 0 }
         requires change { is_quiet call.now ≡ false }
-        ensures applied { IfOk result (λ p. after (forest_at self.now) call.now ≡ Ok p.generation.forest) }
-        ensures prepared { IfOk result (λ p. p ≡ readied self.now.desk.current p.generation.forest (all_places self.now.backing) (Some p.generation.forest)) }
-        ensures ready { IfOk result (λ p. IsOfBackedDesk self.now p) }
-        ensures refused { IfErr result (λ why. why ≢ Refusal.Memory → after (forest_at self.now) call.now ≡ Err why) }
-        ensures carves { (f : Forest) → after (forest_at self.now) call.now ≡ Ok f → steps.new ≤ steps.old + most_carves self.now.desk.current.forest f }
+        ensures applied { IfOk result (λ p. after (forest_at self.old) call.now ≡ Ok p.generation.forest) }
+        ensures prepared { IfOk result (λ p. p ≡ readied self.old.desk.current p.generation.forest (all_places self.old.backing) (Some call.now)) }
+        ensures ready { IfOk result (λ p. IsOfBackedDesk self.new p) }
+        ensures refused { IfErr result (λ why. why ≢ Refusal.Memory → after (forest_at self.old) call.now ≡ Err why) }
+        ensures unchanged { self.new ≡ self.old }
+        ensures carves { (f : Forest) → after (forest_at self.old) call.now ≡ Ok f → steps.new ≤ steps.old + most_carves self.old.desk.current.forest f }
         ensures spared { IfErr result (λ why. why ≢ Refusal.Memory → steps.new ≡ steps.old) }
     {
-        self.desk.call_prepare(call, self.places(), steps)
+        let _ = self.desk.tree();
+        self.desk.call_prepare(call, self.places.as_slice(), steps)
     }
 
     /// Closes an inner transaction, or the outermost one where nothing is pending; or else prepares what is pending, and the

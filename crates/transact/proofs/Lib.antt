@@ -5,3 +5,4 @@ pub mod EventLaws
 pub mod PlacedLaws
 pub mod DeskLaws
 pub mod StepLaws
+pub mod SpareLaws

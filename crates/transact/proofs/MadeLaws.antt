@@ -34,7 +34,8 @@ use Rattle.map_laws.proofs.RefusalLaws.{refuse_if-none}
 use Rattle.view_laws.specs.LiveLists.{HaveBytes}
 use Rattle.view_laws.proofs.LiveRanges.{lives_agree}
 
-after_both : (f : Forest) (xs ys : List Call) → after_all f (xs ++ ys) ≡ after_all (after_all f xs) ys
+-- calls one after another
+pub after_both : (f : Forest) (xs ys : List Call) → after_all f (xs ++ ys) ≡ after_all (after_all f xs) ys
 after_both f [] ys = refl
 after_both f (call ∷ xs) ys = after_both (left_by f (after f call)) xs ys
 

@@ -1,3 +1,4 @@
 pub mod Desks
 pub mod Preparing
 pub mod Commits
+pub mod Spares

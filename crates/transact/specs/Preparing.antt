@@ -32,18 +32,19 @@ pub record AreDeskPlaces (f : Forest) (places : List Place) : Type 0 where
 abbrev pub next_of : Published → Forest → List Place → Published
 next_of current f places = published (current.number + 1) f (shown_places f places)
 
--- what is ready to become current: a generation, the listeners' calls, and for a call the tree after it
+-- what is ready to become current: a generation, the listeners' calls, and where it comes of a call outside all
+-- transactions, that call
 pub record Readied : Type 0 where
   pub generation : Published
   pub changes : List Change
-  pub tree : Option Forest
+  pub call : Option Call
 
 -- what is prepared of a forest: the generation that publishes it next, and the changes from the current one to it
-abbrev pub readied : Published → Forest → List Place → Option Forest → Readied
-readied current f places tree = record {
+abbrev pub readied : Published → Forest → List Place → Option Call → Readied
+readied current f places call = record {
   generation = next_of current f places;
   changes = changes_between current.forest f;
-  tree = tree;
+  call = call;
 }
 
 -- the weight of a space's root
@@ -62,10 +63,10 @@ most_carves f g = sum_by (λ p. carves_of f g p.0) g.spaces
 -- what is prepared belongs to a desk as it stands: the generation comes next, and its forest is that of a call outside
 -- all transactions, or the desk's own where the outermost transaction has a change pending
 abbrev pub IsFromCall : DeskState → Readied → Type 0
-IsFromCall d r = (d.state.depth ≡ 0) × (r.tree ≡ Some r.generation.forest) × ((call : Call) × (after d.state.forest call ≡ Ok r.generation.forest))
+IsFromCall d r = (d.state.depth ≡ 0) × ((call : Call) × (r.call ≡ Some call) × (after d.state.forest call ≡ Ok r.generation.forest))
 
 abbrev pub IsFromCommit : DeskState → Readied → Type 0
-IsFromCommit d r = (d.state.depth ≡ 1) × (d.state.pending ≡ true) × (r.tree ≡ None) × (r.generation.forest ≡ d.state.forest)
+IsFromCommit d r = (d.state.depth ≡ 1) × (d.state.pending ≡ true) × (r.call ≡ None) × (r.generation.forest ≡ d.state.forest)
 
 pub record IsOfDesk (d : DeskState) (r : Readied) : Type 0 where
   pub number : r.generation.number ≡ d.current.number + 1

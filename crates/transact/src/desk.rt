@@ -1,5 +1,5 @@
 // The desk at which the writer changes the map.
-ghost use Rattle.std.specs.Prelude.{◌≡◌, ◌≢◌, ◌^◌, ◌+◌, ◌<◌, ◌≤◌, ◌==◌, ◌&&◌, not, true, false, unwrap_or, Ok, Err, Some, None, IfOk, IfErr, OnOk, OnErr};
+ghost use Rattle.std.specs.Prelude.{◌≡◌, ◌≢◌, ◌^◌, ◌+◌, ◌<◌, ◌≤◌, ◌==◌, ◌&&◌, not, true, false, Ok, Err, Some, None, IfOk, IfErr, OnOk, OnErr};
 ghost use Rattle.std.specs.Arc.{arc_value};
 ghost use Rattle.mem_base.specs.declared.map.calls.Config.TheVariants as configs;
 ghost use Rattle.mem_base.specs.declared.map.forests.Forest.{Forest};
@@ -14,6 +14,7 @@ ghost use Rattle.transact.specs.Commits.{IsStep};
 use crate::prepared::{Prepared, Step};
 use crate::preparing::prepare;
 use crate::regions::Regions;
+use crate::spare::{Next, Spare, lacking, replace, second};
 use generation::Generation;
 use mem_base::{Applied, Call, MOST_NESTED, Place, Refusal, SpaceId};
 use region_tree::Tree;
@@ -25,11 +26,15 @@ use step_counter::Steps;
 
 /// What the writer keeps of the map: the tree, the transactions that are open, and the current generation.
 ///
-/// It is seen as the forest with the transactions that are open, and the current generation.
+/// It is seen as the forest with the transactions that are open, and the current generation. It keeps a second tree, on which
+/// a change is prepared: what it lacks of the calls is done then, so that nothing has to be copied. The trees change places
+/// when the change is done.
 #[derive(Drop)]
 pub struct Desk {
     alloc: Global,
     tree: Tree,
+    // the second tree, but at first, and where it was given up or went with what was prepared
+    spare: Option<Spare>,
     depth: u32,
     pending: bool,
     current: Arc<Generation, Global>,
@@ -46,7 +51,7 @@ impl Model for Desk {
 
     ghost view = { λ d. desk_state (transaction d.tree d.depth d.pending) (arc_value d.current) };
 
-    ghost invariant = { λ d. IsDesk (desk_state (transaction d.tree d.depth d.pending) (arc_value d.current)) d.reached.items };
+    ghost invariant = { λ d. IsDesk (desk_state (transaction d.tree d.depth d.pending) (arc_value d.current)) d.reached.items d.spare };
 }
 
 // That an address of a call is below 2^64.
@@ -70,15 +75,6 @@ fn fits(call: &Call)
     }
 }
 
-// Puts a tree in the place of another, if there is one.
-fn replace(tree: &mut Tree, next: Option<Tree>)
-    ensures { tree.new ≡ unwrap_or next tree.old }
-{
-    if let Some(next) = next {
-        *tree = next;
-    }
-}
-
 impl Desk {
     /// An empty map, which generation 0 publishes.
     ///
@@ -92,6 +88,7 @@ impl Desk {
         Ok(Desk {
             alloc,
             tree,
+            spare: None,
             depth: 0,
             pending: false,
             current: Arc::new(alloc, generation)?,
@@ -159,6 +156,7 @@ impl Desk {
     {
         fits(call);
         let applied = self.tree.apply(call)?;
+        self.spare = lacking(self.spare.take(), call);
         if !call.is_quiet() {
             self.pending = true;
         }
@@ -169,25 +167,32 @@ impl Desk {
     ///
     /// `places` are the places of all regions that have words, in order of making, and after the pool the notifiers'. It is
     /// refused for the forest's first reason, before anything is carved, or where memory runs out. A step is one carve: at
-    /// most the square of the root's weight for each space that the change touches, and none for any other.
+    /// most the square of the root's weight for each space that the change touches, and none for any other. The whole tree is
+    /// copied only where the desk has no second one: at the first change, after 64 calls that were no changes of their own, and
+    /// after memory ran out or what was prepared was dropped.
     pub fn call_prepare<L: Ledger>(
-        &self,
+        &mut self,
         call: &Call,
         places: &[Place],
         steps: &mut Steps<L>,
     ) -> Result<Prepared, Refusal>
-        requires outside { self.now.state.depth ≡ 0 }
+        requires outside { self.old.state.depth ≡ 0 }
         requires change { is_quiet call.now ≡ false }
-        requires places { AreDeskPlaces self.now.state.forest places.now }
-        ensures applied { IfOk result (λ p. after self.now.state.forest call.now ≡ Ok p.generation.forest) }
-        ensures prepared { IfOk result (λ p. p ≡ readied self.now.current p.generation.forest places.now (Some p.generation.forest)) }
-        ensures refused { IfErr result (λ why. why ≢ Refusal.Memory → after self.now.state.forest call.now ≡ Err why) }
-        ensures carves { (f : Forest) → after self.now.state.forest call.now ≡ Ok f → steps.new ≤ steps.old + most_carves self.now.current.forest f }
+        requires places { AreDeskPlaces self.old.state.forest places.now }
+        ensures applied { IfOk result (λ p. after self.old.state.forest call.now ≡ Ok p.generation.forest) }
+        ensures prepared { IfOk result (λ p. p ≡ readied self.old.current p.generation.forest places.now (Some call.now)) }
+        ensures refused { IfErr result (λ why. why ≢ Refusal.Memory → after self.old.state.forest call.now ≡ Err why) }
+        ensures unchanged { self.new ≡ self.old }
+        ensures carves { (f : Forest) → after self.old.state.forest call.now ≡ Ok f → steps.new ≤ steps.old + most_carves self.old.current.forest f }
         ensures spared { IfErr result (λ why. why ≢ Refusal.Memory → steps.new ≡ steps.old) }
     {
         fits(call);
-        let mut tree = self.tree.try_copy()?;
-        tree.apply(call)?;
+        let (mut tree, mut missing) = second(self.alloc, &self.tree, self.spare.take())?;
+        if let Err(why) = tree.apply(call) {
+            self.spare = Some(Spare::new(tree, missing));
+            return Err(why);
+        }
+        missing.push(*call)?;
         let prepared = prepare(
             self.alloc,
             &self.current,
@@ -196,7 +201,11 @@ impl Desk {
             places,
             steps,
         )?;
-        Ok(prepared.with_tree(tree))
+        Ok(prepared.with_next(Next {
+            tree,
+            call: *call,
+            missing,
+        }))
     }
 
     /// Closes an inner transaction, or the outermost one where nothing is pending; or else prepares what is pending, and the
@@ -248,11 +257,11 @@ impl Desk {
         let _ = prepared.generation.forest();
         let Prepared {
             generation,
-            tree,
+            next,
             reached,
             ..
         } = prepared;
-        replace(&mut self.tree, tree);
+        replace(&mut self.tree, &mut self.spare, next);
         self.depth = 0;
         self.pending = false;
         self.current = generation;

@@ -12,6 +12,7 @@ mod prepared;
 mod preparing;
 mod regions;
 mod shown;
+mod spare;
 mod touched;
 
 pub use desk::Desk;

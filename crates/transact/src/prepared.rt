@@ -2,36 +2,39 @@
 ghost use Rattle.std.specs.Prelude.{◌≡◌, None, Some};
 ghost use Rattle.std.specs.Arc.{arc_value};
 ghost use Rattle.transact.specs.Desks.{reached_in};
+ghost use Rattle.transact.specs.Spares.{IsNext};
 
 use crate::regions::Regions;
+use crate::spare::Next;
 use generation::Generation;
 use mem_base::{Changes, SpaceId};
-use region_tree::Tree;
 use std::alloc::Global;
 use std::marker::Model;
 use std::sync::Arc;
 
-/// A generation that is ready to become current, with the listeners' calls and, where a call was prepared, the tree after
-/// it. To drop it leaves the desk as it was.
+/// A generation that is ready to become current, with the listeners' calls and, where a call was prepared, that call and the
+/// tree after it. To drop it leaves the desk as it was, but for that the next change has to copy the tree.
 #[derive(Drop)]
 pub struct Prepared {
     pub(crate) generation: Arc<Generation, Global>,
     pub(crate) changes: Changes,
-    pub(crate) tree: Option<Tree>,
+    pub(crate) next: Option<Next>,
     pub(crate) reached: Vec<(SpaceId, Regions)>,
 }
 
 impl Model for Prepared {
-    ghost use Rattle.std.specs.Prelude.{◌≡◌};
+    ghost use Rattle.std.specs.Prelude.{◌≡◌, IfSome, option_map};
     ghost use Rattle.std.specs.Arc.{arc_value};
     ghost use Rattle.transact.specs.Preparing.{Readied};
     ghost use Rattle.transact.specs.Desks.{reached_in};
+    ghost use Rattle.transact.specs.Spares.{IsNext};
 
     ghost Value = { Readied };
 
-    ghost view = { λ p. record { generation = arc_value p.generation; changes = p.changes; tree = p.tree } };
+    ghost view = { λ p. record { generation = arc_value p.generation; changes = p.changes; call = option_map (λ n. n.call) p.next } };
 
-    ghost invariant = { λ p. p.reached.items ≡ reached_in (arc_value p.generation).forest };
+    ghost invariant = { λ p. (p.reached.items ≡ reached_in (arc_value p.generation).forest)
+        × IfSome p.next (IsNext (arc_value p.generation).forest) };
 }
 
 impl Prepared {
@@ -44,24 +47,25 @@ impl Prepared {
         requires { reached.items ≡ reached_in (arc_value generation).forest }
         ensures generation { result.generation ≡ arc_value generation }
         ensures changes { result.changes ≡ changes }
-        ensures tree { result.tree ≡ None }
+        ensures call { result.call ≡ None }
     {
         Prepared {
             generation,
             changes,
-            tree: None,
+            next: None,
             reached,
         }
     }
 
     /// The same, with the tree after the call that was prepared.
-    pub(crate) fn with_tree(self, tree: Tree) -> Prepared
+    pub(crate) fn with_next(self, next: Next) -> Prepared
+        requires { IsNext self.generation.forest next }
         ensures generation { result.generation ≡ self.generation }
         ensures changes { result.changes ≡ self.changes }
-        ensures tree { result.tree ≡ Some tree }
+        ensures call { result.call ≡ Some next.call }
     {
         Prepared {
-            tree: Some(tree),
+            next: Some(next),
             ..self
         }
     }
