@@ -1,9 +1,9 @@
-use Rattle.std.proofs.Common.{rules, ◌≡◌, false, ap, subst}
+use Rattle.std.proofs.Common.{rules, ◌≡◌, false, subst}
 use Rattle.std.specs.Prelude.{IfSome, option_map}
 use Rattle.std.specs.Arc.{arc_value}
 use Rattle.mem_base.specs.machine.Committed.{transaction}
-use Rattle.transact.specs.Desks.{IsDesk, DeskState, desk_state}
-use Rattle.transact.specs.Preparing.{Readied, IsOfDesk}
+use Rattle.transact.specs.Desks.{IsDesk, desk_state}
+use Rattle.transact.specs.Preparing.{IsOfDesk}
 use Rattle.transact.specs.Spares.{IsNext}
 use Rattle.transact.specs.declared.spare.Next.{Next}
 use Rattle.transact.proofs.DeskLaws.{done_desk, next_tree, next_call, next_lacks}
