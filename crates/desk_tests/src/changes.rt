@@ -1,6 +1,7 @@
 // Changes inside and outside transactions, by worked cases.
 ghost use Rattle.std.specs.Prelude.{◌≡◌, ◌<◌};
 
+use crate::calls::{add, region, run, space};
 use crate::desks::{Outcome, call, change, commit};
 use generation::Generation;
 use mem_base::{Call, Edition, Kind, Refusal, RegionId, Size, SpaceId, What};
@@ -14,30 +15,6 @@ use transact::Desk;
 static FIRST: SpaceId = SpaceId(0);
 
 static SECOND: SpaceId = SpaceId(1);
-
-/// A call that makes a region of this many bytes.
-fn region(kind: Kind, bytes: u64) -> Call {
-    let Some(size) = Size::new(u128::from(bytes)) else {
-        unreachable!();
-    };
-    Call::Region { kind, size }
-}
-
-fn add(parent: u32, offset: u64, child: u32) -> Call {
-    Call::Add {
-        parent: RegionId(parent),
-        offset,
-        child: RegionId(child),
-        priority: 0,
-    }
-}
-
-fn space(space: SpaceId, root: u32) -> Call {
-    Call::Space {
-        space,
-        root: RegionId(root),
-    }
-}
 
 /// Two spaces: the first has two reservations, the second one.
 fn two_spaces() -> [Call; 10] {
@@ -53,18 +30,6 @@ fn two_spaces() -> [Call; 10] {
         space(FIRST, 0),
         space(SECOND, 3),
     ]
-}
-
-/// Does these calls one after another, each change with a generation of its own, and tells how many were published.
-fn run<L: Ledger>(desk: &mut Desk, calls: &[Call], steps: &mut Steps<L>) -> Result<u64, Refusal> {
-    for one in calls {
-        if one.is_quiet() {
-            call(desk, one)?;
-        } else {
-            change(desk, one, steps)?;
-        }
-    }
-    Ok(desk.current().number())
 }
 
 /// How many generations share the atlas of a space.
