@@ -62,16 +62,24 @@ fn visit_beside_publishes<R: Threads + Sync>(
     )
 }
 
-#[test]
-fn numbers_never_fall_beside_a_thousand_publishes(rt: HostRuntime) -> Result<(), Fail> {
-    let alloc = rt.alloc();
+/// How often each test begins its threads anew.
+pub(crate) const TIMES: u32 = 20;
+
+/// Whether all was right where one pass enters and leaves beside the publishes.
+fn visits_are_good<R: Threads + Sync>(rt: &R, alloc: Global) -> Result<bool, AllocError> {
     let (cabinet, mut writer) = open(alloc, 1)?;
     let Some(pass) = cabinet.pass(&mut writer) else {
-        panic!(rt; "no pass was handed out")
+        return Ok(false);
     };
-    let (visited, published) = visit_beside_publishes(&rt, alloc, &cabinet, pass, writer);
-    assert!(rt; visited);
-    assert!(rt; published?);
+    let (visited, published) = visit_beside_publishes(rt, alloc, &cabinet, pass, writer);
+    Ok(visited && published?)
+}
+
+#[test]
+fn numbers_never_fall_beside_a_thousand_publishes(rt: HostRuntime) -> Result<(), Fail> {
+    for time in 0..TIMES {
+        assert!(rt; visits_are_good(&rt, rt.alloc())?, "at time {time}");
+    }
     Ok(())
 }
 
@@ -114,14 +122,23 @@ fn add_in_threads<R: Threads + Sync>(rt: &R, cabinet: &Cabinet<Board>, passes: &
     thread::for_each_mut(rt, passes, 16, &|_, pass| add_many(cabinet, pass));
 }
 
+/// What is in the word after sixteen passes added to it, each in a thread of its own; `None` where there are fewer.
+fn added_by_sixteen<R: Threads + Sync>(rt: &R, alloc: Global) -> Result<Option<u64>, AllocError> {
+    let (cabinet, mut writer) = open(alloc, 16)?;
+    let published = publish_next(alloc, &cabinet, &mut writer, 16)?;
+    let mut passes = crew(alloc, &cabinet, &mut writer)?;
+    if published != Ok(1) || passes.len() != 16 {
+        return Ok(None);
+    }
+    add_in_threads(rt, &cabinet, passes.as_mut_slice());
+    Ok(Some(load(&cabinet, &mut writer, &ram(), 5)))
+}
+
 #[test]
 fn sixteen_threads_lose_no_addition(rt: HostRuntime) -> Result<(), Fail> {
-    let alloc = rt.alloc();
-    let (cabinet, mut writer) = open(alloc, 16)?;
-    assert_eq!(rt; publish_next(alloc, &cabinet, &mut writer, 16)?, Ok(1));
-    let mut passes = crew(alloc, &cabinet, &mut writer)?;
-    assert_eq!(rt; passes.len(), 16);
-    add_in_threads(&rt, &cabinet, passes.as_mut_slice());
-    assert_eq!(rt; load(&cabinet, &mut writer, &ram(), 5), 160000);
+    for time in 0..TIMES {
+        let added = added_by_sixteen(&rt, rt.alloc())?;
+        assert_eq!(rt; added, Some(160000), "at time {time}");
+    }
     Ok(())
 }

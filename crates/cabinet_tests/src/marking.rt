@@ -3,9 +3,11 @@ ghost use Rattle.std.specs.Prelude.{◌≡◌, ◌<◌, None, Some};
 ghost use Rattle.cabinet_tests.specs.Boards.{places_of};
 
 use crate::boards::{Board, open, publish_next, ram};
+use crate::crowds::TIMES;
 use epoch_rule::{Cabinet, Pass, WriterSeat};
 use mem_base::Client;
 use shared_words::{fill, harvest, load, mark, or, store_part, store8, take};
+use std::alloc::{AllocError, Global};
 use std::test::Fail;
 use std::thread;
 use std::thread::Threads;
@@ -65,18 +67,28 @@ fn mark_beside_harvests<R: Threads + Sync>(
     (taken | rest, once && taken & rest == 0)
 }
 
+/// The same, of a pass in generation 1; `None` where it is not published.
+fn marks_taken<R: Threads + Sync>(
+    rt: &R,
+    alloc: Global,
+) -> Result<Option<(u64, bool)>, AllocError> {
+    let (cabinet, mut writer) = open(alloc, 1)?;
+    let published = publish_next(alloc, &cabinet, &mut writer, 1)?;
+    let Some(pass) = cabinet.pass(&mut writer) else {
+        return Ok(None);
+    };
+    if published != Ok(1) {
+        return Ok(None);
+    }
+    Ok(Some(mark_beside_harvests(rt, &cabinet, pass, writer)))
+}
+
 #[test]
 fn marks_beside_harvests_are_each_taken_once(rt: HostRuntime) -> Result<(), Fail> {
-    let alloc = rt.alloc();
-    let (cabinet, mut writer) = open(alloc, 1)?;
-    assert_eq!(rt; publish_next(alloc, &cabinet, &mut writer, 1)?, Ok(1));
-    let Some(pass) = cabinet.pass(&mut writer) else {
-        panic!(rt; "no pass was handed out")
-    };
-    assert_eq!(rt;
-        mark_beside_harvests(&rt, &cabinet, pass, writer),
-        (u64::MAX, true)
-    );
+    for time in 0..TIMES {
+        let taken = marks_taken(&rt, rt.alloc())?;
+        assert_eq!(rt; taken, Some((u64::MAX, true)), "at time {time}");
+    }
     Ok(())
 }
 
