@@ -8,3 +8,7 @@ pub mod DeviceLaws
 pub mod AnswerLaws
 pub mod DeviceRunLaws
 pub mod GoodLaws
+pub mod FoundLaws
+pub mod TrailLaws
+pub mod ChunkLaws
+pub mod AccessLaws

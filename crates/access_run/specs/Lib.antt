@@ -4,3 +4,4 @@ pub mod DeviceRuns
 pub mod Leaves
 pub mod Partial
 pub mod Sizes
+pub mod Chunks

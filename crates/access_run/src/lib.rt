@@ -1,18 +1,21 @@
-//! What an access does where its addresses lead, once for every machine: its words, pieces, callbacks, ioeventfds and marks,
-//! how it ends, and the bytes that it reads.
+//! What an access does, once for every machine: its chunks, words, pieces, callbacks, ioeventfds and marks, its result and the
+//! bytes that it reads.
 //!
 //! QEMU's core, `address_space_rw` and below. Who makes the atomic steps is a `Reads` or a `Writes`: the pure machine, or a
-//! virtual CPU. The layer above may rely on it that at a leaf just the events of the defined access are made, in order, that
-//! the answer is its result, and that the bytes read are those that the replies to its events give. No memory is taken.
+//! virtual CPU. The layer above may rely on it that an access makes just the events of the defined one, in order, answers
+//! its result, and reads the bytes that the replies to its events give. No memory is taken.
 #![tactic(auto)]
 
+mod accesses;
 mod callbacks;
+mod chunks;
 mod devices;
 mod hands;
-pub mod leaves;
+mod leaves;
 mod memory;
 mod notifiers;
 mod numbers;
 mod results;
 
+pub use accesses::{read, write};
 pub use hands::{Entered, Reads, Writes};
