@@ -1,5 +1,5 @@
 -- Laws of an access that goes on chunk by chunk, and of its end.
-use Rattle.std.proofs.Common.{◌≡◌, ℕ, ◌+◌, ◌-◌, ◌^◌, ◌<◌, ◌≤◌, Bool, true, false, List, [], ◌∷◌, ◌++◌, ◌⊎◌, inl, inr, length, take, drop, refl, sym, ap, subst, ◌∙◌, arith}
+use Rattle.std.proofs.Common.{◌≡◌, ℕ, ◌+◌, ◌-◌, ◌^◌, ◌<◌, ◌≤◌, true, false, List, [], ◌++◌, ◌⊎◌, inl, inr, length, take, drop, refl, sym, ap, subst, ◌∙◌, arith}
 use Rattle.std.specs.Prelude.{flat_map, replicate}
 use Rattle.std.proofs.lemmas.Bool.{cases_lt}
 use Rattle.mem_base.specs.declared.map.ids.PassId.{PassId}
@@ -10,7 +10,7 @@ use Rattle.mem_base.specs.declared.access.accesses.TxResult.{TxResult}
 use Rattle.mem_base.specs.declared.access.cells.WordStep.{WordStep}
 use Rattle.mem_base.specs.lists.Runs.{run}
 use Rattle.mem_base.specs.access.Trails.{trail_of, shares_next, chunks, first_length}
-use Rattle.mem_base.specs.access.AccessSteps.{reading, writing, AccessStep, events_of_steps, result_of, bytes_read, either, tx, unanswered}
+use Rattle.mem_base.specs.access.AccessSteps.{reading, writing, AccessStep, result_of, either, tx, unanswered}
 use Rattle.mem_base.specs.access.Access.{at_target, in_chunk, access}
 use Rattle.mem_base.specs.map.Forest.{IsMade, IsClosedForest}
 use Rattle.map_laws.proofs.SoundCallLaws.{IsClosedForest-made}
@@ -32,13 +32,13 @@ module _ {S : Type 0} (makes : Makes S) (pass : S → PassId) (shows : S → Pub
   -- one chunk more is read
   pub read_more : (x y z : S) (s : SpaceId) (addr n below done count m : ℕ) (target : Target) (bs got : List ℕ) (r q : TxResult)
       → IsUnderway makes (pass x) x (steps_below (shows x).forest s addr (reading n) below)
-          (flat_map (in_chunk (shows x).forest s addr (reading n)) (chunks (shows x).forest false s (addr + done) (below - done))) bs r y
+      (flat_map (in_chunk (shows x).forest s addr (reading n)) (chunks (shows x).forest false s (addr + done) (below - done))) bs r y
       → done < below → target ≡ (trail_of (shows y).forest false s (addr + done)).target
       → count ≡ first_length (chunks (shows y).forest false s (addr + done) (below - done)) → m ≡ count
       → HasDone makes (pass y) y (at_target (shows y).forest target (reading m)) got z → q ≡ result_of (at_target (shows y).forest target (reading m))
       → IsUnderway makes (pass x) x (steps_below (shows x).forest s addr (reading n) below)
-          (flat_map (in_chunk (shows x).forest s addr (reading n)) (chunks (shows x).forest false s (addr + (done + count)) (below - (done + count))))
-          (bs ++ got) (either r q) z
+      (flat_map (in_chunk (shows x).forest s addr (reading n)) (chunks (shows x).forest false s (addr + (done + count)) (below - (done + count))))
+      (bs ++ got) (either r q) z
   read_more x y z s addr n below done count m target bs got r q u l t c e h is =
       let f : Forest = (shows x).forest in
       let whole : List AccessStep = steps_below f s addr (reading n) below in
@@ -57,14 +57,14 @@ module _ {S : Type 0} (makes : Makes S) (pass : S → PassId) (shows : S → Pub
   -- one chunk more is written
   pub write_more : (x y z : S) (s : SpaceId) (addr below done count k : ℕ) (target : Target) (bytes : List ℕ) (r q : TxResult)
       → IsUnderway makes (pass x) x (steps_below (shows x).forest s addr (writing bytes) below)
-          (flat_map (in_chunk (shows x).forest s addr (writing bytes)) (chunks (shows x).forest true s (addr + done) (below - done))) [] r y
+      (flat_map (in_chunk (shows x).forest s addr (writing bytes)) (chunks (shows x).forest true s (addr + done) (below - done))) [] r y
       → done < below → target ≡ (trail_of (shows y).forest true s (addr + done)).target
       → count ≡ first_length (chunks (shows y).forest true s (addr + done) (below - done)) → k ≡ done + count - done
       → HasDone makes (pass y) y (at_target (shows y).forest target (writing (take k (drop done bytes)))) [] z
       → q ≡ result_of (at_target (shows y).forest target (writing (take k (drop done bytes))))
       → IsUnderway makes (pass x) x (steps_below (shows x).forest s addr (writing bytes) below)
-          (flat_map (in_chunk (shows x).forest s addr (writing bytes)) (chunks (shows x).forest true s (addr + (done + count)) (below - (done + count))))
-          [] (either r q) z
+      (flat_map (in_chunk (shows x).forest s addr (writing bytes)) (chunks (shows x).forest true s (addr + (done + count)) (below - (done + count))))
+      [] (either r q) z
   write_more x y z s addr below done count k target bytes r q u l t c e h is =
       let f : Forest = (shows x).forest in
       let whole : List AccessStep = steps_below f s addr (writing bytes) below in

@@ -1,5 +1,5 @@
 -- Laws of what is done where some addresses lead, and of how it ends.
-use Rattle.std.proofs.Common.{◌≡◌, ℕ, ◌+◌, ◌%◌, ◌^◌, ◌<◌, ◌≤◌, Bool, true, false, List, [], ◌∷◌, ◌++◌, length, map, if◌then◌else◌, refl, sym, ap, subst, ◌∙◌, arith}
+use Rattle.std.proofs.Common.{◌≡◌, ℕ, ◌+◌, ◌%◌, ◌^◌, ◌<◌, ◌≤◌, Bool, true, false, List, [], ◌∷◌, ◌++◌, length, map, if◌then◌else◌, refl, sym, ap, ◌∙◌, arith}
 use Rattle.std.specs.Prelude.{replicate}
 use Rattle.std.proofs.lemmas.List.{append-nil}
 use Rattle.mem_base.specs.declared.map.ids.RegionId.{RegionId}
@@ -15,14 +15,14 @@ use Rattle.mem_base.specs.map.Limits.{word_size}
 use Rattle.mem_base.specs.views.LiveEvents.{events_of}
 use Rattle.mem_base.specs.access.Places.{data_words}
 use Rattle.mem_base.specs.access.Marks.{marks_of}
-use Rattle.mem_base.specs.access.AccessSteps.{Transfer, reading, writing, AccessStep, blank, steps, marks, result_of, either, tx, unanswered}
-use Rattle.mem_base.specs.access.MemoryAccess.{on_word, on_words, marked, in_memory}
+use Rattle.mem_base.specs.access.AccessSteps.{reading, writing, blank, marks, result_of, either, tx, unanswered}
+use Rattle.mem_base.specs.access.MemoryAccess.{on_word, on_words, marked}
 use Rattle.mem_base.specs.access.Access.{at_target}
 use Rattle.generation.specs.Published.{Published}
 use Rattle.access_run.specs.Runs.{Makes, HasDone}
 use Rattle.access_run.specs.DeviceRuns.{device_read, device_write}
-use Rattle.access_run.specs.Leaves.{IsLeafRun, IsDoneBy, IsMemoryAt, IsDeviceAt}
-use Rattle.access_run.proofs.HandLaws.{AreHandLaws, results_append}
+use Rattle.access_run.specs.Leaves.{IsLeafRun, IsMemoryAt, IsDeviceAt}
+use Rattle.access_run.proofs.HandLaws.{results_append}
 
 -- memory
 

@@ -6,11 +6,9 @@ use Rattle.std.proofs.lemmas.Nat.{mod_below, pow-add}
 use Rattle.mem_base.specs.declared.map.kinds.Device.{Device}
 use Rattle.mem_base.specs.declared.map.kinds.DeviceKind.{DeviceKind}
 use Rattle.mem_base.specs.declared.map.kinds.DeviceKind.TheVariants.{Latch, Count, Bell, Fault}
-use Rattle.mem_base.specs.declared.access.accesses.DeviceStep.{DeviceStep}
-use Rattle.mem_base.specs.declared.access.accesses.DeviceStep.TheVariants.{Step, Error}
+use Rattle.mem_base.specs.declared.access.accesses.DeviceStep.TheVariants.{Step}
 use Rattle.mem_base.specs.declared.access.cells.Place.{Place}
 use Rattle.mem_base.specs.declared.access.cells.WordStep.{WordStep}
-use Rattle.mem_base.specs.declared.access.cells.WordStep.TheVariants.{Replace, Or}
 use Rattle.mem_base.specs.access.Words.{in_word}
 use Rattle.mem_base.specs.access.Places.{data_words, is_data_or_register}
 use Rattle.mem_base.specs.access.DeviceAccess.{step_of, stores, sets, word_step, on_register, register_of}

@@ -1,13 +1,11 @@
 -- Laws of the chunks of an access, and of its addresses above 2^64 - 1.
-use Rattle.std.proofs.Common.{◌≡◌, ℕ, zero, suc, ◌+◌, ◌-◌, ◌^◌, ◌<◌, ◌≤◌, ◌&&◌, Bool, true, false, List, [], ◌∷◌, ◌++◌, Option, Some, None, ◌⊎◌, inl, inr, length, take, drop, refl, sym, ap, subst, ◌∙◌, arith, append_assoc}
+use Rattle.std.proofs.Common.{◌≡◌, ℕ, zero, suc, ◌+◌, ◌-◌, ◌^◌, ◌<◌, ◌≤◌, ◌&&◌, Bool, true, false, List, [], ◌∷◌, ◌++◌, Option, Some, None, ◌⊎◌, inl, inr, drop, refl, sym, ap, subst, ◌∙◌, arith, append_assoc}
 use Rattle.std.specs.Prelude.{flat_map, replicate}
 use Rattle.std.proofs.lemmas.Bool.{cases_lt}
 use Rattle.std.proofs.lemmas.List.{append-nil, replicate-append-replicate}
-use Rattle.std.proofs.lemmas.List.Elements.{filter_map-append}
 use Rattle.mem_base.specs.declared.map.ids.PassId.{PassId}
 use Rattle.mem_base.specs.declared.map.ids.SpaceId.{SpaceId}
 use Rattle.mem_base.specs.declared.map.forests.Forest.{Forest}
-use Rattle.mem_base.specs.declared.map.spots.Spot.{Spot}
 use Rattle.mem_base.specs.declared.access.accesses.Target.{Target}
 use Rattle.mem_base.specs.declared.access.accesses.Target.TheVariants.{Leaf, Unassigned}
 use Rattle.mem_base.specs.declared.access.cells.WordStep.{WordStep}
@@ -19,8 +17,8 @@ use Rattle.mem_base.specs.lists.Runs.{Run, run, runs, put_before}
 use Rattle.mem_base.specs.map.Limits.{most_translations}
 use Rattle.mem_base.specs.map.Forest.{IsClosedForest}
 use Rattle.mem_base.specs.map.Search.{Found, found_at, spot_of}
-use Rattle.mem_base.specs.access.Trails.{Hop, Trail, trail, trail_at, trail_within, trail_of, are_next_hops, is_leaf, is_next_trail, shares_next, chunks, first_length}
-use Rattle.mem_base.specs.access.AccessSteps.{Transfer, reading, writing, is_write, part, AccessStep, blank, steps, marks, event_of, events_of_steps, result_of, result_at, bytes_read, shown_bytes, either, tx, unanswered}
+use Rattle.mem_base.specs.access.Trails.{Hop, Trail, trail, trail_at, trail_within, trail_of, are_next_hops, is_leaf, is_next_trail, shares_next, first_length}
+use Rattle.mem_base.specs.access.AccessSteps.{Transfer, reading, writing, is_write, part, AccessStep, blank, steps, marks, events_of_steps, result_of, bytes_read, shown_bytes, either, tx, unanswered}
 use Rattle.mem_base.specs.access.Access.{at_target, in_chunk}
 use Rattle.access_run.specs.Runs.{TakesAll}
 use Rattle.access_run.proofs.RunLaws.{first_run}
@@ -46,26 +44,30 @@ split with_next a (suc (suc n)) some = go (with_next a) refl (split with_next (a
     go : (b : Bool) → with_next a ≡ b → ((c : ℕ) × FirstRun with_next (a + 1) (suc n) c) → (c : ℕ) × FirstRun with_next a (suc (suc n)) c
     go false e t =
         let left : suc n ≡ suc (suc n) - 1 = omega arith in
-        let here : a + (1 - 1) ≡ a = omega arith in
-        (1, record {
-          some = omega arith;
-          most = omega arith;
-          is = ap (λ b. put_before b a (runs with_next (a + 1) (suc n))) e ∙ ap (λ m. run a 1 ∷ runs with_next (a + 1) m) left;
-          ends = λ l. ap with_next here ∙ e;
-        })
+        let here : a + (1 - 1) ≡ a = omega arith in (
+          1,
+          record {
+            some = omega arith;
+            most = omega arith;
+            is = ap (λ b. put_before b a (runs with_next (a + 1) (suc n))) e ∙ ap (λ m. run a 1 ∷ runs with_next (a + 1) m) left;
+            ends = λ l. ap with_next here ∙ e;
+          },
+        )
     go true e t =
         let c : ℕ = t.0 in
         let some : 0 < c = t.1.some in
         let most : c ≤ suc n = t.1.most in
         let at : a + 1 + c ≡ a + (c + 1) = omega arith in
         let left : suc n - c ≡ suc (suc n) - (c + 1) = omega arith in
-        let last : a + (c + 1 - 1) ≡ a + 1 + (c - 1) = omega (arith, some) in
-        (c + 1, record {
-          some = omega arith;
-          most = omega (arith, most);
-          is = (λ i. put_before (e i) a (t.1.is i)) ∙ (λ i. run a (c + 1) ∷ runs with_next (at i) (left i));
-          ends = λ l. ap with_next last ∙ t.1.ends (omega (arith, l));
-        })
+        let last : a + (c + 1 - 1) ≡ a + 1 + (c - 1) = omega (arith, some) in (
+          c + 1,
+          record {
+            some = omega arith;
+            most = omega (arith, most);
+            is = (λ i. put_before (e i) a (t.1.is i)) ∙ (λ i. run a (c + 1) ∷ runs with_next (at i) (left i));
+            ends = λ l. ap with_next last ∙ t.1.ends (omega (arith, l));
+          },
+        )
 
 first_given : (with_next : ℕ → Bool) (a n c : ℕ) → 0 < n → c ≡ first_length (runs with_next a n) → FirstRun with_next a n c
 first_given with_next a n c some is =

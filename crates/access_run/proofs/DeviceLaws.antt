@@ -9,9 +9,9 @@ use Rattle.mem_base.specs.declared.map.kinds.Ops.{Ops}
 use Rattle.mem_base.specs.declared.access.accesses.Piece.{Piece}
 use Rattle.mem_base.specs.lists.Every.{Every}
 use Rattle.mem_base.specs.map.Devices.{is_access_size}
-use Rattle.mem_base.specs.access.Pieces.{aligned_size, Callback, callback_at, callback_count, callback_size, callbacks, piece_at, pieces, power_dividing, power_within, size_at}
+use Rattle.mem_base.specs.access.Pieces.{aligned_size, callback_at, callback_count, callback_size, callbacks, piece_at, pieces, power_dividing, power_within, size_at}
 use Rattle.access_cut.specs.Conditions.{AreGood, IsCut}
-use Rattle.access_cut.specs.Offsets.{At, place_of, places, row}
+use Rattle.access_cut.specs.Offsets.{place_of, places, row}
 use Rattle.access_cut.proofs.Good.{some_valid}
 use Rattle.access_cut.proofs.PieceLaws.{next_piece, given_is_cut}
 use Rattle.access_cut.proofs.Rows.{row_is_places}

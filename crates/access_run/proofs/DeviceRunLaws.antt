@@ -1,5 +1,5 @@
 -- Laws of an access to a device that goes on callback by callback, and piece by piece.
-use Rattle.std.proofs.Common.{◌≡◌, ℕ, ◌+◌, ◌-◌, ◌<◌, ◌≤◌, ◌||◌, min, Bool, true, false, List, [], ◌∷◌, ◌++◌, Some, None, length, take, drop, map, refl, sym, ap, subst, ◌∙◌, arith}
+use Rattle.std.proofs.Common.{◌≡◌, ℕ, ◌+◌, ◌-◌, ◌||◌, min, Bool, true, false, List, [], ◌∷◌, ◌++◌, None, take, drop, map, refl, sym, ap, subst, ◌∙◌, arith}
 use Rattle.std.specs.Prelude.{flat_map}
 use Rattle.mem_base.specs.declared.map.ids.RegionId.{RegionId}
 use Rattle.mem_base.specs.declared.map.ids.PassId.{PassId}
@@ -7,16 +7,14 @@ use Rattle.mem_base.specs.declared.map.kinds.Device.{Device}
 use Rattle.mem_base.specs.declared.map.ioevents.Ioevent.{Ioevent}
 use Rattle.mem_base.specs.declared.access.accesses.Piece.{Piece}
 use Rattle.mem_base.specs.declared.access.accesses.TxResult.{TxResult}
-use Rattle.mem_base.specs.declared.access.cells.WordStep.{WordStep}
 use Rattle.mem_base.specs.access.AccessSteps.{AccessStep, reading, writing, nothing_shown, result_at, result_of, either, tx}
 use Rattle.mem_base.specs.access.DeviceAccess.{on_device, step_of, shown_by, value_of}
 use Rattle.generation.specs.Published.{Published}
 use Rattle.access_cut.specs.Offsets.{At}
-use Rattle.access_run.specs.Runs.{Makes, HasDone, IsUnderway, TakesStep, TakesAll}
+use Rattle.access_run.specs.Runs.{Makes, HasDone, IsUnderway}
 use Rattle.access_run.specs.DeviceRuns.{callback_read, callback_write, piece_read, piece_part_write, piece_write}
 use Rattle.access_run.specs.Sizes.{callback_of}
 use Rattle.access_run.proofs.HandLaws.{AreHandLaws, underway_then}
-use Rattle.access_run.proofs.DeviceLaws.{every_split}
 
 or_none : (b : Bool) → (b || false) ≡ b
 or_none true = refl

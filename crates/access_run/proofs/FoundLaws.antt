@@ -14,7 +14,7 @@ use Rattle.mem_base.specs.map.Limits.{most_depth}
 use Rattle.mem_base.specs.map.Region.{node_of}
 use Rattle.mem_base.specs.map.Order.{children_of}
 use Rattle.mem_base.specs.map.Forest.{IsRegion, IsClosedForest}
-use Rattle.mem_base.specs.map.Search.{Found, Search, passed, itself, first_of_children, inside, at_node, found_in, found_at, look, root_of}
+use Rattle.mem_base.specs.map.Search.{Found, Search, passed, itself, first_of_children, inside, at_node, found_in, look, root_of}
 use Rattle.mem_base.proofs.ForestLaws.{every_node_of, id_of}
 
 -- what is found, if anything, lies in its leaf

@@ -1,6 +1,6 @@
 -- Laws of the places of leaves, and of what answers there.
-use Rattle.std.proofs.Common.{◌≡◌, ℕ, zero, suc, ◌+◌, ◌*◌, ◌/◌, ◌%◌, ◌^◌, ◌<◌, ◌≤◌, ◌-◌, ◌==◌, ◌||◌, ◌&&◌, not, Bool, true, false, List, [], ◌∷◌, length, Option, Some, None, ◌⊎◌, inl, inr, refl, sym, ap, subst, ◌∙◌, if◌then◌else◌, arith}
-use Rattle.std.specs.Prelude.{nat_lt, nat_le, is_some, IsSome, IsSomeAnd, IfSome, option_map, find}
+use Rattle.std.proofs.Common.{◌≡◌, ℕ, ◌+◌, ◌/◌, ◌%◌, ◌^◌, ◌<◌, ◌≤◌, ◌-◌, ◌==◌, ◌||◌, ◌&&◌, not, Bool, true, false, List, [], ◌∷◌, length, Option, Some, None, ◌⊎◌, inl, inr, refl, sym, ap, subst, ◌∙◌, if◌then◌else◌, arith}
+use Rattle.std.specs.Prelude.{nat_lt, is_some, IsSome, IsSomeAnd, IfSome, option_map, find}
 use Rattle.std.proofs.lemmas.Bool.{eqb-true, eqb-false, lt-ltb}
 use Rattle.std.proofs.lemmas.Bool.Decides.{nat_tests}
 use Rattle.mem_base.specs.declared.map.ids.RegionId.{RegionId}
@@ -25,8 +25,8 @@ use Rattle.mem_base.specs.views.Naming.{names, shows_events}
 use Rattle.mem_base.specs.views.LiveEvents.{events_of, events_at}
 use Rattle.mem_base.specs.access.PlacesByRegion.{notifiers, place_in}
 use Rattle.mem_base.specs.access.Places.{extent_of, words_of, place_from, data_words, is_data_or_register}
-use Rattle.mem_base.specs.access.EditionPlaces.{FitsRegion, IsRegionPlace, IsNotifiersPlace, HasPlace, IsEdition}
-use Rattle.mem_base.specs.access.AccessSteps.{Transfer, reading, writing, is_write, length_of, AccessStep, unanswered}
+use Rattle.mem_base.specs.access.EditionPlaces.{IsRegionPlace, IsNotifiersPlace, HasPlace, IsEdition}
+use Rattle.mem_base.specs.access.AccessSteps.{Transfer, reading, writing, is_write, length_of, unanswered}
 use Rattle.mem_base.specs.access.MemoryAccess.{in_memory}
 use Rattle.mem_base.specs.access.DeviceAccess.{in_device, fits, notifier_of}
 use Rattle.mem_base.specs.access.Access.{at_leaf, in_region}
@@ -40,8 +40,8 @@ use Rattle.access_cut.specs.Conditions.{IsGood}
 use Rattle.access_cut.proofs.Good.{some_registers}
 use Rattle.generation.specs.Published.{Published}
 use Rattle.access_run.specs.Hands.{IsPlaceOf}
-use Rattle.access_run.specs.DeviceRuns.{device_read, device_write, device_steps}
-use Rattle.access_run.specs.Leaves.{IsLeafRun, IsDoneBy, IsMemoryAt, IsDeviceAt}
+use Rattle.access_run.specs.DeviceRuns.{device_steps}
+use Rattle.access_run.specs.Leaves.{IsLeafRun, IsMemoryAt, IsDeviceAt}
 
 same_region : (q r : RegionId) → q.0 ≡ r.0 → q ≡ r
 same_region q r e = (λ i. record { 0 = e i })

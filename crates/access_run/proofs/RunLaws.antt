@@ -1,7 +1,7 @@
 -- Laws of runs: the first run of some numbers, and the runs after it.
-use Rattle.std.proofs.Common.{◌≡◌, ℕ, zero, suc, ◌+◌, ◌-◌, ◌%◌, ◌<◌, ◌≤◌, min, not, ◌==◌, Bool, true, false, List, [], ◌∷◌, refl, sym, ap, subst, ◌∙◌, arith}
-use Rattle.std.proofs.lemmas.Bool.{eqb-true, eqb-false}
-use Rattle.mem_base.specs.lists.Runs.{Run, run, runs, put_before, is_in_unit, touched}
+use Rattle.std.proofs.Common.{◌≡◌, ℕ, zero, suc, ◌+◌, ◌-◌, ◌%◌, ◌<◌, ◌≤◌, min, not, ◌==◌, Bool, true, false, [], ◌∷◌, refl, sym, ap, ◌∙◌, arith}
+use Rattle.std.proofs.lemmas.Bool.{eqb-true}
+use Rattle.mem_base.specs.lists.Runs.{run, runs, put_before, is_in_unit, touched}
 
 -- a run goes on for as long as each number belongs to the next
 pub first_run : (with_next : ℕ → Bool) (a c n : ℕ) → 0 < c → c ≤ n → ((i : ℕ) → i + 1 < c → with_next (a + i) ≡ true)

@@ -1,8 +1,7 @@
 -- Where trails lead, and that a chunk's addresses lie in its leaf.
-use Rattle.std.proofs.Common.{◌≡◌, ℕ, zero, suc, ◌+◌, ◌-◌, ◌^◌, ◌<◌, ◌≤◌, ◌&&◌, ◌==◌, Bool, true, false, List, [], ◌∷◌, Option, Some, None, if◌then◌else◌, refl, sym, ap, subst, ◌∙◌, arith}
+use Rattle.std.proofs.Common.{◌≡◌, ℕ, zero, suc, ◌+◌, ◌<◌, ◌≤◌, ◌&&◌, ◌==◌, Bool, true, false, List, [], ◌∷◌, Option, Some, None, if◌then◌else◌, refl, sym, ap, subst, ◌∙◌, arith}
 use Rattle.std.specs.Prelude.{IsSomeAnd, IfSome}
 use Rattle.std.proofs.lemmas.Bool.{eqb-true}
-use Rattle.mem_base.specs.declared.map.ids.RegionId.{RegionId}
 use Rattle.mem_base.specs.declared.map.ids.SpaceId.{SpaceId}
 use Rattle.mem_base.specs.declared.map.forests.Node.{Node}
 use Rattle.mem_base.specs.declared.map.forests.Forest.{Forest}
@@ -11,19 +10,17 @@ use Rattle.mem_base.specs.declared.map.translations.Entry.{Entry}
 use Rattle.mem_base.specs.declared.access.accesses.Target.{Target}
 use Rattle.mem_base.specs.declared.access.accesses.Target.TheVariants.{Leaf, Unassigned}
 use Rattle.mem_base.specs.lists.Booleans.{bool_eq}
-use Rattle.mem_base.specs.lists.Runs.{Run, run, runs, put_before}
+use Rattle.mem_base.specs.lists.Runs.{Run, runs, put_before}
 use Rattle.mem_base.specs.map.Limits.{most_translations}
 use Rattle.mem_base.specs.map.Region.{node_of}
 use Rattle.mem_base.specs.map.Attributes.{same_attrs}
 use Rattle.mem_base.specs.map.Forest.{IsMade, IsClosedForest}
 use Rattle.mem_base.specs.map.Search.{Found, found_at, look, spot_of}
-use Rattle.mem_base.specs.views.Flattened.{same_path}
-use Rattle.mem_base.specs.views.Naming.{names}
 use Rattle.mem_base.specs.access.Translations.{translates, used_at, translated_address}
-use Rattle.mem_base.specs.access.Trails.{Hop, hop, Trail, trail, Onward, through, trail_at, trail_within, trail_of, is_next_spot, is_next_hop, are_next_hops, is_leaf, is_next_trail, is_same_entry, shares_next, chunks, first_length}
+use Rattle.mem_base.specs.access.Trails.{Hop, hop, Trail, trail, Onward, through, trail_at, trail_within, trail_of, is_next_spot, is_next_hop, are_next_hops, is_leaf, is_same_entry, shares_next, chunks, first_length}
 use Rattle.map_laws.proofs.SoundCallLaws.{IsClosedForest-made}
 use Rattle.view_laws.proofs.NamingLaws.{names_leaves}
-use Rattle.access_run.specs.Leaves.{IsLeafRun, IsTargetRun}
+use Rattle.access_run.specs.Leaves.{IsTargetRun}
 use Rattle.access_run.proofs.FoundLaws.{shown_inside, shown_below}
 
 -- some address of some space shows the spot

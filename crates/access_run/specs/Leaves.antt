@@ -11,7 +11,7 @@ use Rattle.mem_base.specs.map.Region.{node_of}
 use Rattle.mem_base.specs.views.Naming.{names}
 use Rattle.mem_base.specs.views.LiveEvents.{events_of}
 use Rattle.mem_base.specs.access.Places.{data_words}
-use Rattle.mem_base.specs.access.AccessSteps.{Transfer, reading, writing, is_write, AccessStep, unanswered}
+use Rattle.mem_base.specs.access.AccessSteps.{Transfer, is_write, AccessStep, unanswered}
 use Rattle.mem_base.specs.access.MemoryAccess.{in_memory}
 use Rattle.mem_base.specs.access.Access.{in_region}
 use Rattle.access_cut.specs.Conditions.{IsGood}

@@ -1,4 +1,4 @@
-use Rattle.std.proofs.Common.{◌≡◌, ◌+◌, ◌%◌, ◌++◌, ℕ, List, length, take, refl, sym, ap, subst, None, [], ◌∷◌, ◌∙◌}
+use Rattle.std.proofs.Common.{◌≡◌, ◌+◌, ◌++◌, ℕ, length, take, refl, sym, ap, subst, None, [], ◌∷◌, ◌∙◌}
 use Rattle.std.proofs.lemmas.List.{append-nil}
 use Rattle.mem_base.specs.declared.access.accesses.DeviceStep.TheVariants.{Step}
 use Rattle.mem_base.specs.access.Words.{bytes_of}

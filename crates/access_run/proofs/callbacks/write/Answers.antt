@@ -1,4 +1,4 @@
-use Rattle.std.proofs.Common.{◌≡◌, ◌<◌, ◌+◌, ℕ, List, length, refl, sym, ap, subst, Some, [], ◌∷◌, ◌∙◌, arith}
+use Rattle.std.proofs.Common.{◌≡◌, ◌+◌, ℕ, refl, sym, ap, subst, Some, [], ◌∷◌, ◌∙◌, arith}
 use Rattle.mem_base.specs.declared.access.accesses.DeviceStep.TheVariants.{Step}
 use Rattle.mem_base.specs.access.Places.{data_words}
 use Rattle.mem_base.specs.access.Cells.{cell}

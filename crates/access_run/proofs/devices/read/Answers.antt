@@ -11,7 +11,7 @@ use Rattle.access_run.specs.DeviceRuns.{piece_read, device_read}
 use Rattle.access_run.proofs.HandLaws.{AreHandLaws, underway_none, all_done}
 use Rattle.access_run.proofs.MemoryLaws.{part_length}
 use Rattle.access_run.proofs.GoodLaws.{good_ops}
-use Rattle.access_run.proofs.DeviceLaws.{NextPiece, next_given, no_more}
+use Rattle.access_run.proofs.DeviceLaws.{next_given, no_more}
 use Rattle.access_run.proofs.DeviceRunLaws.{piece_read_more, underway_as}
 use Rattle.access_run.proofs.devices.read.Goals as goal
 

@@ -1,17 +1,17 @@
-use Rattle.std.proofs.Common.{◌≡◌, ℕ, ◌+◌, ◌-◌, ◌≤◌, List, [], ◌∷◌, ◌++◌, length, take, drop, false, refl, sym, ap, subst, ◌∙◌, arith}
+use Rattle.std.proofs.Common.{◌≡◌, ℕ, ◌+◌, ◌-◌, ◌≤◌, List, [], ◌∷◌, length, take, drop, refl, sym, ap, subst, ◌∙◌, arith}
 use Rattle.std.specs.Prelude.{flat_map}
 use Rattle.mem_base.specs.declared.access.accesses.Piece.{Piece}
 use Rattle.mem_base.specs.declared.map.ioevents.Ioevent.{Ioevent}
 use Rattle.mem_base.specs.views.LiveEvents.{events_of}
 use Rattle.mem_base.specs.access.Places.{data_words}
 use Rattle.mem_base.specs.access.Pieces.{pieces}
-use Rattle.mem_base.specs.access.AccessSteps.{AccessStep, result_of, tx, either}
+use Rattle.mem_base.specs.access.AccessSteps.{AccessStep, result_of, either}
 use Rattle.generation.specs.Published.{Published}
-use Rattle.access_run.specs.Runs.{HasDone, IsUnderway, TakesAll}
+use Rattle.access_run.specs.Runs.{HasDone, TakesAll}
 use Rattle.access_run.specs.DeviceRuns.{piece_write, piece_part_write, device_write}
 use Rattle.access_run.proofs.HandLaws.{AreHandLaws, underway_shows, takes_lasts}
 use Rattle.access_run.proofs.GoodLaws.{good_ops}
-use Rattle.access_run.proofs.DeviceLaws.{NextPiece, next_given, every_split}
+use Rattle.access_run.proofs.DeviceLaws.{next_given, every_split}
 use Rattle.access_run.proofs.DeviceRunLaws.{piece_write_more, piece_part, underway_as}
 use Rattle.access_run.proofs.devices.write.Goals as goal
 

@@ -1,11 +1,11 @@
-use Rattle.std.proofs.Common.{◌≡◌, ℕ, ◌+◌, ◌-◌, ◌≤◌, min, List, [], ◌∷◌, length, take, drop, map, false, refl, sym, ap, subst, ◌∙◌, arith}
+use Rattle.std.proofs.Common.{◌≡◌, ℕ, ◌+◌, ◌-◌, min, List, [], ◌∷◌, map, false, refl, sym, ap, subst, ◌∙◌, arith}
 use Rattle.mem_base.specs.declared.access.accesses.Piece.{Piece}
 use Rattle.mem_base.specs.access.Places.{data_words}
 use Rattle.mem_base.specs.access.Pieces.{callbacks}
 use Rattle.mem_base.specs.access.AccessSteps.{AccessStep, writing, nothing_shown, tx, either}
 use Rattle.mem_base.specs.access.DeviceAccess.{on_device, step_of, value_of}
 use Rattle.access_cut.specs.Offsets.{At, places}
-use Rattle.access_run.specs.Runs.{HasDone, IsUnderway, TakesStep, TakesAll}
+use Rattle.access_run.specs.Runs.{IsUnderway, TakesStep, TakesAll}
 use Rattle.access_run.specs.DeviceRuns.{callback_write}
 use Rattle.access_run.specs.Sizes.{Tiles, callback_of}
 use Rattle.access_run.proofs.HandLaws.{AreHandLaws, underway_none, takes_lasts}

@@ -1,5 +1,4 @@
 use Rattle.std.proofs.Common.{◌≡◌, true, false, ◌&&◌, not, Some, None, inl, inr, refl, sym, ap, ◌∙◌}
-use Rattle.mem_base.specs.declared.map.kinds.Kind.TheVariants.{Ram, Rom, RomDevice, Io}
 use Rattle.mem_base.specs.map.Region.{node_of}
 use Rattle.mem_base.specs.map.Kinds.{has_bytes, device_of}
 use Rattle.mem_base.specs.access.MemoryAccess.{in_memory}

@@ -1,4 +1,4 @@
-use Rattle.std.proofs.Common.{◌≡◌, ℕ, false, length, ap, subst, ◌∙◌}
+use Rattle.std.proofs.Common.{ℕ, false, length, ap, subst, ◌∙◌}
 use Rattle.mem_base.specs.declared.map.spots.Spot.{Spot}
 use Rattle.mem_base.specs.access.AccessSteps.{result_of}
 use Rattle.generation.specs.Published.{Published}

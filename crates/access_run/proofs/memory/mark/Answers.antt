@@ -1,4 +1,4 @@
-use Rattle.std.proofs.Common.{◌≡◌, ◌<◌, ◌*◌, length, map, false, refl, sym, subst, drop, List, ℕ, Some, [], ◌∷◌, ◌++◌, ◌∙◌, ap, arith}
+use Rattle.std.proofs.Common.{◌≡◌, ◌<◌, map, false, refl, sym, subst, ℕ, Some, [], ◌∷◌, ◌++◌, ◌∙◌, ap}
 use Rattle.mem_base.specs.declared.map.kinds.Client.{Client}
 use Rattle.mem_base.specs.lists.Every.{Every}
 use Rattle.mem_base.specs.access.AccessSteps.{AccessStep, marks, tx}

@@ -1,4 +1,4 @@
-use Rattle.std.proofs.Common.{◌≡◌, ◌<◌, length, map, false, []}
+use Rattle.std.proofs.Common.{◌<◌, length, map, false, []}
 use Rattle.mem_base.specs.lists.Every.{Every}
 use Rattle.mem_base.specs.access.AccessSteps.{marks, tx}
 use Rattle.mem_base.specs.access.MemoryAccess.{marked}

@@ -1,4 +1,4 @@
-use Rattle.std.proofs.Common.{◌≡◌, ◌≤◌, ◌+◌, ◌-◌, length, take, map, false}
+use Rattle.std.proofs.Common.{◌≤◌, ◌+◌, ◌-◌, length, take, map, false}
 use Rattle.mem_base.specs.lists.Runs.{touched}
 use Rattle.mem_base.specs.access.AccessSteps.{reading, tx}
 use Rattle.mem_base.specs.access.MemoryAccess.{on_word, on_words}

@@ -1,8 +1,8 @@
-use Rattle.std.proofs.Common.{◌≡◌, ◌+◌, ◌-◌, ◌≤◌, length, take, drop, map, false, refl, sym, subst, List, ℕ, [], ◌∷◌, ◌++◌, ◌∙◌, arith}
+use Rattle.std.proofs.Common.{◌≡◌, ◌+◌, ◌-◌, ◌≤◌, length, take, drop, map, false, refl, sym, subst, List, ℕ, [], ◌∷◌, arith}
 use Rattle.mem_base.specs.lists.Runs.{run, touched}
 use Rattle.mem_base.specs.access.AccessSteps.{AccessStep, writing, tx}
 use Rattle.mem_base.specs.access.MemoryAccess.{on_word, on_words}
-use Rattle.access_run.specs.Runs.{HasDone, IsUnderway, TakesStep, TakesAll}
+use Rattle.access_run.specs.Runs.{HasDone, TakesStep, TakesAll}
 use Rattle.access_run.proofs.HandLaws.{AreHandLaws, underway_then, takes_lasts}
 use Rattle.access_run.proofs.MemoryLaws.{words_then, part_length, word_written}
 use Rattle.access_run.proofs.memory.write.Goals as goal

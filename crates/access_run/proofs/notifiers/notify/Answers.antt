@@ -2,8 +2,8 @@ use Rattle.std.proofs.Common.{◌≡◌, Some, [], ◌∷◌, refl, sym, ap, sub
 use Rattle.mem_base.specs.declared.access.cells.WordStep.TheVariants.{Or}
 use Rattle.mem_base.specs.access.PlacesByRegion.{notifiers, place_in}
 use Rattle.mem_base.specs.access.EditionPlaces.{IsEdition}
-use Rattle.mem_base.specs.access.Cells.{cell, notifier_cell}
-use Rattle.mem_base.specs.access.AccessSteps.{AccessStep, nothing_shown, steps}
+use Rattle.mem_base.specs.access.Cells.{cell}
+use Rattle.mem_base.specs.access.AccessSteps.{nothing_shown, steps}
 use Rattle.mem_base.specs.declared.map.ids.RegionId.{RegionId}
 use Rattle.generation.specs.Published.{Published}
 use Rattle.access_run.specs.Runs.{HasDone}
