@@ -87,7 +87,8 @@ module _ {S : Type 0} (makes : Makes S) (pass : S → PassId) (shows : S → Pub
       → count ≡ first_length (chunks (shows y).forest true s (addr + done) (below - done)) → k ≡ done + count - done
       → TakesAll takes (flat_map (in_chunk (shows x).forest s addr (writing bytes)) (chunks (shows x).forest true s (addr + done) (below - done)))
       → TakesAll takes (at_target (shows y).forest target (writing (take k (drop done bytes))))
-      × TakesAll takes (flat_map (in_chunk (shows x).forest s addr (writing bytes)) (chunks (shows x).forest true s (addr + (done + count)) (below - (done + count))))
+      × TakesAll takes (flat_map (in_chunk (shows x).forest s addr (writing bytes))
+      (chunks (shows x).forest true s (addr + (done + count)) (below - (done + count))))
   takes_more takes x y s addr below done count k target bytes g l t c e all =
       let f : Forest = (shows x).forest in
       let same : (shows y).forest ≡ f = ap (λ (g : Published). g.forest) g in
@@ -112,8 +113,10 @@ module _ {S : Type 0} (makes : Makes S) (pass : S → PassId) (shows : S → Pub
   }
 
   -- the end of a read above 2^64 - 1
-  pub read_past : (x y : S) (s : SpaceId) (addr n below k : ℕ) (bs zeros : List ℕ) (r : TxResult) → IsMade (shows x).forest → addr + below ≡ 2 ^ 64 → below + k ≡ n → 0 < k
-      → HasDone makes (pass x) x (steps_below (shows x).forest s addr (reading n) below) bs y → r ≡ result_of (steps_below (shows x).forest s addr (reading n) below)
+  pub read_past : (x y : S) (s : SpaceId) (addr n below k : ℕ) (bs zeros : List ℕ) (r : TxResult) → IsMade (shows x).forest
+      → addr + below ≡ 2 ^ 64 → below + k ≡ n → 0 < k
+      → HasDone makes (pass x) x (steps_below (shows x).forest s addr (reading n) below) bs y
+      → r ≡ result_of (steps_below (shows x).forest s addr (reading n) below)
       → zeros ≡ replicate k 0
       → HasDone makes (pass x) x (access (shows x).forest s addr (reading n)) (bs ++ zeros) y
       × (either r (tx false true) ≡ result_of (access (shows x).forest s addr (reading n)))
@@ -140,7 +143,8 @@ module _ {S : Type 0} (makes : Makes S) (pass : S → PassId) (shows : S → Pub
       let closed : IsClosedForest f = subst IsClosedForest made.made (IsClosedForest-made made.calls made.fitting) in
       let ds : List AccessStep = steps_below f s addr (writing bytes) below in
       let past : List AccessStep = unanswered (writing []) in
-      let d : DoSame (steps_below f s addr (writing bytes) (below + k)) (ds ++ past) = clip f closed s addr (writing bytes) below below addr k (omega arith) at some in
+      let d : DoSame (steps_below f s addr (writing bytes) (below + k)) (ds ++ past) = clip f closed s addr
+      (writing bytes) below below addr k (omega arith) at some in
       let d' : DoSame (access f s addr (writing bytes)) (ds ++ past) = subst (λ m. DoSame (steps_below f s addr (writing bytes) m) (ds ++ past)) all d in
       let z : HasDone makes (pass y) y past [] y = nothing_done makes (pass y) y 0 (tx false true) [] (laws.begins y) refl in (
         same_done x y (access f s addr (writing bytes)) (ds ++ past) [] d' (done_then makes pass shows laws x y y ds past [] [] h z),
@@ -175,5 +179,6 @@ takes_first f takes s addr below bytes made most all past h = go (cases_lt below
   where
     go : (below < length bytes) ⊎ (length bytes ≤ below) → TakesAll takes (steps_below f s addr (writing bytes) below)
     go (inl l) =
-        takes_below f takes s addr below (length bytes - below) bytes made (at_end addr below (length bytes) l all past) (omega (arith, most)) (omega (arith, l)) h
+        takes_below f takes s addr below (length bytes - below) bytes made (at_end addr below (length bytes) l all past)
+        (omega (arith, most)) (omega (arith, l)) h
     go (inr l) = let same : length bytes ≡ below = omega (arith, l, most) in subst (λ m. TakesAll takes (steps_below f s addr (writing bytes) m)) same h

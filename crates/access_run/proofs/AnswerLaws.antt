@@ -41,13 +41,15 @@ pub memory_written : (g : Published) (spot : Spot) (p : Place) (bs : List ℕ) �
     → on_words p.region spot.offset (writing bs) ++ marked p.region spot.attrs.log spot.offset (length bs) ≡ at_target g.forest (Leaf spot) (writing bs)
 memory_written g spot p bs m off =
     ap (λ (r : RegionId). on_words r spot.offset (writing bs) ++ marked r spot.attrs.log spot.offset (length bs)) m.region
-    ∙ sym (ap (λ (b : Bool). if b then unanswered (writing bs) else on_words spot.leaf spot.offset (writing bs) ++ marked spot.leaf spot.attrs.log spot.offset (length bs)) off)
+    ∙ sym (ap (λ (b : Bool). if b then unanswered (writing bs) else on_words spot.leaf spot.offset (writing bs)
+    ++ marked spot.leaf spot.attrs.log spot.offset (length bs)) off)
     ∙ sym (m.does (writing bs) refl)
 
 pub memory_kept : (g : Published) (spot : Spot) (p : Place) (bs : List ℕ) → IsMemoryAt g spot true p → spot.attrs.readonly ≡ true
     → unanswered (writing bs) ≡ at_target g.forest (Leaf spot) (writing bs)
 memory_kept g spot p bs m on =
-    sym (ap (λ (b : Bool). if b then unanswered (writing bs) else on_words spot.leaf spot.offset (writing bs) ++ marked spot.leaf spot.attrs.log spot.offset (length bs)) on)
+    sym (ap (λ (b : Bool). if b then unanswered (writing bs) else on_words spot.leaf spot.offset (writing bs)
+    ++ marked spot.leaf spot.attrs.log spot.offset (length bs)) on)
     ∙ sym (m.does (writing bs) refl)
 
 read_fine : (region : RegionId) (offset n : ℕ) (rs : List Run) → result_of (map (on_word region offset (reading n)) rs) ≡ tx false false

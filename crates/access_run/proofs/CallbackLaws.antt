@@ -40,7 +40,8 @@ same_step : (reg other : ℕ) (step found : WordStep) → Step reg step ≡ Step
 same_step reg other step found e = cc
 
 -- a write by a callback replaces bytes of its register, or sets bits of it
-pub write_kind : (device : Device) (offset size value reg : ℕ) (step : WordStep) → 0 < size → step_of device offset size (Some value) ≡ Step reg step → IsWriteStep step
+pub write_kind : (device : Device) (offset size value reg : ℕ) (step : WordStep) → 0 < size
+    → step_of device offset size (Some value) ≡ Step reg step → IsWriteStep step
 write_kind device offset size value reg step some e = go device.kind e
   where
     r : ℕ

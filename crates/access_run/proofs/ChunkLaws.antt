@@ -1,5 +1,6 @@
 -- Laws of the chunks of an access, and of its addresses above 2^64 - 1.
-use Rattle.std.proofs.Common.{◌≡◌, ℕ, zero, suc, ◌+◌, ◌-◌, ◌^◌, ◌<◌, ◌≤◌, ◌&&◌, Bool, true, false, List, [], ◌∷◌, ◌++◌, Option, Some, None, ◌⊎◌, inl, inr, drop, refl, sym, ap, subst, ◌∙◌, arith, append_assoc}
+use Rattle.std.proofs.Common.{◌≡◌, ℕ, zero, suc, ◌+◌, ◌-◌, ◌^◌, ◌<◌, ◌≤◌, ◌&&◌, Bool, true, false, List, [], ◌∷◌, ◌++◌, Option, Some, None}
+use Rattle.std.proofs.Common.{◌⊎◌, inl, inr, drop, refl, sym, ap, subst, ◌∙◌, arith, append_assoc}
 use Rattle.std.specs.Prelude.{flat_map, replicate}
 use Rattle.std.proofs.lemmas.Bool.{cases_lt}
 use Rattle.std.proofs.lemmas.List.{append-nil, replicate-append-replicate}
@@ -18,7 +19,8 @@ use Rattle.mem_base.specs.map.Limits.{most_translations}
 use Rattle.mem_base.specs.map.Forest.{IsClosedForest}
 use Rattle.mem_base.specs.map.Search.{Found, found_at, spot_of}
 use Rattle.mem_base.specs.access.Trails.{Hop, Trail, trail, trail_at, trail_within, trail_of, are_next_hops, is_leaf, is_next_trail, shares_next, first_length}
-use Rattle.mem_base.specs.access.AccessSteps.{Transfer, reading, writing, is_write, part, AccessStep, blank, steps, marks, events_of_steps, result_of, bytes_read, shown_bytes, either, tx, unanswered}
+use Rattle.mem_base.specs.access.AccessSteps.{Transfer, reading, writing, is_write, part, AccessStep, blank, steps, marks, events_of_steps}
+use Rattle.mem_base.specs.access.AccessSteps.{result_of, bytes_read, shown_bytes, either, tx, unanswered}
 use Rattle.mem_base.specs.access.Access.{at_target, in_chunk}
 use Rattle.access_run.specs.Runs.{TakesAll}
 use Rattle.access_run.proofs.RunLaws.{first_run}
@@ -177,7 +179,8 @@ module _ (f : Forest) (closed : IsClosedForest f) (w : Bool) (s : SpaceId) where
   blank_from zero a e h = let t = nothing_past a (omega (arith, e)) in (ap (λ (x : Trail). x.hops) t, ap (λ (x : Trail). x.target) t)
   blank_from (suc m) a e h =
       let here : a ≡ a + 0 = omega arith in
-      let rest = blank_from m (a + 1) (omega (arith, e)) (λ i l. let at : a + 1 + i ≡ a + suc i = omega arith in ap (shares_next f w s) at ∙ h (suc i) (omega (arith, l))) in
+      let rest = blank_from m (a + 1) (omega (arith, e)) (λ i l. let at : a + 1 + i
+      ≡ a + suc i = omega arith in ap (shares_next f w s) at ∙ h (suc i) (omega (arith, l))) in
       blank_before a (ap (shares_next f w s) here ∙ h 0 (omega arith)) rest.0 rest.1
 
 module _ (f : Forest) (closed : IsClosedForest f) (s : SpaceId) (first : ℕ) (t : Transfer) where
@@ -219,7 +222,8 @@ module _ (f : Forest) (closed : IsClosedForest f) (s : SpaceId) (first : ℕ) (t
   clip zero (suc m) a k l e some = absurd (omega (arith, l))
   clip (suc fuel) (suc m) a k l e some =
       let sp = split share a (suc m) (omega arith) in go sp.0 sp.1 (cases_lt sp.0 (suc m)) (share (a + (sp.0 - 1))) refl
-      (clip fuel (suc m - sp.0) (a + sp.0) k (let q : 0 < sp.0 = sp.1.some in omega (arith, q, l)) (let q : sp.0 ≤ suc m = sp.1.most in omega (arith, q, e)) some)
+      (clip fuel (suc m - sp.0) (a + sp.0) k (let q : 0 < sp.0 = sp.1.some in omega (arith, q, l))
+      (let q : sp.0 ≤ suc m = sp.1.most in omega (arith, q, e)) some)
     where
       shared : (c : ℕ) → FirstRun share a (suc m) c → (i : ℕ) → i + 1 < c → share (a + i) ≡ true
       shared c h i less = together share a (suc m) i (subst (λ n. i + 1 < n) (sym (ap first_length h.is)) less)
@@ -237,7 +241,8 @@ module _ (f : Forest) (closed : IsClosedForest f) (s : SpaceId) (first : ℕ) (t
           sym (append_assoc (F (run a c)) (flat_map F (runs share (a + c) (suc m - c))) (U (2 ^ 64) k))
           ∙ ap (λ z. z ++ U (2 ^ 64) k) (sym (ap (flat_map F) h.is)) in
           subst (λ z. DoSame z (flat_map F (runs share a (suc m)) ++ U (2 ^ 64) k)) xs
-          (same_then (F (run a c) ++ flat_map F (runs share (a + c) (suc m - c + k))) (F (run a c) ++ (flat_map F (runs share (a + c) (suc m - c)) ++ U (2 ^ 64) k))
+          (same_then (F (run a c) ++ flat_map F (runs share (a + c) (suc m - c + k)))
+          (F (run a c) ++ (flat_map F (runs share (a + c) (suc m - c)) ++ U (2 ^ 64) k))
           (flat_map F (runs share a (suc m)) ++ U (2 ^ 64) k)
           (same_after (F (run a c)) (flat_map F (runs share (a + c) (suc m - c + k))) (flat_map F (runs share (a + c) (suc m - c)) ++ U (2 ^ 64) k) rest) ys)
       go c h (inr more) false eb rest =
@@ -249,9 +254,11 @@ module _ (f : Forest) (closed : IsClosedForest f) (s : SpaceId) (first : ℕ) (t
           let whole : runs share a (suc m + k) ≡ run a c ∷ runs share (a + c) (suc m + k - c) =
           first_run share a c (suc m + k) h.some (omega (arith, same)) (shared c h) (λ q. eb) in
           let xs : flat_map F (runs share a (suc m + k)) ≡ F (run a c) ++ U (2 ^ 64) k =
-          ap (flat_map F) whole ∙ (λ i. F (run a c) ++ flat_map F (runs share (at i) (left i))) ∙ ap (λ z. F (run a c) ++ z) (all_past (2 ^ 64) k (omega arith) some) in
+          ap (flat_map F) whole ∙ (λ i. F (run a c) ++ flat_map F (runs share (at i) (left i))) ∙ ap
+          (λ z. F (run a c) ++ z) (all_past (2 ^ 64) k (omega arith) some) in
           let ys : F (run a c) ++ U (2 ^ 64) k ≡ flat_map F (runs share a (suc m)) ++ U (2 ^ 64) k =
-          ap (λ z. z ++ U (2 ^ 64) k) (sym (append-nil (F (run a c))) ∙ ap (λ n. F (run a c) ++ flat_map F (runs share (a + c) n)) (sym none) ∙ sym (ap (flat_map F) h.is)) in
+          ap (λ z. z ++ U (2 ^ 64) k) (sym (append-nil (F (run a c))) ∙ ap
+          (λ n. F (run a c) ++ flat_map F (runs share (a + c) n)) (sym none) ∙ sym (ap (flat_map F) h.is)) in
           same_list (flat_map F (runs share a (suc m + k))) (flat_map F (runs share a (suc m)) ++ U (2 ^ 64) k) (xs ∙ ys)
       go c h (inr more) true eb rest =
           let most : c ≤ suc m = h.most in

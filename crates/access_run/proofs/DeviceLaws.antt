@@ -9,7 +9,8 @@ use Rattle.mem_base.specs.declared.map.kinds.Ops.{Ops}
 use Rattle.mem_base.specs.declared.access.accesses.Piece.{Piece}
 use Rattle.mem_base.specs.lists.Every.{Every}
 use Rattle.mem_base.specs.map.Devices.{is_access_size}
-use Rattle.mem_base.specs.access.Pieces.{aligned_size, callback_at, callback_count, callback_size, callbacks, piece_at, pieces, power_dividing, power_within, size_at}
+use Rattle.mem_base.specs.access.Pieces.{aligned_size, callback_at, callback_count, callback_size, callbacks, piece_at, pieces}
+use Rattle.mem_base.specs.access.Pieces.{power_dividing, power_within, size_at}
 use Rattle.access_cut.specs.Conditions.{AreGood, IsCut}
 use Rattle.access_cut.specs.Offsets.{place_of, places, row}
 use Rattle.access_cut.proofs.Good.{some_valid}
@@ -124,7 +125,8 @@ tiles_all ops p good size = subst (λ l. Tiles p 0 l) (row_is_places ops p) (go 
         (omega arith, omega (arith, l, some), omega (arith, l), (size_few s sized).1, omega (arith, l))
     go (inr l) =
         subst (λ n. Tiles p 0 (row p.offset s n)) (sym (many l))
-        (tiles_row p s (p.size / s) 0 p.size p.offset (size_few s sized).0 (size_few s sized).1 l (count_of s p.size sized size l).0 (omega arith) (omega arith))
+        (tiles_row p s (p.size / s) 0 p.size p.offset (size_few s sized).0 (size_few s sized).1 l (count_of s p.size sized size l).0
+        (omega arith) (omega arith))
 
 -- the callbacks of a piece by their places
 pub callbacks_at : (ops : Ops) (p : Piece) → callbacks ops p ≡ map (callback_of p) (places ops p)

@@ -40,7 +40,8 @@ piece_part offset done size k at bytes is e =
 
 module _ {S : Type 0} (makes : Makes S) (pass : S → PassId) (shows : S → Published) (laws : AreHandLaws makes pass shows) where
   -- one callback more is read
-  pub callback_read_more : (x y z : S) (region : RegionId) (device : Device) (base : ℕ) (piece : Piece) (whole : List AccessStep) (o s m : ℕ) (old later : List At)
+  pub callback_read_more : (x y z : S) (region : RegionId) (device : Device) (base : ℕ) (piece : Piece) (whole : List AccessStep)
+      (o s m : ℕ) (old later : List At)
       (bs got : List ℕ) (r q : TxResult)
       → IsUnderway makes (pass x) x whole (map (callback_read region device base) (map (callback_of piece) old)) bs r y
       → old ≡ (o, s) ∷ later → m ≡ min s piece.size
@@ -88,7 +89,8 @@ module _ {S : Type 0} (makes : Makes S) (pass : S → PassId) (shows : S → Pub
       (flat_map (piece_read region device base) later) bs got r q u (ap (flat_map (piece_read region device base)) e) h is
 
   -- one piece more is written
-  pub piece_write_more : (x y z : S) (region : RegionId) (events : List Ioevent) (device : Device) (base offset done k : ℕ) (bytes : List ℕ) (whole : List AccessStep)
+  pub piece_write_more : (x y z : S) (region : RegionId) (events : List Ioevent) (device : Device) (base offset done k : ℕ)
+      (bytes : List ℕ) (whole : List AccessStep)
       (p : Piece) (old later : List Piece) (r q : TxResult)
       → IsUnderway makes (pass x) x whole (flat_map (piece_part_write region events device base offset bytes) old) [] r y → old ≡ p ∷ later
       → p.offset ≡ offset + done → k ≡ done + p.size - done

@@ -1,5 +1,6 @@
 -- What a search finds lies in its region, and the address lies in the space.
-use Rattle.std.proofs.Common.{◌≡◌, ℕ, zero, suc, ◌+◌, ◌-◌, ◌^◌, ◌<◌, ◌≤◌, ◌&&◌, nat_le, Bool, true, false, List, [], ◌∷◌, Option, Some, None, option_map, if◌then◌else◌, refl, sym, ap, subst, ◌∙◌, arith}
+use Rattle.std.proofs.Common.{◌≡◌, ℕ, zero, suc, ◌+◌, ◌-◌, ◌^◌, ◌<◌, ◌≤◌, ◌&&◌, nat_le, Bool, true, false, List, [], ◌∷◌, Option, Some}
+use Rattle.std.proofs.Common.{None, option_map, if◌then◌else◌, refl, sym, ap, subst, ◌∙◌, arith}
 use Rattle.std.specs.Prelude.{nat_lt, option_and_then, IsSomeAnd}
 use Rattle.std.specs.Option.{option_or}
 use Rattle.std.proofs.lemmas.Bool.{ltb-true}
@@ -26,7 +27,8 @@ in_node : (nodes : List Node) (n : Node) (o : Option Node) (a : ℕ) → o ≡ S
 in_node nodes n None a e l = cc
 in_node nodes n (Some m) a e l = let same : m ≡ n = cc in subst (λ (x : Node). a < x.size) (sym same) l
 
-itself_inside : (nodes : List Node) (n : Node) (global : Bool) (k : Kind) (a : ℕ) → node_of nodes n.id ≡ Some n → a < n.size → Inside nodes (itself global k n a)
+itself_inside : (nodes : List Node) (n : Node) (global : Bool) (k : Kind) (a : ℕ) → node_of nodes n.id ≡ Some n → a < n.size
+    → Inside nodes (itself global k n a)
 itself_inside nodes n global Container a e l = tt
 itself_inside nodes n global Ram a e l = in_node nodes n (node_of nodes n.id) a e l
 itself_inside nodes n global Rom a e l = in_node nodes n (node_of nodes n.id) a e l
@@ -100,7 +102,8 @@ shown_inside f s a x e = go (root_of f s) e
     go (Some r) e = at (found_in f most_depth r a) (found_inside f most_depth r a) e
 
 -- a search that finds something began inside the region
-began_inside : (f : Forest) (depth : ℕ) (r : RegionId) (a : ℕ) (x : Spot) → IsClosedForest f → option_map (λ p. p.0) (found_in f depth r a) ≡ Some x → a < 2 ^ 64
+began_inside : (f : Forest) (depth : ℕ) (r : RegionId) (a : ℕ) (x : Spot) → IsClosedForest f
+    → option_map (λ p. p.0) (found_in f depth r a) ≡ Some x → a < 2 ^ 64
 unfolding found_in
 began_inside f zero r a x closed e = cc
 began_inside f (suc depth) r a x closed e = go (node_of f.nodes r) refl e

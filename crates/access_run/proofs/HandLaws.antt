@@ -8,7 +8,8 @@ use Rattle.mem_base.specs.declared.map.ids.PassId.{PassId}
 use Rattle.mem_base.specs.declared.access.accesses.TxResult.{TxResult}
 use Rattle.mem_base.specs.declared.access.cells.WordStep.{WordStep}
 use Rattle.mem_base.specs.declared.machine.events.Event.{Event}
-use Rattle.mem_base.specs.access.AccessSteps.{AccessStep, blank, steps, marks, event_of, events_of_steps, result_of, result_at, bytes_read, shown_bytes, either, tx}
+use Rattle.mem_base.specs.access.AccessSteps.{AccessStep, blank, steps, marks, event_of, events_of_steps, result_of, result_at, bytes_read}
+use Rattle.mem_base.specs.access.AccessSteps.{shown_bytes, either, tx}
 use Rattle.mem_base.proofs.EveryLaws.{weaker}
 use Rattle.generation.specs.Published.{Published}
 use Rattle.access_run.specs.Runs.{Makes, HasDone, IsUnderway, TakesStep, TakesAll}

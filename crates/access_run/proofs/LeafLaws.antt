@@ -1,5 +1,6 @@
 -- Laws of the places of leaves, and of what answers there.
-use Rattle.std.proofs.Common.{◌≡◌, ℕ, ◌+◌, ◌/◌, ◌%◌, ◌^◌, ◌<◌, ◌≤◌, ◌-◌, ◌==◌, ◌||◌, ◌&&◌, not, Bool, true, false, List, [], ◌∷◌, length, Option, Some, None, ◌⊎◌, inl, inr, refl, sym, ap, subst, ◌∙◌, if◌then◌else◌, arith}
+use Rattle.std.proofs.Common.{◌≡◌, ℕ, ◌+◌, ◌/◌, ◌%◌, ◌^◌, ◌<◌, ◌≤◌, ◌-◌, ◌==◌, ◌||◌, ◌&&◌, not, Bool, true, false, List, [], ◌∷◌, length}
+use Rattle.std.proofs.Common.{Option, Some, None, ◌⊎◌, inl, inr, refl, sym, ap, subst, ◌∙◌, if◌then◌else◌, arith}
 use Rattle.std.specs.Prelude.{nat_lt, is_some, IsSome, IsSomeAnd, IfSome, option_map, find}
 use Rattle.std.proofs.lemmas.Bool.{eqb-true, eqb-false, lt-ltb}
 use Rattle.std.proofs.lemmas.Bool.Decides.{nat_tests}
@@ -51,7 +52,8 @@ found_place : (P : Place → Type 0) (ps : List Place) (r : RegionId) (q : Place
 found_place P [] r q h e = cc
 found_place P (p ∷ ps) r q h e = go (p.region.0 == r.0) refl e (found_place P ps r q h.1)
   where
-    go : (b : Bool) → (p.region.0 == r.0) ≡ b → (if b then Some p else place_in ps r) ≡ Some q → (place_in ps r ≡ Some q → P q × (q.region ≡ r)) → P q × (q.region ≡ r)
+    go : (b : Bool) → (p.region.0 == r.0) ≡ b → (if b then Some p else place_in ps r) ≡ Some q
+        → (place_in ps r ≡ Some q → P q × (q.region ≡ r)) → P q × (q.region ≡ r)
     go true t e rest = let is : p ≡ q = cc in subst (λ x. P x × (x.region ≡ r)) is (h.0, same_region p.region r (eqb-true p.region.0 r.0 t))
     go false t e rest = rest e
 
@@ -69,7 +71,8 @@ size_whole k size none bytes =
         → (0 < size) × (size % 4096 ≡ 0) × (size ≤ most_bytes)
     go true whole z w e = cc
     go false false z w e = cc
-    go false true z w e = let some : size ≡ 0 → ⊥ = eqb-false size 0 z in (omega (arith, some), eqb-true (size % 4096) 0 w, not_above (nat_lt most_bytes size) refl e)
+    go false true z w e = let some : size ≡ 0 → ⊥ = eqb-false size 0 z in
+        (omega (arith, some), eqb-true (size % 4096) 0 w, not_above (nat_lt most_bytes size) refl e)
 
 module _ (g : Published) (k : IsEdition g.forest g.places) where
   abbrev f : Forest
@@ -219,13 +222,15 @@ module _ (g : Published) (k : IsEdition g.forest g.places) where
           whole Reserve e = cc
 
       -- the steps of a device by its region and its ioeventfds
-      by_region : (device : Device) (base : ℕ) (t : Transfer) → in_device n device base spot.offset (length_of t) t ≡ device_steps n.id n.events device base spot.offset t
+      by_region : (device : Device) (base : ℕ) (t : Transfer)
+          → in_device n device base spot.offset (length_of t) t ≡ device_steps n.id n.events device base spot.offset t
       by_region device base (reading m) = refl
       by_region device base (writing bs) = refl
 
       -- a device
       pub device_there : (write : Bool) (device : Device) → device_of n.kind ≡ Some device
-          → ((t : Transfer) → is_write t ≡ write → at_leaf n.kind n spot t ≡ in_device n device (data_words (extent_of n.kind n.size).bytes) spot.offset (length_of t) t)
+          → ((t : Transfer) → is_write t ≡ write → at_leaf n.kind n spot t
+          ≡ in_device n device (data_words (extent_of n.kind n.size).bytes) spot.offset (length_of t) t)
           → IsDeviceAt g spot write p device
       device_there write device e does =
           let fits = (leaf_place p found).1 in

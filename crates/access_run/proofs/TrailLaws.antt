@@ -1,5 +1,6 @@
 -- Where trails lead, and that a chunk's addresses lie in its leaf.
-use Rattle.std.proofs.Common.{◌≡◌, ℕ, zero, suc, ◌+◌, ◌<◌, ◌≤◌, ◌&&◌, ◌==◌, Bool, true, false, List, [], ◌∷◌, Option, Some, None, if◌then◌else◌, refl, sym, ap, subst, ◌∙◌, arith}
+use Rattle.std.proofs.Common.{◌≡◌, ℕ, zero, suc, ◌+◌, ◌<◌, ◌≤◌, ◌&&◌, ◌==◌, Bool, true, false, List, [], ◌∷◌, Option, Some, None}
+use Rattle.std.proofs.Common.{if◌then◌else◌, refl, sym, ap, subst, ◌∙◌, arith}
 use Rattle.std.specs.Prelude.{IsSomeAnd, IfSome}
 use Rattle.std.proofs.lemmas.Bool.{eqb-true}
 use Rattle.mem_base.specs.declared.map.ids.SpaceId.{SpaceId}
@@ -17,7 +18,8 @@ use Rattle.mem_base.specs.map.Attributes.{same_attrs}
 use Rattle.mem_base.specs.map.Forest.{IsMade, IsClosedForest}
 use Rattle.mem_base.specs.map.Search.{Found, found_at, look, spot_of}
 use Rattle.mem_base.specs.access.Translations.{translates, used_at, translated_address}
-use Rattle.mem_base.specs.access.Trails.{Hop, hop, Trail, trail, Onward, through, trail_at, trail_within, trail_of, is_next_spot, is_next_hop, are_next_hops, is_leaf, is_same_entry, shares_next, chunks, first_length}
+use Rattle.mem_base.specs.access.Trails.{Hop, hop, Trail, trail, Onward, through, trail_at, trail_within, trail_of, is_next_spot}
+use Rattle.mem_base.specs.access.Trails.{is_next_hop, are_next_hops, is_leaf, is_same_entry, shares_next, chunks, first_length}
 use Rattle.map_laws.proofs.SoundCallLaws.{IsClosedForest-made}
 use Rattle.view_laws.proofs.NamingLaws.{names_leaves}
 use Rattle.access_run.specs.Leaves.{IsTargetRun}
@@ -160,7 +162,8 @@ along f w s a n x is (suc i) l =
     let on = together (shares_next f w s) a n i (omega (arith, l)) in
     let u = next_target f w s (a + i) t.0 on t.1 in
     let at : a + i + 1 ≡ a + suc i = omega arith in
-    let offset : u.0.offset ≡ x.offset + suc i = let p : u.0.offset ≡ t.0.offset + 1 = u.2.offset in let q : t.0.offset ≡ x.offset + i = t.3 in omega (arith, p, q) in
+    let offset : u.0.offset ≡ x.offset + suc i = let p : u.0.offset ≡ t.0.offset + 1 = u.2.offset in let q : t.0.offset
+    ≡ x.offset + i = t.3 in omega (arith, p, q) in
     (u.0, subst (λ b. (trail_of f w s b).target ≡ Leaf u.0) at u.1, u.2.leaf ∙ t.2, offset)
 
 -- the first chunk of some addresses lies in its leaf, which the forest names

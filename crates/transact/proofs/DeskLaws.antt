@@ -93,7 +93,8 @@ done_desk d r tree known new_known spare new_spare k of_it made e reach second =
         whole (omega arith)
 
 -- where a change is pending, one more publish has a number
-pub number_fits : (d : DeskState) (known : List (SpaceId × List RegionId)) (spare : Option Forest) → IsDesk d known spare → d.state.pending ≡ true → d.current.number + 1 < 2 ^ 64
+pub number_fits : (d : DeskState) (known : List (SpaceId × List RegionId)) (spare : Option Forest) → IsDesk d known spare
+    → d.state.pending ≡ true → d.current.number + 1 < 2 ^ 64
 number_fits d known spare k due =
     let few : d.current.number + 1 ≤ d.state.forest.calls = subst (λ b. d.current.number + publishes_due b ≤ d.state.forest.calls) due k.counted in
     let calls : d.state.forest.calls ≤ 2 ^ 62 = (closed_made d.state.forest k.made).few_calls in

@@ -29,7 +29,8 @@ write-requires-clause-takes g c =
     let target = c.first_chunk-target.ensures.target ∙ ap (λ (z : Published). (trail_of z.forest true s (addr + done)).target) c.generation.ensures in
     let len = c.first_chunk-target.ensures.len
     ∙ ap (λ (z : Published). first_length (chunks z.forest true s (addr + done) (below - done))) c.generation.ensures in
-    (takes_more g.H.Entered.makes g.H.Entered.pass g.H.Entered.shows laws (g.H.Writes.takes c.loop-done.hand) c.args.hand.now c.loop-done.hand s addr below done count
+    (takes_more g.H.Entered.makes g.H.Entered.pass g.H.Entered.shows laws
+    (g.H.Writes.takes c.loop-done.hand) c.args.hand.now c.loop-done.hand s addr below done count
     (done + count - done) c.first_chunk-target.result.0 bytes same c.loop-done-test.true target len refl inv.2).0
 
 pub loop-done-preserved : goal.loop-done-preserved
@@ -53,7 +54,8 @@ loop-done-preserved g c =
     let target = c.first_chunk-target.ensures.target ∙ ap (λ (z : Published). (trail_of z.forest true s (addr + done)).target) c.generation.ensures in
     let len = c.first_chunk-target.ensures.len
     ∙ ap (λ (z : Published). first_length (chunks z.forest true s (addr + done) (below - done))) c.generation.ensures in
-    let all = takes_more g.H.Entered.makes g.H.Entered.pass g.H.Entered.shows laws (g.H.Writes.takes c.loop-done.hand) c.args.hand.now c.loop-done.hand s addr below done count
+    let all = takes_more g.H.Entered.makes g.H.Entered.pass g.H.Entered.shows laws
+    (g.H.Writes.takes c.loop-done.hand) c.args.hand.now c.loop-done.hand s addr below done count
     k c.first_chunk-target.result.0 bytes same c.loop-done-test.true target len refl inv.2 in
     let now : List AccessStep = at_target (g.H.Entered.shows c.loop-done.hand).forest c.first_chunk-target.result.0 (writing (take k (drop done bytes))) in
     let v = write_more g.H.Entered.makes g.H.Entered.pass g.H.Entered.shows laws c.args.hand.now c.loop-done.hand c.write.new.hand s addr below done count k

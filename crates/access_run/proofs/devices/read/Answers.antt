@@ -40,7 +40,8 @@ slice_bounds-mine-end g c =
     let inv = c.loop-piece.invariant in
     let piece : Piece = c.in-Some.piece in
     let list : c.loop-piece.pieces ≡ piece ∷ c.next.new.self = c.in-Some.ensures in
-    let np = next_given ops (offset + done) (n - done) piece c.next.new.self (good_ops c.args.device.now c.requires.good) (omega (arith, inv.0, c.requires.within)) (sym inv.1 ∙ list) in
+    let np = next_given ops (offset + done) (n - done) piece c.next.new.self (good_ops c.args.device.now c.requires.good)
+    (omega (arith, inv.0, c.requires.within)) (sym inv.1 ∙ list) in
     omega (arith, inv.0, np.most, c.loop-piece.auto.out)
 
 pub read_piece-requires-clause-cut : goal.read_piece-requires-clause-cut
@@ -52,7 +53,8 @@ read_piece-requires-clause-cut g c =
     let inv = c.loop-piece.invariant in
     let piece : Piece = c.in-Some.piece in
     let list : c.loop-piece.pieces ≡ piece ∷ c.next.new.self = c.in-Some.ensures in
-    let np = next_given ops (offset + done) (n - done) piece c.next.new.self (good_ops c.args.device.now c.requires.good) (omega (arith, inv.0, c.requires.within)) (sym inv.1 ∙ list) in
+    let np = next_given ops (offset + done) (n - done) piece c.next.new.self (good_ops c.args.device.now c.requires.good)
+    (omega (arith, inv.0, c.requires.within)) (sym inv.1 ∙ list) in
     np.cut
 
 pub read_piece-requires-clause-size : goal.read_piece-requires-clause-size
@@ -64,7 +66,8 @@ read_piece-requires-clause-size g c =
     let inv = c.loop-piece.invariant in
     let piece : Piece = c.in-Some.piece in
     let list : c.loop-piece.pieces ≡ piece ∷ c.next.new.self = c.in-Some.ensures in
-    let np = next_given ops (offset + done) (n - done) piece c.next.new.self (good_ops c.args.device.now c.requires.good) (omega (arith, inv.0, c.requires.within)) (sym inv.1 ∙ list) in
+    let np = next_given ops (offset + done) (n - done) piece c.next.new.self (good_ops c.args.device.now c.requires.good)
+    (omega (arith, inv.0, c.requires.within)) (sym inv.1 ∙ list) in
     np.sized
 
 pub loop-piece-preserved : goal.loop-piece-preserved
@@ -78,7 +81,8 @@ loop-piece-preserved g c =
     let inv = c.loop-piece.invariant in
     let piece : Piece = c.in-Some.piece in
     let list : c.loop-piece.pieces ≡ piece ∷ c.next.new.self = c.in-Some.ensures in
-    let np = next_given ops (offset + done) (n - done) piece c.next.new.self (good_ops c.args.device.now c.requires.good) (omega (arith, inv.0, c.requires.within)) (sym inv.1 ∙ list) in
+    let np = next_given ops (offset + done) (n - done) piece c.next.new.self (good_ops c.args.device.now c.requires.good)
+    (omega (arith, inv.0, c.requires.within)) (sym inv.1 ∙ list) in
     let region = c.args.place.now.region in
     let device = c.args.device.now in
     let base : ℕ = data_words c.args.place.now.bytes in
@@ -118,7 +122,8 @@ returns-clause-done g c =
     let empty : c.loop-piece.pieces ≡ [] = c.in_default.ensures.0 in
     let none : n - done ≡ 0 = no_more ops (c.args.offset + done) (n - done) (good_ops c.args.device.now c.requires.good) (sym inv.1 ∙ empty) in
     let all : done ≡ length out = omega (arith, none, inv.0, c.loop-piece.auto.out) in
-    let h = all_done g.H.Entered.makes g.H.Entered.pass g.H.Entered.shows laws c.args.hand.now c.loop-piece.hand whole (flat_map f c.loop-piece.pieces) (take done out)
+    let h = all_done g.H.Entered.makes g.H.Entered.pass g.H.Entered.shows laws c.args.hand.now c.loop-piece.hand whole
+    (flat_map f c.loop-piece.pieces) (take done out)
     c.loop-piece.result inv.2 (ap (flat_map f) empty) in
     subst (λ bs. HasDone g.H.Entered.makes (g.H.Entered.pass c.args.hand.now) c.args.hand.now whole bs c.loop-piece.hand)
     (ap (λ m. take m out) all ∙ take-length out) h

@@ -27,7 +27,8 @@ loop-offset-init g c =
     ap (map step) (callbacks_at ops piece ∙ ap (map (callback_of piece)) (sym found)) in (
       0,
       subst (λ l. Tiles piece 0 l) (sym found) (tiles_all ops piece (good_ops c.args.device.now c.requires.good) c.requires.size),
-      subst (λ l. IsUnderway g.H.Entered.makes (g.H.Entered.pass c.args.hand.now) c.args.hand.now (map step (callbacks ops piece)) l [] (tx false false) c.args.hand.now)
+      subst (λ l. IsUnderway g.H.Entered.makes (g.H.Entered.pass c.args.hand.now) c.args.hand.now (map step (callbacks ops piece)) l []
+          (tx false false) c.args.hand.now)
           list (underway_none g.H.Entered.makes g.H.Entered.pass g.H.Entered.shows laws c.args.hand.now (map step (callbacks ops piece))),
     )
 
@@ -68,7 +69,8 @@ loop-offset-preserved g c =
     old later (take done out) got c.loop-offset.result c.read.result inv.2 list (size ∙ is) c.read.ensures.done c.read.ensures.result in (
       done + min s piece.size,
       t.4,
-      underway_as g.H.Entered.makes (g.H.Entered.pass c.args.hand.now) c.args.hand.now whole (map (callback_read region device base) (map (callback_of piece) later))
+      underway_as g.H.Entered.makes (g.H.Entered.pass c.args.hand.now) c.args.hand.now whole
+          (map (callback_read region device base) (map (callback_of piece) later))
           (take done out ++ got) _ (either c.loop-offset.result c.read.result) c.joined-result.result c.read.new.hand v
           (ap (λ e. take e out ++ got) here ∙ sym (take-put_mid d k out got (done + min s piece.size) end inside)) c.joined-result.ensures,
     )

@@ -24,7 +24,8 @@ slice_bounds-mine-end g c =
     let inv = c.loop-piece.invariant in
     let piece : Piece = c.in-Some.piece in
     let list : c.loop-piece.pieces ≡ piece ∷ c.next.new.self = c.in-Some.ensures in
-    let np = next_given ops (offset + done) (n - done) piece c.next.new.self (good_ops c.args.device.now c.requires.good) (omega (arith, inv.0, c.requires.within)) (sym inv.1 ∙ list) in
+    let np = next_given ops (offset + done) (n - done) piece c.next.new.self (good_ops c.args.device.now c.requires.good)
+    (omega (arith, inv.0, c.requires.within)) (sym inv.1 ∙ list) in
     omega (arith, inv.0, np.most)
 
 pub write_piece-requires-clause-cut : goal.write_piece-requires-clause-cut
@@ -36,7 +37,8 @@ write_piece-requires-clause-cut g c =
     let inv = c.loop-piece.invariant in
     let piece : Piece = c.in-Some.piece in
     let list : c.loop-piece.pieces ≡ piece ∷ c.next.new.self = c.in-Some.ensures in
-    let np = next_given ops (offset + done) (n - done) piece c.next.new.self (good_ops c.args.device.now c.requires.good) (omega (arith, inv.0, c.requires.within)) (sym inv.1 ∙ list) in
+    let np = next_given ops (offset + done) (n - done) piece c.next.new.self (good_ops c.args.device.now c.requires.good)
+    (omega (arith, inv.0, c.requires.within)) (sym inv.1 ∙ list) in
     np.cut
 
 pub write_piece-requires-clause-size : goal.write_piece-requires-clause-size
@@ -48,7 +50,8 @@ write_piece-requires-clause-size g c =
     let inv = c.loop-piece.invariant in
     let piece : Piece = c.in-Some.piece in
     let list : c.loop-piece.pieces ≡ piece ∷ c.next.new.self = c.in-Some.ensures in
-    let np = next_given ops (offset + done) (n - done) piece c.next.new.self (good_ops c.args.device.now c.requires.good) (omega (arith, inv.0, c.requires.within)) (sym inv.1 ∙ list) in
+    let np = next_given ops (offset + done) (n - done) piece c.next.new.self (good_ops c.args.device.now c.requires.good)
+    (omega (arith, inv.0, c.requires.within)) (sym inv.1 ∙ list) in
     np.sized
 
 pub write_piece-requires-clause-takes : goal.write_piece-requires-clause-takes
@@ -62,7 +65,8 @@ write_piece-requires-clause-takes g c =
     let inv = c.loop-piece.invariant in
     let piece : Piece = c.in-Some.piece in
     let list : c.loop-piece.pieces ≡ piece ∷ c.next.new.self = c.in-Some.ensures in
-    let np = next_given ops (offset + done) (n - done) piece c.next.new.self (good_ops c.args.device.now c.requires.good) (omega (arith, inv.0, c.requires.within)) (sym inv.1 ∙ list) in
+    let np = next_given ops (offset + done) (n - done) piece c.next.new.self (good_ops c.args.device.now c.requires.good)
+    (omega (arith, inv.0, c.requires.within)) (sym inv.1 ∙ list) in
     let region = c.args.place.now.region in
     let device = c.args.device.now in
     let base : ℕ = data_words c.args.place.now.bytes in
@@ -71,7 +75,8 @@ write_piece-requires-clause-takes g c =
     let f = piece_part_write region events device base offset bytes in
     let whole : List AccessStep = device_write region events device base offset bytes in
     let shows : g.H.Entered.shows c.loop-piece.hand ≡ g.H.Entered.shows c.args.hand.now =
-    underway_shows g.H.Entered.makes g.H.Entered.pass g.H.Entered.shows laws c.args.hand.now c.loop-piece.hand whole (flat_map f c.loop-piece.pieces) [] c.loop-piece.result inv.2 in
+    underway_shows g.H.Entered.makes g.H.Entered.pass g.H.Entered.shows laws c.args.hand.now c.loop-piece.hand whole
+    (flat_map f c.loop-piece.pieces) [] c.loop-piece.result inv.2 in
     let part = piece_part offset done piece.size (done + piece.size - done) piece.offset bytes np.at refl in
     let all = every_split _ (f piece) (flat_map f c.next.new.self) (subst (λ l. TakesAll (g.H.Writes.takes c.loop-piece.hand) (flat_map f l)) list inv.3) in
     subst (λ (z : Published). TakesAll (g.H.Writes.takes c.loop-piece.hand)
@@ -89,7 +94,8 @@ loop-piece-preserved g c =
     let inv = c.loop-piece.invariant in
     let piece : Piece = c.in-Some.piece in
     let list : c.loop-piece.pieces ≡ piece ∷ c.next.new.self = c.in-Some.ensures in
-    let np = next_given ops (offset + done) (n - done) piece c.next.new.self (good_ops c.args.device.now c.requires.good) (omega (arith, inv.0, c.requires.within)) (sym inv.1 ∙ list) in
+    let np = next_given ops (offset + done) (n - done) piece c.next.new.self (good_ops c.args.device.now c.requires.good)
+    (omega (arith, inv.0, c.requires.within)) (sym inv.1 ∙ list) in
     let region = c.args.place.now.region in
     let device = c.args.device.now in
     let base : ℕ = data_words c.args.place.now.bytes in
@@ -98,11 +104,13 @@ loop-piece-preserved g c =
     let f = piece_part_write region events device base offset bytes in
     let whole : List AccessStep = device_write region events device base offset bytes in
     let shows : g.H.Entered.shows c.loop-piece.hand ≡ g.H.Entered.shows c.args.hand.now =
-    underway_shows g.H.Entered.makes g.H.Entered.pass g.H.Entered.shows laws c.args.hand.now c.loop-piece.hand whole (flat_map f c.loop-piece.pieces) [] c.loop-piece.result inv.2 in
+    underway_shows g.H.Entered.makes g.H.Entered.pass g.H.Entered.shows laws c.args.hand.now c.loop-piece.hand whole
+    (flat_map f c.loop-piece.pieces) [] c.loop-piece.result inv.2 in
     let k : ℕ = done + piece.size - done in
     let same : events_of (g.H.Entered.shows c.loop-piece.hand).forest region ≡ events = ap (λ (z : Published). events_of z.forest region) shows in
     let list' : piece_write region (events_of (g.H.Entered.shows c.loop-piece.hand).forest region) device base piece (take k (drop done bytes))
-    ≡ piece_write region events device base piece (take k (drop done bytes)) = ap (λ es. piece_write region es device base piece (take k (drop done bytes))) same in
+    ≡ piece_write region events device base piece (take k (drop done bytes)) = ap
+    (λ es. piece_write region es device base piece (take k (drop done bytes))) same in
     let h : HasDone g.H.Entered.makes (g.H.Entered.pass c.loop-piece.hand) c.loop-piece.hand
     (piece_write region events device base piece (take k (drop done bytes))) [] c.write_piece.new.hand =
     subst (λ ds. HasDone g.H.Entered.makes (g.H.Entered.pass c.loop-piece.hand) c.loop-piece.hand ds [] c.write_piece.new.hand) list' c.write_piece.ensures.done in
@@ -111,7 +119,8 @@ loop-piece-preserved g c =
     let left : n - done - piece.size ≡ n - (done + piece.size) = omega arith in
     let all = every_split _ (f piece) (flat_map f c.next.new.self) (subst (λ l. TakesAll (g.H.Writes.takes c.loop-piece.hand) (flat_map f l)) list inv.3) in
     let v = piece_write_more g.H.Entered.makes g.H.Entered.pass g.H.Entered.shows laws c.args.hand.now c.loop-piece.hand c.write_piece.new.hand region events device base offset done k bytes whole piece
-    c.loop-piece.pieces c.next.new.self c.loop-piece.result c.write_piece.result inv.2 list np.at refl h (c.write_piece.ensures.result ∙ ap result_of list') in (
+    c.loop-piece.pieces c.next.new.self c.loop-piece.result c.write_piece.result inv.2 list np.at refl h
+    (c.write_piece.ensures.result ∙ ap result_of list') in (
       most,
       np.later ∙ (λ i. pieces ops (at i) (left i)),
       underway_as g.H.Entered.makes (g.H.Entered.pass c.args.hand.now) c.args.hand.now whole (flat_map f c.next.new.self) [] []

@@ -26,7 +26,8 @@ loop-offset-init g c =
     ap (map step) (callbacks_at ops piece ∙ ap (map (callback_of piece)) (sym found)) in (
       0,
       subst (λ l. Tiles piece 0 l) (sym found) (tiles_all ops piece (good_ops c.args.device.now c.requires.good) c.requires.size),
-      subst (λ l. IsUnderway g.H.Entered.makes (g.H.Entered.pass c.args.hand.now) c.args.hand.now (map step (callbacks ops piece)) l [] (tx false false) c.args.hand.now)
+      subst (λ l. IsUnderway g.H.Entered.makes (g.H.Entered.pass c.args.hand.now) c.args.hand.now (map step (callbacks ops piece)) l []
+          (tx false false) c.args.hand.now)
           list (underway_none g.H.Entered.makes g.H.Entered.pass g.H.Entered.shows laws c.args.hand.now (map step (callbacks ops piece))),
       subst (TakesAll (g.H.Writes.takes c.args.hand.now)) list c.requires.takes,
     )
@@ -48,7 +49,8 @@ write-requires-clause-takes g c =
     let at : o ≡ piece.offset + d = let h : o ≡ piece.offset + done = t.0 in omega (arith, h) in
     let is : d + c.min-count.result - d ≡ d + min s piece.size - d = ap (λ n. d + n - d) c.min-count.ensures in
     let part = callback_part piece o s d (d + c.min-count.result - d) bytes at is in
-    let all = subst (λ l. TakesAll (g.H.Writes.takes c.loop-offset.hand) (map (callback_write region device base bytes) (map (callback_of piece) l))) list inv.3 in
+    let all = subst (λ l. TakesAll (g.H.Writes.takes c.loop-offset.hand)
+    (map (callback_write region device base bytes) (map (callback_of piece) l))) list inv.3 in
     subst (λ p. TakesStep (g.H.Writes.takes c.loop-offset.hand)
     (on_device region base (step_of device o s (value_of device.ops.big s (writing p))) nothing_shown (writing p))) (sym part) all.0
 
@@ -77,7 +79,8 @@ loop-offset-preserved g c =
     let rest : List AccessStep = map (callback_write region device base bytes) (map (callback_of piece) later) in
     let v = callback_write_more g.H.Entered.makes g.H.Entered.pass g.H.Entered.shows laws c.args.hand.now c.loop-offset.hand c.write.new.hand region device base piece whole o s d
     (d + c.min-count.result - d) bytes old later c.loop-offset.result c.write.result inv.2 list at is c.write.ensures.done c.write.ensures.result in
-    let all = subst (λ l. TakesAll (g.H.Writes.takes c.loop-offset.hand) (map (callback_write region device base bytes) (map (callback_of piece) l))) list inv.3 in (
+    let all = subst (λ l. TakesAll (g.H.Writes.takes c.loop-offset.hand)
+    (map (callback_write region device base bytes) (map (callback_of piece) l))) list inv.3 in (
       done + min s piece.size,
       t.4,
       underway_as g.H.Entered.makes (g.H.Entered.pass c.args.hand.now) c.args.hand.now whole rest [] [] (either c.loop-offset.result c.write.result)

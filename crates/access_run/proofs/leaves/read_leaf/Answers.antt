@@ -11,5 +11,6 @@ returns-in-Memory-clause-result g c =
     let shows : Published = g.H.Entered.shows c.args.hand.now in
     let spot : Spot = c.args.spot.now in
     let n : ℕ = length c.args.out.now in
-    let m : IsMemoryAt shows spot false c.in-Memory.place = subst (λ (z : Published). IsMemoryAt z spot false c.in-Memory.place) c.generation.ensures c.in-Memory.ensures in
+    let m : IsMemoryAt shows spot false c.in-Memory.place = subst
+    (λ (z : Published). IsMemoryAt z spot false c.in-Memory.place) c.generation.ensures c.in-Memory.ensures in
     words_read_fine c.in-Memory.place.region spot.offset n ∙ ap result_of (memory_read shows spot c.in-Memory.place n m)

@@ -41,7 +41,8 @@ loop-done-preserved g c =
     (tx false false) c.read_word.new.hand =
     underway_then g.H.Entered.makes g.H.Entered.pass g.H.Entered.shows laws c.args.hand.now c.loop-done.hand c.read_word.new.hand
     (on_words region offset (reading n)) (map (on_word region offset (reading n)) (touched 8 (offset + done) (n - done)))
-    (on_word region offset (reading n) (run (offset + done) count) ∷ []) later (take done out) got (tx false false) (tx false false) c.loop-done.invariant.1 rest h
+    (on_word region offset (reading n) (run (offset + done) count) ∷ []) later (take done out) got (tx false false)
+    (tx false false) c.loop-done.invariant.1 rest h
     refl in
     let end : done + count ≡ done + length got = omega (arith, as_many, size) in
     let inside : done ≤ length out = omega (arith, most, c.loop-done.auto.out) in (

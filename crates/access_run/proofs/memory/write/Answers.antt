@@ -49,7 +49,8 @@ loop-done-preserved g c =
       most,
       underway_then g.H.Entered.makes g.H.Entered.pass g.H.Entered.shows laws c.args.hand.now c.loop-done.hand c.write_word.new.hand
           (on_words region offset (writing bytes)) (map (on_word region offset (writing bytes)) (touched 8 (offset + done) (n - done)))
-          (on_word region offset (writing bytes) (run (offset + done) count) ∷ []) later [] [] (tx false false) (tx false false) c.loop-done.invariant.1 rest h refl,
+          (on_word region offset (writing bytes) (run (offset + done) count) ∷ []) later [] [] (tx false false)
+          (tx false false) c.loop-done.invariant.1 rest h refl,
       takes_lasts g.H.Entered.makes g.H.Writes.takes g.met.H.Writes.lasts (g.H.Entered.pass c.loop-done.hand) c.loop-done.hand c.write_word.new.hand
           (on_word region offset (writing bytes) (run (offset + done) count) ∷ []) [] h later all.1,
     )

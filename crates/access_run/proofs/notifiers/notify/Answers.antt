@@ -37,5 +37,6 @@ returns g c =
     let h : HasDone g.H.Entered.makes (g.H.Entered.pass c.args.hand.now) c.args.hand.now
     (steps (cell c.in-Some.place.region c.args.number) (Or 1) nothing_shown ∷ []) [] c.write_word.new.self =
     record { replies = made.0 ∷ []; made = made.1; each = refl; read = refl } in
-    subst (λ (r : RegionId). HasDone g.H.Entered.makes (g.H.Entered.pass c.args.hand.now) c.args.hand.now (steps (cell r c.args.number) (Or 1) nothing_shown ∷ [])
+    subst (λ (r : RegionId). HasDone g.H.Entered.makes (g.H.Entered.pass c.args.hand.now) c.args.hand.now
+    (steps (cell r c.args.number) (Or 1) nothing_shown ∷ [])
     [] c.write_word.new.self) region h

@@ -10,5 +10,6 @@ returns-then-size-eq8 c =
 
 pub returns-else-size-eq8 : goal.returns-else-size-eq8
 returns-else-size-eq8 c =
-    few_bytes c.args.word c.args.first c.args.size c.from.result c.from-else-size-eq8.result (omega (arith, c.requires.size, c.if-size-eq8.false)) c.from.ensures
+    few_bytes c.args.word c.args.first c.args.size c.from.result c.from-else-size-eq8.result
+    (omega (arith, c.requires.size, c.if-size-eq8.false)) c.from.ensures
     c.from-else-size-eq8.ensures
