@@ -12,3 +12,4 @@ pub mod FoundLaws
 pub mod TrailLaws
 pub mod ChunkLaws
 pub mod AccessLaws
+pub mod PartialLaws

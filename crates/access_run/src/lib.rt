@@ -16,6 +16,8 @@ mod memory;
 mod notifiers;
 mod numbers;
 mod results;
+mod whole;
 
 pub use accesses::{read, write};
 pub use hands::{Entered, Reads, Writes};
+pub use whole::is_whole;
