@@ -31,7 +31,8 @@ returns-then-below-out-clause-result g c =
     let made : IsMade (g.H.Entered.shows c.args.hand.now).forest = subst (λ (z : Published). IsMade z.forest) c.generation.ensures c.forest.ensures.made in
     let at : c.args.addr + below ≡ 2 ^ 64 = at_end c.args.addr below n less c.reach-below.ensures.all c.reach-below.ensures.past in
     c.joined.ensures
-    ∙ (read_past g.H.Entered.makes g.H.Entered.pass g.H.Entered.shows laws c.args.hand.now c.read_below-result.new.hand c.args.space c.args.addr n below (n - below)
+    ∙ (read_past g.H.Entered.makes g.H.Entered.pass g.H.Entered.shows laws c.args.hand.now c.read_below-result.new.hand c.args.space
+    c.args.addr n below (n - below)
     (take below out) (replicate (n - below) 0) c.read_below-result.result made at (omega (arith, less)) (omega (arith, less))
     c.read_below-result.ensures.done c.read_below-result.ensures.result refl).1
 
@@ -47,7 +48,8 @@ returns-then-below-out-clause-done g c =
     let sum : below + (n - below) ≡ n = omega (arith, less) in
     let made : IsMade (g.H.Entered.shows c.args.hand.now).forest = subst (λ (z : Published). IsMade z.forest) c.generation.ensures c.forest.ensures.made in
     let at : c.args.addr + below ≡ 2 ^ 64 = at_end c.args.addr below n less c.reach-below.ensures.all c.reach-below.ensures.past in
-    (read_past g.H.Entered.makes g.H.Entered.pass g.H.Entered.shows laws c.args.hand.now c.read_below-result.new.hand c.args.space c.args.addr n below (n - below)
+    (read_past g.H.Entered.makes g.H.Entered.pass g.H.Entered.shows laws c.args.hand.now c.read_below-result.new.hand c.args.space
+    c.args.addr n below (n - below)
     (take below out) (c.fill.new.self ++ post_of below (length out - below) out) c.read_below-result.result made at sum (omega (arith, less))
     c.read_below-result.ensures.done c.read_below-result.ensures.result
     (zeros_after below n (n - below) out c.fill.new.self all sum (c.fill.ensures.after (λ y e. cc)))).0

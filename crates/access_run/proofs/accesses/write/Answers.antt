@@ -8,7 +8,8 @@ use Rattle.access_run.proofs.accesses.write.Goals as goal
 pub write_below-result-requires-clause-takes : goal.write_below-result-requires-clause-takes
 write_below-result-requires-clause-takes g c =
     let made : IsMade (g.H.Entered.shows c.args.hand.now).forest = subst (λ (z : Published). IsMade z.forest) c.generation.ensures c.forest.ensures.made in
-    takes_first (g.H.Entered.shows c.args.hand.now).forest (g.H.Writes.takes c.args.hand.now) c.args.space c.args.addr c.reach-below.result c.args.bytes.now made
+    takes_first (g.H.Entered.shows c.args.hand.now).forest (g.H.Writes.takes c.args.hand.now) c.args.space c.args.addr c.reach-below.result
+    c.args.bytes.now made
     c.reach-below.ensures.most c.reach-below.ensures.all c.reach-below.ensures.past c.requires
 
 pub returns-then-below-bytes-clause-result : goal.returns-then-below-bytes-clause-result

@@ -25,7 +25,8 @@ write-requires-clause-takes g c =
     let inv = c.loop-done.invariant in
     let whole : List AccessStep = steps_below f s addr (writing bytes) below in
     let rest : List AccessStep = flat_map (in_chunk f s addr (writing bytes)) (chunks f true s (addr + done) (below - done)) in
-    let same = underway_shows g.H.Entered.makes g.H.Entered.pass g.H.Entered.shows laws c.args.hand.now c.loop-done.hand whole rest [] c.loop-done.result inv.1 in
+    let same = underway_shows g.H.Entered.makes g.H.Entered.pass g.H.Entered.shows laws c.args.hand.now c.loop-done.hand whole rest []
+    c.loop-done.result inv.1 in
     let target = c.first_chunk-target.ensures.target ∙ ap (λ (z : Published). (trail_of z.forest true s (addr + done)).target) c.generation.ensures in
     let len = c.first_chunk-target.ensures.len
     ∙ ap (λ (z : Published). first_length (chunks z.forest true s (addr + done) (below - done))) c.generation.ensures in
@@ -50,7 +51,8 @@ loop-done-preserved g c =
     let whole : List AccessStep = steps_below f s addr (writing bytes) below in
     let rest : List AccessStep = flat_map (in_chunk f s addr (writing bytes)) (chunks f true s (addr + done) (below - done)) in
     let later : List AccessStep = flat_map (in_chunk f s addr (writing bytes)) (chunks f true s (addr + (done + count)) (below - (done + count))) in
-    let same = underway_shows g.H.Entered.makes g.H.Entered.pass g.H.Entered.shows laws c.args.hand.now c.loop-done.hand whole rest [] c.loop-done.result inv.1 in
+    let same = underway_shows g.H.Entered.makes g.H.Entered.pass g.H.Entered.shows laws c.args.hand.now c.loop-done.hand whole rest []
+    c.loop-done.result inv.1 in
     let target = c.first_chunk-target.ensures.target ∙ ap (λ (z : Published). (trail_of z.forest true s (addr + done)).target) c.generation.ensures in
     let len = c.first_chunk-target.ensures.len
     ∙ ap (λ (z : Published). first_length (chunks z.forest true s (addr + done) (below - done))) c.generation.ensures in
@@ -59,7 +61,8 @@ loop-done-preserved g c =
     k c.first_chunk-target.result.0 bytes same c.loop-done-test.true target len refl inv.2 in
     let now : List AccessStep = at_target (g.H.Entered.shows c.loop-done.hand).forest c.first_chunk-target.result.0 (writing (take k (drop done bytes))) in
     let v = write_more g.H.Entered.makes g.H.Entered.pass g.H.Entered.shows laws c.args.hand.now c.loop-done.hand c.write.new.hand s addr below done count k
-    c.first_chunk-target.result.0 bytes c.loop-done.result c.write.result inv.1 c.loop-done-test.true target len refl c.write.ensures.done c.write.ensures.result in (
+    c.first_chunk-target.result.0 bytes c.loop-done.result c.write.result inv.1 c.loop-done-test.true target len refl c.write.ensures.done
+    c.write.ensures.result in (
       most,
       underway_as g.H.Entered.makes (g.H.Entered.pass c.args.hand.now) c.args.hand.now whole later [] []
           (either c.loop-done.result c.write.result) c.joined-result.result c.write.new.hand v refl c.joined-result.ensures,

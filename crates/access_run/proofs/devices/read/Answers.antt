@@ -99,7 +99,8 @@ loop-piece-preserved g c =
     let at : offset + done + size ≡ offset + (done + size) = omega arith in
     let left : n - done - size ≡ n - (done + size) = omega arith in
     let whole : List AccessStep = device_read region device base offset n in
-    let v = piece_read_more g.H.Entered.makes g.H.Entered.pass g.H.Entered.shows laws c.args.hand.now c.loop-piece.hand c.read_piece.new.hand region device base whole piece c.loop-piece.pieces c.next.new.self
+    let v = piece_read_more g.H.Entered.makes g.H.Entered.pass g.H.Entered.shows laws c.args.hand.now c.loop-piece.hand
+    c.read_piece.new.hand region device base whole piece c.loop-piece.pieces c.next.new.self
     (take done out) got c.loop-piece.result c.read_piece.result inv.2 list c.read_piece.ensures.done c.read_piece.ensures.result in (
       most,
       np.later ∙ (λ i. pieces ops (at i) (left i)),

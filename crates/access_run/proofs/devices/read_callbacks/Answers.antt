@@ -65,7 +65,8 @@ loop-offset-preserved g c =
     let end : done + min s piece.size ≡ d + length got = omega (arith, here, as_many, size, is) in
     let inside : d ≤ length out = omega (arith, most, all) in
     let whole : List AccessStep = map (callback_read region device base) (callbacks ops piece) in
-    let v = callback_read_more g.H.Entered.makes g.H.Entered.pass g.H.Entered.shows laws c.args.hand.now c.loop-offset.hand c.read.new.hand region device base piece whole o s (length (take k (drop d out)))
+    let v = callback_read_more g.H.Entered.makes g.H.Entered.pass g.H.Entered.shows laws c.args.hand.now c.loop-offset.hand c.read.new.hand
+    region device base piece whole o s (length (take k (drop d out)))
     old later (take done out) got c.loop-offset.result c.read.result inv.2 list (size ∙ is) c.read.ensures.done c.read.ensures.result in (
       done + min s piece.size,
       t.4,

@@ -113,12 +113,14 @@ loop-piece-preserved g c =
     (λ es. piece_write region es device base piece (take k (drop done bytes))) same in
     let h : HasDone g.H.Entered.makes (g.H.Entered.pass c.loop-piece.hand) c.loop-piece.hand
     (piece_write region events device base piece (take k (drop done bytes))) [] c.write_piece.new.hand =
-    subst (λ ds. HasDone g.H.Entered.makes (g.H.Entered.pass c.loop-piece.hand) c.loop-piece.hand ds [] c.write_piece.new.hand) list' c.write_piece.ensures.done in
+    subst (λ ds. HasDone g.H.Entered.makes (g.H.Entered.pass c.loop-piece.hand) c.loop-piece.hand ds [] c.write_piece.new.hand) list'
+    c.write_piece.ensures.done in
     let most : done + piece.size ≤ n = omega (arith, inv.0, np.most) in
     let at : offset + done + piece.size ≡ offset + (done + piece.size) = omega arith in
     let left : n - done - piece.size ≡ n - (done + piece.size) = omega arith in
     let all = every_split _ (f piece) (flat_map f c.next.new.self) (subst (λ l. TakesAll (g.H.Writes.takes c.loop-piece.hand) (flat_map f l)) list inv.3) in
-    let v = piece_write_more g.H.Entered.makes g.H.Entered.pass g.H.Entered.shows laws c.args.hand.now c.loop-piece.hand c.write_piece.new.hand region events device base offset done k bytes whole piece
+    let v = piece_write_more g.H.Entered.makes g.H.Entered.pass g.H.Entered.shows laws c.args.hand.now c.loop-piece.hand
+    c.write_piece.new.hand region events device base offset done k bytes whole piece
     c.loop-piece.pieces c.next.new.self c.loop-piece.result c.write_piece.result inv.2 list np.at refl h
     (c.write_piece.ensures.result ∙ ap result_of list') in (
       most,

@@ -77,7 +77,8 @@ loop-offset-preserved g c =
     let is : d + c.min-count.result - d ≡ d + min s piece.size - d = ap (λ n. d + n - d) c.min-count.ensures in
     let whole : List AccessStep = map (callback_write region device base bytes) (callbacks ops piece) in
     let rest : List AccessStep = map (callback_write region device base bytes) (map (callback_of piece) later) in
-    let v = callback_write_more g.H.Entered.makes g.H.Entered.pass g.H.Entered.shows laws c.args.hand.now c.loop-offset.hand c.write.new.hand region device base piece whole o s d
+    let v = callback_write_more g.H.Entered.makes g.H.Entered.pass g.H.Entered.shows laws c.args.hand.now c.loop-offset.hand
+    c.write.new.hand region device base piece whole o s d
     (d + c.min-count.result - d) bytes old later c.loop-offset.result c.write.result inv.2 list at is c.write.ensures.done c.write.ensures.result in
     let all = subst (λ l. TakesAll (g.H.Writes.takes c.loop-offset.hand)
     (map (callback_write region device base bytes) (map (callback_of piece) l))) list inv.3 in (
