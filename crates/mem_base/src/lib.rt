@@ -2,8 +2,8 @@
 //!
 //! A forest of memory regions, the address spaces whose roots they are, the calls that change it, the
 //! refusals of such calls, flat ranges, translations, ioeventfds, and the events of a running machine: the
-//! nouns of QEMU's manual "The memory API" as plain data. The definitions over them stand in `specs/`; every
-//! other crate's contracts cite those and nothing else.
+//! nouns of QEMU's manual "The memory API" as plain data. The definitions over them stand in `specs/`: the
+//! contracts of the other crates cite them, beside what the crate's own `specs/` say of its types.
 #![tactic(auto)]
 
 mod access;

@@ -2,7 +2,7 @@
 //!
 //! A contract that bounds how much work a call does needs a number that the call cannot set by itself. `Steps`
 //! is such a number: it takes no bytes, only `tick` changes it, and `tick` has no code. What a step stands for is
-//! said where it is counted: a range that is carved, an entry of a list that is looked at.
+//! said where it is counted: a range that is carved, a node of an atlas that is read.
 #![tactic(auto)]
 
 ghost use Rattle.std.specs.Prelude.{◌≡◌, ◌+◌, ◌<◌};

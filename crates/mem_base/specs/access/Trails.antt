@@ -89,8 +89,8 @@ abbrev pub is_leaf : Target → Bool
 is_leaf (Leaf spot) = true
 is_leaf Unassigned = false
 
--- each search of one finds the byte after what the same search of the other finds, and both end in a leaf or neither
--- does, from whatever cause
+-- each search of one finds the byte after what the same search of the other finds; so both end in a leaf or neither does,
+-- from whatever cause, which is said once more
 abbrev pub is_next_trail : Trail → Trail → Bool
 is_next_trail x y = are_next_hops x.hops y.hops && bool_eq (is_leaf x.target) (is_leaf y.target)
 

@@ -1,4 +1,4 @@
--- One call of the writer on the running machine, by the replies that its shared events got: those events, where its
+-- A turn: one call of the writer on the running machine, by the replies that its shared events got: those events, where its
 -- private one stands, the writer's part after it, and its answer.
 use Rattle.std.specs.Prelude.{ℕ, Bool, true, false, List, [], ◌∷◌, ◌++◌, map, filter, drop}
 use Rattle.mem_base.specs.declared.machine.events.Hand.TheVariants as hands

@@ -73,7 +73,7 @@ abbrev pub page_list : List ℕ → Text
 page_list [] = []
 page_list (page ∷ pages) = codes " " ++ (decimal page ++ page_list pages)
 
--- each after a space
+-- the pages, each after a space; ` none` where there are none
 abbrev pub pages_text : List ℕ → Text
 pages_text [] = codes " none"
 pages_text (page ∷ pages) = page_list (page ∷ pages)

@@ -1,5 +1,5 @@
 -- The commands of passes: enter, leave, read, write, and a copy from one space to another.
--- This project's own: an access outside a pass enters one before and leaves it afterwards.
+-- This project's own: an access of a pass that is not entered enters it before and leaves it afterwards.
 use Rattle.std.specs.Prelude.{if◌then◌else◌, ℕ, unwrap_or, List, []}
 use Rattle.mem_base.specs.declared.map.ids.SpaceId.{SpaceId}
 use Rattle.mem_base.specs.declared.map.ids.PassId.{PassId}

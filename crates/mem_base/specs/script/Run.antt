@@ -61,7 +61,7 @@ own_step state line (commands.PassDma pass space addr len to_space to_addr) =
 own_step state line commands.Par = writes state []
 own_step state line commands.End = writes state []
 
--- a command of the desk; the ends of the block do nothing in a run
+-- a command of the desk, and not of a pass; `par` and `end` are neither, and do nothing in a run
 abbrev pub is_desk_line : Command → Bool
 is_desk_line (commands.PassEnter pass) = false
 is_desk_line (commands.PassLeave pass) = false
@@ -87,7 +87,7 @@ abbrev pub words_named : Command → ℕ
 words_named (commands.Machine size) = size / word_size
 words_named _ = default_words
 
--- the words of the pool: an eighth of what `machine` names, which only the first command can be
+-- the words of the pool, by the first command: an eighth of what `machine` names, which can only be the first
 abbrev pub pool_words : List Line → ℕ
 pool_words [] = default_words
 pool_words (line ∷ lines) = words_named line.1

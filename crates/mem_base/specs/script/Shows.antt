@@ -1,5 +1,6 @@
 -- The commands that ask what the current generation shows, and the watchers of IOMMU tables.
--- This project's own: a watcher is told the whole difference after the command that publishes.
+-- This project's own: a watcher is told the whole difference after the next command of the desk; a change that a virtual CPU
+-- makes tells nobody by itself.
 use Rattle.std.specs.Prelude.{ℕ, ◌+◌, [], ◌∷◌, ◌++◌, length, flat_map, Option, Some, None}
 use Rattle.mem_base.specs.declared.map.ids.RegionId.{RegionId}
 use Rattle.mem_base.specs.declared.map.ids.SpaceId.{SpaceId}

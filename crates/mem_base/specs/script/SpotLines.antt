@@ -51,6 +51,7 @@ abbrev pub at_line : Names → Text → ℕ → Option Spot → Text
 at_line names space addr found =
     codes "at " ++ (space ++ (codes " " ++ (hex addr ++ (codes " " ++ (found_text names found ++ line_feed)))))
 
+-- the spot at the first address of a range
 abbrev pub first_spot : FlatRange → Spot
 first_spot r = record { leaf = r.leaf; offset = r.offset; attrs = r.attrs }
 

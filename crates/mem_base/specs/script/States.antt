@@ -30,7 +30,7 @@ Outcome = Text × State
 
 -- Names
 
--- the number whose name this is, of those for which the test holds; numbers are counted from `n`
+-- the first number, counted from `n`, that has this name and passes the test
 abbrev pub number_from : ℕ → List Text → (ℕ → Bool) → Text → Option ℕ
 number_from n [] test name = None
 number_from n (other ∷ names) test name = if bytes_eq other name && test n then Some n else number_from (n + 1) names test name
