@@ -82,9 +82,9 @@ forest_at (Some x) = x.forest
 abbrev pub is_entered : World → PassId → Bool
 is_entered w pass = is_some (pass_of w.passes pass).entered
 
--- what an access does in a world in which the pass is entered
-abbrev pub done_by : World → PassId → SpaceId → ℕ → Transfer → List AccessStep
-done_by w pass s a transfer = access (forest_at (entered_generation w.writer.generations w.passes pass)) s a transfer
+-- the steps of an access in a world in which the pass is entered
+abbrev pub steps_in : World → PassId → SpaceId → ℕ → Transfer → List AccessStep
+steps_in w pass s a transfer = access (forest_at (entered_generation w.writer.generations w.passes pass)) s a transfer
 
 -- an access of a pass: the world after it, its entries, how it ended in which generation, and the bytes read
 pub record Accessed : Type 0 where
@@ -96,11 +96,11 @@ pub record Accessed : Type 0 where
 abbrev pub accessed : World → PassId → SpaceId → ℕ → Transfer → Accessed
 accessed w pass s a transfer =
     let before = run_events w (enters_unless (is_entered w pass) pass) in
-    let doings = done_by before.world pass s a transfer in
-    let steps = run_events before.world (events_of_steps pass doings) in
-    let later = run_events steps.world (leaves_unless (is_entered w pass) pass) in record {
+    let steps = steps_in before.world pass s a transfer in
+    let during = run_events before.world (events_of_steps pass steps) in
+    let later = run_events during.world (leaves_unless (is_entered w pass) pass) in record {
       world = later.world;
-      entries = before.entries ++ (steps.entries ++ later.entries);
-      answer = record { result = result_of doings; number = unwrap_or (pass_of before.world.passes pass).entered 0 };
-      bytes = bytes_read doings (numbers_of steps.entries);
+      entries = before.entries ++ (during.entries ++ later.entries);
+      answer = record { result = result_of steps; number = unwrap_or (pass_of before.world.passes pass).entered 0 };
+      bytes = bytes_read steps (numbers_of during.entries);
     }

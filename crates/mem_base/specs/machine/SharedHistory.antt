@@ -2,7 +2,7 @@
 -- what changes in the pure machine, with words of the pool in place of cells; what differs is when a copy is placed,
 -- a generation is published, and a step is made on a cell.
 -- This project's own rule: every entry is one atomic step on one word, so the history is one list.
-use Rattle.std.specs.Prelude.{◌≡◌, ℕ, ◌+◌, Bool, true, false, ◌==◌, ◌&&◌, nat_lt, nat_le, if◌then◌else◌, List, [], ◌∷◌, length, replicate}
+use Rattle.std.specs.Prelude.{◌≡◌, ℕ, ◌+◌, Bool, false, ◌==◌, ◌&&◌, nat_lt, nat_le, if◌then◌else◌, List, length, replicate}
 use Rattle.std.specs.Prelude.{slice_index, Option, Some, None, option_map}
 use Rattle.std.specs.List.{list_any}
 use Rattle.mem_base.specs.declared.map.ids.PassId.{PassId}

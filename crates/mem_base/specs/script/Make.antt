@@ -5,7 +5,6 @@ use Rattle.std.specs.Prelude.{decimal, ℤ, pos, ◌-ℤ◌}
 use Rattle.mem_base.specs.declared.map.ids.PassId.{PassId}
 use Rattle.mem_base.specs.declared.map.kinds.Device.{Device}
 use Rattle.mem_base.specs.declared.map.kinds.DeviceKind.TheVariants.{Latch}
-use Rattle.mem_base.specs.declared.script.changes.MapChange.{MapChange}
 use Rattle.mem_base.specs.declared.script.changes.MapChange.TheVariants as changes
 use Rattle.mem_base.specs.declared.script.commands.Command.{Command}
 use Rattle.mem_base.specs.declared.script.commands.Command.TheVariants as commands

@@ -1,6 +1,6 @@
 -- The line of a refused command, and that of a text which is no script.
 -- Counts and numbers of lines are decimal; offsets are lower-case hexadecimal, without prefix or leading zeros.
-use Rattle.std.specs.Prelude.{ℕ, false, List, [], ◌∷◌, ◌++◌, codes, decimal}
+use Rattle.std.specs.Prelude.{ℕ, false, [], ◌∷◌, ◌++◌, codes, decimal}
 use Rattle.std.specs.Fmt.{digits}
 use Rattle.mem_base.specs.declared.map.ids.PassId.{PassId}
 use Rattle.mem_base.specs.declared.map.refusals.What.{What}

@@ -2,7 +2,6 @@
 -- A watcher has a range of one region's table. What it is told is made from the parts of the range that it was told so far
 -- and those of the current generation.
 use Rattle.std.specs.Prelude.{ℕ, ◌==◌, Bool, not, nat_lt, nat_le, List, [], ◌∷◌, length, map, filter, flat_map, Option}
-use Rattle.std.specs.List.{list_any}
 use Rattle.mem_base.specs.declared.map.ids.RegionId.{RegionId}
 use Rattle.mem_base.specs.declared.map.ids.NotifierId.{NotifierId}
 use Rattle.mem_base.specs.declared.map.forests.Forest.{Forest}
