@@ -1,9 +1,10 @@
 // The listeners, and the journal of all that they were told.
-ghost use Rattle.std.specs.Prelude.{◌≡◌, ◌≢◌, ◌↔◌, Some, None, Err, OnOk, OnErr};
+ghost use Rattle.std.specs.Prelude.{◌≡◌, ◌≢◌, ◌↔◌, Some, None, Err, OnOk, OnErr, option_map};
 ghost use Rattle.std.specs.List.{list_any};
 ghost use Rattle.mem_base.specs.declared.map.refusals.Refusal.{Refusal};
 ghost use Rattle.mem_base.specs.declared.map.refusals.Refusal.TheVariants.{Memory};
 ghost use Rattle.mem_base.specs.views.Listening.{no_listeners, is_listener, join_refusal, joined, leave_refusal, left, delivered};
+ghost use Rattle.mem_base.specs.machine.ListenerReplay.{listener_of};
 ghost use Rattle.listener_set.specs.Sets.{HasRoom};
 
 use crate::counting::count_publish;
@@ -159,6 +160,16 @@ impl Set {
         ensures delivered { self.new.listening ≡ delivered self.old.listening changes.now }
     {
         tell_publish(&mut self.journal, self.order.as_slice(), changes.as_slice());
+    }
+
+    /// The space that a listener is told of; `None` exactly where it does not listen.
+    pub fn space_of(&self, listener: ListenerId) -> Option<SpaceId>
+        ensures { result ≡ option_map (λ l. l.space) (listener_of self.now.listening.listeners listener) }
+    {
+        self.listeners
+            .iter()
+            .find(|other| other.listener == listener)
+            .map(|other| other.space)
     }
 
     /// All calls that were ever made, each with the listener that got it, from the first on.

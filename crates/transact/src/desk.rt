@@ -114,7 +114,8 @@ impl Desk {
 
     /// Whether a change was made in the transactions that are open.
     pub fn pending(&self) -> bool
-        ensures { result ≡ self.now.state.pending }
+        ensures value { result ≡ self.now.state.pending }
+        ensures idle { self.now.state.depth ≡ 0 → self.now.state.pending ≡ false }
     {
         self.pending
     }
