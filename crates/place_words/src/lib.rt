@@ -7,6 +7,8 @@
 
 mod laws;
 mod steps;
+#[cfg(test)]
+mod tests;
 mod words;
 
 pub use laws::{
