@@ -64,6 +64,7 @@ impl Words {
         requires { at < length self.old }
         ensures old { result ≡ slice_index self.old at }
         ensures words { self.new ≡ words_after self.old at step }
+        ensures len { length self.new ≡ length self.old }
     {
         let old = self.items[at];
         self.items[at] = word_after(old, step);
@@ -73,7 +74,8 @@ impl Words {
     /// All words of a place become 0. It takes no memory.
     pub fn clear(&mut self, place: &Place)
         requires { past place.now ≤ length self.old }
-        ensures { self.new ≡ cleared self.old place.now }
+        ensures words { self.new ≡ cleared self.old place.now }
+        ensures len { length self.new ≡ length self.old }
     {
         clear_between(
             self.items.as_mut_slice(),
