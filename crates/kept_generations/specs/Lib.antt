@@ -1,0 +1,2 @@
+pub mod KeptState
+pub mod Sweeping
