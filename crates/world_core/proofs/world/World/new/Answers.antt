@@ -1,0 +1,40 @@
+use Rattle.std.proofs.Common.{rules, ◌≡◌, Some, None, true, false, [], refl, sym, ap, subst, ◌∙◌, arith}
+use Rattle.std.specs.Prelude.{replicate, ◌+◌, List, ℕ}
+use Rattle.mem_base.specs.declared.map.ids.RegionId.{RegionId}
+use Rattle.mem_base.specs.declared.access.cells.Cell.{Cell}
+use Rattle.mem_base.specs.map.Calls.{empty}
+use Rattle.mem_base.specs.map.Limits.{notifier_count}
+use Rattle.mem_base.specs.machine.World.{opening}
+use Rattle.generation.specs.Published.{published}
+use Rattle.kept_generations.specs.KeptState.{KeptState, first_kept}
+use Rattle.writer_desk.specs.Writers.{WriterState, writer_state, first_state}
+use Rattle.world_core.specs.Worlds.{Left, left, world_of, IsWorld}
+use Rattle.world_core.proofs.ReachedLaws.{parts_at_first, world_at_first}
+use Rattle.world_core.proofs.world.World.new.Goals as goal
+
+pub invariant_of-result-2 : goal.invariant_of-result-2
+invariant_of-result-2 c =
+    let d : WriterState = writer_state c.desk.inside.backed c.desk.inside.listeners.listening c.desk.inside.due in
+    let k : KeptState = c.in_ok-new.field-0 in
+    let ws : List ℕ = c.in_ok-new-2.field-0 in
+    let d_is : first_state c.args.words ≡ d = search rules in
+    let k_is : first_kept c.args.passes (published 0 empty []) ≡ k = search rules in
+    let ws_is : replicate (c.args.words + notifier_count) 0 ≡ ws = search rules in
+    let none : [] ≡ c.new-4.result.items = search rules in
+    let no_cells : [] ≡ c.none.result = search rules in
+    subst (λ (x : Left). IsWorld d k ws x) (λ i. left (none i) (no_cells i))
+    (subst (λ (v : List ℕ). IsWorld d k v (left [] [])) ws_is (subst (λ (v : KeptState). IsWorld d v (replicate (c.args.words + notifier_count) 0) (left [] [])) k_is
+    (subst (λ (v : WriterState). IsWorld v (first_kept c.args.passes (published 0 empty [])) (replicate (c.args.words + notifier_count) 0) (left [] [])) d_is
+    (world_at_first c.args.words c.args.passes))))
+
+pub returns : goal.returns
+returns c =
+    let d : WriterState = writer_state c.desk.inside.backed c.desk.inside.listeners.listening c.desk.inside.due in
+    let k : KeptState = c.in_ok-new.field-0 in
+    let ws : List ℕ = c.in_ok-new-2.field-0 in
+    let d_is : d ≡ first_state c.args.words = search rules in
+    let k_is : k ≡ first_kept c.args.passes (published 0 empty []) = search rules in
+    let ws_is : ws ≡ replicate (c.args.words + notifier_count) 0 = search rules in
+    let none : c.new-4.result.items ≡ [] = search rules in
+    let no_cells : c.none.result ≡ [] = search rules in
+    (λ i. world_of (d_is i) (k_is i) (ws_is i) (left (none i) (no_cells i))) ∙ parts_at_first c.args.words c.args.passes

@@ -1,0 +1,2 @@
+pub mod Unfilled
+pub mod Worlds

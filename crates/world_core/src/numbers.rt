@@ -1,0 +1,63 @@
+// The events of passes on numbers, and what enters and leaves.
+ghost use Rattle.std.specs.Prelude.{◌≡◌, true, Some};
+ghost use Rattle.mem_base.specs.declared.machine.events.Event.TheVariants as events;
+ghost use Rattle.mem_base.specs.machine.World.{possible, reply, number_in, world_after};
+ghost use Rattle.mem_base.specs.machine.Composites.{enters, leaves};
+ghost use Rattle.mem_base.specs.machine.Passes.{is_pass, pass_of};
+ghost use Rattle.world_core.specs.Worlds.{after_events};
+
+use crate::world::World;
+use mem_base::PassId;
+
+impl World {
+    /// The pass looks at the current number, which is answered.
+    pub(crate) fn look(&mut self, pass: PassId) -> u64
+        requires { possible self.old (events.Look pass) ≡ true }
+        ensures number { result ≡ number_in (reply self.old (events.Look pass)) }
+        ensures world { self.new ≡ world_after self.old (events.Look pass) }
+    {
+        self.kept.look(pass)
+    }
+
+    /// The pass announces the number that it looked at.
+    pub(crate) fn announce(&mut self, pass: PassId)
+        requires { possible self.old (events.Announce pass) ≡ true }
+        ensures { self.new ≡ world_after self.old (events.Announce pass) }
+    {
+        self.kept.announce(pass);
+    }
+
+    /// The pass enters the current generation, whose number is answered.
+    pub(crate) fn enter_current(&mut self, pass: PassId) -> u64
+        requires { possible self.old (events.Enter pass) ≡ true }
+        ensures number { result ≡ number_in (reply self.old (events.Enter pass)) }
+        ensures world { self.new ≡ world_after self.old (events.Enter pass) }
+    {
+        self.kept.enter(pass)
+    }
+
+    /// The pass leaves its generation.
+    ///
+    /// It is entered.
+    pub fn leave(&mut self, pass: PassId)
+        requires { possible self.old (events.Leave pass) ≡ true }
+        ensures { self.new ≡ after_events self.old (leaves pass) }
+    {
+        self.kept.leave(pass);
+    }
+
+    /// The pass enters the current generation, whose number is answered: it looks at the number, announces it, and enters.
+    ///
+    /// The pass has announced no number before.
+    pub fn enter(&mut self, pass: PassId) -> u64
+        requires { possible self.old (events.Look pass) ≡ true }
+        ensures number { result ≡ self.old.writer.generations.current }
+        ensures world { self.new ≡ after_events self.old (enters pass) }
+    {
+        // It tells that a legal history leads here.
+        self.is_reached();
+        self.look(pass);
+        self.announce(pass);
+        self.enter_current(pass)
+    }
+}

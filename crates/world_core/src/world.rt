@@ -1,0 +1,81 @@
+// The world: its parts, and what it is seen as.
+ghost use Rattle.std.specs.Prelude.{◌≡◌, ◌≤◌, ◌<◌, ◌^◌, IfOk};
+ghost use Rattle.mem_base.specs.map.Limits.{most_passes};
+ghost use Rattle.mem_base.specs.machine.World.{opening};
+ghost use Rattle.mem_base.specs.machine.Passes.{pass_of};
+ghost use Rattle.world_core.specs.Worlds.{IsReached};
+
+use crate::unfilled::Unfilled;
+use kept_generations::Kept;
+use mem_base::{NOTIFIER_COUNT, PassId, RegionId};
+use place_words::Words;
+use std::alloc::{AllocError, Global};
+use std::marker::Model;
+use std::sync::Arc;
+use writer_desk::WriterDesk;
+
+/// The pure machine. It is seen as the world of the definitions: the writer's desk, the generations that are kept, the passes, and
+/// the cells of all places.
+#[derive(Drop)]
+pub struct World {
+    pub(crate) desk: WriterDesk,
+    pub(crate) kept: Kept,
+    pub(crate) words: Words,
+    // ascending
+    pub(crate) dropped: Vec<RegionId>,
+    pub(crate) unfilled: Unfilled,
+}
+
+impl Model for World {
+    ghost use Rattle.mem_base.specs.machine.World as machine;
+    ghost use Rattle.world_core.specs.Worlds.{world_of, left, IsWorld};
+
+    ghost Value = { machine.World };
+
+    ghost view = { λ w. world_of w.desk w.kept w.words (left w.dropped.items w.unfilled) };
+
+    ghost invariant = { λ w. IsWorld w.desk w.kept w.words (left w.dropped.items w.unfilled) };
+}
+
+impl World {
+    /// The world at first: an empty map over a pool of this many words, at most 2^26, and 1 to 16 passes.
+    ///
+    /// It fails only where memory runs out.
+    pub fn new(alloc: Global, words: usize, passes: u32) -> Result<World, AllocError>
+        requires words { words ≤ 2 ^ 26 }
+        requires some { 0 < passes }
+        requires few { passes ≤ most_passes }
+        ensures { IfOk result (λ world. world ≡ opening words passes) }
+    {
+        let desk = WriterDesk::new(alloc, words)?;
+        let first = Arc::clone(desk.backed().desk().current())?;
+        Ok(World {
+            desk,
+            kept: Kept::new(alloc, passes, first)?,
+            words: Words::new(alloc, words + NOTIFIER_COUNT)?,
+            dropped: Vec::new(alloc),
+            unfilled: Unfilled::none(alloc),
+        })
+    }
+
+    /// A legal history leads to the world: what is proved of legal histories holds of it.
+    pub fn is_reached(&self)
+        ensures { IsReached self.now }
+    {
+        let _ = &self.dropped;
+    }
+
+    /// The number of the current generation.
+    pub fn current_number(&self) -> u64
+        ensures { result ≡ self.now.writer.generations.current }
+    {
+        self.kept.current()
+    }
+
+    /// The number of the generation in which a pass is entered; `None` of a pass that there is not, too.
+    pub fn entered(&self, pass: PassId) -> Option<u64>
+        ensures { result ≡ (pass_of self.now.passes pass).entered }
+    {
+        self.kept.entered(pass)
+    }
+}
