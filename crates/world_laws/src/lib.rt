@@ -4,6 +4,8 @@
 //! Each law is the contract of a function that does nothing. The definitions of the machine stand in `mem_base`.
 #![tactic(auto)]
 
+mod passes;
 mod places;
 
+pub use passes::{entered_generations_are_held, steps_are_possible};
 pub use places::held_places_stand;
