@@ -1,2 +1,4 @@
+pub mod AccessLaws
 pub mod ReachedLaws
 pub mod UnfilledLaws
+pub mod WordLaws

@@ -1,15 +1,13 @@
 -- Flags of cells and the cells that they tell.
-use Rattle.std.proofs.Common.{◌≡◌, ℕ, zero, suc, ◌+◌, ◌<◌, ◌≤◌, ◌==◌, Bool, true, false, not, List, [], ◌∷◌, refl, sym, ap, subst, ◌∙◌, arith, length, filter}
+use Rattle.std.proofs.Common.{◌≡◌, ℕ, zero, suc, ◌+◌, ◌<◌, ◌==◌, Bool, true, false, not, List, [], ◌∷◌, refl, sym, ap, ◌∙◌, arith, length, filter}
 use Rattle.std.proofs.Common.{ne_eqb, eq-eqb, replicate}
 use Rattle.std.specs.Prelude.{◌&&◌, ◌||◌, if◌then◌else◌, map, slice_set, slice_index_or}
 use Rattle.std.specs.List.{list_any, range_with_len}
 use Rattle.mem_base.specs.declared.map.ids.RegionId.{RegionId}
 use Rattle.mem_base.specs.declared.access.cells.Cell.{Cell}
-use Rattle.mem_base.specs.declared.access.cells.Place.{Place}
 use Rattle.mem_base.specs.access.Cells.{cell, is_same_cell}
-use Rattle.mem_base.specs.machine.Desk.{cells_of}
 use Rattle.view_laws.proofs.Tests.{true_is_not_false}
-use Rattle.world_core.specs.Unfilled.{cells_from, count_left, is_left}
+use Rattle.world_core.specs.Unfilled.{cells_from, count_left}
 
 -- as many cells as flags are set
 pub counted : (r : RegionId) (i : ℕ) (fs : List Bool) → length (cells_from r i fs) ≡ count_left fs

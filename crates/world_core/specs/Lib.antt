@@ -1,2 +1,5 @@
+pub mod Accesses
+pub mod Hands
+pub mod RunLaws
 pub mod Unfilled
 pub mod Worlds

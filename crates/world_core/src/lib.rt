@@ -4,8 +4,11 @@
 //! world, and that each call does just the events that its contract names.
 #![tactic(auto)]
 
+mod accesses;
+mod hands;
 mod numbers;
 mod unfilled;
+mod words;
 mod world;
 
 pub use world::World;

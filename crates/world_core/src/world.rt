@@ -3,9 +3,11 @@ ghost use Rattle.std.specs.Prelude.{◌≡◌, ◌≤◌, ◌<◌, ◌^◌, IfOk
 ghost use Rattle.mem_base.specs.map.Limits.{most_passes};
 ghost use Rattle.mem_base.specs.machine.World.{opening};
 ghost use Rattle.mem_base.specs.machine.Passes.{pass_of};
+ghost use Rattle.world_core.specs.Hands.{IsInside, shown_to};
 ghost use Rattle.world_core.specs.Worlds.{IsReached};
 
 use crate::unfilled::Unfilled;
+use generation::Generation;
 use kept_generations::Kept;
 use mem_base::{NOTIFIER_COUNT, PassId, RegionId};
 use place_words::Words;
@@ -77,5 +79,19 @@ impl World {
         ensures { result ≡ (pass_of self.now.passes pass).entered }
     {
         self.kept.entered(pass)
+    }
+
+    /// The generation in which a pass is entered.
+    pub(crate) fn generation_of(&self, pass: PassId) -> &Generation
+        requires { IsInside self.now pass }
+        ensures { result.now ≡ shown_to self.now pass }
+    {
+        match self.kept.entered(pass) {
+            Some(number) => match self.kept.generation_of(number) {
+                Some(generation) => generation,
+                None => unreachable!(),
+            },
+            None => unreachable!(),
+        }
     }
 }

@@ -1,4 +1,4 @@
-use Rattle.std.proofs.Common.{rules, ◌≡◌, Some, None, true, false, [], refl, sym, ap, subst, ◌∙◌, arith}
+use Rattle.std.proofs.Common.{◌≡◌, sym, ap, ◌∙◌}
 use Rattle.std.specs.Prelude.{◌==◌, ℕ, List, length}
 use Rattle.mem_base.specs.declared.access.cells.Cell.{Cell}
 use Rattle.world_core.proofs.UnfilledLaws.{counted}

@@ -1,6 +1,5 @@
-use Rattle.std.proofs.Common.{rules, ◌≡◌, Some, None, true, false, [], refl, sym, ap, subst, ◌∙◌}
+use Rattle.std.proofs.Common.{rules, ◌≡◌, true, ap, ◌∙◌}
 use Rattle.std.specs.Prelude.{List, Bool, replicate}
-use Rattle.mem_base.specs.declared.access.cells.Cell.{Cell}
 use Rattle.world_core.specs.Unfilled.{cells_from, count_left}
 use Rattle.world_core.proofs.UnfilledLaws.{all_left, all_counted}
 use Rattle.world_core.proofs.unfilled.Unfilled.of.Goals as goal

@@ -1,10 +1,7 @@
-use Rattle.std.proofs.Common.{rules, ◌≡◌, Some, None, true, false, [], refl, sym, ap, subst, ◌∙◌, arith}
+use Rattle.std.proofs.Common.{rules, ◌≡◌, [], subst, ◌∙◌}
 use Rattle.std.specs.Prelude.{replicate, ◌+◌, List, ℕ}
-use Rattle.mem_base.specs.declared.map.ids.RegionId.{RegionId}
-use Rattle.mem_base.specs.declared.access.cells.Cell.{Cell}
 use Rattle.mem_base.specs.map.Calls.{empty}
 use Rattle.mem_base.specs.map.Limits.{notifier_count}
-use Rattle.mem_base.specs.machine.World.{opening}
 use Rattle.generation.specs.Published.{published}
 use Rattle.kept_generations.specs.KeptState.{KeptState, first_kept}
 use Rattle.writer_desk.specs.Writers.{WriterState, writer_state, first_state}

@@ -1,0 +1,156 @@
+-- Steps on words are steps on cells, and passes that are entered may make them.
+use Rattle.std.proofs.Common.{◌≡◌, ℕ, ◌+◌, ◌<◌, ◌≤◌, true, false, List, [], ◌∷◌, ◌++◌, Option, Some, None, refl, sym, ap, subst, ◌∙◌}
+use Rattle.std.proofs.Common.{inl, arith, length, ltb-true}
+use Rattle.std.specs.Prelude.{is_some, slice_index, unwrap_or}
+use Rattle.std.proofs.lemmas.Bool.{eqb-false}
+use Rattle.mem_base.specs.declared.map.ids.RegionId.{RegionId}
+use Rattle.mem_base.specs.declared.map.ids.PassId.{PassId}
+use Rattle.mem_base.specs.declared.map.kinds.Client.{Client}
+use Rattle.mem_base.specs.declared.access.cells.Place.{Place}
+use Rattle.mem_base.specs.declared.access.cells.WordStep.{WordStep}
+use Rattle.mem_base.specs.declared.access.cells.WordStep.TheVariants.{Or}
+use Rattle.mem_base.specs.declared.machine.events.Hand.{Hand}
+use Rattle.mem_base.specs.declared.machine.events.Event.{Event}
+use Rattle.mem_base.specs.declared.machine.events.Event.TheVariants as events
+use Rattle.mem_base.specs.lists.Every.{Every}
+use Rattle.mem_base.specs.map.Limits.{notifier_count}
+use Rattle.mem_base.specs.access.Places.{notifiers_place, is_notifiers, past, is_data_or_register, data_words, word_of_page, bit_of_page}
+use Rattle.mem_base.specs.access.PlacesByRegion.{place_in}
+use Rattle.mem_base.specs.access.EditionPlaces.{ArePlacesApart}
+use Rattle.mem_base.specs.access.Cells.{cell, Touch, touch, touch_of, Block, words_after}
+use Rattle.mem_base.specs.lists.Every.{EveryPair}
+use Rattle.mem_base.proofs.EveryLaws.{weaker, every_push}
+use Rattle.mem_base.specs.machine.Passes.{pass_of}
+use Rattle.mem_base.specs.machine.Generations.{Generation, entered_generation}
+use Rattle.mem_base.specs.machine.World.{World, world, possible, reply, number_in, world_after, touched_blocks, touch_at, old_at}
+use Rattle.map_laws.proofs.PairLaws.{pairs_push}
+use Rattle.view_laws.proofs.Tests.{true_is_not_false}
+use Rattle.history_laws.specs.BackedForests.{BacksForest, ShowsOwnPlaces}
+use Rattle.history_laws.proofs.ShownLaws.{generations_show_places}
+use Rattle.turn_laws.proofs.PassSteps.{touch_there}
+use Rattle.world_laws.specs.Standing.{StandsIn}
+use Rattle.world_laws.specs.Entered.{EntersHeld, MayStep}
+use Rattle.world_laws.proofs.Keeping.{Holds, holds, all_stand, found_has}
+use Rattle.world_laws.proofs.Entering.{every_element, entered_generations_are_held, steps_possible}
+use Rattle.access_run.specs.Hands.{IsPlaceOf}
+use Rattle.kept_generations.specs.KeptState.{KeptState}
+use Rattle.place_words.specs.Blocks.{blocks_at}
+use Rattle.place_words.proofs.CellLaws.{steps_on_cells}
+use Rattle.backed_desk.specs.Backed.{all_places}
+use Rattle.writer_desk.specs.Writers.{WriterState}
+use Rattle.world_core.specs.Hands.{published_as, shown_to, IsInside}
+use Rattle.world_core.specs.Worlds.{Left, world_of, IsReached, IsWorld}
+use Rattle.world_core.proofs.ReachedLaws.{reached_after}
+
+reached_holds : (w : World) → IsReached w → Holds w
+reached_holds w r = subst Holds r.leads (holds r.pool_words r.passes r.entries r.legal)
+
+-- places of regions below a pool's end, and the notifiers' after it
+
+module _ (pool_words : ℕ) (places : List Place)
+    (inside : Every (λ p. (is_notifiers p.region ≡ false) × (0 < p.words) × (past p ≤ pool_words)) places) where
+  all_apart : EveryPair ArePlacesApart places → EveryPair ArePlacesApart (places ++ notifiers_place pool_words ∷ [])
+  all_apart apart = pairs_push ArePlacesApart places (notifiers_place pool_words)
+      (weaker (λ p. (is_notifiers p.region ≡ false) × (0 < p.words) × (past p ≤ pool_words)) (λ p. ArePlacesApart p (notifiers_place pool_words))
+      (λ p k. (eqb-false _ _ k.0, inl k.2)) places inside) apart
+
+  all_within : Every (λ p. past p ≤ pool_words + notifier_count) (places ++ notifiers_place pool_words ∷ [])
+  all_within = every_push (λ p. past p ≤ pool_words + notifier_count) places (notifiers_place pool_words)
+      (weaker (λ p. (is_notifiers p.region ≡ false) × (0 < p.words) × (past p ≤ pool_words)) (λ p. past p ≤ pool_words + notifier_count)
+      (λ p k. (let l : past p ≤ pool_words = k.2 in omega (arith, l))) places inside)
+      (let l : pool_words + notifier_count ≤ pool_words + notifier_count = omega arith in l)
+
+-- what holds of the places of a world
+
+backs : (w : World) → IsReached w → BacksForest w.writer.desk.pool_words w.writer.desk.forest w.writer.desk.places
+backs w r =
+    let shown : ShowsOwnPlaces r.pool_words w.writer =
+        subst (λ (v : World). ShowsOwnPlaces r.pool_words v.writer) r.leads (generations_show_places r.pool_words r.passes r.entries r.legal) in
+    subst (λ (n : ℕ). BacksForest n w.writer.desk.forest w.writer.desk.places) (sym shown.pool) shown.backs
+
+module _ (d : WriterState) (k : KeptState) (ws : List ℕ) (x : Left) (h : IsWorld d k ws x) where
+  abbrev here : World
+  here = world_of d k ws x
+
+  abbrev places : List Place
+  places = all_places d.backed.backing
+
+  backing : BacksForest d.backed.backing.pool_words here.writer.desk.forest d.backed.backing.places
+  backing = backs here h.reached
+
+  apart : EveryPair ArePlacesApart places
+  apart = all_apart d.backed.backing.pool_words d.backed.backing.places backing.inside backing.apart
+
+  -- a word of a place is one of the words
+  pub far : (r : RegionId) (p : Place) (word : ℕ) → place_in places r ≡ Some p → word < p.words → p.start + word < length ws
+  far r p word is near =
+      let l : past p ≤ d.backed.backing.pool_words + notifier_count = found_has (λ q. past q ≤ d.backed.backing.pool_words + notifier_count) places r p
+          (all_within d.backed.backing.pool_words d.backed.backing.places backing.inside) is in
+      let wide : length ws ≡ d.backed.backing.pool_words + notifier_count = h.wide in
+      omega (arith, near, l, wide)
+
+  module _ (r : RegionId) (p : Place) (is : place_in places r ≡ Some p) (e : Event) (t : Touch) (touches : touch_of p e ≡ Some t) (near : t.word < p.words) where
+    -- the cells after a touch are the words after the step
+    cells_change : blocks_at (words_after ws (p.start + t.word) t.step) places ≡ touched_blocks (blocks_at ws places) (Some r) (touch_at here e (Some r))
+    cells_change = (steps_on_cells ws places r p t.word t.step apart is near).1
+        ∙ ap (λ (o : Option Touch). touched_blocks (blocks_at ws places) (Some r) o) (sym (touch_there here e r p t is touches))
+
+    -- and the cell before it is the word before it
+    word_before : slice_index ws (p.start + t.word) ≡ old_at here (Some r) (touch_at here e (Some r))
+    word_before = sym (steps_on_cells ws places r p t.word t.step apart is near).0
+        ∙ ap (λ (o : Option Touch). old_at here (Some r) o) (sym (touch_there here e r p t is touches))
+
+  -- a step on a word
+  pub step_is : (hand : Hand) (p : Place) (word : ℕ) (step : WordStep) → place_in places p.region ≡ Some p → word < p.words
+      → world_of d k (words_after ws (p.start + word) step) x ≡ world_after here (events.Word hand (cell p.region word) step)
+  step_is hand p word step is near =
+      ap (λ (bs : List Block). world here.writer k.states bs) (cells_change p.region p is (events.Word hand (cell p.region word) step) (touch word step true) refl near)
+
+  pub step_tells : (hand : Hand) (p : Place) (word : ℕ) (step : WordStep) → place_in places p.region ≡ Some p → word < p.words
+      → slice_index ws (p.start + word) ≡ number_in (reply here (events.Word hand (cell p.region word) step))
+  step_tells hand p word step is near = word_before p.region p is (events.Word hand (cell p.region word) step) (touch word step true) refl near
+
+  -- a mark
+  pub mark_is : (pass : PassId) (p : Place) (client : Client) (page : ℕ) → place_in places p.region ≡ Some p → word_of_page p client page < p.words
+      → world_of d k (words_after ws (p.start + word_of_page p client page) (Or (bit_of_page page))) x
+      ≡ world_after here (events.Mark pass p.region client page)
+  mark_is pass p client page is near = ap (λ (bs : List Block). world here.writer k.states bs)
+      (cells_change p.region p is (events.Mark pass p.region client page) (touch (word_of_page p client page) (Or (bit_of_page page)) false) refl near)
+
+  -- what holds of a world holds after a possible event that changes words alone
+  pub words_change : (vs : List ℕ) (e : Event) → length vs ≡ length ws → possible here e ≡ true → world_of d k vs x ≡ world_after here e → IsWorld d k vs x
+  words_change vs e long may goes = record {
+    reached = subst IsReached (sym goes) (reached_after here e h.reached may);
+    current = h.current;
+    wide = long ∙ h.wide;
+  }
+
+-- what a pass that is entered may do with a place of its generation
+
+pub record MayReach (w : World) (pass : PassId) (p : Place) : Type 0 where
+  pub generation : Generation
+  pub steps : MayStep w pass generation p
+  pub stands : StandsIn w.writer.desk generation p
+
+pub may_reach : (w : World) (pass : PassId) (p : Place) → IsReached w → IsInside w pass → IsPlaceOf (shown_to w pass) p → MayReach w pass p
+may_reach w pass p r inside placed = go (entered_generation w.writer.generations w.passes pass) refl inside placed
+  where
+    held : EntersHeld w pass
+    held = subst (λ (v : World). EntersHeld v pass) r.leads (entered_generations_are_held r.pool_words r.passes r.entries r.legal pass)
+
+    go : (o : Option Generation) → entered_generation w.writer.generations w.passes pass ≡ o → is_some o ≡ true
+        → place_in (published_as (unwrap_or (pass_of w.passes pass).entered 0) o).places p.region ≡ Some p → MayReach w pass p
+    go None e some at = true_is_not_false false some refl
+    go (Some y) e some at = let t = held.numbered y e in let k = reached_holds w r in record {
+      generation = y;
+      steps = found_has (MayStep w pass y) y.places p.region p (steps_possible w k pass y e) at;
+      stands = found_has (StandsIn w.writer.desk y) y.places p.region p
+          (every_element (λ z. Every (StandsIn w.writer.desk z) z.places) _ y (all_stand w k.kept) t.2.among) at;
+    }
+
+-- a word of its data or registers is one of its words
+pub reach_within : (w : World) (pass : PassId) (p : Place) (word : ℕ) → MayReach w pass p → is_data_or_register p word ≡ true → word < p.words
+reach_within w pass p word k h =
+    let l : word < data_words p.bytes + p.regs = ltb-true word (data_words p.bytes + p.regs) h in
+    let wide : data_words p.bytes + p.regs ≤ p.words = k.stands.wide in
+    omega (arith, l, wide)
