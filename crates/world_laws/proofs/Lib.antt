@@ -1,2 +1,5 @@
 pub mod Keeping
 pub mod Entering
+pub mod Running
+pub mod OrderRows
+pub mod OrderLaws

@@ -4,8 +4,10 @@
 //! Each law is the contract of a function that does nothing. The definitions of the machine stand in `mem_base`.
 #![tactic(auto)]
 
+mod orders;
 mod passes;
 mod places;
 
+pub use orders::orders_are_legal;
 pub use passes::{entered_generations_are_held, steps_are_possible};
 pub use places::held_places_stand;
