@@ -3,3 +3,4 @@ pub mod Entering
 pub mod Running
 pub mod OrderRows
 pub mod OrderLaws
+pub mod Accessing
