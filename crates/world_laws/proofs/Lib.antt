@@ -1,2 +1,6 @@
 pub mod Keeping
 pub mod Entering
+pub mod Running
+pub mod OrderRows
+pub mod OrderLaws
+pub mod Accessing

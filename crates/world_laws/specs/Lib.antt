@@ -1,2 +1,4 @@
 pub mod Standing
 pub mod Entered
+pub mod Legal
+pub mod Accessing

@@ -4,8 +4,12 @@
 //! Each law is the contract of a function that does nothing. The definitions of the machine stand in `mem_base`.
 #![tactic(auto)]
 
+mod accesses;
+mod orders;
 mod passes;
 mod places;
 
+pub use accesses::accesses_are_possible;
+pub use orders::orders_are_legal;
 pub use passes::{entered_generations_are_held, steps_are_possible};
 pub use places::held_places_stand;
