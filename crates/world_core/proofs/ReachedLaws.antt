@@ -1,5 +1,6 @@
 -- Worlds to which legal histories lead.
-use Rattle.std.proofs.Common.{◌≡◌, ℕ, ◌+◌, ◌<◌, ◌≤◌, true, Option, Some, None, arith, length-set, get_or-set_same, ltb-true, List, [], ◌∷◌, ◌++◌, refl, sym, ap, subst, ◌∙◌}
+use Rattle.std.proofs.Common.{◌≡◌, ℕ, ◌+◌, ◌<◌, ◌≤◌, true, Option, Some, None, arith, length-set, get_or-set_same, ltb-true}
+use Rattle.std.proofs.Common.{List, [], ◌∷◌, ◌++◌, refl, sym, ap, subst, ◌∙◌}
 use Rattle.std.proofs.lemmas.List.{length-replicate}
 use Rattle.std.specs.Prelude.{length, replicate, nat_lt, is_some, is_none}
 use Rattle.mem_base.specs.declared.map.ids.PassId.{PassId}
@@ -82,7 +83,8 @@ may_enter w pass r may =
     let one : pass_of first pass ≡ looked = get_or-set_same w.passes pass.0 looked idle near in
     let two : pass_of second pass ≡ announced = get_or-set_same first pass.0 announced idle (omega (arith, near, long)) in
     let there : nat_lt pass.0 (length second) ≡ true = ap (λ (n : ℕ). nat_lt pass.0 n) (longer ∙ long) ∙ t.0 in
-    let told : is_some (pass_of second pass).announced ≡ true = ap (λ (q : PassState). is_some q.announced) two ∙ ap (λ (q : PassState). is_some q.looked) one in
+    let told : is_some (pass_of second pass).announced ≡ true =
+    ap (λ (q : PassState). is_some q.announced) two ∙ ap (λ (q : PassState). is_some q.looked) one in
     let out : is_none p.entered ≡ true = not_entered p (λ n e. let k = ((reached_is_orderly w r).each pass near).entered n e in (k.0, k.1)) t.1 in
     both _ _ (both _ _ there told) (ap (λ (q : PassState). is_none q.entered) two ∙ ap (λ (q : PassState). is_none q.entered) one ∙ out)
 
@@ -91,7 +93,7 @@ pub parts_at_first : (pool_words passes : ℕ) → world_of (first_state pool_wo
     (replicate (pool_words + notifier_count) 0) (left [] []) ≡ opening pool_words passes
 parts_at_first pool_words passes =
     let within : AreWithin (pool_words + notifier_count) (notifiers_place pool_words ∷ []) =
-        ((let l : pool_words + notifier_count ≤ pool_words + notifier_count = omega arith in l), tt) in
+    ((let l : pool_words + notifier_count ≤ pool_words + notifier_count = omega arith in l), tt) in
     ap (λ (bs : List Block). world (first_writer pool_words passes) (replicate passes idle) bs)
     (sym (first_zero (pool_words + notifier_count) (notifiers_place pool_words ∷ []) within))
 

@@ -65,7 +65,8 @@ none_taken c (x ∷ cs) e = go (is_same_cell c x) e (none_taken c cs)
 pub taken : (r : RegionId) (i : ℕ) (fs : List Bool) (c : Cell) (j : ℕ) → (c.region.0 == r.0) ≡ true → c.word ≡ i + j
     → filter (λ x. not (is_same_cell c x)) (cells_from r i fs) ≡ cells_from r i (slice_set fs j false)
 taken r i [] c j same e = refl
-taken r i (true ∷ fs) c zero same e = rw (same, eq-eqb c.word i (omega (arith, e))) (none_taken c (cells_from r (i + 1) fs) (before r (i + 1) fs c (omega (arith, e))))
+taken r i (true ∷ fs) c zero same e = rw (same, eq-eqb c.word i (omega (arith, e)))
+    (none_taken c (cells_from r (i + 1) fs) (before r (i + 1) fs c (omega (arith, e))))
 taken r i (false ∷ fs) c zero same e = none_taken c (cells_from r (i + 1) fs) (before r (i + 1) fs c (omega (arith, e)))
 taken r i (true ∷ fs) c (suc j) same e = rw (same, ne_eqb c.word i (λ z. omega (arith, z, e)))
     (ap (λ (ys : List Cell). cell r i ∷ ys) (taken r (i + 1) fs c j same (omega (arith, e))))

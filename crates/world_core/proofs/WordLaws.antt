@@ -65,7 +65,7 @@ module _ (pool_words : ℕ) (places : List Place)
 backs : (w : World) → IsReached w → BacksForest w.writer.desk.pool_words w.writer.desk.forest w.writer.desk.places
 backs w r =
     let shown : ShowsOwnPlaces r.pool_words w.writer =
-        subst (λ (v : World). ShowsOwnPlaces r.pool_words v.writer) r.leads (generations_show_places r.pool_words r.passes r.entries r.legal) in
+    subst (λ (v : World). ShowsOwnPlaces r.pool_words v.writer) r.leads (generations_show_places r.pool_words r.passes r.entries r.legal) in
     subst (λ (n : ℕ). BacksForest n w.writer.desk.forest w.writer.desk.places) (sym shown.pool) shown.backs
 
 module _ (d : WriterState) (k : KeptState) (ws : List ℕ) (x : Left) (h : IsWorld d k ws x) where
@@ -85,11 +85,12 @@ module _ (d : WriterState) (k : KeptState) (ws : List ℕ) (x : Left) (h : IsWor
   pub far : (r : RegionId) (p : Place) (word : ℕ) → place_in places r ≡ Some p → word < p.words → p.start + word < length ws
   far r p word is near =
       let l : past p ≤ d.backed.backing.pool_words + notifier_count = found_has (λ q. past q ≤ d.backed.backing.pool_words + notifier_count) places r p
-          (all_within d.backed.backing.pool_words d.backed.backing.places backing.inside) is in
+      (all_within d.backed.backing.pool_words d.backed.backing.places backing.inside) is in
       let wide : length ws ≡ d.backed.backing.pool_words + notifier_count = h.wide in
       omega (arith, near, l, wide)
 
-  module _ (r : RegionId) (p : Place) (is : place_in places r ≡ Some p) (e : Event) (t : Touch) (touches : touch_of p e ≡ Some t) (near : t.word < p.words) where
+  module _ (r : RegionId) (p : Place) (is : place_in places r ≡ Some p) (e : Event) (t : Touch) (touches : touch_of p e ≡ Some t)
+      (near : t.word < p.words) where
     -- the cells after a touch are the words after the step
     cells_change : blocks_at (words_after ws (p.start + t.word) t.step) places ≡ touched_blocks (blocks_at ws places) (Some r) (touch_at here e (Some r))
     cells_change = (steps_on_cells ws places r p t.word t.step apart is near).1
@@ -104,7 +105,8 @@ module _ (d : WriterState) (k : KeptState) (ws : List ℕ) (x : Left) (h : IsWor
   pub step_is : (hand : Hand) (p : Place) (word : ℕ) (step : WordStep) → place_in places p.region ≡ Some p → word < p.words
       → world_of d k (words_after ws (p.start + word) step) x ≡ world_after here (events.Word hand (cell p.region word) step)
   step_is hand p word step is near =
-      ap (λ (bs : List Block). world here.writer k.states bs) (cells_change p.region p is (events.Word hand (cell p.region word) step) (touch word step true) refl near)
+      ap (λ (bs : List Block). world here.writer k.states bs)
+      (cells_change p.region p is (events.Word hand (cell p.region word) step) (touch word step true) refl near)
 
   pub step_tells : (hand : Hand) (p : Place) (word : ℕ) (step : WordStep) → place_in places p.region ≡ Some p → word < p.words
       → slice_index ws (p.start + word) ≡ number_in (reply here (events.Word hand (cell p.region word) step))

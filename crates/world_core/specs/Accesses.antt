@@ -13,7 +13,8 @@ abbrev pub may_access : World → PassId → Bool
 may_access w pass = is_entered w pass || possible w (Look pass)
 
 -- the access is the defined one: the world after it, its answer, and the bytes that it read
-pub record IsAccessed (w : World) (pass : PassId) (space : SpaceId) (addr : ℕ) (transfer : Transfer) (answer : Access) (bytes : List ℕ) (v : World) : Type 0 where
+pub record IsAccessed (w : World) (pass : PassId) (space : SpaceId) (addr : ℕ) (transfer : Transfer) (answer : Access) (bytes : List ℕ)
+    (v : World) : Type 0 where
   pub world : v ≡ (accessed w pass space addr transfer).world
   pub answer_is : answer ≡ (accessed w pass space addr transfer).answer
   pub bytes_are : bytes ≡ (accessed w pass space addr transfer).bytes

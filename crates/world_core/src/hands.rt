@@ -31,8 +31,11 @@ impl Entered for EnteredPass<'_> {
 
     ghost begins = { λ x. (refl, refl, run_none x.pass x.world.now) };
 
-    ghost goes_on = { λ x y z es fs rs qs l m n. (n.0 ∙ m.0, n.1 ∙ m.1,
-        run_then x.pass y.pass m.0 x.world.now y.world.now z.world.now es fs rs qs m.2 n.2) };
+    ghost goes_on = { λ x y z es fs rs qs l m n. (
+      n.0 ∙ m.0,
+      n.1 ∙ m.1,
+      run_then x.pass y.pass m.0 x.world.now y.world.now z.world.now es fs rs qs m.2 n.2,
+    ) };
 
     ghost stays = { λ x y es rs m. (m.0, run_stays x.pass y.pass m.0 x.world.now y.world.now es rs m.2) };
 }
@@ -41,7 +44,8 @@ impl Reads for EnteredPass<'_> {
     fn read_word(&mut self, place: &Place, word: usize, step: WordStep) -> u64 {
         // It tells that a legal history leads here.
         self.world.is_reached();
-        self.world.step_word(Hand::Pass(self.pass), place, word, step)
+        let hand = Hand::Pass(self.pass);
+        self.world.step_word(hand, place, word, step)
     }
 }
 
@@ -51,7 +55,8 @@ impl Writes for EnteredPass<'_> {
     fn write_word(&mut self, place: &Place, word: usize, step: WordStep) {
         // It tells that a legal history leads here.
         self.world.is_reached();
-        self.world.step_word(Hand::Pass(self.pass), place, word, step);
+        self.world
+            .step_word(Hand::Pass(self.pass), place, word, step);
     }
 
     fn mark_page(&mut self, place: &Place, client: Client, page: u64) {

@@ -13,7 +13,13 @@ use mem_base::{Client, Hand, PassId, Place, WordStep};
 
 impl World {
     /// One step on a word of a place; the word before it is answered.
-    pub(crate) fn step_word(&mut self, hand: Hand, place: &Place, word: usize, step: WordStep) -> u64
+    pub(crate) fn step_word(
+        &mut self,
+        hand: Hand,
+        place: &Place,
+        word: usize,
+        step: WordStep,
+    ) -> u64
         requires may { possible self.old (events.Word hand (cell place.now.region word) step) ≡ true }
         requires placed { place_in (places_of self.old.writer.desk) place.now.region ≡ Some place.now }
         requires within { word < place.now.words }

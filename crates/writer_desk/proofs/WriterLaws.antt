@@ -267,12 +267,14 @@ module _ (s : WriterState) (held : Option Refusal) (rest : s.due ≡ None) where
     where
       go : (o : Option Listener) → listener_of s.listening.listeners id ≡ o → option_map (λ l. l.space) o ≡ Some space
           → IsConfigured s (configs.Unlisten id) held
-          (writer_state s.backed (left s.listening id (view_of s.backed.desk.current.forest space) (lives_of s.backed.desk.current.forest space)) s.due) (Ok Done)
+          (writer_state s.backed (left s.listening id (view_of s.backed.desk.current.forest space) (lives_of s.backed.desk.current.forest space)) s.due)
+          (Ok Done)
       go None e is = none_is_not_some space is
       go (Some l) e is = subst (λ (z : SpaceId). IsConfigured s (configs.Unlisten id) held
           (writer_state s.backed (left s.listening id (view_of s.backed.desk.current.forest z) (lives_of s.backed.desk.current.forest z)) s.due) (Ok Done))
           (same_some l.space space is)
-          (at_rest (configs.Unlisten id) s.backed (left s.listening id (view_of s.backed.desk.current.forest l.space) (lives_of s.backed.desk.current.forest l.space))
+          (at_rest (configs.Unlisten id) s.backed
+          (left s.listening id (view_of s.backed.desk.current.forest l.space) (lives_of s.backed.desk.current.forest l.space))
           (Ok Done) (λ g b here free. leaves_ok s.backed s.listening g b id l e there here))
 
   pub leave_is_refused : (id : ListenerId) (why : Refusal) → leave_refusal s.listening id ≡ Some why → IsConfigured s (configs.Unlisten id) held s (Err why)

@@ -11,7 +11,8 @@ pub index_mut-requires : goal.index_mut-requires
 index_mut-requires c =
     let s = c.self.inside in
     let x : Cell = c.args.cell in
-    let left : list_any (is_same_cell x) (cells_from s.region 0 s.flags.items) ≡ true = ap (λ (cs : List Cell). list_any (is_same_cell x) cs) c.self.view_is ∙ c.requires in
+    let left : list_any (is_same_cell x) (cells_from s.region 0 s.flags.items) ≡ true =
+    ap (λ (cs : List Cell). list_any (is_same_cell x) cs) c.self.view_is ∙ c.requires in
     let l : x.word < length s.flags.items = within s.flags.items x.word (is_there s.region s.flags.items x left).1 in
     search rules
 
@@ -19,9 +20,10 @@ pub overflow_sub-self : goal.overflow_sub-self
 overflow_sub-self c =
     let s = c.self.inside in
     let x : Cell = c.args.cell in
-    let left : list_any (is_same_cell x) (cells_from s.region 0 s.flags.items) ≡ true = ap (λ (cs : List Cell). list_any (is_same_cell x) cs) c.self.view_is ∙ c.requires in
+    let left : list_any (is_same_cell x) (cells_from s.region 0 s.flags.items) ≡ true =
+    ap (λ (cs : List Cell). list_any (is_same_cell x) cs) c.self.view_is ∙ c.requires in
     let less : count_left s.flags.items ≡ count_left (slice_set s.flags.items x.word false) + 1 =
-        one_less s.flags.items x.word (is_there s.region s.flags.items x left).1 in
+    one_less s.flags.items x.word (is_there s.region s.flags.items x left).1 in
     let is : s.count ≡ count_left s.flags.items = c.self.invariant in
     omega (arith, less, is)
 
@@ -29,9 +31,10 @@ pub invariant_of-self : goal.invariant_of-self
 invariant_of-self c =
     let s = c.self.inside in
     let x : Cell = c.args.cell in
-    let left : list_any (is_same_cell x) (cells_from s.region 0 s.flags.items) ≡ true = ap (λ (cs : List Cell). list_any (is_same_cell x) cs) c.self.view_is ∙ c.requires in
+    let left : list_any (is_same_cell x) (cells_from s.region 0 s.flags.items) ≡ true =
+    ap (λ (cs : List Cell). list_any (is_same_cell x) cs) c.self.view_is ∙ c.requires in
     let less : count_left s.flags.items ≡ count_left (slice_set s.flags.items x.word false) + 1 =
-        one_less s.flags.items x.word (is_there s.region s.flags.items x left).1 in
+    one_less s.flags.items x.word (is_there s.region s.flags.items x left).1 in
     let is : s.count ≡ count_left s.flags.items = c.self.invariant in
     omega (arith, less, is)
 
@@ -39,6 +42,7 @@ pub returns : goal.returns
 returns c =
     let s = c.self.inside in
     let x : Cell = c.args.cell in
-    let left : list_any (is_same_cell x) (cells_from s.region 0 s.flags.items) ≡ true = ap (λ (cs : List Cell). list_any (is_same_cell x) cs) c.self.view_is ∙ c.requires in
+    let left : list_any (is_same_cell x) (cells_from s.region 0 s.flags.items) ≡ true =
+    ap (λ (cs : List Cell). list_any (is_same_cell x) cs) c.self.view_is ∙ c.requires in
     sym (taken s.region 0 s.flags.items x x.word (is_there s.region s.flags.items x left).0 (omega arith))
     ∙ ap (λ (cs : List Cell). filter (λ y. not (is_same_cell x y)) cs) c.self.view_is

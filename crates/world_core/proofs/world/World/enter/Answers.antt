@@ -11,5 +11,5 @@ enter_current-requires c =
     let here : IsReached w = c.is_reached.ensures in
     let one : c.look.new.self ≡ world_after w (events.Look c.args.pass) = c.look.ensures.world in
     let two : c.announce.new.self ≡ world_after (world_after w (events.Look c.args.pass)) (events.Announce c.args.pass) =
-        c.announce.ensures ∙ ap (λ (v : World). world_after v (events.Announce c.args.pass)) one in
+    c.announce.ensures ∙ ap (λ (v : World). world_after v (events.Announce c.args.pass)) one in
     subst (λ (v : World). possible v (events.Enter c.args.pass) ≡ true) (sym two) (may_enter w c.args.pass here c.requires)

@@ -14,7 +14,8 @@ returns-then-not-entered-clause-inside c =
     let v : World = c.enter.new.self in
     let may : possible w (events.Look c.args.pass) ≡ true = search rules in
     let is : after_events w (enters c.args.pass) ≡ v = search rules in
-    inside_of v c.args.pass c.is_reached-then-not-entered.ensures (ap (λ (u : World). is_some (pass_of u.passes c.args.pass).entered) (sym is) ∙ entered_by w c.args.pass may)
+    inside_of v c.args.pass c.is_reached-then-not-entered.ensures
+    (ap (λ (u : World). is_some (pass_of u.passes c.args.pass).entered) (sym is) ∙ entered_by w c.args.pass may)
 
 pub returns-else-not-entered-clause-inside : goal.returns-else-not-entered-clause-inside
 returns-else-not-entered-clause-inside c =

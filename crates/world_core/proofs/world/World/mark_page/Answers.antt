@@ -20,7 +20,7 @@ overflow_add-place c =
     let word : c.mark_of-word.result.0 ≡ word_of_page p c.args.client c.args.page = search rules in
     let is : place_in (all_places s.desk.backed.backing) p.region ≡ Some p = search rules in
     let l : p.start + word_of_page p c.args.client c.args.page < length s.words =
-        far s.desk s.kept s.words x c.self.invariant p.region p (word_of_page p c.args.client c.args.page) is c.requires.within in
+    far s.desk s.kept s.words x c.self.invariant p.region p (word_of_page p c.args.client c.args.page) is c.requires.within in
     let few : length s.words < 2 ^ 64 = search rules in
     omega (arith, l, few, word)
 

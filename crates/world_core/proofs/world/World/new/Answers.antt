@@ -20,7 +20,8 @@ invariant_of-result-2 c =
     let none : [] ≡ c.new-4.result.items = search rules in
     let no_cells : [] ≡ c.none.result = search rules in
     subst (λ (x : Left). IsWorld d k ws x) (λ i. left (none i) (no_cells i))
-    (subst (λ (v : List ℕ). IsWorld d k v (left [] [])) ws_is (subst (λ (v : KeptState). IsWorld d v (replicate (c.args.words + notifier_count) 0) (left [] [])) k_is
+    (subst (λ (v : List ℕ). IsWorld d k v (left [] [])) ws_is
+    (subst (λ (v : KeptState). IsWorld d v (replicate (c.args.words + notifier_count) 0) (left [] [])) k_is
     (subst (λ (v : WriterState). IsWorld v (first_kept c.args.passes (published 0 empty [])) (replicate (c.args.words + notifier_count) 0) (left [] [])) d_is
     (world_at_first c.args.words c.args.passes))))
 
