@@ -1,7 +1,7 @@
 -- Each step of an access is one on a place of the generation, so the events of the access are possible one after another.
 use Rattle.std.proofs.Common.{◌≡◌, ℕ, zero, suc, ◌+◌, ◌-◌, ◌<◌, ◌≤◌, Bool, true, false, ◌&&◌, List, [], ◌∷◌, ◌++◌, length, take, drop}
 use Rattle.std.proofs.Common.{sym, refl, ap, ◌∙◌, subst, arith, if◌then◌else◌, Option, Some, None}
-use Rattle.std.specs.Prelude.{not, ◌/◌, ◌%◌, flat_map, IfSome}
+use Rattle.std.specs.Prelude.{not, ◌/◌, ◌%◌, IfSome}
 use Rattle.std.proofs.lemmas.Bool.{lt-ltb}
 use Rattle.std.proofs.lemmas.Nat.{mod_below}
 use Rattle.mem_base.specs.declared.map.ids.RegionId.{RegionId}
@@ -22,7 +22,7 @@ use Rattle.mem_base.specs.declared.access.cells.WordStep.{WordStep}
 use Rattle.mem_base.specs.declared.machine.events.Event.TheVariants as events
 use Rattle.mem_base.specs.declared.machine.events.Hand.TheVariants as hands
 use Rattle.mem_base.specs.lists.Every.{Every}
-use Rattle.mem_base.specs.lists.Runs.{Run, run, runs, put_before, is_in_unit, touched}
+use Rattle.mem_base.specs.lists.Runs.{Run, run, put_before, is_in_unit, touched}
 use Rattle.mem_base.specs.map.Limits.{word_size, notifier_count}
 use Rattle.mem_base.specs.map.Region.{node_of}
 use Rattle.mem_base.specs.map.Devices.{is_good_device}
@@ -64,8 +64,9 @@ use Rattle.access_run.proofs.MemoryLaws.{marks_inside}
 use Rattle.access_run.proofs.TrailLaws.{chunk_inside}
 use Rattle.world_laws.specs.Entered.{IsEnteredIn, MayDo, MayStep}
 use Rattle.world_laws.specs.Accessing.{AreLegalSteps}
-use Rattle.world_laws.proofs.Keeping.{Holds, holds, holds_after, found_has}
-use Rattle.world_laws.proofs.Entering.{every_element, enters_held, steps_possible}
+use Rattle.world_laws.proofs.Lists.{every_element, every_taken, every_both, every_flat, every_one, starts_below, found_has}
+use Rattle.world_laws.proofs.Keeping.{Holds, holds, holds_after}
+use Rattle.world_laws.proofs.Entering.{enters_held, steps_possible}
 use Rattle.world_laws.proofs.Running.{AllMay, legal_run, run_ends}
 
 -- the step is on a word of data or a register of the place of its region, or marks a page of it
@@ -103,32 +104,6 @@ module _ (v : PassId) (x : Generation) where
       let m = by_mark w k is region client page h.0.0 h.0.1 h.0.2 in
       let e = events.Mark v region client page in
       let t = all_may ds (world_after w e) (holds_after w k e m.may) m.stays h.1 in ((m.may, t.0), t.1)
-
--- lists
-
-every_both : {A : Type 0} (P : A → Type 0) (xs ys : List A) → Every P xs → Every P ys → Every P (xs ++ ys)
-every_both P [] ys h k = k
-every_both P (x ∷ xs) ys h k = (h.0, every_both P xs ys h.1 k)
-
-every_flat : {A B : Type 0} (P : B → Type 0) (f : A → List B) (xs : List A) → Every (λ x. Every P (f x)) xs → Every P (flat_map f xs)
-every_flat P f [] h = tt
-every_flat P f (x ∷ xs) h = every_both P (f x) (flat_map f xs) h.0 (every_flat P f xs h.1)
-
-every_one : {A : Type 0} (P : A → Type 0) (xs : List A) → ((x : A) → P x) → Every P xs
-every_one P [] h = tt
-every_one P (x ∷ xs) h = (h x, every_one P xs h)
-
-starts_below : (with_next : ℕ → Bool) (a n : ℕ) → Every (λ r. r.start < a + n) (runs with_next a n)
-starts_below with_next a zero = tt
-starts_below with_next a (suc n) = put (with_next a) (runs with_next (a + 1) n) (starts_below with_next (a + 1) n)
-  where
-    wider : (rs : List Run) → Every (λ r. r.start < a + 1 + n) rs → Every (λ r. r.start < a + suc n) rs
-    wider rs h = let more : a + 1 + n ≡ a + suc n = omega arith in subst (λ m. Every (λ r. r.start < m) rs) more h
-
-    put : (b : Bool) (rs : List Run) → Every (λ r. r.start < a + 1 + n) rs → Every (λ r. r.start < a + suc n) (put_before b a rs)
-    put true [] h = (omega arith, tt)
-    put true (r ∷ rs) h = (omega arith, wider rs h.1)
-    put false rs h = (omega arith, wider rs h)
 
 -- a part has at most the bytes that it is to have
 part_short : (skip n : ℕ) (t : Transfer) → length_of (part skip n t) ≤ n
@@ -318,12 +293,6 @@ module _ (g : Published) (k : IsEdition g.forest g.places) where
       (λ r inside. target_reached (trail_of g.forest (is_write t) s r.start).target r.length inside (part (r.start - a) r.length t)
       (part_short (r.start - a) r.length t))
       (chunks g.forest (is_write t) s a (length_of t)) (all_inside g.forest k.made (is_write t) s (length_of t) a))
-
--- a generation that is held is kept
-every_taken : {A : Type 0} (P : A → Type 0) (n : ℕ) (xs : List A) → Every P xs → Every P (take n xs)
-every_taken P zero xs h = tt
-every_taken P (suc n) [] h = tt
-every_taken P (suc n) (x ∷ xs) h = (h.0, every_taken P n xs h.1)
 
 pub accesses_are_possible : (pool_words passes : ℕ) (xs : List PureEntry) → IsLegal pool_words passes xs
     → let w = after_entries (opening pool_words passes) xs in (pass : PassId) (x : Generation) → IsEnteredIn w pass x → IsMade x.forest

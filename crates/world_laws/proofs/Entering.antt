@@ -28,14 +28,10 @@ use Rattle.history_laws.proofs.OrderLaws.{order}
 use Rattle.history_laws.proofs.PlaceLaws.{some_is}
 use Rattle.turn_laws.proofs.Coupled.{Stands, AllStand}
 use Rattle.world_laws.specs.Entered.{IsEnteredIn, IsHeldAt, EntersHeld, MayStep}
+use Rattle.world_laws.proofs.Lists.{every_element}
 use Rattle.world_laws.proofs.Keeping.{Holds, holds}
 
 -- lists
-
-pub every_element : {A : Type 0} (P : A → Type 0) (xs : List A) (x : A) → Every P xs → HasElement xs x → P x
-every_element P [] x k h = absurd h
-every_element P (y ∷ ys) x k (inl e) = subst P e k.0
-every_element P (y ∷ ys) x k (inr h) = every_element P ys x k.1 h
 
 taken : {A : Type 0} (xs : List A) (i m : ℕ) (x : A) → i < m → slice_get xs i ≡ Some x → HasElement (take m xs) x
 taken [] i m x l e = none_is_not_some x e

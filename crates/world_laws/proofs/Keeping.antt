@@ -27,7 +27,7 @@ use Rattle.mem_base.specs.machine.Desk.{places_of}
 use Rattle.mem_base.specs.machine.World.{World, possible, world_after, reply, number_in, after_telling, if_placed, opening, touched_blocks, touch_at}
 use Rattle.mem_base.specs.machine.History.{PureEntry, after_entry, after_entries, IsLegalFrom, IsLegal}
 use Rattle.mem_base.proofs.EveryLaws.{weaker}
-use Rattle.view_laws.proofs.Tests.{both_of, both, same_some, same_place, none_is_not_some, same_region}
+use Rattle.view_laws.proofs.Tests.{both_of, both, same_place, none_is_not_some, same_region}
 use Rattle.history_laws.proofs.OrderLaws.{order_after}
 use Rattle.history_laws.proofs.Idles.{IsSoundDesk, opens_idle, fresh}
 use Rattle.history_laws.proofs.PublishedLaws.{sound_after}
@@ -41,20 +41,12 @@ use Rattle.turn_laws.proofs.ReapSteps.{reaps}
 use Rattle.turn_laws.proofs.PrivateSteps.{configures}
 use Rattle.turn_laws.proofs.Openings.{opens}
 use Rattle.world_laws.specs.Standing.{StandsIn}
+use Rattle.world_laws.proofs.Lists.{found_has}
 
 -- a world, and words beside which it is coupled
 pub record Kept (w : World) : Type 0 where
   pub words : List ℕ
   pub coupled : Coupled w words
-
--- the place that is found has what each place has
-pub found_has : (P : Place → Type 0) (ps : List Place) (r : RegionId) (p : Place) → Every P ps → place_in ps r ≡ Some p → P p
-found_has P [] r p k e = none_is_not_some p e
-found_has P (q ∷ qs) r p k e = go (q.region.0 == r.0) e (found_has P qs r p k.1)
-  where
-    go : (b : Bool) → (if b then Some q else place_in qs r) ≡ Some p → (place_in qs r ≡ Some p → P p) → P p
-    go true e rest = subst P (same_some q p e) k.0
-    go false e rest = rest e
 
 -- a step on a word of a place
 
@@ -63,7 +55,6 @@ module _ (w : World) (words : List ℕ) (k : Coupled w words) where
       → t.word < p.words → (v : World) → v.writer ≡ w.writer → v.passes ≡ w.passes
       → v.blocks ≡ touched_blocks w.blocks (Some r) (touch_at w e (Some r)) → Kept v
   stepped e r p t here is near v a b c =
-      let m : World = record { writer = w.writer; passes = w.passes; blocks = touched_blocks w.blocks (Some r) (touch_at w e (Some r)) } in
       subst Kept (λ i. record { writer = sym a i; passes = sym b i; blocks = sym c i }) record {
         words = words_after words (p.start + t.word) t.step;
         coupled = record {
@@ -84,7 +75,8 @@ module _ (w : World) (words : List ℕ) (k : Coupled w words) where
   reached (Some x) p c same s h = go (names x.forest c.region && is_data_or_register p c.word) refl h
     where
       go : (b : Bool) → (names x.forest c.region && is_data_or_register p c.word) ≡ b → (b || is_notifier c) ≡ true → c.word < p.words
-      go true e h = let l : c.word < data_words p.bytes + p.regs = ltb-true c.word (data_words p.bytes + p.regs) (both_of (names x.forest c.region) (is_data_or_register p c.word) e).1 in
+      go true e h = let t = both_of (names x.forest c.region) (is_data_or_register p c.word) e in
+          let l : c.word < data_words p.bytes + p.regs = ltb-true c.word (data_words p.bytes + p.regs) t.1 in
           let m = s.wide in omega arith
       go false e h = let t = both_of _ _ h in let l : c.word < notifier_count = ltb-true c.word notifier_count t.1 in
           let m : p.words ≡ notifier_count =

@@ -1,3 +1,4 @@
+pub mod Lists
 pub mod Keeping
 pub mod Entering
 pub mod Running

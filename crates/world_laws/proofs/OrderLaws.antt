@@ -1,5 +1,5 @@
 -- Each call of the writer is legal where nothing is due or unfilled, and leaves nothing due or unfilled.
-use Rattle.std.proofs.Common.{◌≡◌, ℕ, zero, suc, ◌+◌, ◌<◌, ◌≤◌, ne_eqb, Bool, true, false, ◌&&◌, ◌||◌, List, [], ◌∷◌, ◌++◌, length, map}
+use Rattle.std.proofs.Common.{◌≡◌, ℕ, ◌+◌, ◌<◌, ◌≤◌, ne_eqb, Bool, true, false, ◌&&◌, ◌||◌, List, [], ◌∷◌, ◌++◌, length, map}
 use Rattle.std.proofs.Common.{sym, refl, ap, ◌∙◌, subst, arith, if◌then◌else◌, Option, Some, None}
 use Rattle.std.specs.Prelude.{not, nat_lt, ◌==◌, ◌/◌, ◌%◌, ◌^◌, ◌-◌}
 use Rattle.std.specs.List.{range_with_len}
@@ -19,7 +19,7 @@ use Rattle.mem_base.specs.declared.access.cells.Cell.{Cell}
 use Rattle.mem_base.specs.declared.machine.events.Event.{Event}
 use Rattle.mem_base.specs.declared.machine.events.Event.TheVariants as events
 use Rattle.mem_base.specs.lists.Every.{Every}
-use Rattle.mem_base.specs.lists.Runs.{Run, runs, put_before, is_in_unit, touched}
+use Rattle.mem_base.specs.lists.Runs.{is_in_unit, touched}
 use Rattle.mem_base.specs.map.Limits.{word_size, page_size, most_bytes, notifier_count}
 use Rattle.mem_base.specs.map.Kinds.{has_bytes}
 use Rattle.mem_base.specs.map.Region.{node_of}
@@ -47,8 +47,8 @@ use Rattle.history_laws.proofs.ReleasedLaws.{ids}
 use Rattle.history_laws.proofs.ShownLaws.{generations_show_places}
 use Rattle.turn_laws.proofs.Rows.{flags_after, all_swept}
 use Rattle.world_laws.specs.Legal.{IsFitting, IsLegalCall}
-use Rattle.world_laws.proofs.Keeping.{found_has}
-use Rattle.world_laws.proofs.Running.{AllMay, Sound, sound, sound_run, legal_run, legal_then, run_ends, ends_then, every_get}
+use Rattle.world_laws.proofs.Lists.{every_get, starts_below, found_has}
+use Rattle.world_laws.proofs.Running.{AllMay, Sound, sound, sound_run, legal_run, legal_then, run_ends, ends_then}
 use Rattle.world_laws.proofs.OrderRows.{sweeps_may, swept_desk, publishes_may, published_desk, fills_may, filled_desk}
 use Rattle.world_laws.proofs.OrderRows.{loads_may, loads_rest, harvests_may, harvests_rest}
 
@@ -213,18 +213,6 @@ module _ (w : World) (k : Sound w) (rest : is_at_rest w.writer.desk ≡ true) wh
     held_data (Alias target offset) size e = absurd (grind arith)
     held_data Reserve size e = absurd (grind arith)
 
-    starts_below : (with_next : ℕ → Bool) (a n : ℕ) → Every (λ r. r.start < a + n) (runs with_next a n)
-    starts_below with_next a zero = tt
-    starts_below with_next a (suc n) = put (with_next a) (runs with_next (a + 1) n) (starts_below with_next (a + 1) n)
-      where
-        wider : (rs : List Run) → Every (λ r. r.start < a + 1 + n) rs → Every (λ r. r.start < a + suc n) rs
-        wider rs h = let more : a + 1 + n ≡ a + suc n = omega arith in subst (λ m. Every (λ r. r.start < m) rs) more h
-
-        put : (b : Bool) (rs : List Run) → Every (λ r. r.start < a + 1 + n) rs → Every (λ r. r.start < a + suc n) (put_before b a rs)
-        put true [] h = (omega arith, tt)
-        put true (r ∷ rs) h = (omega arith, wider rs h.1)
-        put false rs h = (omega arith, wider rs h)
-
     place_first : (ps : List Place) (np p : Place) (r : RegionId) → place_in ps r ≡ Some p → place_in (ps ++ np ∷ []) r ≡ Some p
     place_first [] np p r e = none_is_not_some p e
     place_first (q ∷ qs) np p r e = go (q.region.0 == r.0) e (place_first qs np p r)
@@ -234,34 +222,57 @@ module _ (w : World) (k : Sound w) (rest : is_at_rest w.writer.desk ≡ true) wh
         go true e rest = e
         go false e rest = rest e
 
+    -- the place of a region that has bytes
+    record HoldsBytes (region : RegionId) (n : Node) : Type 0 where
+      place : Place
+      here : place_in (places_of w.writer.desk) region ≡ Some place
+      pages : n.size % 4096 ≡ 0
+      room : n.size / 8 ≤ place.words
+
+    holds_bytes : (region : RegionId) (n : Node) → node_of f.nodes region ≡ Some n → IsRegion f.nodes n → has_bytes n.kind ≡ true → HoldsBytes region n
+    holds_bytes region n is sized memory =
+        let size = whole n.kind n.size sized.sized memory in
+        let least = held_data n.kind n.size memory in
+        let some : 0 < words_of (extent_of n.kind n.size) = above n.size (words_of (extent_of n.kind n.size)) size.0 size.1 least in
+        let p = some_is (place_in w.writer.desk.places region) (backs.regions region n is some) in
+        let its = place_of_region w.writer.desk.places region p.0 p.1 in
+        let fits = found_has (λ q. (n : Node) → node_of f.nodes q.region ≡ Some n → q ≡ place_from q.region q.start (extent_of n.kind n.size))
+        w.writer.desk.places region p.0 backs.fits p.1 n (ap (node_of f.nodes) its.1 ∙ is) in record {
+          place = p.0;
+          here = place_first w.writer.desk.places (notifiers_place w.writer.desk.pool_words) p.0 region p.1;
+          pages = size.1;
+          room = wide p.0 (words_of (extent_of n.kind n.size)) n.size (ap (λ (q : Place). q.words) fits) least;
+        }
+      where
+        above : (size words : ℕ) → 0 < size → size % 4096 ≡ 0 → size / 8 ≤ words → 0 < words
+        above size words some pages room = omega (arith, some, pages, room)
+
+        wide : (p : Place) (words size : ℕ) → p.words ≡ words → size / 8 ≤ words → size / 8 ≤ p.words
+        wide p words size e l = omega (arith, e, l)
+
     module _ (made : IsMade f) (region : RegionId) (offset : ℕ) (bytes : List ℕ)
         (none : load_refusal f region offset (length bytes) ≡ None) where
+      loads_into : (n : Node) → HoldsBytes region n → offset + length bytes ≤ n.size → Runs w (loads region offset bytes)
+      loads_into n h ends = steadily (loads region offset bytes)
+          (loads_may region h.place (λ r. r.start / word_size) (replaces offset bytes) (touched word_size offset (length bytes)) w h.here
+          (weaker (λ r. r.start < offset + length bytes) (λ r. r.start / word_size < h.place.words)
+          (λ r l. inside r.start n.size h.place.words (omega (arith, l, ends)) h.pages h.room) (touched word_size offset (length bytes))
+          (starts_below (is_in_unit word_size) offset (length bytes))))
+          (loads_rest region (λ r. r.start / word_size) (replaces offset bytes) (touched word_size offset (length bytes)) w)
+        where
+          inside : (start size words : ℕ) → start < size → size % 4096 ≡ 0 → size / 8 ≤ words → start / 8 < words
+          inside start size words l pages room = omega (arith, l, pages, room)
+
       loads_run : Runs w (loads region offset bytes)
       loads_run =
           let each = each_none (unknown_region f region ∷ wrong_kind has_bytes f region
           ∷ refuse_where (ends_past offset (length bytes)) BadSize (node_of f.nodes region) ∷ []) none in
           let n = known_node f region each.0 in
-          let memory : has_bytes n.0.kind ≡ true = is_memory n.0 (refuse_where-none (λ n. not (has_bytes n.kind)) (WrongKind region) (node_of f.nodes region)
-          n.0 n.1 each.1.0) in
+          let memory = is_memory n.0 (refuse_where-none (λ n. not (has_bytes n.kind)) (WrongKind region) (node_of f.nodes region) n.0 n.1 each.1.0) in
           let ends = within n.0 (refuse_where-none (ends_past offset (length bytes)) BadSize (node_of f.nodes region) n.0 n.1 each.1.1.0) in
           let closed : IsClosedForest f = subst IsClosedForest made.made (IsClosedForest-made made.calls made.fitting) in
           let sized : IsRegion f.nodes n.0 = (every_node_of (IsRegion f.nodes) f.nodes region n.0 n.1 closed.regions).0 in
-          let size = whole n.0.kind n.0.size sized.sized memory in
-          let room = held_data n.0.kind n.0.size memory in
-          let some : 0 < words_of (extent_of n.0.kind n.0.size) = above n.0.size _ size.0 size.1 room in
-          let p = some_is (place_in w.writer.desk.places region) (backs.regions region n.0 n.1 some) in
-          let its = place_of_region w.writer.desk.places region p.0 p.1 in
-          let fits : p.0 ≡ place_from p.0.region p.0.start (extent_of n.0.kind n.0.size) =
-          found_has (λ q. (n : Node) → node_of f.nodes q.region ≡ Some n → q ≡ place_from q.region q.start (extent_of n.kind n.size))
-          w.writer.desk.places region p.0 backs.fits p.1 n.0 (ap (node_of f.nodes) its.1 ∙ n.1) in
-          let words : n.0.size / 8 ≤ p.0.words = subst (λ (z : ℕ). n.0.size / 8 ≤ z) (sym (ap (λ (q : Place). q.words) fits)) room in
-          steadily (loads region offset bytes)
-          (loads_may region p.0 (λ r. r.start / word_size) (replaces offset bytes) (touched word_size offset (length bytes)) w
-          (place_first w.writer.desk.places (notifiers_place w.writer.desk.pool_words) p.0 region p.1)
-          (weaker (λ r. r.start < offset + length bytes) (λ r. r.start / word_size < p.0.words)
-          (λ r l. inside r.start n.0.size p.0.words (omega (arith, l, ends)) size.1 words) (touched word_size offset (length bytes))
-          (starts_below (is_in_unit word_size) offset (length bytes))))
-          (loads_rest region (λ r. r.start / word_size) (replaces offset bytes) (touched word_size offset (length bytes)) w)
+          loads_into n.0 (holds_bytes region n.0 n.1 sized memory) ends
         where
           is_memory : (n : Node) → not (has_bytes n.kind) ≡ false → has_bytes n.kind ≡ true
           is_memory n e = go (has_bytes n.kind) e
@@ -272,12 +283,6 @@ module _ (w : World) (k : Sound w) (rest : is_at_rest w.writer.desk ≡ true) wh
 
           within : (n : Node) → nat_lt n.size (offset + length bytes) ≡ false → offset + length bytes ≤ n.size
           within n e = grind (arith, nat_tests, e)
-
-          above : (size words : ℕ) → 0 < size → size % 4096 ≡ 0 → size / 8 ≤ words → 0 < words
-          above size words some pages room = omega (arith, some, pages, room)
-
-          inside : (start size words : ℕ) → start < size → size % 4096 ≡ 0 → size / 8 ≤ words → start / 8 < words
-          inside start size words l pages room = omega (arith, l, pages, room)
 
     loads_bytes : IsMade f → (region : RegionId) (offset : ℕ) (bytes : List ℕ) → IsLegalCall w (load region offset bytes)
     loads_bytes made region offset bytes = as_call w (load region offset bytes)

@@ -1,6 +1,6 @@
 -- Events that are possible one after another, and what holds after them.
 use Rattle.std.proofs.Common.{◌≡◌, ℕ, true, false, List, [], ◌∷◌, ◌++◌, map, replicate, refl, sym, subst}
-use Rattle.std.proofs.Common.{get_or, set, zero, suc}
+use Rattle.std.proofs.Common.{zero, suc}
 use Rattle.mem_base.specs.declared.machine.events.Event.{Event}
 use Rattle.mem_base.specs.declared.machine.events.Event.TheVariants as events
 use Rattle.mem_base.specs.lists.Every.{Every}
@@ -8,6 +8,7 @@ use Rattle.mem_base.specs.machine.Generations.{PassTrack, nothing_known, with_pl
 use Rattle.mem_base.specs.machine.World.{World, opening, possible, number_in, world_after, after_telling}
 use Rattle.mem_base.specs.machine.History.{PureEntry, after_entry, after_entries, IsLegalFrom, IsLegal, run_events}
 use Rattle.view_laws.proofs.Tests.{both_of, not_true, true_is_not_false}
+use Rattle.world_laws.proofs.Lists.{every_get, every_set}
 use Rattle.world_laws.proofs.Keeping.{Holds, holds_after, holds_at_first}
 
 -- each event is possible where it stands
@@ -47,16 +48,6 @@ AreUnplaced ks = Every (λ k. k.placed ≡ false) ks
 pub record Sound (w : World) : Type 0 where
   pub holds : Holds w
   pub unplaced : w.writer.desk.due ≡ false → AreUnplaced w.writer.generations.passes
-
-pub every_get : {A : Type 0} (P : A → Type 0) (xs : List A) (i : ℕ) (d : A) → P d → Every P xs → P (get_or xs i d)
-every_get P [] i d p k = p
-every_get P (x ∷ xs) zero d p k = k.0
-every_get P (x ∷ xs) (suc i) d p k = every_get P xs i d p k.1
-
-every_set : {A : Type 0} (P : A → Type 0) (xs : List A) (i : ℕ) (y : A) → P y → Every P xs → Every P (set xs i y)
-every_set P [] i y p k = tt
-every_set P (x ∷ xs) zero y p k = (p, k.1)
-every_set P (x ∷ xs) (suc i) y p k = (k.0, every_set P xs i y p k.1)
 
 none_placed : (ks : List PassTrack) → AreUnplaced (map (with_placed false) ks)
 none_placed [] = tt

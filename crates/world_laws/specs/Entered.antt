@@ -35,8 +35,8 @@ EnteredGenerationsAreHeld = (pool_words passes : ℕ) (xs : List PureEntry) → 
     EntersHeld (after_entries (opening pool_words passes) xs) pass
 
 -- a step of a pass on a word of a place
-abbrev pub word_step : PassId → Place → ℕ → WordStep → Event
-word_step pass p word step = events.Word (hands.Pass pass) (cell p.region word) step
+abbrev pub word_event : PassId → Place → ℕ → WordStep → Event
+word_event pass p word step = events.Word (hands.Pass pass) (cell p.region word) step
 
 -- the event is possible, and after it the pass is entered in the same generation
 pub record MayDo (w : World) (pass : PassId) (x : Generation) (e : Event) : Type 0 where
@@ -45,7 +45,7 @@ pub record MayDo (w : World) (pass : PassId) (x : Generation) (e : Event) : Type
 
 -- the pass may step on each word of data and each register of a place, and mark each of its pages
 pub record MayStep (w : World) (pass : PassId) (x : Generation) (p : Place) : Type 0 where
-  pub words : (word : ℕ) (step : WordStep) → is_data_or_register p word ≡ true → MayDo w pass x (word_step pass p word step)
+  pub words : (word : ℕ) (step : WordStep) → is_data_or_register p word ≡ true → MayDo w pass x (word_event pass p word step)
   pub marks : (client : Client) (page : ℕ) → page < pages_in p → MayDo w pass x (events.Mark pass p.region client page)
 
 abbrev pub StepsArePossible : Type 0
