@@ -30,8 +30,9 @@ use Rattle.history_laws.proofs.ShownLaws.{generations_show_places}
 use Rattle.turn_laws.proofs.PassSteps.{touch_there}
 use Rattle.world_laws.specs.Standing.{StandsIn}
 use Rattle.world_laws.specs.Entered.{EntersHeld, MayStep}
-use Rattle.world_laws.proofs.Keeping.{Holds, holds, all_stand, found_has}
-use Rattle.world_laws.proofs.Entering.{every_element, entered_generations_are_held, steps_possible}
+use Rattle.world_laws.proofs.Keeping.{Holds, holds, all_stand}
+use Rattle.world_laws.proofs.Lists.{found_has, every_element}
+use Rattle.world_laws.proofs.Entering.{entered_generations_are_held, steps_possible}
 use Rattle.access_run.specs.Hands.{IsPlaceOf}
 use Rattle.kept_generations.specs.KeptState.{KeptState}
 use Rattle.place_words.specs.Blocks.{blocks_at}
