@@ -7,6 +7,7 @@ use Rattle.atomic_table.specs.Table.{Me, Step}
 use Rattle.mem_base.specs.declared.map.forests.Forest.{Forest}
 use Rattle.mem_base.specs.declared.access.cells.Place.{Place}
 use Rattle.mem_base.specs.declared.machine.events.Event.TheVariants as events
+use Rattle.mem_base.specs.declared.machine.events.HistoryEntry.{HistoryEntry}
 use Rattle.mem_base.specs.declared.machine.events.Carried.TheVariants.{Nothing}
 use Rattle.mem_base.specs.machine.Passes.{idle}
 use Rattle.mem_base.specs.machine.Generations.{Generation, generation}
@@ -29,6 +30,11 @@ shown_by forest places e = generation (forest e) (places e)
 -- the slot has a copy of an edition of number g, which shows this generation
 abbrev pub IsCopy : {E Z : Type 0} → (E → ℕ) → (E → Forest) → (E → List Place) → ℕ → Generation → Option (Arc E Z) → Type 0
 IsCopy {E} {Z} number forest places g x y = (a : Arc E Z) × (y ≡ Some a) × (number (arc_value a) ≡ g) × (shown_by forest places (arc_value a) ≡ x)
+
+-- the edition shows what the Publish of its number carried
+abbrev pub ShowsPublished : {E : Type 0} → (E → ℕ) → (E → Forest) → (E → List Place) → List HistoryEntry → E → Type 0
+ShowsPublished number forest places seen e = (number e < length (generations_published seen))
+    × (shown_by forest places e ≡ generation_published seen (number e))
 
 -- pass p is entered in this edition, by its own entries, and the edition shows what the Publish of its number carried
 pub record IsEnteredIn {E : Type 0} (number : E → ℕ) (forest : E → Forest) (places : E → List Place) (p : ℕ) (v : View) (e : E) : Type 0 where

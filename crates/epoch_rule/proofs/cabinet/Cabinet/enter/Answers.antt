@@ -146,6 +146,8 @@ invariant_of-pass g c =
           copy
           (subst (λ (y : Sizes × List HistoryEntry). PlacesFit y.0.words (generation_published y.1 r))
           (λ i. (sym (ap (λ m. m.0.sizes) now.3 ∙ came.sizes) i, sym seen i)) both.2),
+      subst (λ (y : Sizes × List HistoryEntry). IsLegal y.0 y.1)
+          (λ i. (sym (ap (λ m. m.0.sizes) now.3 ∙ came.sizes) i, sym seen i)) came.lawful,
     )
 
 pub returns-clause-current : goal.returns-clause-current

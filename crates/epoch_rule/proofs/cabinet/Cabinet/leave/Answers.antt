@@ -64,6 +64,7 @@ invariant_of-pass g c =
       subst (λ (y : Sizes). p < y.passes) (sym (did.sizes ∙ sizes)) inv.1,
       suits_on _ _ _ _ (sym (c.store.ensures.0 ∙ x.0)) (sym (did.sizes ∙ sizes)) inv.2,
       subst (HasItsEdition num forest places p c.store.new.seat.me) (sym c.take.ensures.after) (pass_added p _ _ _ _ _ refl did, c.store.ensures.2.0),
+      subst (λ (y : Sizes). IsLegal y c.store.new.seat.me.0.seen) (sym did.sizes) did.lawful,
     )
 
 pub returns-in-Some-clause-events : goal.returns-in-Some-clause-events

@@ -58,6 +58,7 @@ invariant_of-pass g c =
       suits_on _ _ _ _ (sym (c.load.ensures.0 ∙ j.0)) (sym sizes) inv.2,
       stands_more num forest places p c.pass.inside.seat.me c.load.new.seat.me c.pass.inside.edition (c.load.ensures.2.0 ∙ ap (λ m. m.1) j.2) sizes
           (h.was.0, h.was.1 ∙ sym seen) (h.quiet ∙ ap (own_entries (p + 1)) (sym seen)) inv.3,
+      subst (λ (w : View). IsLegal w.sizes w.seen) (sym h.same) h.lawful,
     )
 
 pub returns-clause-longer : goal.returns-clause-longer

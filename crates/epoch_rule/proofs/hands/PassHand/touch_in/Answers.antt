@@ -84,6 +84,7 @@ invariant_of-self g c =
       suits_on _ _ _ _ (sym c.touch_word.ensures.table) (sym k.sizes) inv.2,
       stands_still num forest places p c.self.inside.seat.me c.touch_word.new.seat.me c.self.inside.edition c.touch_word.ensures.seat.0 k.sizes k.begins same
           inv.3,
+      k.lawful inv.4,
     )
 
 pub returns-clause-shown : goal.returns-clause-shown

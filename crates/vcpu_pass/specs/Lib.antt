@@ -1,0 +1,5 @@
+pub mod Entries
+pub mod Steps
+pub mod Around
+pub mod StepLaws
+pub mod Calls
