@@ -15,12 +15,19 @@ use Rattle.mem_base.specs.map.Forest.{IsMade}
 use Rattle.mem_base.specs.views.Flattened.{view_of}
 use Rattle.mem_base.specs.views.LiveEvents.{is_same_live, lives_in_order, lives_of_range, lives_in, lives_of, without, events_of, events_at, meets, moved_to}
 use Rattle.mem_base.specs.views.Naming.{has_leaf}
+use Rattle.mem_base.specs.views.Walk.{walk}
+use Rattle.mem_base.specs.views.Listening.{change_of}
+use Rattle.mem_base.specs.declared.views.listening.Change.{Change}
+use Rattle.mem_base.specs.declared.views.listening.RangeEvent.{RangeEvent}
 use Rattle.view_laws.proofs.Tests.{true_is_not_false}
 use Rattle.view_laws.proofs.LiveLaws.{In, order_itself}
 use Rattle.view_laws.proofs.SortedLaws.{any_in, each_in}
 use Rattle.transact.specs.Touching.{is_listed, alters_leaf, IsAltered}
 use Rattle.transact.proofs.ReachedLaws.{listed_is}
 use Rattle.transact.proofs.MadeLaws.{lives_are}
+
+abbrev pub change_with : SpaceId → List RangeEvent → List Live → List Live → Change
+change_with s steps off on = record { space = s; walk = steps; lost = off; gained = on }
 
 -- nothing is lost or gained between equal lists
 
@@ -65,3 +72,16 @@ lives_stay f g s (Some altered) m n same k none =
     ∙ ap lives_in_order (same_lives f g (view_of g s) (each_in (λ r. events_of f r.leaf ≡ events_of g r.leaf) (view_of g s)
     (leaf_same f g altered k (view_of g s) none)))
     ∙ lives_are g s (view_of g s) (lives_in g (view_of g s)) n refl refl
+
+-- so nothing is told of it but that its ranges are kept
+pub kept_is : (f g : Forest) (s : SpaceId) (altered : Option (List RegionId)) (ranges : List FlatRange) (steps : List RangeEvent) (off on : List Live)
+    → IsMade f → IsMade g → ranges ≡ view_of g s → view_of f s ≡ view_of g s → IsAltered f g altered → alters_leaf altered ranges ≡ false
+    → steps ≡ walk ranges ranges → off ≡ [] → on ≡ [] → change_with s steps off on ≡ change_of f g s
+kept_is f g s altered ranges steps off on m n shown same k none told lost gained =
+    let lives : lives_of f s ≡ lives_of g s = lives_stay f g s altered m n same k (ap (alters_leaf altered) (sym shown) ∙ none) in
+    let steps_are : steps ≡ walk (view_of f s) (view_of g s) = told ∙ (λ i. walk ((shown ∙ sym same) i) (shown i)) in
+    let off_are : off ≡ without (lives_of f s) (lives_of g s) =
+    lost ∙ sym (ap (λ (ls : List Live). without (lives_of f s) ls) (sym lives) ∙ without_itself (lives_of f s)) in
+    let on_are : on ≡ without (lives_of g s) (lives_of f s) =
+    gained ∙ sym (ap (λ (ls : List Live). without ls (lives_of f s)) (sym lives) ∙ without_itself (lives_of f s)) in
+    λ i. change_with s (steps_are i) (off_are i) (on_are i)

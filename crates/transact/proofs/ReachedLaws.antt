@@ -16,13 +16,15 @@ use Rattle.mem_base.specs.map.Region.{IsAscending, has_id, node_of, is_in, is_ch
 use Rattle.mem_base.specs.map.Kinds.{target_of}
 use Rattle.mem_base.specs.map.Order.{trial_order, children_of, ids_of}
 use Rattle.mem_base.specs.map.Steps.{Steps, steps_at, steps_of, reaches_by, longest}
-use Rattle.mem_base.specs.map.Forest.{IsClosedForest, IsRegion, HasTarget}
+use Rattle.mem_base.specs.map.Forest.{IsClosedForest, IsMade, IsRegion, HasTarget}
 use Rattle.mem_base.specs.map.Search.{is_space, root_of}
 use Rattle.mem_base.specs.lists.Booleans.{bool_eq}
 use Rattle.mem_base.specs.map.Touched.{is_reached, is_reached_from, reached, is_same_region, is_same_kind, looks_alike, stays_alike, is_touched}
 use Rattle.mem_base.proofs.ForestLaws.{id_of, node_of-itself, every_node_of}
 use Rattle.transact.specs.Touching.{Rising, is_listed, is_other, AreOthers, is_container_listed, is_placed_among, meets_reach}
-use Rattle.transact.proofs.TouchedLaws.{touched_by}
+use Rattle.transact.specs.Desks.{reached_in}
+use Rattle.transact.proofs.TouchedLaws.{touched_by, found_regions, reach_known}
+use Rattle.transact.proofs.MadeLaws.{ordered_made, closed_made}
 use Rattle.view_laws.proofs.Tests.{both_of, or_left, or_right, none_is_not_some, same_some, true_is_not_false, same_region, some_of}
 use Rattle.view_laws.proofs.LiveLaws.{In, every_in}
 use Rattle.view_laws.proofs.SortedLaws.{any_in, any_found, filter_in, filter_out, map_in, map_out, sorted_in, sorted_out}
@@ -423,3 +425,14 @@ module _ (f g : Forest) (s : SpaceId) (others : List RegionId) (up : IsAscending
       let roots = roots_same (root_of f s) (root_of g s) root in
       let same = flags_same f.global g.global global in
       (stays_untouched f g up vp closed s roots all_calm same, reached_stays f g up vp closed s roots all_calm)
+
+-- of a space of which it is known what was reached in it
+pub kept_where : {X : Type 0} (h : X → List RegionId) (f g : Forest) (s : SpaceId) (others : List RegionId) (known : List (SpaceId × X)) (reach : List RegionId)
+    → IsMade f × IsMade g → map {B = SpaceId × List RegionId} (λ p. (p.0, h p.1)) known ≡ reached_in f → AreOthers f g others
+    → Some reach ≡ option_map (λ p. h p.1) (find (λ (p : SpaceId × X). p.0.0 == s.0) known) → meets_reach g others reach ≡ false
+    → is_same_region (root_of f s) (root_of g s) ≡ true → bool_eq f.global g.global ≡ true → (is_touched f g s ≡ false) × (reach ≡ reached g s)
+kept_where h f g s others known reach made k differ found apart root global =
+    let is : reach ≡ reached f s = ap found_regions found ∙ reach_known h f s known k in
+    let away : meets_reach g others (reached f s) ≡ false = subst (λ (rs : List RegionId). meets_reach g others rs ≡ false) is apart in
+    let stays = untouched_by f g s others (ordered_made f made.0).ascending (ordered_made g made.1).ascending (closed_made f made.0) differ away root global in
+    (stays.0, is ∙ stays.1)

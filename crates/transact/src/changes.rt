@@ -121,10 +121,13 @@ pub(crate) fn kept_change(
     }
     // It tells that the current forest is one that calls make.
     let _ = current.forest();
+    let walk = walk(alloc, atlas.view(), atlas.view())?;
+    let lost = Lives::new(Vec::new(alloc));
+    let gained = Lives::new(Vec::new(alloc));
     Ok(Change {
         space,
-        walk: walk(alloc, atlas.view(), atlas.view())?,
-        lost: Lives::new(Vec::new(alloc)),
-        gained: Lives::new(Vec::new(alloc)),
+        walk,
+        lost,
+        gained,
     })
 }

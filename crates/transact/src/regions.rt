@@ -176,7 +176,9 @@ pub(crate) fn kept_reach<'a>(
     if !is_same_region(root_in(old, space), new.root(space)) || old.global != new.is_global() {
         return None;
     }
-    let reach = reach_at(known, space)?;
+    let Some(reach) = reach_at(known, space) else {
+        return None;
+    };
     if meets(others, new, reach) {
         return None;
     }

@@ -1,5 +1,5 @@
 // What the spaces of a forest show that is to be published: their atlases, and the regions that are reached.
-ghost use Rattle.std.specs.Prelude.{◌≡◌, ◌+◌, ◌*◌, ◌≤◌, IsSome, IfOk, map};
+ghost use Rattle.std.specs.Prelude.{◌≡◌, ◌+◌, ◌*◌, ◌≤◌, false, IsSome, IfOk, map};
 ghost use Rattle.std.specs.Arc.{arc_value};
 ghost use Rattle.mem_base.specs.map.Search.{root_of};
 ghost use Rattle.mem_base.specs.map.Forest.{IsMade};
@@ -61,6 +61,25 @@ fn rendered<L: Ledger>(
     }
 }
 
+// The atlas that the current generation has of a space which is not touched.
+fn kept_atlas(
+    current: &Generation,
+    tree: &Tree,
+    space: SpaceId,
+) -> Result<Arc<Atlas, Global>, AllocError>
+    requires untouched { is_touched current.now.forest tree.now space ≡ false }
+    requires there { IsSome (root_of tree.now space) }
+    requires made { IsMade tree.now }
+    ensures view { IfOk result (λ atlas. arc_value atlas ≡ view_of tree.now space) }
+    ensures same { view_of current.now.forest space ≡ view_of tree.now space }
+{
+    let _ = current.forest();
+    let Some(atlas) = current.shared_atlas(space) else {
+        unreachable!();
+    };
+    Ok(Arc::try_clone(atlas)?)
+}
+
 // The atlas of a space: the one that the current generation has, where the space is not touched.
 fn atlas_of<L: Ledger>(
     alloc: Global,
@@ -80,17 +99,73 @@ fn atlas_of<L: Ledger>(
         let atlas = rendered(alloc, tree, space, steps)?;
         return Ok(atlas);
     }
-    let _ = current.forest();
-    let Some(atlas) = current.shared_atlas(space) else {
-        unreachable!();
-    };
-    Ok(Arc::try_clone(atlas)?)
+    let atlas = kept_atlas(current, tree, space)?;
+    Ok(atlas)
+}
+
+// A space in which no region that differs was reached, and none is placed now in one that was: it shares its atlas and the list
+// of what is reached with the current generation.
+fn kept_space(
+    alloc: Global,
+    current: &Generation,
+    tree: &Tree,
+    forest: &Forest,
+    altered: &Altered,
+    reach: &Arc<Regions, Global>,
+    space: SpaceId,
+) -> Result<ShownSpace, AllocError>
+    requires untouched { is_touched current.now.forest tree.now space ≡ false }
+    requires reach { arc_value reach.now ≡ reached tree.now space }
+    requires there { IsSome (root_of tree.now space) }
+    requires made { IsMade tree.now }
+    requires forest { forest.now ≡ tree.now }
+    requires altered { IsAltered current.now.forest tree.now altered.now }
+    ensures view { IfOk result (λ shown. arc_value shown.atlas ≡ view_of tree.now space) }
+    ensures reached { IfOk result (λ shown. arc_value shown.reach ≡ reached tree.now space) }
+    ensures change { IfOk result (λ shown. shown.change ≡ change_of current.now.forest tree.now space) }
+    ensures apart { IfOk result (λ shown. ShareNoLive shown.change.lost shown.change.gained) }
+{
+    let atlas = kept_atlas(current, tree, space)?;
+    let change = kept_change(alloc, current, forest, altered, &atlas, space)?;
+    Ok(ShownSpace {
+        atlas,
+        reach: Arc::try_clone(reach)?,
+        change,
+    })
+}
+
+// Any other space: it is searched for a region that differs, and rendered where there is one.
+fn searched_space<L: Ledger>(
+    alloc: Global,
+    current: &Generation,
+    known: &[(SpaceId, Arc<Regions, Global>)],
+    tree: &Tree,
+    forest: &Forest,
+    space: SpaceId,
+    steps: &mut Steps<L>,
+) -> Result<ShownSpace, AllocError>
+    requires known { map (λ p. (p.0, arc_value p.1)) known.now ≡ reached_in current.now.forest }
+    requires there { IsSome (root_of tree.now space) }
+    requires made { IsMade tree.now }
+    requires forest { forest.now ≡ tree.now }
+    ensures view { IfOk result (λ shown. arc_value shown.atlas ≡ view_of tree.now space) }
+    ensures reached { IfOk result (λ shown. arc_value shown.reach ≡ reached tree.now space) }
+    ensures change { IfOk result (λ shown. shown.change ≡ change_of current.now.forest tree.now space) }
+    ensures apart { IfOk result (λ shown. ShareNoLive shown.change.lost shown.change.gained) }
+    ensures carves { steps.new ≤ steps.old + carves_of current.now.forest tree.now space }
+{
+    let reach = Regions::new(tree.reach(space)?);
+    let touched = is_touched(current.forest(), known, tree, &reach, space);
+    let atlas = atlas_of(alloc, current, touched, tree, space, steps)?;
+    let change = change_for(alloc, current, forest, atlas.view(), space)?;
+    Ok(ShownSpace {
+        atlas,
+        reach: Arc::new(alloc, reach)?,
+        change,
+    })
 }
 
 // One space of a tree as it is shown: its root is there.
-//
-// Where no region that differs was reached in it, or is placed now in one that was, it shares its atlas and the list of what is
-// reached with the current generation.
 fn show_space<L: Ledger>(
     alloc: Global,
     current: &Generation,
@@ -115,25 +190,11 @@ fn show_space<L: Ledger>(
     ensures carves { steps.new ≤ steps.old + carves_of current.now.forest tree.now space }
 {
     if let Some(reach) = kept_reach(current.forest(), known, tree, others, space) {
-        let atlas = atlas_of(alloc, current, false, tree, space, steps)?;
-        let change = kept_change(alloc, current, forest, altered, &atlas, space)?;
-        let reach = Arc::try_clone(reach)?;
-        return Ok(ShownSpace {
-            atlas,
-            reach,
-            change,
-        });
+        let shown = kept_space(alloc, current, tree, forest, altered, reach, space)?;
+        return Ok(shown);
     }
-    let reach = Regions::new(tree.reach(space)?);
-    let touched = is_touched(current.forest(), known, tree, &reach, space);
-    let atlas = atlas_of(alloc, current, touched, tree, space, steps)?;
-    let change = change_for(alloc, current, forest, atlas.view(), space)?;
-    let reach = Arc::new(alloc, reach)?;
-    Ok(ShownSpace {
-        atlas,
-        reach,
-        change,
-    })
+    let shown = searched_space(alloc, current, known, tree, forest, space, steps)?;
+    Ok(shown)
 }
 
 /// What the spaces of a tree show. `known` has the regions that are reached in each space of the current generation, `forest` is

@@ -7,14 +7,14 @@ use Rattle.transact.specs.Touching.{is_other, IsAltered}
 use Rattle.transact.proofs.OtherLaws.{others_of_altered, others_of_all}
 use Rattle.transact.proofs.touched.others.Goals as goal
 
-pub returns-in-Some : goal.returns-in-Some
-returns-in-Some c =
+pub returns-in_ok-list-in-Some : goal.returns-in_ok-list-in-Some
+returns-in_ok-list-in-Some c =
     let known : IsAltered c.args.old.now c.args.new.now (Some c.in-Some.regions.now) =
     subst (IsAltered c.args.old.now c.args.new.now) (sym c.in-Some.ensures) c.requires.altered in
-    others_of_altered c.args.old.now c.args.new.now c.in-Some.regions.now c.in_ok-list.list.items known c.in_ok-list.ensures
+    others_of_altered c.args.old.now c.args.new.now c.in-Some.regions.now c.in_ok-list-in-Some.list.items known c.in_ok-list-in-Some.ensures
 
-pub returns-in-None : goal.returns-in-None
-returns-in-None c =
-    others_of_all c.args.old.now c.args.new.now c.in_ok-list-2.list.items
-    (c.in_ok-list-2.ensures ∙ ap (λ (g : Forest). filter (is_other c.args.old.now c.args.new.now) (ids_of c.args.old.now.nodes)
+pub returns-in_ok-list-in-None : goal.returns-in_ok-list-in-None
+returns-in_ok-list-in-None c =
+    others_of_all c.args.old.now c.args.new.now c.in_ok-list-in-None.list.items
+    (c.in_ok-list-in-None.ensures ∙ ap (λ (g : Forest). filter (is_other c.args.old.now c.args.new.now) (ids_of c.args.old.now.nodes)
     ++ filter (is_other c.args.old.now c.args.new.now) (ids_of g.nodes)) c.requires.forest)
