@@ -1,6 +1,7 @@
 //! How long the memory map takes: all calls that build a map, moves, look-ups of one address, a view, its atlas, and a
-//! walk to the next view; how long the text of a script takes to be read and printed (`scripts`); and how long places in a pool
-//! take.
+//! walk to the next view; how long places in a pool take, routes of accesses, accesses to registers, and changes that are
+//! published; how long a cabinet takes, and what a pass does in it; and how long the text of a script takes to be read and
+//! printed (`scripts`).
 //!
 //! Standard output has a line for each map, which is the same in every run: how many calls it takes, how many of them
 //! were refused, how many ranges its view has, and a sum over what the look-ups found; and one for each text: its bytes,
@@ -9,15 +10,25 @@
 //! they are small.
 #![tactic(auto)]
 
+ghost use Rattle.std.specs.Prelude.{◌≤◌, ◌+◌, ◌^◌};
+
+mod boards;
+mod cabinets;
+mod changes;
+mod desks;
 mod maps;
 mod pools;
 mod rounds;
+mod routes;
 mod scripts;
 mod views;
 
+use crate::cabinets::run_cabinet;
+use crate::changes::run_changes;
 use crate::maps::{Map, aliases, chains, flat, generated, heavy, zigzag};
 use crate::pools::run_pool;
 use crate::rounds::{Failed, run};
+use crate::routes::run_routes;
 use crate::views::run_views;
 use std::alloc::AllocError;
 use std::process::ExitCode;
@@ -31,6 +42,8 @@ struct Sizes {
     zigzag: u32,
     aliases: u32,
     heavy: u32,
+    cabinet: usize,
+    visits: u32,
     text: usize,
     rounds: u32,
     views: u32,
@@ -44,6 +57,8 @@ static SMALL: Sizes = Sizes {
     zigzag: 100,
     aliases: 100,
     heavy: 20,
+    cabinet: 32_835,
+    visits: 1000,
     text: 1000,
     rounds: 1,
     views: 1,
@@ -57,6 +72,8 @@ static FULL: Sizes = Sizes {
     zigzag: 2000,
     aliases: 4000,
     heavy: 1000,
+    cabinet: (1 << 26) + 64,
+    visits: 1_000_000,
     text: 1_048_576,
     rounds: 5,
     views: 60,
@@ -74,7 +91,9 @@ fn main(rt: HostRuntime) -> ExitCode {
     }
 }
 
-fn all(rt: HostRuntime, sizes: Sizes) -> Result<(), Failed> {
+fn all(rt: HostRuntime, sizes: Sizes) -> Result<(), Failed>
+    requires { (32771 ≤ sizes.cabinet) × (sizes.cabinet ≤ 2 ^ 26 + 64) }
+{
     for n in sizes.generated {
         run(rt, &generated(rt.alloc(), n)?, sizes.rounds, sizes.views)?;
     }
@@ -114,6 +133,9 @@ fn all(rt: HostRuntime, sizes: Sizes) -> Result<(), Failed> {
     let third = generated(rt.alloc(), sizes.generated[2])?;
     run_views(rt, &third, sizes.rounds)?;
     run_pool(rt, sizes.rounds)?;
+    run_routes(rt, &third, sizes.rounds)?;
+    run_changes(rt, &third, sizes.rounds)?;
+    run_cabinet(rt, sizes.cabinet, sizes.visits, sizes.rounds)?;
     scripts::all(rt, sizes.text, sizes.rounds)?;
     Ok(())
 }
