@@ -12,7 +12,7 @@ use step_counter::Steps;
 use transact::Step;
 
 /// The words of a pool, enough for the memory and the registers of each map.
-const WORDS: usize = 1 << 21;
+pub(crate) const WORDS: usize = 1 << 21;
 
 /// A desk with a map, and with what some more calls make, all of it published in one generation.
 pub(crate) fn desk_of(alloc: Global, map: &Map, more: &[Call]) -> Result<BackedDesk, Failed> {
@@ -25,7 +25,7 @@ pub(crate) fn desk_of(alloc: Global, map: &Map, more: &[Call]) -> Result<BackedD
 }
 
 /// Does calls inside the transaction that is open. Some may be refused.
-fn do_all(desk: &mut BackedDesk, calls: &[Call]) {
+pub(crate) fn do_all(desk: &mut BackedDesk, calls: &[Call]) {
     for call in calls {
         if desk.desk().depth() != 0 {
             let _ = desk.call(call);

@@ -21,6 +21,7 @@ mod pools;
 mod rounds;
 mod routes;
 mod scripts;
+mod vcpus;
 mod views;
 
 use crate::cabinets::run_cabinet;
@@ -29,9 +30,13 @@ use crate::maps::{Map, aliases, chains, flat, generated, heavy, zigzag};
 use crate::pools::run_pool;
 use crate::rounds::{Failed, run};
 use crate::routes::run_routes;
+use crate::vcpus::run_vcpus;
 use crate::views::run_views;
 use std::alloc::AllocError;
 use std::process::ExitCode;
+use std::sync::Wait;
+use std::thread::Threads;
+use std::time::Clock;
 
 /// How large the maps are, how often each is built, and how often each is rendered then.
 #[derive(Clone, Copy)]
@@ -85,13 +90,13 @@ fn main(rt: HostRuntime) -> ExitCode {
         Err(_) => false,
     };
     let sizes = if is_full { FULL } else { SMALL };
-    match all(rt, sizes) {
+    match all(rt, &rt, sizes) {
         Ok(()) => ExitCode::from(0),
         Err(_) => ExitCode::from(1),
     }
 }
 
-fn all(rt: HostRuntime, sizes: Sizes) -> Result<(), Failed>
+fn all<R: Threads + Wait + Clock + Sync>(rt: HostRuntime, threads: &R, sizes: Sizes) -> Result<(), Failed>
     requires { (32771 ≤ sizes.cabinet) × (sizes.cabinet ≤ 2 ^ 26 + 64) }
 {
     for n in sizes.generated {
@@ -135,6 +140,7 @@ fn all(rt: HostRuntime, sizes: Sizes) -> Result<(), Failed>
     run_pool(rt, sizes.rounds)?;
     run_routes(rt, &third, sizes.rounds)?;
     run_changes(rt, &third, sizes.rounds)?;
+    run_vcpus(rt, threads, &third, sizes.rounds)?;
     run_cabinet(rt, sizes.cabinet, sizes.visits, sizes.rounds)?;
     scripts::all(rt, sizes.text, sizes.rounds)?;
     Ok(())

@@ -1,0 +1,307 @@
+// How long reads and writes of a virtual CPU take: alone, and of four beside one another while a writer publishes.
+ghost use Rattle.std.specs.Prelude.{◌≡◌, IsTrue};
+ghost use Rattle.mem_base.specs.lists.Every.{Every};
+ghost use Rattle.bench.specs.Fits.{IsFit};
+
+use crate::desks::{WORDS, do_all};
+use crate::maps::Map;
+use crate::rounds::{Failed, nanos};
+use crate::routes::of_memory;
+use backed_desk::BackedDesk;
+use epoch_rule::{Batch, Cabinet, WriterSeat};
+use generation::Generation;
+use mem_base::{Call, Edition, Place, SpaceId};
+use std::alloc::{AllocError, Global};
+use std::marker::Brand;
+use std::sync::Arc;
+use std::sync::Wait;
+use std::sync::ledger::Blank;
+use std::thread;
+use std::thread::Threads;
+use std::time::{Clock, Instant};
+use step_counter::Steps;
+use transact::Prepared;
+use transact::Step;
+use vcpu_pass::Vcpu;
+
+/// The passes of the cabinet.
+const PASSES: u32 = 16;
+
+/// The words of the cabinet: those of the pool, and after them the notifiers'.
+const CABINET: usize = WORDS + 64;
+
+/// A virtual CPU, how long its last accesses took, in nanoseconds, and a sum over what it read.
+#[derive(Drop)]
+struct Reader<'c> {
+    vcpu: Vcpu<'c>,
+    nanos: u64,
+    sum: u64,
+}
+
+/// Whether the places lie in the cabinet's words.
+fn fit(places: &[Place]) -> bool
+    ensures { IsTrue result → Every IsFit places.now }
+{
+    for place in places {
+        if place.start > CABINET || place.words > CABINET - place.start {
+            return false;
+        }
+    }
+    true
+}
+
+/// Publishes what was prepared; whether it could.
+fn publish(
+    alloc: Global,
+    cabinet: &Cabinet<Generation>,
+    writer: &mut WriterSeat<Generation>,
+    prepared: &Prepared,
+) -> Result<bool, AllocError>
+    requires own { writer.old.cabinet ≡ cabinet.now.id }
+    requires sizes { (writer.old.sizes.passes ≡ 16) × (writer.old.sizes.words ≡ 2097216) }
+    requires fit { Every IsFit prepared.now.generation.places }
+    ensures same { (writer.new.cabinet ≡ writer.old.cabinet) × (writer.new.sizes ≡ writer.old.sizes) }
+{
+    let current = writer.current();
+    if current > 1000000 || prepared.generation().number() != current + 1 {
+        return Ok(false);
+    }
+    let batch = Batch::new(alloc, prepared.generation(), PASSES)?;
+    Ok(cabinet.publish(writer, batch).is_ok())
+}
+
+/// Makes a map in one transaction, and publishes it.
+fn build(
+    alloc: Global,
+    cabinet: &Cabinet<Generation>,
+    writer: &mut WriterSeat<Generation>,
+    desk: &mut BackedDesk,
+    map: &Map,
+) -> Result<bool, Failed>
+    requires own { writer.old.cabinet ≡ cabinet.now.id }
+    requires sizes { (writer.old.sizes.passes ≡ 16) × (writer.old.sizes.words ≡ 2097216) }
+    ensures same { (writer.new.cabinet ≡ writer.old.cabinet) × (writer.new.sizes ≡ writer.old.sizes) }
+{
+    desk.begin()?;
+    do_all(desk, map.calls.as_slice());
+    if !fit(desk.places()) {
+        return Ok(false);
+    }
+    let mut steps = Steps::<Brand>::new(Blank::new(1));
+    let Step::Ready(prepared) = desk.commit_prepare(&mut steps)? else {
+        return Ok(false);
+    };
+    if !publish(alloc, cabinet, writer, &prepared)? {
+        return Ok(false);
+    }
+    desk.done(prepared);
+    Ok(true)
+}
+
+/// Does a change, and publishes it; whether it could.
+fn change(
+    alloc: Global,
+    cabinet: &Cabinet<Generation>,
+    writer: &mut WriterSeat<Generation>,
+    desk: &mut BackedDesk,
+    call: &Call,
+) -> Result<bool, Failed>
+    requires own { writer.old.cabinet ≡ cabinet.now.id }
+    requires sizes { (writer.old.sizes.passes ≡ 16) × (writer.old.sizes.words ≡ 2097216) }
+    ensures same { (writer.new.cabinet ≡ writer.old.cabinet) × (writer.new.sizes ≡ writer.old.sizes) }
+{
+    if desk.desk().depth() != 0 || call.is_quiet() || !fit(desk.places()) {
+        return Ok(false);
+    }
+    let mut steps = Steps::<Brand>::new(Blank::new(1));
+    let prepared = desk.call_prepare(call, &mut steps)?;
+    if !publish(alloc, cabinet, writer, &prepared)? {
+        return Ok(false);
+    }
+    desk.done(prepared);
+    Ok(true)
+}
+
+/// Moves regions of the map, as often as there are calls that place one, until `most` moves were published; how many were.
+fn move_many(
+    alloc: Global,
+    cabinet: &Cabinet<Generation>,
+    mut writer: WriterSeat<Generation>,
+    mut desk: BackedDesk,
+    calls: &[Call],
+    most: u32,
+) -> Result<u32, Failed>
+    requires { (writer.cabinet ≡ cabinet.now.id) × (writer.sizes.passes ≡ 16) × (writer.sizes.words ≡ 2097216) }
+{
+    let mut moved = 0u32;
+    for call in calls {
+        if moved >= most {
+            break;
+        }
+        if let Call::Add { offset, child, .. } = *call {
+            let there = Call::Move { child, offset };
+            if change(alloc, cabinet, &mut writer, &mut desk, &there)? {
+                moved = moved.saturating_add(1);
+            }
+        }
+    }
+    Ok(moved)
+}
+
+/// Four virtual CPUs.
+fn crew<'c>(
+    alloc: Global,
+    cabinet: &'c Cabinet<Generation>,
+    writer: &mut WriterSeat<Generation>,
+) -> Result<Vec<Reader<'c>>, AllocError>
+    requires { writer.old.cabinet ≡ cabinet.now.id }
+    ensures same { (writer.new.cabinet ≡ writer.old.cabinet) × (writer.new.sizes ≡ writer.old.sizes) }
+{
+    let mut readers = Vec::new(alloc);
+    for _ in 0..4u8 {
+        if let Some(pass) = cabinet.pass(writer) {
+            readers.push(Reader {
+                vcpu: Vcpu::new(cabinet, pass),
+                nanos: 0,
+                sum: 0,
+            })?;
+        }
+    }
+    Ok(readers)
+}
+
+/// Reads eight bytes at each address of space 0, entering and leaving each time, and adds up what it finds.
+fn read_all(vcpu: &mut Vcpu<'_>, addrs: &[u32]) -> u64 {
+    let mut sum: u64 = 0;
+    for addr in addrs {
+        let mut word = [0u8; 8];
+        let access = vcpu.read(SpaceId(0), u64::from(*addr), &mut word);
+        sum = sum
+            .wrapping_add(u64::from_le_bytes(word))
+            .wrapping_add(access.number);
+    }
+    sum
+}
+
+/// Writes eight bytes at each address of space 0, entering and leaving each time.
+fn write_all<R: Wait>(rt: &R, vcpu: &mut Vcpu<'_>, addrs: &[u32]) -> u64 {
+    let mut sum: u64 = 0;
+    for addr in addrs {
+        let bytes = u64::from(*addr).to_le_bytes();
+        let access = vcpu.write(rt, SpaceId(0), u64::from(*addr), &bytes);
+        sum = sum.wrapping_add(access.number);
+    }
+    sum
+}
+
+/// Reads at all addresses, and keeps how long it took.
+fn time_reads<R: Clock>(rt: &R, reader: &mut Reader<'_>, addrs: &[u32]) {
+    if let Ok(start) = Instant::now(rt) {
+        reader.sum = read_all(&mut reader.vcpu, addrs);
+        if let Ok(time) = start.elapsed(rt) {
+            reader.nanos = nanos(time);
+        }
+    }
+}
+
+/// Writes at all addresses, and keeps how long it took.
+fn time_writes<R: Clock + Wait>(rt: &R, reader: &mut Reader<'_>, addrs: &[u32]) {
+    if let Ok(start) = Instant::now(rt) {
+        write_all(rt, &mut reader.vcpu, addrs);
+        if let Ok(time) = start.elapsed(rt) {
+            reader.nanos = nanos(time);
+        }
+    }
+}
+
+/// The greatest time of these.
+fn longest(readers: &[Reader<'_>]) -> u64 {
+    readers
+        .iter()
+        .map(|reader| reader.nanos)
+        .max()
+        .unwrap_or(0)
+}
+
+/// The least time of some rounds of reads and of writes by one virtual CPU alone.
+fn alone<R: Clock + Wait>(
+    rt: &R,
+    readers: &mut [Reader<'_>],
+    addrs: &[u32],
+    rounds: u32,
+) -> (u64, u64) {
+    let (mut reads, mut writes) = (u64::MAX, u64::MAX);
+    if let Some(reader) = readers.first_mut() {
+        for _ in 0..rounds {
+            time_writes(rt, reader, addrs);
+            writes = writes.min(reader.nanos);
+            time_reads(rt, reader, addrs);
+            reads = reads.min(reader.nanos);
+        }
+    }
+    (reads, writes)
+}
+
+/// Reads of all virtual CPUs beside one another, while the writer moves regions; how many moves there were.
+fn together<R: Threads + Clock + Sync>(
+    rt: &R,
+    alloc: Global,
+    cabinet: &Cabinet<Generation>,
+    readers: &mut [Reader<'_>],
+    addrs: &[u32],
+    writer: WriterSeat<Generation>,
+    desk: BackedDesk,
+    map: &Map,
+) -> Result<u32, Failed>
+    requires { (writer.cabinet ≡ cabinet.now.id) × (writer.sizes.passes ≡ 16) × (writer.sizes.words ≡ 2097216) }
+{
+    let calls = map.calls.as_slice();
+    let most = map.size / 4;
+    let ((), moved) = thread::join(
+        rt,
+        move || thread::for_each_mut(rt, readers, 4, &|_, reader| time_reads(rt, reader, addrs)),
+        move || move_many(alloc, cabinet, writer, desk, calls, most),
+    );
+    moved
+}
+
+/// Times reads and writes of eight bytes at drawn addresses of a map's memory by one virtual CPU, and the reads of four beside one
+/// another while a writer publishes moves.
+pub(crate) fn run_vcpus<R: Threads + Wait + Clock + Sync>(
+    rt: HostRuntime,
+    threads: &R,
+    map: &Map,
+    rounds: u32,
+) -> Result<(), Failed> {
+    let alloc = rt.alloc();
+    let mut desk = BackedDesk::new(alloc, WORDS)?;
+    let first = Arc::try_clone(desk.desk().current())?;
+    let (cabinet, mut writer) = Cabinet::new(alloc, PASSES, CABINET, first)?;
+    if !build(alloc, &cabinet, &mut writer, &mut desk, map)? {
+        return Err(Failed::Outside);
+    }
+    let addrs = of_memory(alloc, desk.desk().current(), map.size.saturating_mul(100))?;
+    let mut readers = crew(alloc, &cabinet, &mut writer)?;
+    let (reads, writes) = alone(threads, readers.as_mut_slice(), addrs.as_slice(), rounds);
+    let moved = together(
+        threads,
+        alloc,
+        &cabinet,
+        readers.as_mut_slice(),
+        addrs.as_slice(),
+        writer,
+        desk,
+        map,
+    )?;
+    let count = addrs.len() as u64;
+    println!(rt; "{} {} accessed: accesses {count}, moves {moved}", map.name, map.size)?;
+    eprintln!(rt;
+        "{} {} accessed: {count} reads {} us, {count} writes {} us, four times {count} reads together {} us",
+        map.name,
+        map.size,
+        reads / 1000,
+        writes / 1000,
+        longest(readers.as_slice()) / 1000
+    )?;
+    Ok(())
+}
