@@ -34,10 +34,3 @@ returns-in_err-push-3-clause-carves g c =
     c.show_space.new.steps (c.args.steps.now + most_carves f c.args.tree.now) c.loop-space-test.true c.loop-space.invariant.carves
     c.show_space.ensures.carves in
     omega (arith, room)
-
-pub loop-space-preserved-clause-carves : goal.loop-space-preserved-clause-carves
-loop-space-preserved-clause-carves g c =
-    let f = c.args.current.now.forest in
-    next_within (λ p. carves_of f c.args.tree.now p.0) c.as_slice-space-items.result.now c.loop-space.space-index _ c.loop-space.steps
-    c.show_space.new.steps (c.args.steps.now + most_carves f c.args.tree.now) c.loop-space-test.true c.loop-space.invariant.carves
-    c.show_space.ensures.carves
