@@ -40,24 +40,7 @@ pub(crate) fn run_cabinet(
     let Some(mut pass) = cabinet.pass(&mut writer) else {
         return Err(Failed::Outside);
     };
-    let mut sum = 0;
-    let mut least = Times {
-        visits: u64::MAX,
-        loads: u64::MAX,
-    };
-    for _ in 0..rounds {
-        let start = Instant::now(&rt)?;
-        let numbers = visit(&cabinet, &mut pass, count);
-        let visits = nanos(start.elapsed(&rt)?);
-        let start = Instant::now(&rt)?;
-        let found = load_all(&cabinet, &mut pass, drawn.as_slice());
-        let loads = nanos(start.elapsed(&rt)?);
-        sum = numbers.wrapping_add(found);
-        least = Times {
-            visits: least.visits.min(visits),
-            loads: least.loads.min(loads),
-        };
-    }
+    let (sum, least) = visits(rt, &cabinet, &mut pass, drawn.as_slice(), count, rounds)?;
     println!(rt; "cabinet {PASSES} {words}: visits and loads {count}, sum {sum}")?;
     eprintln!(rt;
         "cabinet {PASSES} {words}: made in {} us, {count} visits {} us, {count} loads {} us",
@@ -66,6 +49,39 @@ pub(crate) fn run_cabinet(
         least.loads / 1000
     )?;
     Ok(())
+}
+
+/// The sum of what was found in the last of some rounds, and the least times of all.
+fn visits(
+    rt: HostRuntime,
+    cabinet: &Cabinet<Board>,
+    pass: &mut Pass<Board>,
+    drawn: &[u32],
+    count: u32,
+    rounds: u32,
+) -> Result<(u64, Times), Failed>
+    requires own { pass.old.cabinet ≡ cabinet.now.id }
+    requires out { pass.old.edition ≡ None }
+{
+    let mut sum = 0;
+    let mut least = Times {
+        visits: u64::MAX,
+        loads: u64::MAX,
+    };
+    for _ in 0..rounds {
+        let start = Instant::now(&rt)?;
+        let numbers = visit(cabinet, pass, count);
+        let visits = nanos(start.elapsed(&rt)?);
+        let start = Instant::now(&rt)?;
+        let found = load_all(cabinet, pass, drawn);
+        let loads = nanos(start.elapsed(&rt)?);
+        sum = numbers.wrapping_add(found);
+        least = Times {
+            visits: least.visits.min(visits),
+            loads: least.loads.min(loads),
+        };
+    }
+    Ok((sum, least))
 }
 
 /// Drawn numbers of words of the memory.

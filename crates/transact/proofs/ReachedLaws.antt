@@ -436,3 +436,7 @@ kept_where h f g s others known reach made k differ found apart root global =
     let away : meets_reach g others (reached f s) ≡ false = subst (λ (rs : List RegionId). meets_reach g others rs ≡ false) is apart in
     let stays = untouched_by f g s others (ordered_made f made.0).ascending (ordered_made g made.1).ascending (closed_made f made.0) differ away root global in
     (stays.0, is ∙ stays.1)
+
+-- what is reached stands by ascending id
+pub reached_rises : (f : Forest) (s : SpaceId) (rs : List RegionId) → IsMade f → rs ≡ reached f s → Rising rs
+reached_rises f s rs made e = subst Rising (sym e) (rising_of (λ n. is_reached f s n.id) f.nodes (ordered_made f made).ascending)
