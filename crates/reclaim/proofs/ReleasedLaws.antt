@@ -1,0 +1,114 @@
+-- A ledger that has seen each generation answers what a reap releases.
+use Rattle.std.proofs.Common.{◌≡◌, ℕ, zero, suc, ◌+◌, ◌-◌, ◌<◌, ◌≤◌, ◌||◌, Bool, true, false, not, List, [], ◌∷◌, length, Some, None}
+use Rattle.std.proofs.Common.{refl, sym, ap, subst, ◌∙◌, arith, filter}
+use Rattle.std.specs.Prelude.{if◌then◌else◌, map, take, nat_lt, nat_le}
+use Rattle.std.specs.List.{list_any}
+use Rattle.std.proofs.lemmas.List.{take-map}
+use Rattle.std.proofs.lemmas.Bool.Decides.{nat_tests}
+use Rattle.mem_base.specs.declared.map.ids.RegionId.{RegionId}
+use Rattle.mem_base.specs.declared.map.forests.Forest.{Forest}
+use Rattle.mem_base.specs.lists.Every.{Every}
+use Rattle.mem_base.specs.views.Naming.{names}
+use Rattle.mem_base.specs.machine.Generations.{Generation, Generations, least_lowest, held_generations}
+use Rattle.mem_base.specs.machine.Reaps.{Writer, is_named, released}
+use Rattle.mem_base.proofs.EveryLaws.{weaker}
+use Rattle.generation.specs.Published.{Published}
+use Rattle.reclaim.specs.declared.notes.Note.{Note}
+use Rattle.reclaim.specs.Notes.{note, is_before, is_due, seen_in}
+use Rattle.reclaim.specs.Released.{last_naming, TellLast, KeepsSight, ArePublished, AnswersReleased}
+
+-- by a test
+either_way : {A : Type 0} (P : A → Type 0) (b : Bool) (x y : A) → (b ≡ true → P x) → (b ≡ false → P y) → P (if b then x else y)
+either_way P true x y p q = p refl
+either_way P false x y p q = q refl
+
+-- one note after one more forest was seen
+told : (fs : List Forest) (g : Published) (n : Note) → g.number ≡ length fs → n.last ≡ last_naming fs n.region
+    → (seen_in g n).last ≡ last_naming (g.forest ∷ fs) (seen_in g n).region
+told fs g n e h =
+    either_way (λ m. m.last ≡ last_naming (g.forest ∷ fs) m.region) (names g.forest n.region) (note n.region (Some g.number)) n
+    (λ yes. rw yes (ap (λ k. Some k) e))
+    (λ no. rw no h)
+
+pub keeps_sight : KeepsSight
+keeps_sight fs g [] e h = tt
+keeps_sight fs g (n ∷ ns) e h = (told fs g n e h.0, keeps_sight fs g ns e h.1)
+
+-- a forest of those that are looked at names the region
+abbrev named_in : RegionId → List Forest → Bool
+named_in region fs = list_any (λ f. names f region) fs
+
+-- one forest more, where the number is at most its own, and where it is above it
+one_more : (lowest : ℕ) (region : RegionId) (f : Forest) (fs : List Forest) (m : ℕ) (b : Bool) → names f region ≡ b → lowest ≤ length fs
+    → is_before lowest (last_naming fs region) ≡ not (named_in region (take m fs))
+    → is_before lowest (if b then Some (length fs) else last_naming fs region) ≡ not (b || named_in region (take m fs))
+one_more lowest region f fs m true e l h = grind (arith, nat_tests)
+one_more lowest region f fs m false e l h = h
+
+none_more : (lowest : ℕ) (region : RegionId) (fs : List Forest) (b : Bool) → length fs < lowest → is_before lowest (last_naming fs region) ≡ true
+    → is_before lowest (if b then Some (length fs) else last_naming fs region) ≡ true
+none_more lowest region fs true l h = grind (arith, nat_tests)
+none_more lowest region fs false l h = h
+
+module _ (lowest : ℕ) (region : RegionId) (f : Forest) (fs : List Forest)
+    (rest : is_before lowest (last_naming fs region) ≡ not (named_in region (take (length fs - lowest) fs))) where
+  one_above : (b : Bool) → nat_le lowest (length fs) ≡ b
+      → is_before lowest (last_naming (f ∷ fs) region) ≡ not (named_in region (take (length (f ∷ fs) - lowest) (f ∷ fs)))
+  one_above true e =
+      let l : lowest ≤ length fs = grind (arith, nat_tests) in
+      let n : length (f ∷ fs) - lowest ≡ suc (length fs - lowest) = omega arith in
+      rw n (one_more lowest region f fs (length fs - lowest) (names f region) refl l rest)
+  one_above false e =
+      let l : length fs < lowest = grind (arith, nat_tests) in
+      let n : length (f ∷ fs) - lowest ≡ 0 = omega arith in
+      let z : length fs - lowest ≡ 0 = omega arith in
+      let none : is_before lowest (last_naming fs region) ≡ true = rest ∙ ap (λ k. not (named_in region (take k fs))) z in
+      rw n (none_more lowest region fs (names f region) l none)
+
+-- the last forest that names a region has a number below this one just where none from it on names the region
+before_is : (lowest : ℕ) (region : RegionId) (fs : List Forest)
+    → is_before lowest (last_naming fs region) ≡ not (named_in region (take (length fs - lowest) fs))
+before_is lowest region [] = let z : 0 - lowest ≡ 0 = omega arith in rw z refl
+before_is lowest region (f ∷ fs) = one_above lowest region f fs (before_is lowest region fs) (nat_le lowest (length fs)) refl
+
+any_forest : (region : RegionId) (xs : List Generation) → list_any (λ x. names x.forest region) xs ≡ named_in region (map (λ x. x.forest) xs)
+any_forest region [] = refl
+any_forest region (x ∷ xs) = ap (λ b. names x.forest region || b) (any_forest region xs)
+
+take_less : {A : Type 0} (n m : ℕ) (xs : List A) → n ≤ m → take n (take m xs) ≡ take n xs
+take_less zero m xs l = refl
+take_less (suc n) zero xs l = absurd (omega arith)
+take_less (suc n) (suc m) [] l = refl
+take_less (suc n) (suc m) (x ∷ xs) l = ap (λ ys. x ∷ ys) (take_less n m xs (omega arith))
+
+-- a note is due just where no held generation names its region
+due_is : (fs : List Forest) (g : Generations) → ArePublished fs g → (n : Note) → n.last ≡ last_naming fs n.region
+    → is_due (least_lowest g.current g.passes) n ≡ not (is_named g n.region)
+due_is fs g p n e =
+    let lowest : ℕ = least_lowest g.current g.passes in
+    let count : ℕ = g.current + 1 - lowest in
+    let held : take count (map (λ (x : Generation). x.forest) g.kept) ≡ take count fs = ap (take count) p.kept ∙ take_less count (length g.kept) fs p.held in
+    ap (is_before lowest) e
+    ∙ before_is lowest n.region fs
+    ∙ ap (λ (k : ℕ). not (named_in n.region (take (k - lowest) fs))) p.count
+    ∙ sym (ap not (any_forest n.region (take count g.kept)
+    ∙ ap (named_in n.region) (sym (take-map (λ (x : Generation). x.forest) count g.kept) ∙ held)))
+
+-- the regions of the notes that pass a test are the regions that pass it
+filtered : (p : Note → Bool) (q : RegionId → Bool) (ns : List Note) → Every (λ n. p n ≡ q n.region) ns
+    → map (λ (n : Note). n.region) (filter p ns) ≡ filter q (map (λ (n : Note). n.region) ns)
+filtered p q [] h = refl
+filtered p q (n ∷ ns) h =
+    let rest = filtered p q ns h.1 in
+    elim (q n.region) as (λ b. q n.region ≡ b → map (λ (m : Note). m.region) (filter p (n ∷ ns)) ≡ filter q (n.region ∷ map (λ (m : Note). m.region) ns)) [
+      | true ↦ λ e. let is : p n ≡ true = h.0 ∙ e in rw (is, e) (ap (λ rs. n.region ∷ rs) rest)
+      | false ↦ λ e. let is : p n ≡ false = h.0 ∙ e in rw (is, e) rest
+    ] refl
+
+pub answers_released : AnswersReleased
+answers_released fs w dropped p tells same =
+    let lowest : ℕ = least_lowest w.generations.current w.generations.passes in
+    filtered (is_due lowest) (λ r. not (is_named w.generations r)) dropped
+    (weaker (λ n. n.last ≡ last_naming fs n.region) (λ n. is_due lowest n ≡ not (is_named w.generations n.region))
+    (due_is fs w.generations p) dropped tells)
+    ∙ ap (filter (λ r. not (is_named w.generations r))) same
