@@ -14,8 +14,6 @@ mod desks;
 #[cfg(test)]
 mod drawn_routes;
 #[cfg(test)]
-mod large;
-#[cfg(test)]
 mod plain_routes;
 #[cfg(test)]
 mod routes;

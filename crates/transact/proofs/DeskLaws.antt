@@ -1,12 +1,12 @@
 -- What a desk's calls leave of it.
-use Rattle.std.proofs.Common.{◌≡◌, ℕ, ◌+◌, ◌<◌, ◌≤◌, ◌^◌, ◌⊎◌, inl, inr, Bool, true, false, List, [], refl, sym, ap, subst, Ok, ◌∙◌, arith}
+use Rattle.std.proofs.Common.{◌≡◌, ℕ, ◌+◌, ◌<◌, ◌≤◌, ◌^◌, ◌⊎◌, inl, inr, Bool, true, false, List, refl, sym, ap, subst, Ok, ◌∙◌, arith}
 use Rattle.std.specs.Prelude.{Option, None, Some, IfSome, option_map, unwrap_or}
 use Rattle.std.proofs.lemmas.Option.{none-some}
 use Rattle.mem_base.specs.declared.map.ids.RegionId.{RegionId}
 use Rattle.mem_base.specs.declared.map.ids.SpaceId.{SpaceId}
 use Rattle.mem_base.specs.declared.map.forests.Forest.{Forest}
 use Rattle.mem_base.specs.declared.map.calls.Call.{Call}
-use Rattle.mem_base.specs.map.Calls.{after, answer_of}
+use Rattle.mem_base.specs.map.Calls.{after}
 use Rattle.mem_base.specs.map.Forest.{FitsTypes, IsMade}
 use Rattle.mem_base.specs.machine.Committed.{transaction}
 use Rattle.generation.specs.Published.{Published}
@@ -14,8 +14,6 @@ use Rattle.transact.specs.Desks.{DeskState, IsDesk, desk_state, publishes_due, r
 use Rattle.transact.specs.declared.spare.Next.{Next}
 use Rattle.transact.specs.Preparing.{Readied, IsOfDesk, IsFromCall, IsFromCommit}
 use Rattle.transact.specs.Spares.{IsSpare, IsNext}
-use Rattle.transact.specs.Touching.{Adds, altered_by}
-use Rattle.transact.proofs.AlteredLaws.{altered_after, altered_still, altered_nothing}
 use Rattle.transact.proofs.MadeLaws.{made_after, counted_after, closed_made}
 
 due_at_most : (b : Bool) → publishes_due b ≤ 1
@@ -27,19 +25,16 @@ one_more now pending = let few = due_at_most now in omega arith
 
 -- an accepted call, inside of a transaction where it is a change
 pub called : (f g : Forest) (call : Call) (depth : ℕ) (pending now : Bool) (current : Published) (known : List (SpaceId × List RegionId))
-    (spare new_spare : Option Forest) (altered new_altered : Option (List RegionId))
-    → IsDesk (desk_state (transaction f depth pending) current) known spare altered → FitsTypes call → after f call ≡ Ok g
+    (spare new_spare : Option Forest) → IsDesk (desk_state (transaction f depth pending) current) known spare → FitsTypes call → after f call ≡ Ok g
     → (depth ≡ 0 → now ≡ false) → publishes_due now ≤ publishes_due pending + 1 → IsSpare g new_spare
-    → Adds altered (altered_by call (answer_of f call)) new_altered
-    → IsDesk (desk_state (transaction g depth now) current) known new_spare new_altered
-called f g call depth pending now current known spare new_spare altered new_altered d fits e idle due same adds = record {
+    → IsDesk (desk_state (transaction g depth now) current) known new_spare
+called f g call depth pending now current known spare new_spare d fits e idle due same = record {
   made = made_after f g call d.made fits e;
   nested = d.nested;
   idle = idle;
   counted = let more = counted_after f g call e in let few = d.counted in omega arith;
   known_is = d.known_is;
   spare_is = same;
-  altered_are = altered_after current.forest f g call altered new_altered d.altered_are e adds;
 }
 
 -- the tree that goes with what was prepared, or where there is none the desk's own, is the forest of its generation
@@ -71,12 +66,11 @@ next_lacks f (Some n) is = (refl, is.1)
 
 -- what was prepared, when it is current
 pub done_desk : (d : DeskState) (r : Readied) (tree : Forest) (known new_known : List (SpaceId × List RegionId)) (spare new_spare : Option Forest)
-    (altered : Option (List RegionId)) → IsDesk d known spare altered → IsOfDesk d r → IsMade r.generation.forest → tree ≡ r.generation.forest
-    → new_known ≡ reached_in r.generation.forest → IsSpare tree new_spare
-    → IsDesk (desk_state (transaction tree 0 false) r.generation) new_known new_spare (Some [])
-done_desk d r tree known new_known spare new_spare altered k of_it made e reach second = go of_it.source
+    → IsDesk d known spare → IsOfDesk d r → IsMade r.generation.forest → tree ≡ r.generation.forest → new_known ≡ reached_in r.generation.forest
+    → IsSpare tree new_spare → IsDesk (desk_state (transaction tree 0 false) r.generation) new_known new_spare
+done_desk d r tree known new_known spare new_spare k of_it made e reach second = go of_it.source
   where
-    whole : r.generation.number ≤ r.generation.forest.calls → IsDesk (desk_state (transaction tree 0 false) r.generation) new_known new_spare (Some [])
+    whole : r.generation.number ≤ r.generation.forest.calls → IsDesk (desk_state (transaction tree 0 false) r.generation) new_known new_spare
     whole few = record {
       made = subst IsMade (sym e) made;
       nested = omega arith;
@@ -84,10 +78,9 @@ done_desk d r tree known new_known spare new_spare altered k of_it made e reach 
       counted = subst (λ (f : Forest). r.generation.number + 0 ≤ f.calls) (sym e) (let l = few in omega arith);
       known_is = reach;
       spare_is = second;
-      altered_are = altered_nothing r.generation.forest tree e;
     }
 
-    go : IsFromCall d r ⊎ IsFromCommit d r → IsDesk (desk_state (transaction tree 0 false) r.generation) new_known new_spare (Some [])
+    go : IsFromCall d r ⊎ IsFromCommit d r → IsDesk (desk_state (transaction tree 0 false) r.generation) new_known new_spare
     go (inl (outside, one)) =
         let more = counted_after d.state.forest r.generation.forest one.0 one.2 in
         let few = k.counted in
@@ -100,23 +93,9 @@ done_desk d r tree known new_known spare new_spare altered k of_it made e reach 
         whole (omega arith)
 
 -- where a change is pending, one more publish has a number
-pub number_fits : (d : DeskState) (known : List (SpaceId × List RegionId)) (spare : Option Forest) (altered : Option (List RegionId))
-    → IsDesk d known spare altered → d.state.pending ≡ true → d.current.number + 1 < 2 ^ 64
-number_fits d known spare altered k due =
+pub number_fits : (d : DeskState) (known : List (SpaceId × List RegionId)) (spare : Option Forest) → IsDesk d known spare
+    → d.state.pending ≡ true → d.current.number + 1 < 2 ^ 64
+number_fits d known spare k due =
     let few : d.current.number + 1 ≤ d.state.forest.calls = subst (λ b. d.current.number + publishes_due b ≤ d.state.forest.calls) due k.counted in
     let calls : d.state.forest.calls ≤ 2 ^ 62 = (closed_made d.state.forest k.made).few_calls in
     omega arith
-
--- a desk that notes more regions than differ, and has another second tree
-pub still_desk : (d : DeskState) (known : List (SpaceId × List RegionId)) (spare new_spare : Option Forest) (o : Option RegionId)
-    (altered new_altered : Option (List RegionId)) → IsDesk d known spare altered → IsSpare d.state.forest new_spare → Adds altered o new_altered
-    → IsDesk d known new_spare new_altered
-still_desk d known spare new_spare o altered new_altered k same adds = record {
-  made = k.made;
-  nested = k.nested;
-  idle = k.idle;
-  counted = k.counted;
-  known_is = k.known_is;
-  spare_is = same;
-  altered_are = altered_still d.current.forest d.state.forest o altered new_altered k.altered_are adds;
-}

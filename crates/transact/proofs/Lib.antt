@@ -6,8 +6,3 @@ pub mod PlacedLaws
 pub mod DeskLaws
 pub mod StepLaws
 pub mod SpareLaws
-pub mod ReachedLaws
-pub mod AlteredLaws
-pub mod OtherLaws
-pub mod KeptLaws
-pub mod ListedLaws

@@ -1,5 +1,5 @@
 -- One turn of a loop over a list whose members are taken one after another.
-use Rattle.std.proofs.Common.{◌≡◌, ℕ, ◌+◌, ◌<◌, ◌≤◌, List, [], ◌∷◌, ◌++◌, map, length, drop, drop-cons, get_or, add-one, sym, ap, ◌∙◌, append_assoc, arith}
+use Rattle.std.proofs.Common.{◌≡◌, ℕ, ◌+◌, ◌<◌, List, [], ◌∷◌, ◌++◌, map, length, drop, drop-cons, get_or, add-one, sym, ap, ◌∙◌, append_assoc}
 use Rattle.std.specs.List.{sum_by}
 use Rattle.std.proofs.lemmas.List.Sums.{sum_by-cons}
 
@@ -16,8 +16,3 @@ next_done k done whole xs i d y l e h =
 pub next_sum : {A : Type 0} (c : A → ℕ) (xs : List A) (i : ℕ) (d : A) → i < length xs
     → sum_by c (drop i xs) ≡ c (get_or xs i d) + sum_by c (drop (i + 1) xs)
 next_sum c xs i d l = ap (sum_by c) (taken xs i d l) ∙ sum_by-cons c (get_or xs i d) (drop (i + 1) xs)
-
--- what a member may take, and what those that are left may, is within the whole
-pub next_within : {A : Type 0} (c : A → ℕ) (xs : List A) (i : ℕ) (d : A) (before after whole : ℕ) → i < length xs
-    → before + sum_by c (drop i xs) ≤ whole → after ≤ before + c (get_or xs i d) → after + sum_by c (drop (i + 1) xs) ≤ whole
-next_within c xs i d before after whole l room took = let split = next_sum c xs i d l in omega arith

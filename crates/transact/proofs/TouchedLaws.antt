@@ -1,5 +1,5 @@
 -- Whether a space is touched, by the regions that are reached in it.
-use Rattle.std.proofs.Common.{◌≡◌, ℕ, ◌==◌, ◌||◌, not, Bool, true, false, eqb, List, [], ◌∷◌, map, filter, Option, Some, None, refl, sym, ap, ◌∙◌, arith, if◌then◌else◌}
+use Rattle.std.proofs.Common.{◌≡◌, ℕ, ◌==◌, ◌||◌, not, Bool, true, false, eqb, List, [], ◌∷◌, map, filter, Option, Some, None, refl, sym, ap, ◌∙◌, arith}
 use Rattle.std.specs.Prelude.{find, option_map}
 use Rattle.std.specs.List.{list_any}
 use Rattle.std.proofs.lemmas.Bool.Decides.{nat_tests}
@@ -14,7 +14,10 @@ use Rattle.mem_base.specs.map.Order.{ids_of}
 use Rattle.mem_base.specs.map.Search.{is_space, root_of}
 use Rattle.mem_base.specs.map.Touched.{is_same_region, is_reached_from, reached, stays_alike, is_touched}
 use Rattle.transact.specs.Desks.{regions_at, reached_in}
-use Rattle.transact.specs.Touching.{is_other}
+
+-- the region is not the same in both forests
+abbrev pub is_other : Forest → Forest → RegionId → Bool
+is_other f g r = not (stays_alike (node_of f.nodes r) (node_of g.nodes r))
 
 pub touched_by : (f g : Forest) (s : SpaceId) → is_same_region (root_of f s) (root_of g s) ≡ true → bool_eq f.global g.global ≡ true
     → is_touched f g s ≡ (list_any (is_other f g) (reached f s) || list_any (is_other f g) (reached g s))
@@ -65,28 +68,3 @@ either_first a b x y e f t = t ∙ sym (e ∙ ap (λ z. z || b) (sym f ∙ t))
 
 pub either_second : (a b x y z : Bool) → x ≡ (a || b) → y ≡ a → y ≡ false → z ≡ b → z ≡ x
 either_second a b x y z e f n s = s ∙ sym (e ∙ ap (λ w. w || b) (sym f ∙ n))
-
--- the regions that were found, none where none were
-abbrev pub found_regions : Option (List RegionId) → List RegionId
-found_regions None = []
-found_regions (Some rs) = rs
-
-find_through : {X : Type 0} (h : X → List RegionId) (s : SpaceId) (xs : List (SpaceId × X)) →
-    regions_at (find (λ p. p.0.0 == s.0) (map {B = SpaceId × List RegionId} (λ p. (p.0, h p.1)) xs))
-    ≡ found_regions (option_map (λ p. h p.1) (find (λ (p : SpaceId × X). p.0.0 == s.0) xs))
-find_through h s [] = refl
-find_through {X = X} h s (x ∷ xs) = go (eqb x.0.0 s.0) (find_through h s xs)
-  where
-    go : (b : Bool) → regions_at (find (λ p. p.0.0 == s.0) (map {B = SpaceId × List RegionId} (λ p. (p.0, h p.1)) xs))
-        ≡ found_regions (option_map (λ p. h p.1) (find (λ (p : SpaceId × X). p.0.0 == s.0) xs))
-        → regions_at (if b then Some (x.0, h x.1) else find (λ p. p.0.0 == s.0) (map {B = SpaceId × List RegionId} (λ p. (p.0, h p.1)) xs))
-        ≡ found_regions (option_map (λ p. h p.1) (if b then Some x else find (λ (p : SpaceId × X). p.0.0 == s.0) xs))
-    go true rest = refl
-    go false rest = rest
-
--- what is known of a space, where each list is behind something that has it
-pub reach_known : {X : Type 0} (h : X → List RegionId) (f : Forest) (s : SpaceId) (known : List (SpaceId × X))
-    → map {B = SpaceId × List RegionId} (λ p. (p.0, h p.1)) known ≡ reached_in f
-    → found_regions (option_map (λ p. h p.1) (find (λ (p : SpaceId × X). p.0.0 == s.0) known)) ≡ reached f s
-reach_known h f s known e =
-    sym (find_through h s known) ∙ known_reach f s (map {B = SpaceId × List RegionId} (λ p. (p.0, h p.1)) known) e

@@ -2,4 +2,3 @@ pub mod Desks
 pub mod Preparing
 pub mod Commits
 pub mod Spares
-pub mod Touching

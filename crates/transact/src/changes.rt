@@ -1,19 +1,18 @@
 // What listeners are told of a generation that is to be published.
-ghost use Rattle.std.specs.Prelude.{◌≡◌, IfOk};
-ghost use Rattle.std.specs.List.{list_any};
+ghost use Rattle.std.specs.Prelude.{◌≡◌, IfOk, map};
+ghost use Rattle.std.specs.Arc.{arc_value};
 ghost use Rattle.mem_base.specs.map.Forest.{IsMade};
 ghost use Rattle.mem_base.specs.views.Flattened.{view_of};
 ghost use Rattle.mem_base.specs.views.LiveEvents.{lives_of, ShareNoLive};
-ghost use Rattle.mem_base.specs.views.Listening.{change_of};
-ghost use Rattle.mem_base.specs.views.Naming.{has_leaf};
-ghost use Rattle.transact.specs.Touching.{IsAltered, alters_leaf};
+ghost use Rattle.mem_base.specs.views.Listening.{change_of, changes_between};
+ghost use Rattle.generation.specs.Published.{views_of};
 
-use crate::altered::Altered;
 use flat_lookup::Atlas;
 use generation::Generation;
 use ioevents::{differ, live};
-use mem_base::{Change, Forest, Lives, RegionId, SpaceId, View};
+use mem_base::{Change, Changes, Forest, Lives, SpaceId, View};
 use std::alloc::{AllocError, Global};
+use std::sync::Arc;
 use view_walk::walk;
 
 // The live ioeventfds of a space of a forest, by its view.
@@ -53,8 +52,8 @@ fn change_from(
     })
 }
 
-/// How what a space shows differs from the current generation, which may have no such space.
-pub(crate) fn change_for(
+// How what a space shows differs from the current generation, which may have no such space.
+fn change_for(
     alloc: Global,
     current: &Generation,
     forest: &Forest,
@@ -76,58 +75,20 @@ pub(crate) fn change_for(
     Ok(change)
 }
 
-// Whether a call may have changed a region that is a leaf in the view of an atlas.
-fn alters_leaf(altered: &Altered, atlas: &Atlas) -> bool
-    ensures { result ≡ alters_leaf altered.now atlas.now }
-{
-    match altered.regions() {
-        Some(regions) => any_leaf(regions, atlas),
-        None => true,
-    }
-}
-
-// Whether one of these regions is a leaf in the view of an atlas.
-fn any_leaf(regions: &[RegionId], atlas: &Atlas) -> bool
-    ensures { result ≡ list_any (λ r. has_leaf r atlas.now) regions.now }
-{
-    for region in regions {
-        if atlas.has_leaf(*region) {
-            return true;
-        }
-    }
-    false
-}
-
-/// How what a space shows differs from the current generation, where it has the same view in both: its ranges are kept, and its
-/// ioeventfds are looked at only where a call may have changed one of its leaves.
-pub(crate) fn kept_change(
+/// The changes of all spaces of a forest from the current generation to it, in order of making.
+pub(crate) fn changes(
     alloc: Global,
     current: &Generation,
     forest: &Forest,
-    altered: &Altered,
-    atlas: &Atlas,
-    space: SpaceId,
-) -> Result<Change, AllocError>
+    atlases: &[(SpaceId, Arc<Atlas, Global>)],
+) -> Result<Changes, AllocError>
     requires made { IsMade forest.now }
-    requires altered { IsAltered current.now.forest forest.now altered.now }
-    requires view { atlas.now ≡ view_of forest.now space }
-    requires same { view_of current.now.forest space ≡ view_of forest.now space }
-    ensures change { IfOk result (λ change. change ≡ change_of current.now.forest forest.now space) }
-    ensures apart { IfOk result (λ change. ShareNoLive change.lost change.gained) }
+    requires atlases { map (λ p. (p.0, arc_value p.1)) atlases.now ≡ views_of forest.now }
+    ensures { IfOk result (λ changes. changes ≡ changes_between current.now.forest forest.now) }
 {
-    if alters_leaf(altered, atlas) {
-        let change = change_for(alloc, current, forest, atlas.view(), space)?;
-        return Ok(change);
+    let mut changes = Vec::new(alloc);
+    for (space, atlas) in atlases {
+        changes.push(change_for(alloc, current, forest, atlas.view(), *space)?)?;
     }
-    // It tells that the current forest is one that calls make.
-    let _ = current.forest();
-    let walk = walk(alloc, atlas.view(), atlas.view())?;
-    let lost = Lives::new(Vec::new(alloc));
-    let gained = Lives::new(Vec::new(alloc));
-    Ok(Change {
-        space,
-        walk,
-        lost,
-        gained,
-    })
+    Ok(Changes::new(changes))
 }

@@ -11,7 +11,6 @@ ghost use Rattle.transact.specs.Desks.{first_state, with_state};
 ghost use Rattle.transact.specs.Preparing.{AreDeskPlaces, readied, IsOfDesk, when_done, most_carves};
 ghost use Rattle.transact.specs.Commits.{IsStep};
 
-use crate::altered::{Altered, altered_by};
 use crate::prepared::{Prepared, Step};
 use crate::preparing::prepare;
 use crate::regions::Regions;
@@ -40,13 +39,10 @@ pub struct Desk {
     pending: bool,
     current: Arc<Generation, Global>,
     // the regions that are reached in each space of the current generation
-    reached: Vec<(SpaceId, Arc<Regions, Global>)>,
-    // the regions that calls have changed since
-    altered: Altered,
+    reached: Vec<(SpaceId, Regions)>,
 }
 
 impl Model for Desk {
-    ghost use Rattle.std.specs.Prelude.{map};
     ghost use Rattle.std.specs.Arc.{arc_value};
     ghost use Rattle.mem_base.specs.machine.Committed.{transaction};
     ghost use Rattle.transact.specs.Desks.{DeskState, desk_state, IsDesk};
@@ -55,8 +51,7 @@ impl Model for Desk {
 
     ghost view = { λ d. desk_state (transaction d.tree d.depth d.pending) (arc_value d.current) };
 
-    ghost invariant = { λ d. IsDesk (desk_state (transaction d.tree d.depth d.pending) (arc_value d.current))
-        (map (λ p. (p.0, arc_value p.1)) d.reached.items) d.spare d.altered };
+    ghost invariant = { λ d. IsDesk (desk_state (transaction d.tree d.depth d.pending) (arc_value d.current)) d.reached.items d.spare };
 }
 
 // That an address of a call is below 2^64.
@@ -98,7 +93,6 @@ impl Desk {
             pending: false,
             current: Arc::new(alloc, generation)?,
             reached: Vec::new(alloc),
-            altered: Altered::nothing(alloc),
         })
     }
 
@@ -164,7 +158,6 @@ impl Desk {
         fits(call);
         let applied = self.tree.apply(call)?;
         self.spare = lacking(self.spare.take(), call);
-        self.altered.add(altered_by(call, applied));
         if !call.is_quiet() {
             self.pending = true;
         }
@@ -196,20 +189,15 @@ impl Desk {
     {
         fits(call);
         let (mut tree, mut missing) = second(self.alloc, &self.tree, self.spare.take())?;
-        let applied = match tree.apply(call) {
-            Ok(applied) => applied,
-            Err(why) => {
-                self.spare = Some(Spare::new(tree, missing));
-                return Err(why);
-            }
-        };
+        if let Err(why) = tree.apply(call) {
+            self.spare = Some(Spare::new(tree, missing));
+            return Err(why);
+        }
         missing.push(*call)?;
-        self.altered.add(altered_by(call, applied));
         let prepared = prepare(
             self.alloc,
             &self.current,
             self.reached.as_slice(),
-            &self.altered,
             &tree,
             places,
             steps,
@@ -253,7 +241,6 @@ impl Desk {
             self.alloc,
             &self.current,
             self.reached.as_slice(),
-            &self.altered,
             &self.tree,
             places,
             steps,
@@ -280,6 +267,5 @@ impl Desk {
         self.pending = false;
         self.current = generation;
         self.reached = reached;
-        self.altered = Altered::nothing(self.alloc);
     }
 }

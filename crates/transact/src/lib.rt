@@ -6,7 +6,6 @@
 //! takes no memory and cannot fail.
 #![tactic(auto)]
 
-mod altered;
 mod changes;
 mod desk;
 mod prepared;

@@ -1,5 +1,5 @@
 // What is prepared before a generation becomes current.
-ghost use Rattle.std.specs.Prelude.{◌≡◌, None, Some, map};
+ghost use Rattle.std.specs.Prelude.{◌≡◌, None, Some};
 ghost use Rattle.std.specs.Arc.{arc_value};
 ghost use Rattle.transact.specs.Desks.{reached_in};
 ghost use Rattle.transact.specs.Spares.{IsNext};
@@ -19,11 +19,11 @@ pub struct Prepared {
     pub(crate) generation: Arc<Generation, Global>,
     pub(crate) changes: Changes,
     pub(crate) next: Option<Next>,
-    pub(crate) reached: Vec<(SpaceId, Arc<Regions, Global>)>,
+    pub(crate) reached: Vec<(SpaceId, Regions)>,
 }
 
 impl Model for Prepared {
-    ghost use Rattle.std.specs.Prelude.{◌≡◌, IfSome, option_map, map};
+    ghost use Rattle.std.specs.Prelude.{◌≡◌, IfSome, option_map};
     ghost use Rattle.std.specs.Arc.{arc_value};
     ghost use Rattle.transact.specs.Preparing.{Readied};
     ghost use Rattle.transact.specs.Desks.{reached_in};
@@ -33,7 +33,7 @@ impl Model for Prepared {
 
     ghost view = { λ p. record { generation = arc_value p.generation; changes = p.changes; call = option_map (λ n. n.call) p.next } };
 
-    ghost invariant = { λ p. (map (λ q. (q.0, arc_value q.1)) p.reached.items ≡ reached_in (arc_value p.generation).forest)
+    ghost invariant = { λ p. (p.reached.items ≡ reached_in (arc_value p.generation).forest)
         × IfSome p.next (IsNext (arc_value p.generation).forest) };
 }
 
@@ -42,9 +42,9 @@ impl Prepared {
     pub(crate) fn new(
         generation: Arc<Generation, Global>,
         changes: Changes,
-        reached: Vec<(SpaceId, Arc<Regions, Global>)>,
+        reached: Vec<(SpaceId, Regions)>,
     ) -> Prepared
-        requires { map (λ p. (p.0, arc_value p.1)) reached.items ≡ reached_in (arc_value generation).forest }
+        requires { reached.items ≡ reached_in (arc_value generation).forest }
         ensures generation { result.generation ≡ arc_value generation }
         ensures changes { result.changes ≡ changes }
         ensures call { result.call ≡ None }

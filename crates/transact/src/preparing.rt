@@ -9,13 +9,11 @@ ghost use Rattle.mem_base.specs.machine.Desk.{shown_places};
 ghost use Rattle.generation.specs.Published.{views_of};
 ghost use Rattle.transact.specs.Desks.{reached_in};
 ghost use Rattle.transact.specs.Preparing.{AreDeskPlaces, readied, most_carves};
-ghost use Rattle.transact.specs.Touching.{IsAltered};
 
-use crate::altered::Altered;
+use crate::changes::changes;
 use crate::prepared::Prepared;
 use crate::regions::Regions;
 use crate::shown::{Shown, show_spaces};
-use crate::touched::others;
 use flat_lookup::Atlas;
 use generation::{Generation, is_leaf_among};
 use mem_base::{Edition, Forest, Node, Place, RegionId, SpaceId};
@@ -101,19 +99,17 @@ fn places_of(
 
 /// The generation that publishes the forest of a tree after the current one, and what listeners are told of it.
 ///
-/// `known` has the regions that are reached in each space of the current generation; `altered` the regions that calls changed
-/// since; `places` the places of all regions that have words, and the notifiers'. Only spaces that are touched are rendered.
+/// `known` has the regions that are reached in each space of the current generation; `places` the places of all regions that
+/// have words, and the notifiers'. Only spaces that are touched are rendered.
 pub(crate) fn prepare<L: Ledger>(
     alloc: Global,
     current: &Generation,
-    known: &[(SpaceId, Arc<Regions, Global>)],
-    altered: &Altered,
+    known: &[(SpaceId, Regions)],
     tree: &Tree,
     places: &[Place],
     steps: &mut Steps<L>,
 ) -> Result<Prepared, AllocError>
-    requires known { map (λ p. (p.0, arc_value p.1)) known.now ≡ reached_in current.now.forest }
-    requires altered { IsAltered current.now.forest tree.now altered.now }
+    requires known { known.now ≡ reached_in current.now.forest }
     requires number { current.now.number + 1 < 2 ^ 64 }
     requires made { IsMade tree.now }
     requires places { AreDeskPlaces tree.now places.now }
@@ -121,21 +117,15 @@ pub(crate) fn prepare<L: Ledger>(
     ensures carves { steps.new ≤ steps.old + most_carves current.now.forest tree.now }
 {
     let forest = tree.forest()?;
-    let others = others(alloc, current.forest(), tree, &forest, altered)?;
-    let Shown {
-        atlases,
-        reached,
-        changes,
-    } = show_spaces(
+    let Shown { atlases, reached } = show_spaces(
         alloc,
         current,
         known,
         tree,
-        &forest,
-        altered,
-        others.as_slice(),
+        forest.spaces.as_slice(),
         steps,
     )?;
+    let changes = changes(alloc, current, &forest, atlases.as_slice())?;
     let places = places_of(alloc, &forest, atlases.as_slice(), places)?;
     let number = current.number() + 1;
     let generation = Generation::new(number, forest, atlases, places);

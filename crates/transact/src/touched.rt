@@ -1,17 +1,13 @@
 // Which spaces a change of the forest touches.
-ghost use Rattle.std.specs.Prelude.{◌≡◌, ◌==◌, ◌&&◌, not, IfOk, filter, OnOk, ◌++◌};
+ghost use Rattle.std.specs.Prelude.{◌≡◌, ◌==◌, ◌&&◌, not};
 ghost use Rattle.std.specs.List.{list_any};
 ghost use Rattle.std.specs.Ordering.{int_cmp, is_eq};
 ghost use Rattle.mem_base.specs.lists.Booleans.{bool_eq};
 ghost use Rattle.mem_base.specs.map.Region.{node_of};
-ghost use Rattle.mem_base.specs.map.Order.{ids_of};
 ghost use Rattle.mem_base.specs.map.Touched.{is_same_device_kind, is_same_ops, is_same_device, is_same_kind, is_same_region, looks_alike, stays_alike};
-ghost use Rattle.transact.specs.Touching.{is_other, AreOthers, IsAltered};
 
-use crate::altered::Altered;
 use mem_base::{Device, DeviceKind, Forest, Kind, Node, Ops, RegionId};
 use region_tree::Tree;
-use std::alloc::{AllocError, Global};
 
 fn is_same_device_kind(x: DeviceKind, y: DeviceKind) -> bool
     ensures { result ≡ is_same_device_kind x y }
@@ -116,7 +112,7 @@ fn looks_alike(x: &Node, y: &Node) -> bool
 
 // Whether a region is in one of two forests only, or does not look alike in both.
 fn differs(old: &Forest, new: &Tree, region: RegionId) -> bool
-    ensures { result ≡ is_other old.now new.now region }
+    ensures { result ≡ not (stays_alike (node_of old.now.nodes region) (node_of new.now.nodes region)) }
 {
     match (old.nodes.get(region), new.node(region)) {
         (Some(x), Some(y)) => !looks_alike(x, y),
@@ -135,80 +131,4 @@ pub(crate) fn any_differs(old: &Forest, new: &Tree, regions: &[RegionId]) -> boo
         }
     }
     false
-}
-
-// Those of some regions that differ.
-fn differing(
-    alloc: Global,
-    old: &Forest,
-    new: &Tree,
-    regions: &[RegionId],
-) -> Result<Vec<RegionId>, AllocError>
-    ensures { IfOk result (λ list. list.items ≡ filter (is_other old.now new.now) regions.now) }
-{
-    let mut list = Vec::new(alloc);
-    for region in regions {
-        if differs(old, new, *region) {
-            list.push(*region)?;
-        }
-    }
-    Ok(list)
-}
-
-// Appends those of the regions of some nodes that differ.
-fn add_differing(
-    list: &mut Vec<RegionId>,
-    old: &Forest,
-    new: &Tree,
-    nodes: &[Node],
-) -> Result<(), AllocError>
-    ensures { OnOk result (list.new.items ≡ list.old.items ++ filter (is_other old.now new.now) (ids_of nodes.now)) }
-{
-    for node in nodes {
-        if differs(old, new, node.id) {
-            list.push(node.id)?;
-        }
-    }
-    Ok(())
-}
-
-// Those of all regions that differ: first those of the first forest.
-fn all_differing(
-    alloc: Global,
-    old: &Forest,
-    new: &Tree,
-    forest: &Forest,
-) -> Result<Vec<RegionId>, AllocError>
-    ensures { IfOk result (λ list. list.items ≡ filter (is_other old.now new.now) (ids_of old.now.nodes)
-        ++ filter (is_other old.now new.now) (ids_of forest.now.nodes)) }
-{
-    let mut list = Vec::new(alloc);
-    add_differing(&mut list, old, new, old.nodes.as_slice())?;
-    add_differing(&mut list, old, new, forest.nodes.as_slice())?;
-    Ok(list)
-}
-
-/// The regions that differ from one forest to another: of those that calls have changed, where they are known, and else of all.
-/// `forest` is the second one.
-pub(crate) fn others(
-    alloc: Global,
-    old: &Forest,
-    new: &Tree,
-    forest: &Forest,
-    altered: &Altered,
-) -> Result<Vec<RegionId>, AllocError>
-    requires forest { forest.now ≡ new.now }
-    requires altered { IsAltered old.now new.now altered.now }
-    ensures { IfOk result (λ others. AreOthers old.now new.now others.items) }
-{
-    match altered.regions() {
-        Some(regions) => {
-            let list = differing(alloc, old, new, regions)?;
-            Ok(list)
-        }
-        None => {
-            let list = all_differing(alloc, old, new, forest)?;
-            Ok(list)
-        }
-    }
 }

@@ -3,8 +3,7 @@ use Rattle.std.specs.List.{list_any}
 use Rattle.mem_base.specs.lists.Booleans.{bool_eq}
 use Rattle.mem_base.specs.map.Search.{root_of}
 use Rattle.mem_base.specs.map.Touched.{is_same_region, reached}
-use Rattle.transact.specs.Touching.{is_other}
-use Rattle.transact.proofs.TouchedLaws.{touched_by, either_first, either_second}
+use Rattle.transact.proofs.TouchedLaws.{is_other, touched_by, known_reach, either_first, either_second}
 use Rattle.transact.proofs.regions.is_touched.Goals as goal
 
 pub returns-then-any_differs : goal.returns-then-any_differs
@@ -15,7 +14,7 @@ returns-then-any_differs c =
     let roots : is_same_region (root_of f s) (root_of g s) ≡ true = search rules in
     let global : bool_eq f.global g.global ≡ true = search rules in
     let first : c.any_differs.result ≡ list_any (is_other f g) (reached f s) =
-    c.any_differs.ensures ∙ ap (list_any (is_other f g)) c.reached_before.ensures in
+    c.any_differs.ensures ∙ ap (list_any (is_other f g)) (c.regions_at.ensures ∙ known_reach f s c.args.known.now c.requires.known) in
     either_first _ _ _ _ (touched_by f g s roots global) first (search rules)
 
 pub returns-else-any_differs : goal.returns-else-any_differs
@@ -26,7 +25,7 @@ returns-else-any_differs c =
     let roots : is_same_region (root_of f s) (root_of g s) ≡ true = search rules in
     let global : bool_eq f.global g.global ≡ true = search rules in
     let first : c.any_differs.result ≡ list_any (is_other f g) (reached f s) =
-    c.any_differs.ensures ∙ ap (list_any (is_other f g)) c.reached_before.ensures in
+    c.any_differs.ensures ∙ ap (list_any (is_other f g)) (c.regions_at.ensures ∙ known_reach f s c.args.known.now c.requires.known) in
     let second : c.any_differs-else-any_differs.result ≡ list_any (is_other f g) (reached g s) =
     c.any_differs-else-any_differs.ensures ∙ ap (list_any (is_other f g)) (c.as_slice.ensures ∙ c.requires.reach) in
     either_second _ _ _ _ _ (touched_by f g s roots global) first (search rules) second

@@ -1,4 +1,4 @@
-use Rattle.std.proofs.Common.{rules, ◌≡◌, Ok, true, map}
+use Rattle.std.proofs.Common.{rules, ◌≡◌, Ok, true}
 use Rattle.std.specs.Arc.{arc_value}
 use Rattle.mem_base.specs.map.Calls.{after}
 use Rattle.transact.specs.Spares.{IsSpare}
@@ -11,9 +11,9 @@ invariant_of-self-then-not-is_quiet c =
     let g = c.apply.new.self in
     let done : after f c.args.call.now ≡ Ok g = c.in_ok-applied.ensures.applied.0 in
     let spare : IsSpare f c.take.result = search rules in
-    called f g c.args.call.now c.self.inside.depth c.self.inside.pending true (arc_value c.self.inside.current) (map (λ p. (p.0, arc_value p.1)) c.self.inside.reached.items)
-    c.self.inside.spare c.lacking.result c.self.inside.altered c.add.new.self c.self.invariant c.fits.ensures done (λ outside. search rules) (one_more true c.self.inside.pending)
-    (c.lacking.ensures f g spare done) (search rules)
+    called f g c.args.call.now c.self.inside.depth c.self.inside.pending true (arc_value c.self.inside.current) c.self.inside.reached.items c.self.inside.spare
+    c.lacking.result c.self.invariant c.fits.ensures done (λ outside. search rules) (one_more true c.self.inside.pending)
+    (c.lacking.ensures f g spare done)
 
 pub invariant_of-self-else-not-is_quiet : goal.invariant_of-self-else-not-is_quiet
 invariant_of-self-else-not-is_quiet c =
@@ -21,6 +21,6 @@ invariant_of-self-else-not-is_quiet c =
     let g = c.apply.new.self in
     let done : after f c.args.call.now ≡ Ok g = c.in_ok-applied.ensures.applied.0 in
     let spare : IsSpare f c.take.result = search rules in
-    called f g c.args.call.now c.self.inside.depth c.self.inside.pending c.self.inside.pending (arc_value c.self.inside.current) (map (λ p. (p.0, arc_value p.1)) c.self.inside.reached.items)
-    c.self.inside.spare c.lacking.result c.self.inside.altered c.add.new.self c.self.invariant c.fits.ensures done c.self.invariant.idle (one_more c.self.inside.pending c.self.inside.pending)
-    (c.lacking.ensures f g spare done) (search rules)
+    called f g c.args.call.now c.self.inside.depth c.self.inside.pending c.self.inside.pending (arc_value c.self.inside.current) c.self.inside.reached.items
+    c.self.inside.spare c.lacking.result c.self.invariant c.fits.ensures done c.self.invariant.idle (one_more c.self.inside.pending c.self.inside.pending)
+    (c.lacking.ensures f g spare done)

@@ -1,8 +1,7 @@
-use Rattle.std.proofs.Common.{rules, ◌≡◌, ◌+◌, ◌<◌, ◌^◌, List, map, ap, subst, ◌∙◌}
+use Rattle.std.proofs.Common.{rules, ◌≡◌, ◌+◌, ◌<◌, ◌^◌, subst}
 use Rattle.std.specs.Arc.{arc_value}
 use Rattle.mem_base.specs.machine.Committed.{transaction}
-use Rattle.generation.specs.Published.{Published}
-use Rattle.transact.specs.Desks.{desk_state, reached_in}
+use Rattle.transact.specs.Desks.{desk_state}
 use Rattle.transact.proofs.DeskLaws.{number_fits}
 use Rattle.transact.proofs.desk.Desk.commit_prepare.Goals as goal
 
@@ -10,11 +9,4 @@ pub prepare-requires-clause-number : goal.prepare-requires-clause-number
 prepare-requires-clause-number g c =
     let d = desk_state (transaction c.self.inside.tree c.self.inside.depth c.self.inside.pending) (arc_value c.self.inside.current) in
     let same : arc_value c.self.inside.current ≡ c.deref.result.now = search rules in
-    subst (λ current. current.number + 1 < 2 ^ 64) same (number_fits d (map (λ p. (p.0, arc_value p.1)) c.self.inside.reached.items) c.self.inside.spare c.self.inside.altered
-    c.self.invariant (search rules))
-
-pub prepare-requires-clause-known : goal.prepare-requires-clause-known
-prepare-requires-clause-known g c =
-    let same : arc_value c.self.inside.current ≡ c.deref.result.now = search rules in
-    ap (λ (xs : List _). map (λ p. (p.0, arc_value p.1)) xs) c.as_slice.ensures.value ∙ c.self.invariant.known_is
-    ∙ ap (λ (p : Published). reached_in p.forest) same
+    subst (λ current. current.number + 1 < 2 ^ 64) same (number_fits d c.self.inside.reached.items c.self.inside.spare c.self.invariant (search rules))

@@ -1,7 +1,6 @@
-use Rattle.std.proofs.Common.{rules, ◌≡◌, false, List, [], map, sym, subst}
-use Rattle.std.specs.Prelude.{IfSome, Option, Some, option_map}
+use Rattle.std.proofs.Common.{rules, ◌≡◌, false, subst}
+use Rattle.std.specs.Prelude.{IfSome, option_map}
 use Rattle.std.specs.Arc.{arc_value}
-use Rattle.mem_base.specs.declared.map.ids.RegionId.{RegionId}
 use Rattle.mem_base.specs.machine.Committed.{transaction}
 use Rattle.transact.specs.Desks.{IsDesk, desk_state}
 use Rattle.transact.specs.Preparing.{IsOfDesk}
@@ -30,11 +29,7 @@ invariant_of-self c =
     let of_it : IsOfDesk d r = search rules in
     let call : r.call ≡ option_map (λ (n : Next). n.call) c.prepared.inside.next = search rules in
     let next : IfSome c.prepared.inside.next (IsNext r.generation.forest) = search rules in
-    subst (λ (a : Option (List RegionId)). IsDesk (desk_state (transaction c.replace.new.tree 0 false) (arc_value c.prepared.inside.generation))
-    (map (λ p. (p.0, arc_value p.1)) c.prepared.inside.reached.items) c.replace.new.spare a) (sym c.nothing.ensures)
-    (subst (λ g. IsDesk (desk_state (transaction c.replace.new.tree 0 false) g)
-    (map (λ p. (p.0, arc_value p.1)) c.prepared.inside.reached.items) c.replace.new.spare (Some [])) same
-    (done_desk d r c.replace.new.tree (map (λ p. (p.0, arc_value p.1)) c.self.inside.reached.items)
-    (map (λ p. (p.0, arc_value p.1)) c.prepared.inside.reached.items) c.self.inside.spare c.replace.new.spare c.self.inside.altered
+    subst (λ g. IsDesk (desk_state (transaction c.replace.new.tree 0 false) g) c.prepared.inside.reached.items c.replace.new.spare) same
+    (done_desk d r c.replace.new.tree c.self.inside.reached.items c.prepared.inside.reached.items c.self.inside.spare c.replace.new.spare
     c.self.invariant of_it (search rules) (next_tree d r c.prepared.inside.next c.replace.new.tree of_it call next c.replace.ensures.tree)
-    (search rules) c.replace.ensures.spare))
+    (search rules) c.replace.ensures.spare)

@@ -1,9 +1,0 @@
-use Rattle.std.proofs.Common.{◌≡◌, ◌==◌, drop}
-use Rattle.std.specs.Prelude.{find, option_map}
-use Rattle.std.specs.Arc.{arc_value}
-use Rattle.transact.proofs.regions.reach_at.Given as goal
-
--- the space is among those that are left, if it is anywhere
-abbrev pub invariant-loop-id : goal.invariant-loop-id
-invariant-loop-id l = option_map (λ p. arc_value p.1) (find (λ p. p.0.0 == l.space.0) (drop l.id-index l.known))
-    ≡ option_map (λ p. arc_value p.1) (find (λ p. p.0.0 == l.space.0) l.known)
