@@ -96,7 +96,11 @@ fn main(rt: HostRuntime) -> ExitCode {
     }
 }
 
-fn all<R: Threads + Wait + Clock + Sync>(rt: HostRuntime, threads: &R, sizes: Sizes) -> Result<(), Failed>
+fn all<R: Threads + Wait + Clock + Sync>(
+    rt: HostRuntime,
+    threads: &R,
+    sizes: Sizes,
+) -> Result<(), Failed>
     requires { (32771 ≤ sizes.cabinet) × (sizes.cabinet ≤ 2 ^ 26 + 64) }
 {
     for n in sizes.generated {

@@ -67,7 +67,11 @@ pub(crate) fn run_routes(rt: HostRuntime, map: &Map, rounds: u32) -> Result<(), 
 }
 
 /// At most this many addresses of memory in space 0, drawn from the multiples of 8 in the 16 megabytes of the generated maps.
-pub(crate) fn of_memory(alloc: Global, generation: &Generation, count: u32) -> Result<Vec<u32>, AllocError> {
+pub(crate) fn of_memory(
+    alloc: Global,
+    generation: &Generation,
+    count: u32,
+) -> Result<Vec<u32>, AllocError> {
     let mut rng = Lcg64Xsh32::new(3, 54);
     let mut addrs = Vec::new(alloc);
     for _ in 0..count.saturating_mul(64) {

@@ -1,5 +1,7 @@
 // How long reads and writes of a virtual CPU take: alone, and of four beside one another while a writer publishes.
-ghost use Rattle.std.specs.Prelude.{◌≡◌, IsTrue};
+ghost use Rattle.std.specs.Prelude.{◌≡◌, ◌<◌, IsTrue, false};
+ghost use Rattle.mem_base.specs.map.Calls.{is_quiet};
+ghost use Rattle.backed_desk.specs.Backed.{all_places};
 ghost use Rattle.mem_base.specs.lists.Every.{Every};
 ghost use Rattle.bench.specs.Fits.{IsFit};
 
@@ -13,15 +15,13 @@ use generation::Generation;
 use mem_base::{Call, Edition, Place, SpaceId};
 use std::alloc::{AllocError, Global};
 use std::marker::Brand;
-use std::sync::Arc;
-use std::sync::Wait;
-use std::sync::ledger::Blank;
+use std::sync::ledger::{Blank, Ledger};
+use std::sync::{Arc, Wait};
 use std::thread;
 use std::thread::Threads;
 use std::time::{Clock, Instant};
 use step_counter::Steps;
-use transact::Prepared;
-use transact::Step;
+use transact::{Prepared, Step};
 use vcpu_pass::Vcpu;
 
 /// The passes of the cabinet.
@@ -87,7 +87,26 @@ fn build(
     if !fit(desk.places()) {
         return Ok(false);
     }
-    let mut steps = Steps::<Brand>::new(Blank::new(1));
+    commit::<Brand>(alloc, cabinet, writer, desk, Blank::new(1))
+}
+
+/// Commits what is pending, and publishes it; whether it could.
+fn commit<L: Ledger>(
+    alloc: Global,
+    cabinet: &Cabinet<Generation>,
+    writer: &mut WriterSeat<Generation>,
+    desk: &mut BackedDesk,
+    blank: Blank,
+) -> Result<bool, Failed>
+    requires name { blank.name ≡ L.name }
+    requires parts { blank.parts ≡ L.parts }
+    requires some { 0 < L.parts }
+    requires own { writer.old.cabinet ≡ cabinet.now.id }
+    requires sizes { (writer.old.sizes.passes ≡ 16) × (writer.old.sizes.words ≡ 2097216) }
+    requires fit { Every IsFit (all_places desk.old.backing) }
+    ensures same { (writer.new.cabinet ≡ writer.old.cabinet) × (writer.new.sizes ≡ writer.old.sizes) }
+{
+    let mut steps = Steps::<L>::new(blank);
     let Step::Ready(prepared) = desk.commit_prepare(&mut steps)? else {
         return Ok(false);
     };
@@ -113,7 +132,29 @@ fn change(
     if desk.desk().depth() != 0 || call.is_quiet() || !fit(desk.places()) {
         return Ok(false);
     }
-    let mut steps = Steps::<Brand>::new(Blank::new(1));
+    change_now::<Brand>(alloc, cabinet, writer, desk, call, Blank::new(1))
+}
+
+/// The same, outside all transactions, of a call that is a change.
+fn change_now<L: Ledger>(
+    alloc: Global,
+    cabinet: &Cabinet<Generation>,
+    writer: &mut WriterSeat<Generation>,
+    desk: &mut BackedDesk,
+    call: &Call,
+    blank: Blank,
+) -> Result<bool, Failed>
+    requires name { blank.name ≡ L.name }
+    requires parts { blank.parts ≡ L.parts }
+    requires some { 0 < L.parts }
+    requires own { writer.old.cabinet ≡ cabinet.now.id }
+    requires sizes { (writer.old.sizes.passes ≡ 16) × (writer.old.sizes.words ≡ 2097216) }
+    requires outside { desk.old.desk.state.depth ≡ 0 }
+    requires change { is_quiet call.now ≡ false }
+    requires fit { Every IsFit (all_places desk.old.backing) }
+    ensures same { (writer.new.cabinet ≡ writer.old.cabinet) × (writer.new.sizes ≡ writer.old.sizes) }
+{
+    let mut steps = Steps::<L>::new(blank);
     let prepared = desk.call_prepare(call, &mut steps)?;
     if !publish(alloc, cabinet, writer, &prepared)? {
         return Ok(false);
@@ -216,11 +257,7 @@ fn time_writes<R: Clock + Wait>(rt: &R, reader: &mut Reader<'_>, addrs: &[u32]) 
 
 /// The greatest time of these.
 fn longest(readers: &[Reader<'_>]) -> u64 {
-    readers
-        .iter()
-        .map(|reader| reader.nanos)
-        .max()
-        .unwrap_or(0)
+    readers.iter().map(|reader| reader.nanos).max().unwrap_or(0)
 }
 
 /// The least time of some rounds of reads and of writes by one virtual CPU alone.
@@ -242,27 +279,96 @@ fn alone<R: Clock + Wait>(
     (reads, writes)
 }
 
-/// Reads of all virtual CPUs beside one another, while the writer moves regions; how many moves there were.
+/// Reads by all virtual CPUs beside one another; the longest time of one.
+fn read_beside<R: Threads + Clock + Sync>(
+    rt: &R,
+    mut readers: Vec<Reader<'_>>,
+    addrs: &[u32],
+) -> u64 {
+    thread::for_each_mut(
+        rt,
+        readers.as_mut_slice(),
+        4,
+        &|_, reader| { time_reads(rt, reader, addrs) },
+    );
+    longest(readers.as_slice())
+}
+
+/// The same, while the writer moves regions; and how many moves there were.
 fn together<R: Threads + Clock + Sync>(
     rt: &R,
     alloc: Global,
     cabinet: &Cabinet<Generation>,
-    readers: &mut [Reader<'_>],
+    readers: Vec<Reader<'_>>,
     addrs: &[u32],
     writer: WriterSeat<Generation>,
     desk: BackedDesk,
     map: &Map,
-) -> Result<u32, Failed>
+) -> Result<(u64, u32), Failed>
     requires { (writer.cabinet ≡ cabinet.now.id) × (writer.sizes.passes ≡ 16) × (writer.sizes.words ≡ 2097216) }
 {
     let calls = map.calls.as_slice();
     let most = map.size / 4;
-    let ((), moved) = thread::join(
+    let (time, moved) = thread::join(
         rt,
-        move || thread::for_each_mut(rt, readers, 4, &|_, reader| time_reads(rt, reader, addrs)),
+        move || read_beside(rt, readers, addrs),
         move || move_many(alloc, cabinet, writer, desk, calls, most),
     );
-    moved
+    Ok((time, moved?))
+}
+
+/// Times, in nanoseconds, of so many accesses: of all reads and of all writes by one virtual CPU alone, and of as many reads by
+/// each of four beside one another; and how often the writer moved a region then.
+#[derive(Clone, Copy)]
+struct Times {
+    accesses: u64,
+    reads: u64,
+    writes: u64,
+    together: u64,
+    moved: u32,
+}
+
+/// Times accesses to a map's memory, in a cabinet in which the map is published.
+fn time_all<R: Threads + Wait + Clock + Sync>(
+    threads: &R,
+    alloc: Global,
+    cabinet: &Cabinet<Generation>,
+    mut writer: WriterSeat<Generation>,
+    desk: BackedDesk,
+    map: &Map,
+    rounds: u32,
+) -> Result<Times, Failed>
+    requires { (writer.cabinet ≡ cabinet.now.id) × (writer.sizes.passes ≡ 16) × (writer.sizes.words ≡ 2097216) }
+{
+    let count = map.size.saturating_mul(100);
+    let addrs = of_memory(alloc, desk.desk().current(), count)?;
+    let addrs = addrs.as_slice();
+    let mut readers = crew(alloc, cabinet, &mut writer)?;
+    let (reads, writes) = alone(threads, readers.as_mut_slice(), addrs, rounds);
+    let (time, moved) = together(threads, alloc, cabinet, readers, addrs, writer, desk, map)?;
+    Ok(Times {
+        accesses: addrs.len() as u64,
+        reads,
+        writes,
+        together: time,
+        moved,
+    })
+}
+
+/// A desk with a map, and a cabinet in which it is published; times accesses there.
+fn time_map<R: Threads + Wait + Clock + Sync>(
+    threads: &R,
+    alloc: Global,
+    map: &Map,
+    rounds: u32,
+) -> Result<Times, Failed> {
+    let mut desk = BackedDesk::new(alloc, WORDS)?;
+    let first = Arc::try_clone(desk.desk().current())?;
+    let (cabinet, mut writer) = Cabinet::new(alloc, PASSES, CABINET, first)?;
+    if !build(alloc, &cabinet, &mut writer, &mut desk, map)? {
+        return Err(Failed::Outside);
+    }
+    time_all(threads, alloc, &cabinet, writer, desk, map, rounds)
 }
 
 /// Times reads and writes of eight bytes at drawn addresses of a map's memory by one virtual CPU, and the reads of four beside one
@@ -273,35 +379,19 @@ pub(crate) fn run_vcpus<R: Threads + Wait + Clock + Sync>(
     map: &Map,
     rounds: u32,
 ) -> Result<(), Failed> {
-    let alloc = rt.alloc();
-    let mut desk = BackedDesk::new(alloc, WORDS)?;
-    let first = Arc::try_clone(desk.desk().current())?;
-    let (cabinet, mut writer) = Cabinet::new(alloc, PASSES, CABINET, first)?;
-    if !build(alloc, &cabinet, &mut writer, &mut desk, map)? {
-        return Err(Failed::Outside);
-    }
-    let addrs = of_memory(alloc, desk.desk().current(), map.size.saturating_mul(100))?;
-    let mut readers = crew(alloc, &cabinet, &mut writer)?;
-    let (reads, writes) = alone(threads, readers.as_mut_slice(), addrs.as_slice(), rounds);
-    let moved = together(
-        threads,
-        alloc,
-        &cabinet,
-        readers.as_mut_slice(),
-        addrs.as_slice(),
-        writer,
-        desk,
-        map,
+    let times = time_map(threads, rt.alloc(), map, rounds)?;
+    println!(rt;
+        "{} {} accessed: accesses {}, moves {}",
+        map.name, map.size, times.accesses, times.moved
     )?;
-    let count = addrs.len() as u64;
-    println!(rt; "{} {} accessed: accesses {count}, moves {moved}", map.name, map.size)?;
     eprintln!(rt;
-        "{} {} accessed: {count} reads {} us, {count} writes {} us, four times {count} reads together {} us",
+        "{} {} accessed: {} reads {} us, writes {} us, reads by four together {} us",
         map.name,
         map.size,
-        reads / 1000,
-        writes / 1000,
-        longest(readers.as_slice()) / 1000
+        times.accesses,
+        times.reads / 1000,
+        times.writes / 1000,
+        times.together / 1000
     )?;
     Ok(())
 }

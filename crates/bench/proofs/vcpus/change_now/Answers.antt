@@ -1,0 +1,12 @@
+use Rattle.std.proofs.Common.{rules, ◌≡◌}
+use Rattle.mem_base.specs.machine.Desk.{shown_places}
+use Rattle.backed_desk.specs.Backed.{all_places}
+use Rattle.bench.proofs.FitLaws.{shown_fit}
+use Rattle.bench.proofs.vcpus.change_now.Goals as goal
+
+pub publish-requires-clause-fit : goal.publish-requires-clause-fit
+publish-requires-clause-fit g c =
+    let places = all_places c.args.desk.now.backing in
+    let next = c.in_ok-prepared.prepared.generation in
+    let shown : next.places ≡ shown_places next.forest places = search rules in
+    shown_fit next.forest places next.places c.requires.fit shown
