@@ -53,7 +53,7 @@ pub(crate) fn run_routes(rt: HostRuntime, map: &Map, rounds: u32) -> Result<(), 
     }
     let count = addrs.len() as u64;
     println!(rt;
-        "{} {} routed: accesses {count}, found {found}, callbacks {calls}",
+        "{} {} routed: accesses {count}, found {found}, callbacks at {calls}",
         map.name, map.size
     )?;
     eprintln!(rt;
@@ -150,31 +150,37 @@ fn uncounted(generation: &Generation, addrs: &[u32]) -> u64 {
     route_all::<Brand>(generation, addrs, Blank::new(1))
 }
 
-/// Cuts an access to a device at each of these offsets, and counts the callbacks. An access has 1 byte, 2 or 4, by its offset, so
+/// Cuts an access to a device at each of these offsets, and adds up where the callbacks are made and one for each. An access has 1 byte, 2 or 4, by its offset, so
 /// that it is one piece.
 fn cut_all(ops: &Ops, offsets: &[u32]) -> u64
     requires { AreGood ops.now }
 {
-    let mut count: u64 = 0;
+    let mut sum: u64 = 0;
     for offset in offsets {
         let len = 1 << (*offset / 8 % 3);
-        count = count.wrapping_add(callbacks(ops, u64::from(*offset), len));
+        sum = sum.wrapping_add(callbacks(ops, u64::from(*offset), len));
     }
-    count
+    sum
 }
 
-/// How many callbacks do an access.
+/// The offsets of the callbacks that do the first piece of an access, at most eight, with one for each, added up.
 fn callbacks(ops: &Ops, offset: u64, len: u64) -> u64
     requires good { AreGood ops.now }
     requires within { offset + len ≤ 2 ^ 64 }
 {
-    let mut count: u64 = 0;
-    let mut pieces = cut(ops, offset, len);
-    while let Some(piece) = pieces.next() {
-        let mut places = accesses(ops, &piece);
-        while let Some((at, size)) = places.next() {
-            count = count.wrapping_add(1);
+    let mut cuts = cut(ops, offset, len);
+    match cuts.next() {
+        Some(piece) => {
+            let mut sum: u64 = 0;
+            let mut places = accesses(ops, &piece);
+            for _ in 0..8 {
+                match places.next() {
+                    Some((at, _)) => sum = sum.wrapping_add(at).wrapping_add(1),
+                    None => break,
+                }
+            }
+            sum
         }
+        None => 0,
     }
-    count
 }

@@ -155,7 +155,9 @@ fn change_now<L: Ledger>(
     ensures same { (writer.new.cabinet ≡ writer.old.cabinet) × (writer.new.sizes ≡ writer.old.sizes) }
 {
     let mut steps = Steps::<L>::new(blank);
-    let prepared = desk.call_prepare(call, &mut steps)?;
+    let Ok(prepared) = desk.call_prepare(call, &mut steps) else {
+        return Ok(false);
+    };
     if !publish(alloc, cabinet, writer, &prepared)? {
         return Ok(false);
     }
@@ -381,17 +383,18 @@ pub(crate) fn run_vcpus<R: Threads + Wait + Clock + Sync>(
 ) -> Result<(), Failed> {
     let times = time_map(threads, rt.alloc(), map, rounds)?;
     println!(rt;
-        "{} {} accessed: accesses {}, moves {}",
-        map.name, map.size, times.accesses, times.moved
+        "{} {} accessed: accesses {}",
+        map.name, map.size, times.accesses
     )?;
     eprintln!(rt;
-        "{} {} accessed: {} reads {} us, writes {} us, reads by four together {} us",
+        "{} {} accessed: {} reads {} us, writes {} us, reads by four together {} us beside {} moves",
         map.name,
         map.size,
         times.accesses,
         times.reads / 1000,
         times.writes / 1000,
-        times.together / 1000
+        times.together / 1000,
+        times.moved
     )?;
     Ok(())
 }

@@ -7,6 +7,6 @@ use Rattle.bench.proofs.vcpus.change_now.Goals as goal
 pub publish-requires-clause-fit : goal.publish-requires-clause-fit
 publish-requires-clause-fit g c =
     let places = all_places c.args.desk.now.backing in
-    let next = c.in_ok-prepared.prepared.generation in
+    let next = c.in-Ok.prepared.generation in
     let shown : next.places ≡ shown_places next.forest places = search rules in
     shown_fit next.forest places next.places c.requires.fit shown
