@@ -7,7 +7,7 @@ use crate::machines::{PASSES, call, open};
 use backed_desk::BackedDesk;
 use epoch_rule::{Cabinet, WriterSeat};
 use generation::Generation;
-use mem_base::{Kind, Refusal, SpaceId};
+use mem_base::{Call, Kind, Refusal, SpaceId};
 use std::alloc::Global;
 use std::sync::Wait;
 use std::thread;
@@ -121,22 +121,55 @@ fn crew<'c>(
     Ok(roamers)
 }
 
+/// Has all virtual CPUs roam, each in a thread of its own; how many saw what they had to see.
+fn roam_all<R: Threads + Wait + Sync>(rt: &R, mut roamers: Vec<Roamer<'_>>) -> usize {
+    thread::for_each_mut(
+        rt,
+        roamers.as_mut_slice(),
+        16,
+        &|_, roamer| roam(rt, roamer),
+    );
+    roamers
+        .as_slice()
+        .iter()
+        .filter(|roamer| roamer.good)
+        .count()
+}
+
 fn roam_beside_moves<R: Threads + Wait + Sync>(
     rt: &R,
     alloc: Global,
     cabinet: &Cabinet<Generation>,
-    roamers: &mut [Roamer<'_>],
+    roamers: Vec<Roamer<'_>>,
     writer: WriterSeat<Generation>,
     desk: BackedDesk,
-) -> Result<u32, Refusal>
+) -> Result<(u32, usize), Refusal>
     requires { (writer.cabinet ≡ cabinet.now.id) × (writer.sizes.passes ≡ 16) × (writer.sizes.words ≡ 4160) }
 {
-    let ((), moved) = thread::join(
+    let (good, moved) = thread::join(
         rt,
-        move || thread::for_each_mut(rt, roamers, 16, &|_, roamer| roam(rt, roamer)),
+        move || roam_all(rt, roamers),
         move || move_many(alloc, cabinet, writer, desk),
     );
-    moved
+    Ok((moved?, good))
+}
+
+/// Does calls, and publishes those that are changes.
+fn call_all(
+    alloc: Global,
+    cabinet: &Cabinet<Generation>,
+    writer: &mut WriterSeat<Generation>,
+    desk: &mut BackedDesk,
+    calls: &[Call],
+) -> Result<(), Refusal>
+    requires own { writer.old.cabinet ≡ cabinet.now.id }
+    requires sizes { (writer.old.sizes.passes ≡ 16) × (writer.old.sizes.words ≡ 4160) }
+    ensures same { (writer.new.cabinet ≡ writer.old.cabinet) × (writer.new.sizes ≡ writer.old.sizes) }
+{
+    for one in calls {
+        call(alloc, cabinet, writer, desk, one)?;
+    }
+    Ok(())
 }
 
 /// How often memory was moved, and how many of the virtual CPUs saw what they had to see.
@@ -148,17 +181,9 @@ fn crowd<R: Threads + Wait + Sync>(rt: &R, alloc: Global) -> Result<(u32, usize)
         space(0, 0),
         add(0, 0, 1),
     ];
-    for one in &map {
-        call(alloc, &cabinet, &mut writer, &mut desk, one)?;
-    }
-    let mut roamers = crew(alloc, &cabinet, &mut writer)?;
-    let moved = roam_beside_moves(rt, alloc, &cabinet, roamers.as_mut_slice(), writer, desk)?;
-    let good = roamers
-        .as_slice()
-        .iter()
-        .filter(|roamer| roamer.good)
-        .count();
-    Ok((moved, good))
+    call_all(alloc, &cabinet, &mut writer, &mut desk, &map)?;
+    let roamers = crew(alloc, &cabinet, &mut writer)?;
+    roam_beside_moves(rt, alloc, &cabinet, roamers, writer, desk)
 }
 
 #[test]

@@ -1,5 +1,5 @@
 // The lines of a worked case: what the writer and one virtual CPU do, and what that has to answer.
-ghost use Rattle.std.specs.Prelude.{◌≡◌, IfOk};
+ghost use Rattle.std.specs.Prelude.{◌≡◌};
 
 use crate::machines::{WORDS, call, open};
 use backed_desk::BackedDesk;
@@ -180,10 +180,33 @@ pub(crate) fn first_wrong<R: Wait>(
         return Ok(usize::MAX);
     };
     let mut vcpu = Vcpu::new(&cabinet, pass);
+    first_wrong_of(
+        rt,
+        alloc,
+        &cabinet,
+        &mut writer,
+        &mut desk,
+        &mut vcpu,
+        lines,
+    )
+}
+
+fn first_wrong_of<R: Wait>(
+    rt: &R,
+    alloc: Global,
+    cabinet: &Cabinet<Generation>,
+    writer: &mut WriterSeat<Generation>,
+    desk: &mut BackedDesk,
+    vcpu: &mut Vcpu<'_>,
+    lines: &[Line],
+) -> Result<usize, Refusal>
+    requires own { writer.old.cabinet ≡ cabinet.now.id }
+    requires sizes { (writer.old.sizes.passes ≡ 16) × (writer.old.sizes.words ≡ 4160) }
+{
     let mut number = 0usize;
     for line in lines {
         number = number.saturating_add(1);
-        if !does(rt, alloc, &cabinet, &mut writer, &mut desk, &mut vcpu, line)? {
+        if !does(rt, alloc, cabinet, writer, desk, vcpu, line)? {
             return Ok(number);
         }
     }

@@ -1,6 +1,6 @@
 // A machine of the tests: a desk whose regions have their words in a pool, and a cabinet in which its generations are
 // published.
-ghost use Rattle.std.specs.Prelude.{◌≡◌, ◌≤◌, IsTrue, IfOk, false};
+ghost use Rattle.std.specs.Prelude.{◌≡◌, ◌<◌, ◌≤◌, IsTrue, IfOk, false};
 ghost use Rattle.mem_base.specs.lists.Every.{Every};
 ghost use Rattle.vcpu_tests.specs.Fits.{IsFit};
 ghost use Rattle.mem_base.specs.map.Calls.{is_quiet};
@@ -12,7 +12,7 @@ use mem_base::{Call, Edition, Place, Refusal};
 use std::alloc::{AllocError, Global};
 use std::marker::Brand;
 use std::sync::Arc;
-use std::sync::ledger::Blank;
+use std::sync::ledger::{Blank, Ledger};
 use step_counter::Steps;
 
 /// The passes of a machine.
@@ -67,17 +67,21 @@ pub(crate) fn call(
         desk.call(call)?;
         return Ok(true);
     }
-    publish(alloc, cabinet, writer, desk, call)
+    publish::<Brand>(alloc, cabinet, writer, desk, call, Blank::new(1))
 }
 
-/// Publishes a change.
-fn publish(
+/// Publishes a change; whether it could. The carves are not counted.
+fn publish<L: Ledger>(
     alloc: Global,
     cabinet: &Cabinet<Generation>,
     writer: &mut WriterSeat<Generation>,
     desk: &mut BackedDesk,
     call: &Call,
+    blank: Blank,
 ) -> Result<bool, Refusal>
+    requires name { blank.name ≡ L.name }
+    requires parts { blank.parts ≡ L.parts }
+    requires some { 0 < L.parts }
     requires own { writer.old.cabinet ≡ cabinet.now.id }
     requires sizes { (writer.old.sizes.passes ≡ 16) × (writer.old.sizes.words ≡ 4160) }
     requires outside { desk.old.desk.state.depth ≡ 0 }
@@ -87,7 +91,7 @@ fn publish(
     if !fit(desk.places()) {
         return Ok(false);
     }
-    let mut steps = Steps::<Brand>::new(Blank::new(1));
+    let mut steps = Steps::<L>::new(blank);
     let prepared = desk.call_prepare(call, &mut steps)?;
     let current = writer.current();
     if current > 1000000 || prepared.generation().number() != current + 1 {

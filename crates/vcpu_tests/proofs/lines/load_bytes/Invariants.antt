@@ -1,4 +1,4 @@
-use Rattle.std.proofs.Common.{◌≡◌, ◌≤◌}
+use Rattle.std.proofs.Common.{◌≡◌}
 use Rattle.vcpu_tests.proofs.lines.load_bytes.Given as goal
 
 abbrev pub invariant-loop-byte : goal.invariant-loop-byte
