@@ -1,7 +1,7 @@
 //! How long the memory map takes: all calls that build a map, moves, look-ups of one address, a view, its atlas, and a
 //! walk to the next view; how long places in a pool take, routes of accesses, accesses to registers, and changes that are
-//! published; how long a cabinet takes, and what a pass does in it; and how long the text of a script takes to be read and
-//! printed (`scripts`).
+//! published; how long a cabinet takes, and what a pass does in it; how long reads and writes of virtual CPUs take; and how long
+//! the text of a script takes to be read and printed (`scripts`).
 //!
 //! Standard output has a line for each map, which is the same in every run: how many calls it takes, how many of them
 //! were refused, how many ranges its view has, and a sum over what the look-ups found; and one for each text: its bytes,
