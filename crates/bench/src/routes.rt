@@ -150,8 +150,8 @@ fn uncounted(generation: &Generation, addrs: &[u32]) -> u64 {
     route_all::<Brand>(generation, addrs, Blank::new(1))
 }
 
-/// Cuts an access to a device at each of these offsets, and adds up where the callbacks are made and one for each. An access has 1 byte, 2 or 4, by its offset, so
-/// that it is one piece.
+/// Cuts an access to a device at each of these offsets, and adds up where the callbacks are made and one for each. An access has
+/// 1 byte, 2 or 4, by its offset, so that it is one piece.
 fn cut_all(ops: &Ops, offsets: &[u32]) -> u64
     requires { AreGood ops.now }
 {

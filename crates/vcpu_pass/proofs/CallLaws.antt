@@ -69,7 +69,8 @@ if_number (Some g) n e = e
 record IsAround (u v : PassValue Published) (number : ℕ) (es : List Event) (rs : List ℕ) (y : PassValue Published) : Type 0 where
   pub goes_by : GoesBy u number y
   pub looked : ℕ
-  pub made : Made u (entries_of (generation_in v).places (enters_unless (is_entered u) (pass_id u.number) ++ (es ++ leaves_unless (is_entered u) (pass_id u.number)))
+  pub made : Made u (entries_of (generation_in v).places
+      (enters_unless (is_entered u) (pass_id u.number) ++ (es ++ leaves_unless (is_entered u) (pass_id u.number)))
       (replies_around (is_entered u) looked number rs)) y
   pub shown : generation (generation_in v).forest (generation_in v).places ≡ generation_published y.seen number
 
@@ -85,7 +86,8 @@ stayed u w es rs number is m n =
     let padded : Made u (entries_of places (es ++ []) rs) w = subst (λ l. Made u (entries_of places l rs) w) (sym (append-nil es)) base in record {
       goes_by = record { entered = if_number u.edition number num; newest = λ none. some_not_none u.edition is none; edition = m.edition };
       looked = 0;
-      made = subst (λ b. Made u (entries_of places (enters_unless b (pass_id u.number) ++ (es ++ leaves_unless b (pass_id u.number))) (replies_around b 0 number rs)) w)
+      made = subst (λ b. Made u (entries_of places (enters_unless b (pass_id u.number) ++ (es ++ leaves_unless b (pass_id u.number)))
+          (replies_around b 0 number rs)) w)
           (sym is) padded;
       shown = ap (λ g. generation g.forest g.places) (sym same) ∙ n.shown.1 ∙ ap (generation_published w.seen) (sym n.is_number);
     }
@@ -115,7 +117,8 @@ came u v w y es rs number is b each m n =
     let later : Adds u.sizes (u.number + 1) v.seen (entries_of places (es ++ leaves p) (rs ++ replies_to_leave)) y.seen =
     subst (λ new. Adds u.sizes (u.number + 1) v.seen new y.seen) (sym (entries_append places es (leaves p) rs replies_to_leave each))
     (adds_then u.sizes (u.number + 1) v.seen (entries_of places es rs) w.seen (entries_of places (leaves p) replies_to_leave) y.seen middle last) in
-    let all : Adds u.sizes (u.number + 1) u.seen (entries_of places (enters p ++ (es ++ leaves p)) (replies_to_enter c.0 number ++ (rs ++ replies_to_leave))) y.seen =
+    let all : Adds u.sizes (u.number + 1) u.seen
+    (entries_of places (enters p ++ (es ++ leaves p)) (replies_to_enter c.0 number ++ (rs ++ replies_to_leave))) y.seen =
     subst (λ new. Adds u.sizes (u.number + 1) u.seen new y.seen)
     (sym (entries_append places (enters p) (es ++ leaves p) (replies_to_enter c.0 number) (rs ++ replies_to_leave) refl))
     (adds_then u.sizes (u.number + 1) u.seen (entries_of places (enters p) (replies_to_enter c.0 number)) v.seen
@@ -184,7 +187,8 @@ refused e u v w y space addr value number b still not_whole none n =
     let places : List Place = (generation_in v).places in
     let p : PassId = pass_id u.number in
     let a = around e u v v y (λ p. []) [] number b refl none (subst (λ x. HasEnded e x number y) still n) in
-    let made : Made u (entries_of places (enters_unless (is_entered u) p ++ leaves_unless (is_entered u) p) (replies_around (is_entered u) a.looked number [])) y =
+    let made : Made u (entries_of places (enters_unless (is_entered u) p ++ leaves_unless (is_entered u) p)
+    (replies_around (is_entered u) a.looked number [])) y =
     a.made in
     subst (λ x. HasRefusedBy x u space addr value number y) a.shown record {
       goes_by = a.goes_by;
