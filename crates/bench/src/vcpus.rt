@@ -319,7 +319,7 @@ fn together<R: Threads + Clock + Sync>(
     Ok((time, moved?))
 }
 
-/// Times, in nanoseconds, of so many accesses: of all reads and of all writes by one virtual CPU alone, and of as many reads by
+/// Times, in nanoseconds, of a number of accesses: of all reads and of all writes by one virtual CPU alone, and of as many reads by
 /// each of four beside one another; and how often the writer moved a region then.
 #[derive(Clone, Copy)]
 struct Times {

@@ -17,7 +17,7 @@ block_at ws p = record { region = p.region; words = words_at ws p }
 abbrev pub blocks_at : List ℕ → List Place → List Block
 blocks_at ws places = map (block_at ws) places
 
--- no place ends past so many words
+-- no place ends past this number of words
 abbrev pub AreWithin : ℕ → List Place → Type 0
 AreWithin count places = Every (λ p. past p ≤ count) places
 

@@ -4,7 +4,7 @@ ghost use Rattle.mem_base.specs.access.Words.{in_word, replaced, word_after};
 
 use mem_base::WordStep;
 
-// So many powers of 256.
+// 256 to this power.
 fn power(n: u32) -> u128
     requires { n ≤ 8 }
     ensures { result ≡ 256 ^ n }

@@ -33,7 +33,7 @@ fn clear_between(words: &mut [u64], start: usize, end: usize)
 }
 
 impl Words {
-    /// So many words, all 0. It fails only where memory runs out.
+    /// This many words, all 0. It fails only where memory runs out.
     pub fn new(alloc: Global, count: usize) -> Result<Words, AllocError>
         ensures { IfOk result (λ words. words ≡ replicate count 0) }
     {
