@@ -14,6 +14,7 @@ pub mod ListenerReplay
 pub mod Orders
 pub mod Answers
 pub mod Composites
+pub mod Completions
 pub mod SharedHistory
 pub mod Actors
 pub mod Turns

@@ -23,8 +23,3 @@ pub mod Run
 pub mod Words
 pub mod Make
 pub mod Summary
-pub mod FirstSpelling
-pub mod FirstForm
-pub mod FirstScripts
-pub mod FirstOutput
-pub mod FirstRun

@@ -35,7 +35,6 @@ pub use map::translations::{Entries, Entry, Perm};
 pub use script::changes::MapChange;
 pub use script::commands::Command;
 pub use script::faults::{BadScript, Cause};
-pub use script::first::FirstCommand;
 pub use script::places::{PlaceRule, Section};
 pub use script::tasks::Task;
 pub use script::words::{Bytes, Name};

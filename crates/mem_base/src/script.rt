@@ -3,7 +3,6 @@
 pub mod changes;
 pub mod commands;
 pub mod faults;
-pub mod first;
 pub mod places;
 pub mod tasks;
 pub mod words;

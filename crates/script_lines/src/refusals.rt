@@ -142,7 +142,6 @@ fn cause_text(cause: Cause) -> &'static str
         Cause::Count => "count",
         Cause::Place => "place",
         Cause::Long => "long",
-        Cause::Later => "later",
     }
 }
 

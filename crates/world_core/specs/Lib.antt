@@ -1,4 +1,3 @@
-pub mod Accesses
 pub mod Hands
 pub mod RunLaws
 pub mod Unfilled

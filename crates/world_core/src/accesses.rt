@@ -6,7 +6,7 @@ ghost use Rattle.mem_base.specs.access.Access.{access};
 ghost use Rattle.mem_base.specs.machine.World.{possible};
 ghost use Rattle.mem_base.specs.machine.Composites.{is_entered, enters_unless, leaves_unless};
 ghost use Rattle.access_run.specs.Runs.{HasDone};
-ghost use Rattle.world_core.specs.Accesses.{may_access, IsAccessed};
+ghost use Rattle.mem_base.specs.machine.Completions.{may_access, IsAccessed};
 ghost use Rattle.world_core.specs.Hands.{HasRun, IsInside, shown_to};
 ghost use Rattle.world_core.specs.Worlds.{after_events};
 

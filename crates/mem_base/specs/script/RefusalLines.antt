@@ -97,7 +97,6 @@ cause_text cause.Number = codes "number"
 cause_text cause.Count = codes "count"
 cause_text cause.Place = codes "place"
 cause_text cause.Long = codes "long"
-cause_text cause.Later = codes "later"
 
 -- bad script line N CAUSE
 abbrev pub bad_line : BadScript → Text
