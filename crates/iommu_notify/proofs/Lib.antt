@@ -1,0 +1,3 @@
+pub mod PartLaws
+pub mod ReplayLaws
+pub mod JournalLaws

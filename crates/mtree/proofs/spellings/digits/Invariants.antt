@@ -1,6 +1,0 @@
-use Rattle.std.proofs.Common.{◌≡◌, ◌≤◌, drop}
-use Rattle.mem_base.specs.script.FirstSpelling.{digits_after}
-use Rattle.mtree.proofs.spellings.digits.Given as goal
-
-abbrev pub invariant-loop-byte : goal.invariant-loop-byte
-invariant-loop-byte l = (l.number ≤ l.limit) × (digits_after l.radix l.limit l.number (drop l.byte-index l.text) ≡ digits_after l.radix l.limit 0 l.text)
