@@ -8,7 +8,7 @@ use crate::numbers::{push_bytes, push_decimal, push_hex};
 use std::alloc::{AllocError, Global};
 use std::marker::Model;
 
-/// A line, as far as it is made.
+/// A line, as far as it is made. It keeps its room, so that a caller makes one line after another in it.
 #[derive(Drop)]
 pub struct Line {
     bytes: Vec<u8>,
@@ -30,11 +30,18 @@ impl Line {
         }
     }
 
-    /// Its bytes, in a vector. It takes no memory.
-    pub fn into_vec(self) -> Vec<u8>
-        ensures { result.items ≡ self }
+    /// Its bytes.
+    pub fn as_bytes(&self) -> &[u8]
+        ensures { result.now ≡ self.now }
     {
-        self.bytes
+        &self.bytes
+    }
+
+    /// Takes everything out of it, and keeps the room.
+    pub fn clear(&mut self)
+        ensures { self.new ≡ [] }
+    {
+        self.bytes.clear();
     }
 
     /// These bytes after it.

@@ -1,5 +1,5 @@
 // The lines of listeners, and of watchers of IOMMU tables.
-ghost use Rattle.std.specs.Prelude.{◌≡◌, ◌++◌, IfOk, OnOk};
+ghost use Rattle.std.specs.Prelude.{◌≡◌, ◌++◌, OnOk};
 ghost use Rattle.mem_base.specs.script.SpotLines.{range_text};
 ghost use Rattle.mem_base.specs.script.Output.{from_to_text, listener_event_text, live_text, notice_line, notice_text, offsets_text};
 ghost use Rattle.mem_base.specs.script.Output.{range_event_text, signed_hex, told_line, value_text};
@@ -10,7 +10,7 @@ use crate::line::Line;
 use crate::spots::add_range;
 use mem_base::{FlatRange, ListenerEvent, ListenerId, Live, Notice, NotifierId, RangeEvent};
 use script_names::Names;
-use std::alloc::{AllocError, Global};
+use std::alloc::AllocError;
 
 fn add_from_to(line: &mut Line, from: u8, to: u8) -> Result<(), AllocError>
     ensures { OnOk result (line.new ≡ line.old ++ from_to_text from to) }
@@ -111,20 +111,18 @@ fn add_listener_event(
 }
 
 /// A call that a listener got: its name, and what it was told.
-pub fn told_line(
-    alloc: Global,
+pub fn add_told_line(
+    line: &mut Line,
     names: &Names,
     listener: ListenerId,
     event: ListenerEvent,
-) -> Result<Vec<u8>, AllocError>
-    ensures { IfOk result (λ line. line.items ≡ told_line (printed_names names.now) (listener, event)) }
+) -> Result<(), AllocError>
+    ensures { OnOk result (line.new ≡ line.old ++ told_line (printed_names names.now) (listener, event)) }
 {
-    let mut line = Line::new(alloc);
     line.bytes(names.listener_name(listener))?;
     line.text(" ")?;
-    add_listener_event(&mut line, names, event)?;
-    line.end()?;
-    Ok(line.into_vec())
+    add_listener_event(line, names, event)?;
+    line.end()
 }
 
 fn add_offsets(line: &mut Line, from: u64, to: u64) -> Result<(), AllocError>
@@ -153,18 +151,16 @@ fn add_notice(line: &mut Line, names: &Names, notice: Notice) -> Result<(), Allo
 }
 
 /// A notice that a watcher of an IOMMU region's table got: its name, and what it was told.
-pub fn notice_line(
-    alloc: Global,
+pub fn add_notice_line(
+    line: &mut Line,
     names: &Names,
     notifier: NotifierId,
     notice: Notice,
-) -> Result<Vec<u8>, AllocError>
-    ensures { IfOk result (λ line. line.items ≡ notice_line (printed_names names.now) (notifier, notice)) }
+) -> Result<(), AllocError>
+    ensures { OnOk result (line.new ≡ line.old ++ notice_line (printed_names names.now) (notifier, notice)) }
 {
-    let mut line = Line::new(alloc);
     line.bytes(names.notifier_name(notifier))?;
     line.text(" ")?;
-    add_notice(&mut line, names, notice)?;
-    line.end()?;
-    Ok(line.into_vec())
+    add_notice(line, names, notice)?;
+    line.end()
 }

@@ -1,5 +1,5 @@
 // The line of a refused command, and that of a text which is no script.
-ghost use Rattle.std.specs.Prelude.{◌≡◌, ◌++◌, IfOk, OnOk};
+ghost use Rattle.std.specs.Prelude.{◌≡◌, ◌++◌, OnOk};
 ghost use Rattle.mem_base.specs.script.RefusalLines.{bad_line, cause_text, held_text, limit_text, refusal_text, refused_line, taken_text};
 ghost use Rattle.mem_base.specs.script.RefusalLines.{unknown_text, user_text, what_text, which_text};
 ghost use Rattle.script_names.specs.Tables.{printed_names};
@@ -7,7 +7,7 @@ ghost use Rattle.script_names.specs.Tables.{printed_names};
 use crate::line::Line;
 use mem_base::{BadScript, Cause, PassId, Refusal, User, What, Which};
 use script_names::Names;
-use std::alloc::{AllocError, Global};
+use std::alloc::AllocError;
 
 fn add_what(line: &mut Line, text: &str, names: &Names, what: What) -> Result<(), AllocError>
     ensures { OnOk result (line.new ≡ line.old ++ (text.now ++ what_text (printed_names names.now) what)) }
@@ -91,44 +91,42 @@ fn add_refusal(line: &mut Line, names: &Names, why: Refusal) -> Result<(), Alloc
 }
 
 /// `refused LINE FN TEXT`: the refusal of the command on a line. Out of memory has no words.
-pub fn refused_line(
-    alloc: Global,
+pub fn add_refused_line(
+    line: &mut Line,
     number: u32,
     names: &Names,
     why: Refusal,
-) -> Result<Vec<u8>, AllocError>
-    ensures { IfOk result (λ line. line.items ≡ refused_line number (refusal_text (printed_names names.now) why)) }
+) -> Result<(), AllocError>
+    ensures { OnOk result (line.new ≡ line.old ++ refused_line number (refusal_text (printed_names names.now) why)) }
 {
-    let mut line = Line::new(alloc);
     line.counted("refused ", u64::from(number))?;
     line.text(" ")?;
-    add_refusal(&mut line, names, why)?;
-    line.end()?;
-    Ok(line.into_vec())
+    add_refusal(line, names, why)?;
+    line.end()
+}
+
+// A refusal in these words, and then a name.
+fn add_named_line(line: &mut Line, number: u32, text: &str, name: &[u8]) -> Result<(), AllocError>
+    ensures { OnOk result (line.new ≡ line.old ++ refused_line number (text.now ++ name.now)) }
+{
+    line.counted("refused ", u64::from(number))?;
+    line.text(" ")?;
+    line.named(text, name)?;
+    line.end()
 }
 
 /// The refusal of a command that names something which is not there.
-pub fn unknown_line(alloc: Global, number: u32, name: &[u8]) -> Result<Vec<u8>, AllocError>
-    ensures { IfOk result (λ line. line.items ≡ refused_line number (unknown_text name.now)) }
+pub fn add_unknown_line(line: &mut Line, number: u32, name: &[u8]) -> Result<(), AllocError>
+    ensures { OnOk result (line.new ≡ line.old ++ refused_line number (unknown_text name.now)) }
 {
-    let mut line = Line::new(alloc);
-    line.counted("refused ", u64::from(number))?;
-    line.text(" ")?;
-    line.named("F1 unknown ", name)?;
-    line.end()?;
-    Ok(line.into_vec())
+    add_named_line(line, number, "F1 unknown ", name)
 }
 
 /// The refusal of a command that would give a name which stands for something.
-pub fn taken_line(alloc: Global, number: u32, name: &[u8]) -> Result<Vec<u8>, AllocError>
-    ensures { IfOk result (λ line. line.items ≡ refused_line number (taken_text name.now)) }
+pub fn add_taken_line(line: &mut Line, number: u32, name: &[u8]) -> Result<(), AllocError>
+    ensures { OnOk result (line.new ≡ line.old ++ refused_line number (taken_text name.now)) }
 {
-    let mut line = Line::new(alloc);
-    line.counted("refused ", u64::from(number))?;
-    line.text(" ")?;
-    line.named("F2 name-taken ", name)?;
-    line.end()?;
-    Ok(line.into_vec())
+    add_named_line(line, number, "F2 name-taken ", name)
 }
 
 fn cause_text(cause: Cause) -> &'static str
@@ -146,12 +144,10 @@ fn cause_text(cause: Cause) -> &'static str
 }
 
 /// `bad script line N CAUSE`.
-pub fn bad_line(alloc: Global, bad: BadScript) -> Result<Vec<u8>, AllocError>
-    ensures { IfOk result (λ line. line.items ≡ bad_line bad) }
+pub fn add_bad_line(line: &mut Line, bad: BadScript) -> Result<(), AllocError>
+    ensures { OnOk result (line.new ≡ line.old ++ bad_line bad) }
 {
-    let mut line = Line::new(alloc);
     line.counted("bad script line ", u64::from(bad.line))?;
     line.named(" ", cause_text(bad.cause).as_bytes())?;
-    line.end()?;
-    Ok(line.into_vec())
+    line.end()
 }

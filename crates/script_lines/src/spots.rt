@@ -1,5 +1,5 @@
 // The lines of views and searches.
-ghost use Rattle.std.specs.Prelude.{◌≡◌, ◌++◌, IfOk, OnOk};
+ghost use Rattle.std.specs.Prelude.{◌≡◌, ◌++◌, OnOk};
 ghost use Rattle.mem_base.specs.script.SpotLines.{at_line, attrs_text, flag_text, found_text, kind_text, kind_word, log_text, range_line};
 ghost use Rattle.mem_base.specs.script.SpotLines.{range_text, spot_text, view_line};
 ghost use Rattle.script_names.specs.Tables.{printed_names};
@@ -7,7 +7,7 @@ ghost use Rattle.script_names.specs.Tables.{printed_names};
 use crate::line::Line;
 use mem_base::{Attrs, FlatRange, Kind, Spot};
 use script_names::Names;
-use std::alloc::{AllocError, Global};
+use std::alloc::AllocError;
 
 fn kind_word(kind: Kind) -> &'static str
     ensures { result.now ≡ kind_word kind }
@@ -99,41 +99,35 @@ pub fn add_range(line: &mut Line, names: &Names, range: FlatRange) -> Result<(),
 }
 
 /// `at SPACE ADDR SPOT`, or `at SPACE ADDR hole` where nothing answers.
-pub fn at_line(
-    alloc: Global,
+pub fn add_at_line(
+    line: &mut Line,
     names: &Names,
     space: &[u8],
     addr: u64,
     found: Option<Spot>,
-) -> Result<Vec<u8>, AllocError>
-    ensures { IfOk result (λ line. line.items ≡ at_line (printed_names names.now) space.now addr found) }
+) -> Result<(), AllocError>
+    ensures { OnOk result (line.new ≡ line.old ++ at_line (printed_names names.now) space.now addr found) }
 {
-    let mut line = Line::new(alloc);
     line.named("at ", space)?;
     line.placed(" ", addr)?;
     line.text(" ")?;
-    add_found(&mut line, names, found)?;
-    line.end()?;
-    Ok(line.into_vec())
+    add_found(line, names, found)?;
+    line.end()
 }
 
 /// `view SPACE gN`, which the ranges follow.
-pub fn view_line(alloc: Global, space: &[u8], generation: u64) -> Result<Vec<u8>, AllocError>
-    ensures { IfOk result (λ line. line.items ≡ view_line space.now generation) }
+pub fn add_view_line(line: &mut Line, space: &[u8], generation: u64) -> Result<(), AllocError>
+    ensures { OnOk result (line.new ≡ line.old ++ view_line space.now generation) }
 {
-    let mut line = Line::new(alloc);
     line.named("view ", space)?;
     line.counted(" g", generation)?;
-    line.end()?;
-    Ok(line.into_vec())
+    line.end()
 }
 
 /// `START-LAST SPOT`.
-pub fn range_line(alloc: Global, names: &Names, range: FlatRange) -> Result<Vec<u8>, AllocError>
-    ensures { IfOk result (λ line. line.items ≡ range_line (printed_names names.now) range) }
+pub fn add_range_line(line: &mut Line, names: &Names, range: FlatRange) -> Result<(), AllocError>
+    ensures { OnOk result (line.new ≡ line.old ++ range_line (printed_names names.now) range) }
 {
-    let mut line = Line::new(alloc);
-    add_range(&mut line, names, range)?;
-    line.end()?;
-    Ok(line.into_vec())
+    add_range(line, names, range)?;
+    line.end()
 }

@@ -23,9 +23,10 @@ mod words;
 pub use faults::ParseFault;
 pub use printing::{pool_words, print};
 pub use script_lines::{
-    at_line, bad_line, dirty_line, dma_line, do_line, enter_line, leave_line, notice_line,
-    notified_line, range_line, read_line, refused_line, released_line, taken_line, told_line,
-    unknown_line, view_line, write_line,
+    Line, add_at_line, add_bad_line, add_dirty_line, add_dma_line, add_do_line, add_enter_line,
+    add_leave_line, add_notice_line, add_notified_line, add_range_line, add_read_line,
+    add_refused_line, add_released_line, add_taken_line, add_told_line, add_unknown_line,
+    add_view_line, add_write_line,
 };
 pub use script_names::{NameTable, Names};
 pub use scripts::{MOST_TEXT, Script, parse};
