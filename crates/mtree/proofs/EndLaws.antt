@@ -1,5 +1,5 @@
 -- What a source had, and how a run of its bytes ends.
-use Rattle.std.proofs.Common.{◌≡◌, ◌<◌, ℕ, List, [], cond, refl, sym, ap, arith, None, Some, Err, length, subst, inr}
+use Rattle.std.proofs.Common.{◌≡◌, ◌<◌, ℕ, List, [], cond, eqb, refl, sym, ap, arith, None, Some, Err, length, subst, inr}
 use Rattle.std.specs.declared.option.Option.{Option}
 use Rattle.std.proofs.lemmas.List.{length-append}
 use Rattle.std.proofs.lemmas.Bool.{lt-leb}
@@ -8,13 +8,15 @@ use Rattle.outside.specs.Sink.{TakesPrefix}
 use Rattle.outside.proofs.Took.{TakesPrefix-nil}
 use Rattle.mem_base.specs.declared.script.tasks.Task.{Task}
 use Rattle.mem_base.specs.declared.script.tasks.Task.TheVariants.{Run, Race, Make, Demo}
-use Rattle.mem_base.specs.script.FirstScripts.{faulty, lines_of, most_text, script_of, script_with}
+use Rattle.std.specs.List.{slice_split}
+use Rattle.mem_base.specs.declared.script.places.Section.TheVariants.{Start}
+use Rattle.mem_base.specs.script.Scripts.{most_text, script_from, script_of}
 use Rattle.mem_base.specs.script.Words.{task_of, usage_line}
 use Rattle.script_make.specs.Texts.{text_of_seed}
 use Rattle.mtree.specs.declared.endings.Ending.{Ending}
 use Rattle.mtree.specs.declared.endings.Ending.TheVariants.{Done, Memory, Usage}
 use Rattle.mtree.specs.Ends.{Ends, EndsTask, IsLeftAlone, Says}
-use Rattle.mtree.specs.Program.{Had, text_of_script}
+use Rattle.mtree.specs.Program.{Had, text_of_script, too_long}
 
 -- there is something that a source had
 pub had_any : (old : Option (List ℕ)) → (bytes : List ℕ) × Had old bytes
@@ -29,8 +31,8 @@ had_long (Some known) None came = absurd came.1
 had_long (Some known) (Some rest) came = (known, refl, omega (arith, ap length came.1, length-append came.0 rest))
 
 -- a text that is too long is no script
-pub script_of-long : (bytes : List ℕ) → most_text < length bytes → script_of bytes ≡ Err faulty
-script_of-long bytes long = ap (λ b. cond b (script_with (lines_of bytes)) (Err faulty)) (lt-leb (length bytes) most_text long)
+pub script_of-long : (bytes : List ℕ) → most_text < length bytes → script_of bytes ≡ Err too_long
+script_of-long bytes long = ap (λ b. cond b (script_from Start 1 (slice_split (λ b. eqb b 10) bytes)) (Err too_long)) (lt-leb (length bytes) most_text long)
 
 pub TakesPrefix-at : {K : Type 0} (written : K → Option (List ℕ)) (holds : K → List ℕ → Type 0) (a b : K) (text other : List ℕ)
     → other ≡ text → TakesPrefix written holds a b text → TakesPrefix written holds a b other

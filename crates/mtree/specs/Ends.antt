@@ -8,10 +8,10 @@ use Rattle.outside.specs.Source.{AllCame}
 use Rattle.outside.specs.Sink.{Takes, TakesPrefix}
 use Rattle.mem_base.specs.declared.script.tasks.Task.{Task}
 use Rattle.mem_base.specs.declared.script.tasks.Task.TheVariants.{Run, Make}
-use Rattle.mem_base.specs.script.FirstSpelling.{Text}
-use Rattle.mem_base.specs.script.FirstScripts.{Line, script_of}
-use Rattle.mem_base.specs.script.FirstOutput.{bad_line}
-use Rattle.mem_base.specs.script.FirstRun.{text_of}
+use Rattle.mem_base.specs.script.Spelling.{Text}
+use Rattle.mem_base.specs.script.Scripts.{Line, script_of}
+use Rattle.mem_base.specs.script.RefusalLines.{bad_line}
+use Rattle.mem_base.specs.script.Run.{text_of}
 use Rattle.mem_base.specs.script.Words.{task_of, usage_line}
 use Rattle.script_make.specs.Texts.{text_of_seed}
 use Rattle.mtree.specs.declared.endings.Ending.{Ending}

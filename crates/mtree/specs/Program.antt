@@ -3,12 +3,17 @@ use Rattle.std.specs.Prelude.{ℕ, ◌≡◌, ◌<◌, ◌⊎◌, List, length, 
 use Rattle.std.specs.Io.KnownBytes.{Consumes, IsAtEnd}
 use Rattle.std.specs.declared.option.Option.{Option}
 use Rattle.mem_base.specs.declared.script.faults.BadScript.{BadScript}
-use Rattle.mem_base.specs.script.FirstSpelling.{Text}
-use Rattle.mem_base.specs.script.FirstScripts.{Line, most_text}
-use Rattle.mem_base.specs.script.FirstOutput.{bad_line}
-use Rattle.mem_base.specs.script.FirstRun.{text_of}
+use Rattle.mem_base.specs.declared.script.faults.Cause.TheVariants.{Long}
+use Rattle.mem_base.specs.script.Spelling.{Text}
+use Rattle.mem_base.specs.script.Scripts.{Line, most_text}
+use Rattle.mem_base.specs.script.RefusalLines.{bad_line}
+use Rattle.mem_base.specs.script.Run.{text_of}
 use Rattle.mtree.specs.declared.endings.Ending.{Ending}
 use Rattle.mtree.specs.declared.endings.Ending.TheVariants as endings
+
+-- what is said of a text that is longer than a script may be: no line of it is named
+abbrev pub too_long : BadScript
+too_long = record { line = 0; cause = Long }
 
 -- the text of a script, or the line of a text that is none
 abbrev pub text_of_script : Result (List Line) BadScript → Text

@@ -3,27 +3,12 @@
 //!
 //! `top` has the top call, which does all that the program does over the words, the source and the sink that it is
 //! handed; its contract says how each ending comes and what is then written. `main` hands in those of the process.
-//! Below it stand the reading of a script (`scripts`, `forms`, `tokens`, `spellings`) and its run (`runs`,
-//! `sessions`, `names`, `views`, `answers`, `lines`). What a script is, what its commands mean and what each line
-//! looks like is defined in `mem_base`.
+//! The reading of a script (`script_text`), its run (`script_run`), and the script of a seed (`script_make`) are crates of
+//! their own. What a script is, what its commands mean and what each line looks like is defined in `mem_base`.
 #![tactic(auto)]
 
-mod answers;
-#[cfg(test)]
-mod end_tests;
 mod endings;
-mod forms;
-mod lines;
-mod names;
-mod runs;
-mod scripts;
-mod sessions;
-mod spellings;
-#[cfg(test)]
-mod tests;
-mod tokens;
 mod top;
-mod views;
 
 use crate::endings::Ending;
 use crate::top::exit_code;

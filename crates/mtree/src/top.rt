@@ -3,47 +3,45 @@ ghost use Rattle.std.specs.Prelude.{◌≡◌, ◌≤◌, ◌⊎◌, [], List, �
 ghost use Rattle.outside.specs.Causes.{Rose};
 ghost use Rattle.outside.specs.Source.{AllCame};
 ghost use Rattle.outside.specs.Sink.{Takes, TakesPrefix};
-ghost use Rattle.mem_base.specs.script.FirstScripts.{Line, script_of};
-ghost use Rattle.mem_base.specs.script.FirstOutput.{bad_line, cause_text};
-ghost use Rattle.mem_base.specs.script.FirstRun.{text_of};
+ghost use Rattle.mem_base.specs.script.Scripts.{script_of};
+ghost use Rattle.mem_base.specs.script.Scripts as scripts;
+ghost use Rattle.mem_base.specs.script.RefusalLines.{bad_line};
+ghost use Rattle.mem_base.specs.script.Run.{text_of};
 ghost use Rattle.mem_base.specs.script.Words.{usage_line};
 ghost use Rattle.script_make.specs.Texts.{text_of_seed};
 ghost use Rattle.mtree.specs.Ends.{Ends, ExitsWith, Says};
-ghost use Rattle.mtree.specs.Program.{Came, Had, IfBad, ending_of, text_of_script};
+ghost use Rattle.mtree.specs.Program.{Came, Had, IfBad, ending_of, text_of_script, too_long};
 
 use crate::endings::Ending;
-use crate::runs::{RunFault, run};
-use crate::scripts::{MOST_TEXT, ParseFault, faulty, parse};
 use mem_base::{BadScript, Cause, Task};
 use outside::{Failed, Gate, OpenGate, ReadStop, Sink, Source, read_all, write_all};
+use script_lines::{Line, add_bad_line};
 use script_make::text_of_seed;
+use script_run::{RunFault, run};
+use script_text::{MOST_TEXT, ParseFault, parse};
 use script_words::{WordsStop, task_of};
 use std::alloc::{AllocError, Global};
 use std::process::ExitCode;
 use std::sync::Wait;
 use std::thread::Threads;
 
-fn cause_text(cause: Cause) -> &'static str
-    ensures { result.now ≡ cause_text cause }
+// What is said of a text that is longer than a script may be: no line of it is named.
+fn too_long() -> BadScript
+    ensures { result ≡ too_long }
 {
-    match cause {
-        Cause::Byte => "byte",
-        Cause::Word => "word",
-        Cause::Name => "name",
-        Cause::Number => "number",
-        Cause::Count => "count",
-        Cause::Place => "place",
-        Cause::Long => "long",
-        Cause::Later => "later",
+    BadScript {
+        line: 0,
+        cause: Cause::Long,
     }
 }
 
-fn bad_line(alloc: Global, bad: BadScript) -> Result<String, AllocError>
-    ensures { IfOk result (λ s. string_bytes s ≡ bad_line bad) }
+// The line of a text that is no script.
+fn line_of(alloc: Global, bad: BadScript) -> Result<Line, AllocError>
+    ensures { IfOk result (λ line. line ≡ bad_line bad) }
 {
-    let line = bad.line;
-    let cause = cause_text(bad.cause);
-    format!(in alloc; "bad script line {line} {cause}\n")
+    let mut line = Line::new(alloc);
+    add_bad_line(&mut line, bad)?;
+    Ok(line)
 }
 
 // Writes the line of a text that is no script.
@@ -51,7 +49,7 @@ fn refuse<K: Sink>(alloc: Global, bad: BadScript, sink: &mut K) -> Ending
     ensures says { Says K.written K.holds K.faults (bad_line bad) (Ending.BadScript bad) sink.old sink.new result }
     ensures later { K.faults sink.old ≤ K.faults sink.new }
 {
-    let line = match bad_line(alloc, bad) {
+    let line = match line_of(alloc, bad) {
         Ok(line) => line,
         Err(_) => return Ending::Memory,
     };
@@ -63,7 +61,7 @@ fn refuse<K: Sink>(alloc: Global, bad: BadScript, sink: &mut K) -> Ending
 
 // Runs the script that the bytes are.
 fn run_text<K: Sink>(alloc: Global, text: &[u8], sink: &mut K) -> Ending
-    ensures done { result ≡ Ending.Done → (lines : List Line) × (script_of text.now ≡ Ok lines) × Takes K.written K.holds sink.old sink.new (text_of lines) }
+    ensures done { result ≡ Ending.Done → (lines : List scripts.Line) × (script_of text.now ≡ Ok lines) × Takes K.written K.holds sink.old sink.new (text_of lines) }
     ensures bad { IfBad result (λ bad. (script_of text.now ≡ Err bad) × Takes K.written K.holds sink.old sink.new (bad_line bad)) }
     ensures write { result ≡ Ending.WriteFault → Rose (K.faults sink.old) (K.faults sink.new) }
     ensures never { (result ≡ Ending.Usage → ⊥) × (result ≡ Ending.ReadFault → ⊥) }
@@ -72,7 +70,7 @@ fn run_text<K: Sink>(alloc: Global, text: &[u8], sink: &mut K) -> Ending
     ensures later { K.faults sink.old ≤ K.faults sink.new }
 {
     match parse(alloc, text) {
-        Ok(lines) => match run(alloc, &lines, sink) {
+        Ok(script) => match run(alloc, &script, sink) {
             Ok(()) => Ending::Done,
             Err(RunFault::Write) => Ending::WriteFault,
             Err(RunFault::Memory) => Ending::Memory,
@@ -84,7 +82,7 @@ fn run_text<K: Sink>(alloc: Global, text: &[u8], sink: &mut K) -> Ending
 
 // Runs the script that the source gives.
 fn run_source<S: Source, K: Sink>(alloc: Global, source: &mut S, sink: &mut K) -> Ending
-    ensures done { result ≡ Ending.Done → (bytes : List ℕ) × (lines : List Line) × AllCame (S.left source.old) (S.left source.new) bytes
+    ensures done { result ≡ Ending.Done → (bytes : List ℕ) × (lines : List scripts.Line) × AllCame (S.left source.old) (S.left source.new) bytes
         × (script_of bytes ≡ Ok lines)
         × Takes K.written K.holds sink.old sink.new (text_of lines) }
     ensures bad { IfBad result (λ bad. (bytes : List ℕ) × Came (S.left source.old) (S.left source.new) bytes × (script_of bytes ≡ Err bad)
@@ -99,7 +97,7 @@ fn run_source<S: Source, K: Sink>(alloc: Global, source: &mut S, sink: &mut K) -
     match read_all(alloc, source, MOST_TEXT) {
         Ok(bytes) => run_text(alloc, &bytes, sink),
         Err(ReadStop::Failed) => Ending::ReadFault,
-        Err(ReadStop::Long) => refuse(alloc, faulty(), sink),
+        Err(ReadStop::Long) => refuse(alloc, too_long(), sink),
         Err(ReadStop::Memory) => Ending::Memory,
     }
 }

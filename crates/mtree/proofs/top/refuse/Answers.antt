@@ -1,13 +1,13 @@
 use Rattle.std.proofs.Common.{refl, inl, subst, ◌∙◌}
 use Rattle.outside.specs.Sink.{Takes}
 use Rattle.outside.proofs.Took.{TakesPrefix-all}
-use Rattle.mem_base.specs.script.FirstOutput.{bad_line}
+use Rattle.mem_base.specs.script.RefusalLines.{bad_line}
 use Rattle.mtree.proofs.top.refuse.Goals as goal
 
 pub returns-in-Ok-write_all-clause-says : goal.returns-in-Ok-write_all-clause-says
 returns-in-Ok-write_all-clause-says g c =
     let taken : Takes g.K.Sink.written g.K.Sink.holds c.args.sink.now c.write_all.new.sink (bad_line c.args.bad) =
-    subst (Takes g.K.Sink.written g.K.Sink.holds c.args.sink.now c.write_all.new.sink) (c.as_bytes.ensures.value ∙ c.in-Ok.ensures)
+    subst (Takes g.K.Sink.written g.K.Sink.holds c.args.sink.now c.write_all.new.sink) (c.as_bytes.ensures ∙ c.in-Ok.ensures)
     c.in-Ok-write_all.ensures.all in record {
       whole = λ e. taken;
       only = inl refl;
