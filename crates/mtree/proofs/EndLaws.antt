@@ -16,7 +16,7 @@ use Rattle.script_make.specs.Texts.{text_of_seed}
 use Rattle.mtree.specs.declared.endings.Ending.{Ending}
 use Rattle.mtree.specs.declared.endings.Ending.TheVariants.{Done, Memory, Usage}
 use Rattle.mtree.specs.Ends.{Ends, EndsTask, IsLeftAlone, Says}
-use Rattle.mtree.specs.Program.{Had, text_of_script, too_long}
+use Rattle.mtree.specs.Program.{Had, demo_text, text_of_script, too_long}
 
 -- there is something that a source had
 pub had_any : (old : Option (List ℕ)) → (bytes : List ℕ) × Had old bytes
@@ -72,5 +72,5 @@ module _ {S K : Type 0} (left : S → Option (List ℕ)) (read_faults : S → �
       }
   out_of_memory source sink (Some (Make seed)) = (alone source, says_nothing (text_of_seed seed) Done sink (λ e. cc))
   out_of_memory source sink (Some Race) = (alone source, says_nothing usage_line Usage sink (λ e. cc))
-  out_of_memory source sink (Some (Demo seed)) = (alone source, says_nothing usage_line Usage sink (λ e. cc))
+  out_of_memory source sink (Some (Demo seed)) = (alone source, says_nothing (demo_text seed) Done sink (λ e. cc))
   out_of_memory source sink None = (alone source, says_nothing usage_line Usage sink (λ e. cc))

@@ -7,7 +7,7 @@ use Rattle.outside.specs.Causes.{Rose}
 use Rattle.outside.specs.Source.{AllCame}
 use Rattle.outside.specs.Sink.{Takes, TakesPrefix}
 use Rattle.mem_base.specs.declared.script.tasks.Task.{Task}
-use Rattle.mem_base.specs.declared.script.tasks.Task.TheVariants.{Run, Make}
+use Rattle.mem_base.specs.declared.script.tasks.Task.TheVariants.{Run, Make, Demo}
 use Rattle.mem_base.specs.script.Spelling.{Text}
 use Rattle.mem_base.specs.script.Scripts.{Line, script_of}
 use Rattle.mem_base.specs.script.RefusalLines.{bad_line}
@@ -16,7 +16,7 @@ use Rattle.mem_base.specs.script.Words.{task_of, usage_line}
 use Rattle.script_make.specs.Texts.{text_of_seed}
 use Rattle.mtree.specs.declared.endings.Ending.{Ending}
 use Rattle.mtree.specs.declared.endings.Ending.TheVariants as endings
-use Rattle.mtree.specs.Program.{Came, Had, IfBad, ending_of, status_of, text_of_script}
+use Rattle.mtree.specs.Program.{Came, Had, IfBad, demo_text, ending_of, status_of, text_of_script}
 
 -- `run`: by the source and the sink before and after, and the ending
 pub record Runs {S K : Type 0} (left : S → Option (List ℕ)) (read_faults : S → ℕ) (written : K → Option (List ℕ)) (holds : K → List ℕ → Type 0)
@@ -56,14 +56,16 @@ pub record IsLeftAlone {S : Type 0} (left : S → Option (List ℕ)) (read_fault
   pub same_left : left source' ≡ left source
   pub same_faults : read_faults source' ≡ read_faults source
 
--- by what the words ask for: `run` reads a script and runs it, `make` writes the script of its seed; all other words,
--- `race` and `demo` among them, are answered with the usage line
+-- by what the words ask for: `run` reads a script and runs it, `make` writes the script of its seed, `demo` the summary of what that
+-- script writes; all other words, `race` among them, are answered with the usage line
 abbrev pub EndsTask : {S K : Type 0} → (S → Option (List ℕ)) → (S → ℕ) → (K → Option (List ℕ)) → (K → List ℕ → Type 0) → (K → ℕ)
     → S → S → K → K → Ending → Option Task → Type 0
 EndsTask left read_faults written holds write_faults source source' sink sink' ending (Some Run) =
     Runs left read_faults written holds write_faults source source' sink sink' ending
 EndsTask left read_faults written holds write_faults source source' sink sink' ending (Some (Make seed)) =
     IsLeftAlone left read_faults source source' × Says written holds write_faults (text_of_seed seed) endings.Done sink sink' ending
+EndsTask left read_faults written holds write_faults source source' sink sink' ending (Some (Demo seed)) =
+    IsLeftAlone left read_faults source source' × Says written holds write_faults (demo_text seed) endings.Done sink sink' ending
 EndsTask left read_faults written holds write_faults source source' sink sink' ending _ =
     IsLeftAlone left read_faults source source' × Says written holds write_faults usage_line endings.Usage sink sink' ending
 

@@ -5,9 +5,11 @@ use Rattle.std.specs.declared.option.Option.{Option}
 use Rattle.mem_base.specs.declared.script.faults.BadScript.{BadScript}
 use Rattle.mem_base.specs.declared.script.faults.Cause.TheVariants.{Long}
 use Rattle.mem_base.specs.script.Spelling.{Text}
-use Rattle.mem_base.specs.script.Scripts.{Line, most_text}
+use Rattle.mem_base.specs.script.Scripts.{Line, most_text, script_of}
 use Rattle.mem_base.specs.script.RefusalLines.{bad_line}
 use Rattle.mem_base.specs.script.Run.{text_of}
+use Rattle.mem_base.specs.script.Summary.{summary}
+use Rattle.script_make.specs.Texts.{text_of_seed}
 use Rattle.mtree.specs.declared.endings.Ending.{Ending}
 use Rattle.mtree.specs.declared.endings.Ending.TheVariants as endings
 
@@ -19,6 +21,10 @@ too_long = record { line = 0; cause = Long }
 abbrev pub text_of_script : Result (List Line) BadScript → Text
 text_of_script (Ok lines) = text_of lines
 text_of_script (Err bad) = bad_line bad
+
+-- what `demo` writes of a seed: the summary of what `run` writes for the script that `make` writes
+abbrev pub demo_text : ℕ → Text
+demo_text seed = summary (text_of_script (script_of (text_of_seed seed)))
 
 -- how a run ends where nothing fails
 abbrev pub ending_of : Result (List Line) BadScript → Ending

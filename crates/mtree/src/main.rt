@@ -7,8 +7,17 @@
 //! their own. What a script is, what its commands mean and what each line looks like is defined in `mem_base`.
 #![tactic(auto)]
 
+#[cfg(test)]
+mod end_tests;
 mod endings;
+mod kept;
+#[cfg(test)]
+mod language;
+#[cfg(test)]
+mod tests;
 mod top;
+#[cfg(test)]
+mod worked;
 
 use crate::endings::Ending;
 use crate::top::exit_code;

@@ -10,11 +10,13 @@ ghost use Rattle.mem_base.specs.script.Run.{text_of};
 ghost use Rattle.mem_base.specs.script.Words.{usage_line};
 ghost use Rattle.script_make.specs.Texts.{text_of_seed};
 ghost use Rattle.mtree.specs.Ends.{Ends, ExitsWith, Says};
-ghost use Rattle.mtree.specs.Program.{Came, Had, IfBad, ending_of, text_of_script, too_long};
+ghost use Rattle.mtree.specs.Program.{Came, Had, IfBad, demo_text, ending_of, text_of_script, too_long};
 
 use crate::endings::Ending;
+use crate::kept::Kept;
 use mem_base::{BadScript, Cause, Task};
 use outside::{Failed, Gate, OpenGate, ReadStop, Sink, Source, read_all, write_all};
+use run_summary::summary;
 use script_lines::{Line, add_bad_line};
 use script_make::text_of_seed;
 use script_run::{RunFault, run};
@@ -116,6 +118,41 @@ fn make<K: Sink>(alloc: Global, seed: u64, sink: &mut K) -> Ending
     }
 }
 
+// What `run` writes for a text.
+fn run_kept(alloc: Global, text: &[u8]) -> Result<Vec<u8>, AllocError>
+    ensures { IfOk result (λ written. written.items ≡ text_of_script (script_of text.now)) }
+{
+    let mut kept = Kept::new(alloc);
+    match run_text(alloc, text, &mut kept) {
+        Ending::Done | Ending::BadScript(_) => Ok(kept.into_vec()),
+        _ => Err(AllocError),
+    }
+}
+
+// The summary of what `run` writes for the script of a seed.
+fn summary_of_seed(alloc: Global, seed: u64) -> Result<Line, AllocError>
+    ensures { IfOk result (λ line. line ≡ demo_text seed) }
+{
+    let script = text_of_seed(alloc, seed)?;
+    let written = run_kept(alloc, &script)?;
+    let line = summary(alloc, &written)?;
+    Ok(line)
+}
+
+// Writes that summary.
+fn demo<K: Sink>(alloc: Global, seed: u64, sink: &mut K) -> Ending
+    ensures { Says K.written K.holds K.faults (demo_text seed) Ending.Done sink.old sink.new result }
+{
+    let line = match summary_of_seed(alloc, seed) {
+        Ok(line) => line,
+        Err(_) => return Ending::Memory,
+    };
+    match write_all(sink, line.as_bytes()) {
+        Ok(()) => Ending::Done,
+        Err(Failed) => Ending::WriteFault,
+    }
+}
+
 // Writes the usage line.
 fn show_usage<K: Sink>(sink: &mut K) -> Ending
     ensures { Says K.written K.holds K.faults usage_line Ending.Usage sink.old sink.new result }
@@ -127,7 +164,7 @@ fn show_usage<K: Sink>(sink: &mut K) -> Ending
 }
 
 /// Does what the words ask: `run` reads the source to its end, and writes the text of the script that it is; `make SEED`
-/// writes the script of the seed.
+/// writes the script of the seed, and `demo SEED` the summary of what that script writes.
 ///
 /// It never waits. Any other words are answered with the usage line, and the source is then left alone.
 pub fn alone<S: Source, K: Sink>(
@@ -141,7 +178,8 @@ pub fn alone<S: Source, K: Sink>(
     match task_of(alloc, words) {
         Ok(Task::Run) => run_source(alloc, source, sink),
         Ok(Task::Make { seed }) => make(alloc, seed, sink),
-        Ok(_) | Err(WordsStop::Usage) => show_usage(sink),
+        Ok(Task::Demo { seed }) => demo(alloc, seed, sink),
+        Ok(Task::Race) | Err(WordsStop::Usage) => show_usage(sink),
         Err(WordsStop::Memory) => Ending::Memory,
     }
 }

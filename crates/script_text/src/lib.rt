@@ -30,3 +30,5 @@ pub use script_lines::{
 };
 pub use script_names::{NameTable, Names};
 pub use scripts::{MOST_TEXT, Script, parse};
+pub use spellings::digits;
+pub use tokens::Tokens;

@@ -1,0 +1,343 @@
+// Runs of the program over ends that fail, give little, or take little, and its answers to other words.
+
+use crate::endings::Ending;
+use crate::tests::{ROOM, USAGE, parts_of, run_of, run_over, words_of};
+use crate::top::{alone, exit_code, mtree};
+use crate::worked::MAPS;
+use mem_base::{BadScript, Cause};
+use outside::{CalmSource, MemSink, MemSource, OpenGate, StdSource};
+use std::alloc::Global;
+use std::io::{self, Read};
+use std::process::ExitCode;
+use std::test::Fail;
+
+/// The map of the manual's picture.
+const SCRIPT: &str = "region A container 0x8000\n\
+                  region B container 0x4000\n\
+                  region C io 0x6000 latch\n\
+                  region D io 0x1000 latch\n\
+                  region E io 0x1000 latch\n\
+                  add A 0x2000 B prio 2\n\
+                  add A 0 C prio 1\n\
+                  add B 0 D\n\
+                  add B 0x2000 E\n\
+                  space S A\n\
+                  show S\n";
+
+/// The lines that the script writes.
+const LINES: [&str; 6] = [
+    "view S g5\n",
+    "0-1fff C @0 io\n",
+    "2000-2fff D @0 io\n",
+    "3000-3fff C @3000 io\n",
+    "4000-4fff E @0 io\n",
+    "5000-5fff C @5000 io\n",
+];
+
+/// The first `count` lines that the script writes.
+fn first_lines(alloc: Global, count: usize) -> Result<Vec<u8>, Fail> {
+    let mut text = Vec::new(alloc);
+    for line in LINES.iter().take(count) {
+        text.extend_from_slice(line.as_bytes())?;
+    }
+    Ok(text)
+}
+
+/// A reader that gives one byte a call.
+#[derive(Drop)]
+struct Drip<'a>(&'a [u8]);
+
+impl Read for Drip<'_> {
+    fn read(&mut self, buf: &mut [u8]) -> io::Result<usize> {
+        let count = buf.len().min(1);
+        self.0.read(&mut buf[..count])
+    }
+}
+
+/// The script and the output of the case of this name.
+fn case_of(name: &str) -> Option<(&str, &str)> {
+    for case in MAPS.split('~').skip(1) {
+        if let Some((other, script, output)) = parts_of(case) {
+            if other == name {
+                return Some((script, output));
+            }
+        }
+    }
+    None
+}
+
+#[test]
+fn a_byte_a_call_gives_the_same_text(rt: HostRuntime) -> Result<(), Fail> {
+    let mut source = StdSource::new(Drip(SCRIPT.as_bytes()));
+    let (ending, written) = run_over(rt.alloc(), &mut source, ROOM, &[])?;
+    assert_eq!(rt; ending, Ending::Done);
+    assert_eq!(rt; written.as_slice(), first_lines(rt.alloc(), 6)?.as_slice());
+    Ok(())
+}
+
+#[test]
+fn with_a_read_that_fails_nothing_is_written(rt: HostRuntime) -> Result<(), Fail> {
+    // The first call gives the whole script, the second the end of input.
+    for (call, want, lines) in [
+        (1, Ending::ReadFault, 0),
+        (2, Ending::ReadFault, 0),
+        (3, Ending::Done, 6),
+    ] {
+        let fails = [call].to_vec(rt.alloc())?;
+        let mut source = MemSource::new(SCRIPT.as_bytes().to_vec(rt.alloc())?, fails);
+        let (ending, written) = run_over(rt.alloc(), &mut source, ROOM, &[])?;
+        assert_eq!(rt; ending, want, "call {call}");
+        assert_eq!(rt;
+            written.as_slice(),
+            first_lines(rt.alloc(), lines)?.as_slice(),
+            "call {call}"
+        );
+    }
+    Ok(())
+}
+
+#[test]
+fn a_write_that_fails_leaves_the_lines_before_it(rt: HostRuntime) -> Result<(), Fail> {
+    // Each line is one write.
+    for (call, want, lines) in [
+        (1, Ending::WriteFault, 0),
+        (2, Ending::WriteFault, 1),
+        (3, Ending::WriteFault, 2),
+        (4, Ending::WriteFault, 3),
+        (5, Ending::WriteFault, 4),
+        (6, Ending::WriteFault, 5),
+        (7, Ending::Done, 6),
+    ] {
+        let mut source = CalmSource::new(SCRIPT.as_bytes().to_vec(rt.alloc())?);
+        let (ending, written) = run_over(rt.alloc(), &mut source, ROOM, &[call])?;
+        assert_eq!(rt; ending, want, "call {call}");
+        assert_eq!(rt;
+            written.as_slice(),
+            first_lines(rt.alloc(), lines)?.as_slice(),
+            "call {call}"
+        );
+    }
+    Ok(())
+}
+
+#[test]
+fn a_line_beyond_the_room_is_not_written(rt: HostRuntime) -> Result<(), Fail> {
+    // The first two lines have 10 and 15 bytes, all have 103.
+    for (room, want, lines) in [
+        (0, Ending::WriteFault, 0),
+        (9, Ending::WriteFault, 0),
+        (10, Ending::WriteFault, 1),
+        (24, Ending::WriteFault, 1),
+        (102, Ending::WriteFault, 5),
+        (103, Ending::Done, 6),
+    ] {
+        let mut source = CalmSource::new(SCRIPT.as_bytes().to_vec(rt.alloc())?);
+        let (ending, written) = run_over(rt.alloc(), &mut source, room, &[])?;
+        assert_eq!(rt; ending, want, "room {room}");
+        assert_eq!(rt;
+            written.as_slice(),
+            first_lines(rt.alloc(), lines)?.as_slice(),
+            "room {room}"
+        );
+    }
+    Ok(())
+}
+
+#[test]
+fn a_faulty_script_is_told_unless_the_write_fails(rt: HostRuntime) -> Result<(), Fail> {
+    for (text, line, cause, written) in [
+        (
+            "region A container 1\n\nfrob\n",
+            3,
+            Cause::Word,
+            "bad script line 3 word\n",
+        ),
+        (
+            "region A container 0x10000000000000001\n",
+            1,
+            Cause::Number,
+            "bad script line 1 number\n",
+        ),
+        (
+            "region a23456789012345678901234567890123 ram 1\n",
+            1,
+            Cause::Name,
+            "bad script line 1 name\n",
+        ),
+        ("v16 enter\n", 1, Cause::Word, "bad script line 1 word\n"),
+        ("v01 enter\n", 1, Cause::Word, "bad script line 1 word\n"),
+        ("begin\0\n", 1, Cause::Byte, "bad script line 1 byte\n"),
+        ("begin now\n", 1, Cause::Count, "bad script line 1 count\n"),
+        (
+            "begin\nmachine 8K\n",
+            2,
+            Cause::Place,
+            "bad script line 2 place\n",
+        ),
+    ] {
+        let (ending, told) = run_of(rt.alloc(), text.as_bytes())?;
+        assert_eq!(rt;
+            ending,
+            Ending::BadScript(BadScript { line, cause }),
+            "{text}"
+        );
+        assert_eq!(rt; told.as_slice(), written.as_bytes(), "{text}");
+
+        let mut source = CalmSource::new(text.as_bytes().to_vec(rt.alloc())?);
+        let (ending, told) = run_over(rt.alloc(), &mut source, ROOM, &[1])?;
+        assert_eq!(rt; ending, Ending::WriteFault, "{text}");
+        assert!(rt; told.is_empty(), "{text}");
+    }
+    Ok(())
+}
+
+#[test]
+fn a_script_may_be_empty_or_lack_its_last_line_feed(rt: HostRuntime) -> Result<(), Fail> {
+    for text in [
+        "",
+        "region A container 1",
+        "# nothing\n\n  \t\n",
+        "begin\r\n",
+    ] {
+        let (ending, written) = run_of(rt.alloc(), text.as_bytes())?;
+        assert_eq!(rt; ending, Ending::Done, "{text}");
+        assert!(rt; written.is_empty(), "{text}");
+    }
+    Ok(())
+}
+
+#[test]
+fn each_prefix_of_a_script_runs_or_is_faulty_in_its_last_line(rt: HostRuntime) -> Result<(), Fail> {
+    let case = case_of("iommu-chains");
+    assert!(rt; case.is_some());
+    if let Some((script, _)) = case {
+        let text = script.as_bytes();
+        for len in 0..text.len() {
+            let front = &text[..len];
+            let (ending, _) = run_of(rt.alloc(), front)?;
+            let mut last = 1u32;
+            for byte in front {
+                if *byte == b'\n' {
+                    last = last.saturating_add(1);
+                }
+            }
+            match ending {
+                Ending::BadScript(bad) => assert_eq!(rt; bad.line, last, "the first {len} bytes"),
+                other => assert_eq!(rt; other, Ending::Done, "the first {len} bytes"),
+            }
+        }
+    }
+    Ok(())
+}
+
+#[test]
+fn a_text_has_at_most_1048576_bytes(rt: HostRuntime) -> Result<(), Fail> {
+    let mut text = Vec::new(rt.alloc());
+    text.push(b'#')?;
+    for _ in 1..1_048_576 {
+        text.push(b'x')?;
+    }
+    let (ending, written) = run_of(rt.alloc(), text.as_slice())?;
+    assert_eq!(rt; ending, Ending::Done);
+    assert!(rt; written.is_empty());
+
+    text.push(b'x')?;
+    let (ending, written) = run_of(rt.alloc(), text.as_slice())?;
+    let bad = BadScript {
+        line: 0,
+        cause: Cause::Long,
+    };
+    assert_eq!(rt; ending, Ending::BadScript(bad));
+    assert_eq!(rt; written.as_slice(), b"bad script line 0 long\n".as_slice());
+    Ok(())
+}
+
+#[test]
+fn other_words_are_told_the_usage(rt: HostRuntime) -> Result<(), Fail> {
+    for words in [
+        "",
+        "run run",
+        "Run",
+        "runs",
+        "-h",
+        "--help",
+        "help",
+        "make",
+        "make x",
+        "make -1",
+        "demo",
+        "make 18446744073709551616",
+        "run -",
+        "-- run",
+    ] {
+        let words = words_of(rt.alloc(), words)?;
+        let mut source = CalmSource::new(SCRIPT.as_bytes().to_vec(rt.alloc())?);
+        let mut sink = MemSink::new(rt.alloc(), ROOM, Vec::new(rt.alloc()))?;
+        let ending = alone(rt.alloc(), words.as_slice(), &mut source, &mut sink);
+        assert_eq!(rt; ending, Ending::Usage);
+        assert_eq!(rt; sink.written(), USAGE.as_bytes());
+
+        let mut full = MemSink::new(rt.alloc(), 0, Vec::new(rt.alloc()))?;
+        let ending = alone(rt.alloc(), words.as_slice(), &mut source, &mut full);
+        assert_eq!(rt; ending, Ending::WriteFault);
+    }
+    Ok(())
+}
+
+#[test]
+fn the_top_call_runs_a_script_and_does_not_know_race_yet(rt: HostRuntime) -> Result<(), Fail> {
+    for (word, want, text) in [
+        ("run", Ending::Done, "at S 0 X @0 io\n"),
+        ("race", Ending::Usage, USAGE),
+    ] {
+        let words = words_of(rt.alloc(), word)?;
+        let script = b"region X io 1 latch\nspace S X\nat S 0\n";
+        let mut source = CalmSource::new(script.to_vec(rt.alloc())?);
+        let mut sink = MemSink::new(rt.alloc(), ROOM, Vec::new(rt.alloc()))?;
+        let ending = mtree(
+            &rt,
+            rt.alloc(),
+            words.as_slice(),
+            &mut source,
+            &mut sink,
+            &OpenGate,
+        );
+        assert_eq!(rt; ending, want, "{word}");
+        assert_eq!(rt; sink.written(), text.as_bytes(), "{word}");
+    }
+    Ok(())
+}
+
+#[test]
+fn a_generated_script_begins_and_ends_as_defined(rt: HostRuntime) -> Result<(), Fail> {
+    let words = words_of(rt.alloc(), "make 1")?;
+    let mut source = CalmSource::new(Vec::new(rt.alloc()));
+    let mut sink = MemSink::new(rt.alloc(), 1_048_576, Vec::new(rt.alloc()))?;
+    let ending = alone(rt.alloc(), words.as_slice(), &mut source, &mut sink);
+    assert_eq!(rt; ending, Ending::Done);
+    let front = b"machine 0x1000000\nregion sys container 0x40000000\nbegin\nspace s sys\n";
+    assert!(rt; sink.written().starts_with(front.as_slice()));
+    assert!(rt; sink.written().ends_with(b"\nshow s\n".as_slice()));
+    Ok(())
+}
+
+#[test]
+fn the_exit_code_is_that_of_the_ending(rt: HostRuntime) -> Result<(), Fail> {
+    // Calls are counted from 1, so call 0 never fails.
+    for (word, script, failing_read, failing_write, status) in [
+        ("run", SCRIPT, 0, 0, 0),
+        ("runs", SCRIPT, 0, 0, 2),
+        ("run", "frob\n", 0, 0, 3),
+        ("run", SCRIPT, 1, 0, 4),
+        ("run", SCRIPT, 0, 1, 5),
+    ] {
+        let words = words_of(rt.alloc(), word)?;
+        let reads = [failing_read].to_vec(rt.alloc())?;
+        let writes = [failing_write].to_vec(rt.alloc())?;
+        let mut source = MemSource::new(script.as_bytes().to_vec(rt.alloc())?, reads);
+        let mut sink = MemSink::new(rt.alloc(), ROOM, writes)?;
+        let code = exit_code(&rt, rt.alloc(), words.as_slice(), &mut source, &mut sink);
+        assert_eq!(rt; code, ExitCode::from(status));
+    }
+    Ok(())
+}
