@@ -16,6 +16,7 @@ use Rattle.mem_base.specs.declared.access.cells.Cell.{Cell}
 use Rattle.mem_base.specs.declared.machine.events.Event.TheVariants as events
 use Rattle.mem_base.specs.lists.Every.{Every}
 use Rattle.mem_base.specs.map.Limits.{notifier_count, most_made}
+use Rattle.mem_base.specs.map.Forest.{IsMade}
 use Rattle.mem_base.specs.access.Places.{past}
 use Rattle.mem_base.specs.access.Cells.{Block}
 use Rattle.mem_base.specs.machine.Passes.{pass_id}
@@ -51,6 +52,7 @@ use Rattle.world_core.specs.Configuring.{dropped_with, made_place, cleared_at, s
 use Rattle.world_core.proofs.ComposedLaws.{publishes_leave, fills_leave_rest}
 use Rattle.world_core.proofs.MadeCellLaws.{unfilled_with}
 use Rattle.world_core.proofs.MadeCellLaws as made
+use Rattle.world_core.proofs.NumberLaws.{numbers_fit}
 use Rattle.world_core.proofs.ReachedLaws.{reached_is_orderly}
 use Rattle.world_core.proofs.WordLaws.{backs}
 use Rattle.world_core.proofs.WriterCallLaws.{sound_of, private_reached, end_reached, leads_to, completes}
@@ -78,12 +80,13 @@ current_is k p e = forest_of_first k.kept p (sym (first_kept_at k (slice_get k.k
 -- what holds a publish up is no want of memory
 held_tells : (current first : ℕ) (ks : List PassTrack) → held_from current first ks ≡ Some Memory → ⊥
 held_tells current first [] e = none_is_not_some Memory e
-held_tells current first (k ∷ ks) e = go k.found (holds_up current k.found) e
+held_tells current first (k ∷ ks) e = go k.found (holds_up current k.found) e (held_tells current (first + 1) ks)
   where
-    go : (o : Option ℕ) (b : Bool) → (if b then held_at (pass_id first) o else held_from current (first + 1) ks) ≡ Some Memory → ⊥
-    go o false e = held_tells current (first + 1) ks e
-    go None true e = none_is_not_some Memory e
-    go (Some n) true e = cc
+    go : (o : Option ℕ) (b : Bool) → (if b then held_at (pass_id first) o else held_from current (first + 1) ks) ≡ Some Memory
+        → (held_from current (first + 1) ks ≡ Some Memory → ⊥) → ⊥
+    go o false e rest = rest e
+    go None true e rest = none_is_not_some Memory e
+    go (Some n) true e rest = cc
 
 pub held_is_told : (g : Generations) (held : Option Refusal) → held ≡ held_up g → held ≡ Some Memory → ⊥
 held_is_told g held is e = held_tells g.current 0 g.passes (sym is ∙ e)
@@ -92,7 +95,7 @@ held_is_told g held is e = held_tells g.current 0 g.passes (sym is ∙ e)
 
 not_some : {A : Type 0} (o : Option A) → not (is_some o) ≡ true → o ≡ None
 not_some None e = refl
-not_some (Some x) e = true_is_not_false true refl e
+not_some (Some x) e = true_is_not_false false e refl
 
 would_commit : (d : Desk) (c : Config) → commits (stands d) c ≡ would_publish d c
 would_commit d configs.Begin = refl
@@ -260,14 +263,23 @@ module _ (d : WriterState) (k : KeptState) (ws : List ℕ) (dropped : List Regio
               (before true t) (private true (Some g) t due) made_current (ap (λ (s : Settled). s.answer) (settles true t)) refl refl;
         }
 
+  same_forest : w.writer.desk.forest ≡ d.backed.desk.state.forest
+  same_forest = ap (λ (o : Option Readied). (standing d.backed.desk o).forest) none_due
+
+  -- 64 bits hold the numbers after the next one
+  pub next_fits : IsMade d.backed.desk.state.forest → (A : Type 0) (f : A → Published) (o : Option A)
+      → IfSome o (λ x. (f x).number ≡ k.current + 1) → IfSome o (λ x. (f x).number + 1 < 2 ^ 64)
+  next_fits made A f None next = tt
+  next_fits made A f (Some x) next =
+      let fits : k.current + 2 < 2 ^ 64 = numbers_fit w h.reached (subst IsMade (sym same_forest) made) in
+      let number : (f x).number ≡ k.current + 1 = next in
+      omega (arith, fits, number)
+
   -- what was told of what holds a publish up is so where it counts
   free : (held : Option Refusal) → held ≡ held_up (generations_of (all_swept k)) → (b : Bool) → would_publish w.writer.desk c ≡ b
       → would_publish (started b) c ≡ true → held_up (generations_of (swept_if b k)) ≡ held
   free held told true t u = sym told
   free held told false t u = true_is_not_false _ u (would_still false c ∙ t)
-
-  same_forest : w.writer.desk.forest ≡ d.backed.desk.state.forest
-  same_forest = ap (λ (o : Option Readied). (standing d.backed.desk o).forest) none_due
 
   few : d.backed.desk.state.forest.made ≤ most_made
   few = subst (λ (f : Forest). f.made ≤ most_made) same_forest (sound_of w h.reached).holds.sound.few
@@ -318,6 +330,18 @@ module _ (d : WriterState) (k : KeptState) (ws : List ℕ) (dropped : List Regio
       where
         go : (b : Bool) → would_publish w.writer.desk c ≡ b → Clears e.backed.backing a
         go b t = clears_at b t
+
+    -- what is due has the next number
+    pub next_number : d.backed.desk.current.number ≡ k.current → IfSome e.due (IsReady e.backed) → (A : Type 0) (f : A → Published) (o : Option A)
+        → option_map f o ≡ option_map (λ g. g.generation) e.due → IfSome o (λ x. (f x).number ≡ k.current + 1)
+    next_number number ready A f o is = go o e.due is ready
+      where
+        go : (o : Option A) (due : Option Readied) → option_map f o ≡ option_map (λ g. g.generation) due → IfSome due (IsReady e.backed)
+            → IfSome o (λ x. (f x).number ≡ k.current + 1)
+        go None due is ready = tt
+        go (Some x) None is ready = none_is_not_some (f x) (sym is)
+        go (Some x) (Some g) is ready = ap (λ (p : Published). p.number) (same_some (f x) g.generation is) ∙ ready.of_desk.of_desk.number
+            ∙ ap (λ (p : Published). p.number + 1) ok.current ∙ ap (λ (n : ℕ). n + 1) number
 
     -- the words of a region that was made are words
     pub has_room : IfSome (made_place e.backed.backing.places a) (λ p. past p ≤ length ws)

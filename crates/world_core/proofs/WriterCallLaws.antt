@@ -1,9 +1,11 @@
 -- A call of the writer leads from one world to which a legal history led to another one.
-use Rattle.std.proofs.Common.{◌≡◌, ℕ, true, List, [], ◌∷◌, ◌++◌, Option, sym, ap, subst, ◌∙◌}
-use Rattle.std.specs.Prelude.{Result}
+use Rattle.std.proofs.Common.{◌≡◌, ℕ, true, List, [], ◌∷◌, ◌++◌, Option, refl, sym, ap, subst, ◌∙◌, arith}
+use Rattle.std.specs.Prelude.{◌==◌, length, Result}
+use Rattle.std.proofs.lemmas.Bool.{eqb-true}
 use Rattle.mem_base.specs.declared.map.calls.Applied.{Applied}
 use Rattle.mem_base.specs.declared.map.calls.Config.{Config}
 use Rattle.mem_base.specs.declared.map.refusals.Refusal.{Refusal}
+use Rattle.mem_base.specs.declared.access.cells.Cell.{Cell}
 use Rattle.mem_base.specs.declared.machine.events.Event.{Event}
 use Rattle.mem_base.specs.declared.machine.events.Event.TheVariants as events
 use Rattle.mem_base.specs.machine.Configs.{configured}
@@ -18,6 +20,10 @@ use Rattle.world_laws.proofs.OrderLaws.{orders_are_legal}
 use Rattle.world_laws.proofs.Running.{Sound, sound, run_ends}
 use Rattle.world_core.specs.Worlds.{IsReached}
 use Rattle.world_core.proofs.ReachedLaws.{reached_after}
+
+pub nothing_left : (cells : List Cell) → (length cells == 0) ≡ true → cells ≡ []
+nothing_left [] h = refl
+nothing_left (c ∷ cs) h = absurd (omega (arith, eqb-true _ _ h))
 
 -- histories in parts
 

@@ -1,9 +1,11 @@
 // The writer's calls that change the map, and the listeners that join and leave: private events, with what goes before and after.
 ghost use Rattle.std.specs.Prelude.{◌≡◌, ◌≢◌, ◌+◌, ◌^◌, ◌<◌, ◌≤◌, true, length, option_map, vec_capacity, vec_len};
-ghost use Rattle.std.specs.Prelude.{ℕ, slice_index, Option, Some, Ok, Err, IfSome, OnErr, OnOk, IfOk};
+ghost use Rattle.std.specs.Prelude.{Option, Some, Ok, Err, IfSome, OnErr, OnOk, IfOk};
 ghost use Rattle.std.specs.Arc.{arc_value};
 ghost use Rattle.mem_base.specs.declared.map.calls.Config.TheVariants as configs;
+ghost use Rattle.mem_base.specs.lists.Sorting.{put_by};
 ghost use Rattle.mem_base.specs.access.Places.{past};
+ghost use Rattle.mem_base.specs.machine.Desk.{region_order};
 ghost use Rattle.mem_base.specs.machine.World.{is_at_rest};
 ghost use Rattle.mem_base.specs.machine.Orders.{configure};
 ghost use Rattle.mem_base.specs.machine.Answers.{call_answer, commit_answer, plain_answer};
@@ -44,18 +46,16 @@ fn configured<L: Ledger>(
     desk.configure(config, held, &mut steps)
 }
 
-// Where a region goes among others that ascend: before the first one of a greater id.
-fn position(regions: &[RegionId], region: RegionId) -> usize
-    ensures within { result ≤ length regions.now }
-    ensures before { (k : ℕ) → k < result → (slice_index regions.now k).0 ≤ region.0 }
-    ensures after { result < length regions.now → region.0 < (slice_index regions.now result).0 }
+// Puts a region to its place among others that ascend. There is room for one more.
+fn put(regions: &mut Vec<RegionId>, region: RegionId)
+    requires room { vec_len regions.old < vec_capacity regions.old }
+    ensures { regions.new.items ≡ put_by region_order region regions.old.items }
 {
-    for (at, other) in regions.iter().enumerate() {
-        if region.0 < other.0 {
-            return at;
-        }
+    let mut at = 0;
+    while at < regions.len() && regions[at].0 <= region.0 {
+        at += 1;
     }
-    regions.len()
+    let _ = regions.insert(at, region);
 }
 
 // A region that is dropped is one of the dropped ones, which ascend. There is room for one more.
@@ -64,8 +64,7 @@ fn note_drop(dropped: &mut Vec<RegionId>, config: &Config)
     ensures { dropped.new.items ≡ dropped_with config.now dropped.old.items }
 {
     if let Config::Call(Call::Drop { region }) = *config {
-        let at = position(dropped.as_slice(), region);
-        let _ = dropped.insert(at, region);
+        put(dropped, region);
     }
 }
 
