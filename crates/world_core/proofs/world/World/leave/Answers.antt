@@ -12,3 +12,11 @@ invariant_of-self c =
     let may : possible (world_of s.desk s.kept s.words x) (Leave c.args.pass) ≡ true = search rules in
     let goes : world_of s.desk c.leave.new.self s.words x ≡ world_after (world_of s.desk s.kept s.words x) (Leave c.args.pass) = search rules in
     passes_change s.desk s.kept c.leave.new.self s.words x _ (Leave c.args.pass) c.self.invariant c.leave.ensures.state may goes
+
+pub returns-clause-keeps : goal.returns-clause-keeps
+returns-clause-keeps c =
+    let s = c.self.inside in
+    let w : World = c.args.self.now in
+    let v : World = world_of s.desk c.leave.new.self s.words s.dropped.items in
+    let is : v ≡ after_events w (leaves c.args.pass) = search rules in
+    leave_keeps w v c.args.pass c.requires is

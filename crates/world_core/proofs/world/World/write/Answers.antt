@@ -6,3 +6,10 @@ use Rattle.world_core.proofs.world.World.write.Goals as goal
 pub leave_unless-number-requires : goal.leave_unless-number-requires
 leave_unless-number-requires c =
     ap (λ o. is_some o) c.write_entered-result.ensures.done.made.inside ∙ c.enter_unless-entered.ensures.inside
+
+pub returns-clause-keeps : goal.returns-clause-keeps
+returns-clause-keeps c =
+    let w : World = c.args.self.now in
+    let v : World = c.leave_unless-number.new.self in
+    let is : v ≡ (accessed w c.args.pass c.args.space c.args.addr (writing c.args.bytes.now)).world = search rules in
+    access_keeps w v c.args.pass c.args.space c.args.addr (writing c.args.bytes.now) c.requires is
