@@ -7,6 +7,7 @@ use Rattle.std.proofs.lemmas.Bool.{le-leb}
 use Rattle.mem_base.specs.declared.map.ids.RegionId.{RegionId}
 use Rattle.mem_base.specs.declared.map.forests.Forest.{Forest}
 use Rattle.mem_base.specs.declared.map.calls.Applied.{Applied}
+use Rattle.mem_base.specs.declared.map.calls.Call.{Call}
 use Rattle.mem_base.specs.declared.map.calls.Config.{Config}
 use Rattle.mem_base.specs.declared.map.calls.Config.TheVariants as configs
 use Rattle.mem_base.specs.declared.map.refusals.Refusal.{Refusal}
@@ -29,7 +30,7 @@ use Rattle.mem_base.specs.machine.Reaps.{writer}
 use Rattle.mem_base.specs.machine.World.{World, world, world_after, is_at_rest, block_for}
 use Rattle.mem_base.specs.machine.History.{run_events}
 use Rattle.mem_base.specs.machine.Orders.{configure, sweeps, publishes, pass_ids, events_before, events_after}
-use Rattle.mem_base.specs.machine.Answers.{Answer, answer_of_config, number_due}
+use Rattle.mem_base.specs.machine.Answers.{Answer, call_answer, answer_of_config, number_due}
 use Rattle.mem_base.specs.machine.Committed.{commits}
 use Rattle.mem_base.specs.machine.Completions.{IsCompleted}
 use Rattle.view_laws.proofs.Tests.{both_of, true_is_not_false, none_is_not_some, same_some}
@@ -48,7 +49,7 @@ use Rattle.backed_desk.specs.Backed.{backed_state, all_places}
 use Rattle.writer_desk.specs.Writers.{WriterState, writer_state, Beside, desk_of, beside_by, settled_as, standing, IsConfigured, IsReady}
 use Rattle.writer_desk.specs.Writers.{IsAccepted, backing_by, applied_by, published_with}
 use Rattle.world_core.specs.Worlds.{beside, world_of, IsReached, IsWorld}
-use Rattle.world_core.specs.Configuring.{dropped_with, made_place, cleared_at, swept_if, unswept, followed}
+use Rattle.world_core.specs.Configuring.{answer_by, dropped_with, made_place, cleared_at, swept_if, unswept, followed}
 use Rattle.world_core.proofs.ComposedLaws.{publishes_leave, fills_leave_rest}
 use Rattle.world_core.proofs.MadeCellLaws.{unfilled_with}
 use Rattle.world_core.proofs.MadeCellLaws as made
@@ -301,9 +302,12 @@ module _ (d : WriterState) (k : KeptState) (ws : List ℕ) (dropped : List Regio
         (is (generations_of (swept_if z k)) (beside dropped (swept_if z k).swept) (here z) (free held told z u)))
         ws (made.same_cells ws d.backed h.wide w.writer.desk.forest back few below) (λ u x. refl) h.wide b t none_due refl
 
-    pub refused : (b : Bool) → would_publish w.writer.desk c ≡ b → LeavesWorld w c (answer_of_config c (Err why) None) e (unswept (swept_if b k)) ws dropped
-    refused b t = subst (λ (x : WriterState). LeavesWorld w c (answer_of_config c (Err why) None) x (unswept (swept_if b k)) ws dropped) (sym same)
-        (refused_at b t)
+    pub refused : (b : Bool) → b ≡ would_publish (desk_of e (beside dropped k.swept)) c → (kept_then : KeptState) → kept_then ≡ unswept (swept_if b k)
+        → (dropped_then : List RegionId) → dropped_then ≡ dropped → LeavesWorld w c (answer_of_config c (Err why) None) e kept_then ws dropped_then
+    refused b t kept_then kept dropped_then drops =
+        subst (λ (z : WriterState × KeptState × List RegionId). LeavesWorld w c (answer_of_config c (Err why) None) z.0 z.1 ws z.2)
+        (λ i. (sym same i, sym kept i, sym drops i))
+        (refused_at b (sym (t ∙ ap (λ (x : WriterState). would_publish (desk_of x (beside dropped k.swept)) c) same)))
 
   -- an accepted event
   module _ (e : WriterState) (held : Option Refusal) (a : Applied) (is : IsConfigured d c held e (Ok a))
@@ -371,8 +375,26 @@ module _ (d : WriterState) (k : KeptState) (ws : List ℕ) (dropped : List Regio
           ws_then cells_then clears_so.fills wide_then false t due ok.current
       leaves_at false t (Some g) due on ready = true_is_not_false true refl on
 
-      pub accepted : IfSome e.due (IsReady e.backed) → Leaves e.due
-      accepted ready = leaves_at (would_publish w.writer.desk c) refl e.due refl (due_where (would_publish w.writer.desk c) refl) ready
+      leaves_due_at : IfSome e.due (IsReady e.backed) → Leaves e.due
+      leaves_due_at ready = leaves_at (would_publish w.writer.desk c) refl e.due refl (due_where (would_publish w.writer.desk c) refl) ready
+
+      -- the parts as they are then, where what is handed out is what was due
+      pub accepted : IfSome e.due (IsReady e.backed) → (A : Type 0) (f : A → Published) (o : Option A)
+          → option_map f o ≡ option_map (λ g. g.generation) e.due → (desk_then : WriterState) → desk_then ≡ published_with e e.due
+          → (kept_then : KeptState) → kept_then ≡ followed k (option_map f o) → (dropped_then : List RegionId) → dropped_then ≡ dropped_with c dropped
+          → (n : Option ℕ) → n ≡ option_map (λ x. k.current + 1) o
+          → LeavesWorld w c (answer_of_config c (Ok a) n) desk_then kept_then ws_then dropped_then
+      accepted ready A f o is desk_then desk kept_then kept dropped_then drops n number =
+          subst (λ (z : (Option ℕ × WriterState) × KeptState × List RegionId). LeavesWorld w c (answer_of_config c (Ok a) z.0.0) z.0.1 z.1 ws_then z.2)
+          (λ i. ((sym (number ∙ same_count o e.due is) i, sym desk i), sym (kept ∙ ap (λ (x : Option Published). followed k x) is) i, sym drops i))
+          (leaves_due_at ready)
+        where
+          same_count : (x : Option A) (y : Option Readied) → option_map f x ≡ option_map (λ g. g.generation) y
+              → option_map (λ z. k.current + 1) x ≡ option_map (λ g. k.current + 1) y
+          same_count None None e = refl
+          same_count None (Some g) e = none_is_not_some g.generation e
+          same_count (Some x) None e = none_is_not_some (f x) (sym e)
+          same_count (Some x) (Some g) e = refl
 
       -- where it would not be a publish nothing is due
       pub accepted_rest : would_publish w.writer.desk c ≡ false → Leaves None
@@ -381,3 +403,28 @@ module _ (d : WriterState) (k : KeptState) (ws : List ℕ) (dropped : List Regio
           nothing : (o : Option Readied) → is_some o ≡ false → o ≡ None
           nothing None x = refl
           nothing (Some g) x = true_is_not_false true refl x
+
+-- a begin
+
+module _ (d : WriterState) (k : KeptState) (ws : List ℕ) (dropped : List RegionId) (h : IsWorld d k ws dropped)
+    (rest : is_at_rest (world_of d k ws dropped).writer.desk ≡ true) (e : WriterState) where
+  abbrev told : Option Refusal
+  told = held_up (generations_of (all_swept k))
+
+  pub begun : (a : Applied) → ((held : Option Refusal) → IsConfigured d configs.Begin held e (Ok a)) → IsAccepted d configs.Begin e a
+      → (kept_then : KeptState) → kept_then ≡ unswept k
+      → LeavesWorld (world_of d k ws dropped) configs.Begin (answer_of_config configs.Begin (Ok a) None) e kept_then ws dropped
+  begun a is ok kept_then kept =
+      subst (λ (x : KeptState). LeavesWorld (world_of d k ws dropped) configs.Begin (answer_of_config configs.Begin (Ok a) None) e x ws dropped) (sym kept)
+      (accepted_rest d k ws dropped h rest configs.Begin e told a (is told) refl ok ws
+      (sym (ap (λ (x : Applied). cleared_at ws (made_place e.backed.backing.places x)) ok.answered)) refl refl)
+
+  pub not_begun : e ≡ d → (why : Refusal) → ((held : Option Refusal) → IsConfigured d configs.Begin held e (Err why))
+      → (kept_then : KeptState) → kept_then ≡ unswept k
+      → LeavesWorld (world_of d k ws dropped) configs.Begin (answer_of_config configs.Begin (Err why) None) e kept_then ws dropped
+  not_begun same why is kept_then kept = refused d k ws dropped h rest configs.Begin e same told why (is told) refl false refl kept_then kept dropped refl
+
+-- an answer of a call as the machine states it
+pub call_answered : (call : Call) (r : Result (Applied × Option ℕ) Refusal) → answer_by (configs.Call call) r ≡ call_answer r
+call_answered call (Ok x) = refl
+call_answered call (Err why) = refl

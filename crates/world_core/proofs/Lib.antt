@@ -1,6 +1,7 @@
 pub mod AccessLaws
 pub mod ComposedLaws
 pub mod ConfiguringLaws
+pub mod KeepingLaws
 pub mod MadeCellLaws
 pub mod NumberLaws
 pub mod ReachedLaws

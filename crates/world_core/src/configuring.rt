@@ -210,12 +210,14 @@ impl World {
                 let number = follow(&mut self.kept, self.desk.publish());
                 Ok((applied, number))
             }
-            Err(Refusal::Memory) => Err(Refusal::Memory),
-            Err(why) => {
-                let publishes = self.desk.would_publish(config)?;
-                refuse(&mut self.kept, publishes);
-                Err(why)
-            }
+            Err(why) => match why {
+                Refusal::Memory => Err(Refusal::Memory),
+                _ => {
+                    let publishes = self.desk.would_publish(config)?;
+                    refuse(&mut self.kept, publishes);
+                    Err(why)
+                }
+            },
         }
     }
 }
