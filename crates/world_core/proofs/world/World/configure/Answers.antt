@@ -1,4 +1,4 @@
-use Rattle.std.proofs.Common.{rules, ◌≡◌, ◌≢◌, ℕ, ◌+◌, true, List, Option, Some, None, Ok, Err, refl, sym, ap, subst, ◌∙◌, length}
+use Rattle.std.proofs.Common.{rules, ◌≡◌, ◌≢◌, ℕ, ◌+◌, ◌≤◌, true, List, Option, Some, None, Ok, Err, refl, sym, ap, subst, ◌∙◌, length}
 use Rattle.std.specs.Prelude.{Result, IfSome, option_map}
 use Rattle.std.specs.Arc.{arc_value}
 use Rattle.mem_base.specs.declared.map.ids.RegionId.{RegionId}
@@ -113,3 +113,38 @@ returns-in-Ok-clause-completed c =
     c.clear_made.new.words cleared c.clear_made.ensures.len c.publish.ensures.ready _ arc_value c.publish.result c.publish.ensures.generation
     c.publish.new.self c.publish.ensures.desk c.follow-number.new.kept c.follow-number.ensures.state c.note_drop.new.dropped.items drops
     c.follow-number.result c.follow-number.ensures.number).completed
+
+pub invariant_of-self-in_default : goal.invariant_of-self-in_default
+invariant_of-self-in_default c =
+    let s = c.self.inside in
+    let e : WriterState = c.configured.new.desk in
+    let rest : is_at_rest (world_of s.desk s.kept s.words s.dropped.items).writer.desk ≡ true =
+    ap (λ (w : World). is_at_rest w.writer.desk) c.self.view_is ∙ c.requires.rest in
+    let told : c.held_up_if_swept-held.result ≡ held_up (generations_of (all_swept s.kept)) = c.held_up_if_swept-held.ensures in
+    let is : IsConfigured s.desk c.args.config.now c.held_up_if_swept-held.result e (Err c.in-Err.why) =
+    c.in-Err.ensures.configured (λ q. let memory : c.in-Err.why ≡ Memory = cc in c.in_default.not-Memory memory) in
+    let would : c.in_ok-publishes-in_default.publishes ≡ would_publish (desk_of e (beside s.dropped.items s.kept.swept)) c.args.config.now =
+    c.in_ok-publishes-in_default.ensures (beside s.dropped.items s.kept.swept) in
+    (refused s.desk s.kept s.words s.dropped.items c.self.invariant rest c.args.config.now e c.in-Err.ensures.unchanged c.held_up_if_swept-held.result
+    c.in-Err.why is told c.in_ok-publishes-in_default.publishes would c.refuse.new.kept c.refuse.ensures c.reserve.new.self.items c.reserve.ensures.items).world
+
+pub returns-in_ok-publishes-in_default : goal.returns-in_ok-publishes-in_default
+returns-in_ok-publishes-in_default c =
+    let s = c.self.inside in
+    let e : WriterState = c.configured.new.desk in
+    let rest : is_at_rest (world_of s.desk s.kept s.words s.dropped.items).writer.desk ≡ true =
+    ap (λ (w : World). is_at_rest w.writer.desk) c.self.view_is ∙ c.requires.rest in
+    let told : c.held_up_if_swept-held.result ≡ held_up (generations_of (all_swept s.kept)) = c.held_up_if_swept-held.ensures in
+    let is : IsConfigured s.desk c.args.config.now c.held_up_if_swept-held.result e (Err c.in-Err.why) =
+    c.in-Err.ensures.configured (λ q. let memory : c.in-Err.why ≡ Memory = cc in c.in_default.not-Memory memory) in
+    let would : c.in_ok-publishes-in_default.publishes ≡ would_publish (desk_of e (beside s.dropped.items s.kept.swept)) c.args.config.now =
+    c.in_ok-publishes-in_default.ensures (beside s.dropped.items s.kept.swept) in
+    record {
+      completed = λ other.
+          subst (λ (w : World). IsCompleted w (configure c.args.config.now) (answer_of_config c.args.config.now (Err c.in-Err.why) None)
+          (world_of e c.refuse.new.kept s.words c.reserve.new.self.items)) c.self.view_is
+          (refused s.desk s.kept s.words s.dropped.items c.self.invariant rest c.args.config.now e c.in-Err.ensures.unchanged c.held_up_if_swept-held.result
+          c.in-Err.why is told c.in_ok-publishes-in_default.publishes would c.refuse.new.kept c.refuse.ensures c.reserve.new.self.items
+          c.reserve.ensures.items).completed;
+      unchanged = λ q. let memory : c.in-Err.why ≡ Memory = cc in absurd (c.in_default.not-Memory memory);
+    }
