@@ -1,5 +1,5 @@
 use Rattle.std.proofs.Common.{rules, ◌≡◌, true, List, Option, None, Ok, Err, refl, sym, ap, subst, ◌∙◌}
-use Rattle.std.specs.Prelude.{Result, Unit}
+use Rattle.std.specs.Prelude.{Result}
 use Rattle.mem_base.specs.declared.map.calls.Applied.{Applied}
 use Rattle.mem_base.specs.declared.map.calls.Config.TheVariants.{Begin}
 use Rattle.mem_base.specs.declared.map.refusals.Refusal.{Refusal}
