@@ -1,4 +1,9 @@
 pub mod AccessLaws
+pub mod ComposedLaws
+pub mod ConfiguringLaws
+pub mod KeepingLaws
+pub mod MadeCellLaws
+pub mod NumberLaws
 pub mod ReachedLaws
-pub mod UnfilledLaws
 pub mod WordLaws
+pub mod WriterCallLaws

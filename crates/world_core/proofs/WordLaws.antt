@@ -40,7 +40,7 @@ use Rattle.place_words.proofs.CellLaws.{steps_on_cells}
 use Rattle.backed_desk.specs.Backed.{all_places}
 use Rattle.writer_desk.specs.Writers.{WriterState}
 use Rattle.world_core.specs.Hands.{published_as, shown_to, IsInside}
-use Rattle.world_core.specs.Worlds.{Left, world_of, IsReached, IsWorld}
+use Rattle.world_core.specs.Worlds.{world_of, IsReached, IsWorld}
 use Rattle.world_core.proofs.ReachedLaws.{reached_after}
 
 reached_holds : (w : World) → IsReached w → Holds w
@@ -50,12 +50,12 @@ reached_holds w r = subst Holds r.leads (holds r.pool_words r.passes r.entries r
 
 module _ (pool_words : ℕ) (places : List Place)
     (inside : Every (λ p. (is_notifiers p.region ≡ false) × (0 < p.words) × (past p ≤ pool_words)) places) where
-  all_apart : EveryPair ArePlacesApart places → EveryPair ArePlacesApart (places ++ notifiers_place pool_words ∷ [])
+  pub all_apart : EveryPair ArePlacesApart places → EveryPair ArePlacesApart (places ++ notifiers_place pool_words ∷ [])
   all_apart apart = pairs_push ArePlacesApart places (notifiers_place pool_words)
       (weaker (λ p. (is_notifiers p.region ≡ false) × (0 < p.words) × (past p ≤ pool_words)) (λ p. ArePlacesApart p (notifiers_place pool_words))
       (λ p k. (eqb-false _ _ k.0, inl k.2)) places inside) apart
 
-  all_within : Every (λ p. past p ≤ pool_words + notifier_count) (places ++ notifiers_place pool_words ∷ [])
+  pub all_within : Every (λ p. past p ≤ pool_words + notifier_count) (places ++ notifiers_place pool_words ∷ [])
   all_within = every_push (λ p. past p ≤ pool_words + notifier_count) places (notifiers_place pool_words)
       (weaker (λ p. (is_notifiers p.region ≡ false) × (0 < p.words) × (past p ≤ pool_words)) (λ p. past p ≤ pool_words + notifier_count)
       (λ p k. (let l : past p ≤ pool_words = k.2 in omega (arith, l))) places inside)
@@ -63,13 +63,13 @@ module _ (pool_words : ℕ) (places : List Place)
 
 -- what holds of the places of a world
 
-backs : (w : World) → IsReached w → BacksForest w.writer.desk.pool_words w.writer.desk.forest w.writer.desk.places
+pub backs : (w : World) → IsReached w → BacksForest w.writer.desk.pool_words w.writer.desk.forest w.writer.desk.places
 backs w r =
     let shown : ShowsOwnPlaces r.pool_words w.writer =
     subst (λ (v : World). ShowsOwnPlaces r.pool_words v.writer) r.leads (generations_show_places r.pool_words r.passes r.entries r.legal) in
     subst (λ (n : ℕ). BacksForest n w.writer.desk.forest w.writer.desk.places) (sym shown.pool) shown.backs
 
-module _ (d : WriterState) (k : KeptState) (ws : List ℕ) (x : Left) (h : IsWorld d k ws x) where
+module _ (d : WriterState) (k : KeptState) (ws : List ℕ) (x : List RegionId) (h : IsWorld d k ws x) where
   abbrev here : World
   here = world_of d k ws x
 

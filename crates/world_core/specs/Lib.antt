@@ -1,4 +1,4 @@
+pub mod Configuring
 pub mod Hands
 pub mod RunLaws
-pub mod Unfilled
 pub mod Worlds

@@ -1,7 +1,6 @@
 -- What the parts of the pure machine make together: a world, to which a legal history led.
-use Rattle.std.specs.Prelude.{◌≡◌, ℕ, ◌+◌, List, length, Some}
+use Rattle.std.specs.Prelude.{◌≡◌, ℕ, ◌+◌, Bool, List, [], length, Some}
 use Rattle.mem_base.specs.declared.map.ids.RegionId.{RegionId}
-use Rattle.mem_base.specs.declared.access.cells.Cell.{Cell}
 use Rattle.mem_base.specs.declared.machine.events.Event.{Event}
 use Rattle.mem_base.specs.map.Limits.{notifier_count}
 use Rattle.mem_base.specs.machine.World.{World, world, opening}
@@ -10,20 +9,17 @@ use Rattle.mem_base.specs.machine.History.{PureEntry, IsLegal, after_entries, ru
 use Rattle.kept_generations.specs.KeptState.{KeptState, generations_of, kept_at}
 use Rattle.place_words.specs.Blocks.{blocks_at}
 use Rattle.backed_desk.specs.Backed.{all_places}
-use Rattle.writer_desk.specs.Writers.{WriterState, desk_of}
+use Rattle.writer_desk.specs.Writers.{WriterState, Beside, desk_of}
 
--- what is left to do: the regions that are dropped and not released, and the cells that are not cleared
-pub record Left : Type 0 where
-  pub dropped : List RegionId
-  pub unfilled : List Cell
+-- what others than the writer's desk keep of the machine's desk, where each cell is cleared
+abbrev pub beside : List RegionId → List Bool → Beside
+beside dropped swept = record { dropped = dropped; unfilled = []; swept = swept }
 
-abbrev pub left : List RegionId → List Cell → Left
-left dropped unfilled = record { dropped = dropped; unfilled = unfilled }
-
--- the world that the writer's desk, the generations with the passes, the words, and what is left to do make together
-abbrev pub world_of : WriterState → KeptState → List ℕ → Left → World
-world_of d k words x =
-    world (writer (desk_of d (record { dropped = x.dropped; unfilled = x.unfilled; swept = k.swept })) (generations_of k)) k.states
+-- the world that the writer's desk, the generations with the passes, the words, and the regions that are dropped and not
+-- released make together
+abbrev pub world_of : WriterState → KeptState → List ℕ → List RegionId → World
+world_of d k words dropped =
+    world (writer (desk_of d (beside dropped k.swept)) (generations_of k)) k.states
     (blocks_at words (all_places d.backed.backing))
 
 -- a legal history leads to the world, so what holds after every legal history holds of it
@@ -36,8 +32,8 @@ pub record IsReached (w : World) : Type 0 where
 
 -- the world is reached; the desk's current generation is the one that is kept as such; and there is a word for each of the pool
 -- and of the notifiers
-pub record IsWorld (d : WriterState) (k : KeptState) (words : List ℕ) (x : Left) : Type 0 where
-  pub reached : IsReached (world_of d k words x)
+pub record IsWorld (d : WriterState) (k : KeptState) (words : List ℕ) (dropped : List RegionId) : Type 0 where
+  pub reached : IsReached (world_of d k words dropped)
   pub current : kept_at k k.current ≡ Some d.backed.desk.current
   pub wide : length words ≡ d.backed.backing.pool_words + notifier_count
 

@@ -5,9 +5,9 @@
 #![tactic(auto)]
 
 mod accesses;
+mod configuring;
 mod hands;
 mod numbers;
-mod unfilled;
 mod words;
 mod world;
 

@@ -2,6 +2,7 @@
 ghost use Rattle.std.specs.Prelude.{◌≡◌, true, Some};
 ghost use Rattle.mem_base.specs.declared.machine.events.Event.TheVariants as events;
 ghost use Rattle.mem_base.specs.machine.World.{possible, reply, number_in, world_after};
+ghost use Rattle.mem_base.specs.machine.Completions.{KeepsWriter};
 ghost use Rattle.mem_base.specs.machine.Composites.{enters, leaves};
 ghost use Rattle.mem_base.specs.machine.Passes.{is_pass, pass_of};
 ghost use Rattle.world_core.specs.Worlds.{after_events};
@@ -41,7 +42,8 @@ impl World {
     /// It is entered.
     pub fn leave(&mut self, pass: PassId)
         requires { possible self.old (events.Leave pass) ≡ true }
-        ensures { self.new ≡ after_events self.old (leaves pass) }
+        ensures world { self.new ≡ after_events self.old (leaves pass) }
+        ensures keeps { KeepsWriter self.old self.new }
     {
         self.kept.leave(pass);
     }
@@ -53,6 +55,7 @@ impl World {
         requires { possible self.old (events.Look pass) ≡ true }
         ensures number { result ≡ self.old.writer.generations.current }
         ensures world { self.new ≡ after_events self.old (enters pass) }
+        ensures keeps { KeepsWriter self.old self.new }
     {
         // It tells that a legal history leads here.
         self.is_reached();

@@ -6,7 +6,6 @@ ghost use Rattle.mem_base.specs.machine.Passes.{pass_of};
 ghost use Rattle.world_core.specs.Hands.{IsInside, shown_to};
 ghost use Rattle.world_core.specs.Worlds.{IsReached};
 
-use crate::unfilled::Unfilled;
 use generation::Generation;
 use kept_generations::Kept;
 use mem_base::{NOTIFIER_COUNT, PassId, RegionId};
@@ -25,18 +24,17 @@ pub struct World {
     pub(crate) words: Words,
     // ascending
     pub(crate) dropped: Vec<RegionId>,
-    pub(crate) unfilled: Unfilled,
 }
 
 impl Model for World {
     ghost use Rattle.mem_base.specs.machine.World as machine;
-    ghost use Rattle.world_core.specs.Worlds.{world_of, left, IsWorld};
+    ghost use Rattle.world_core.specs.Worlds.{world_of, IsWorld};
 
     ghost Value = { machine.World };
 
-    ghost view = { λ w. world_of w.desk w.kept w.words (left w.dropped.items w.unfilled) };
+    ghost view = { λ w. world_of w.desk w.kept w.words w.dropped.items };
 
-    ghost invariant = { λ w. IsWorld w.desk w.kept w.words (left w.dropped.items w.unfilled) };
+    ghost invariant = { λ w. IsWorld w.desk w.kept w.words w.dropped.items };
 }
 
 impl World {
@@ -56,7 +54,6 @@ impl World {
             kept: Kept::new(alloc, passes, first)?,
             words: Words::new(alloc, words + NOTIFIER_COUNT)?,
             dropped: Vec::new(alloc),
-            unfilled: Unfilled::none(alloc),
         })
     }
 

@@ -1,10 +1,12 @@
 // The writer's desk, and its private events.
-ghost use Rattle.std.specs.Prelude.{◌≡◌, ◌≢◌, ◌↔◌, [], Ok, Err, Some, None, Option, IfOk, IfErr, OnOk, OnErr, IfSome, IsNone};
+ghost use Rattle.std.specs.Prelude.{◌≡◌, ◌≢◌, ◌↔◌, [], Ok, Err, Some, None, Option, IfOk, IfErr, OnOk, OnErr, IfSome, IsNone, option_map};
+ghost use Rattle.std.specs.Arc.{arc_value};
 ghost use Rattle.mem_base.specs.declared.map.calls.Config.TheVariants as configs;
 ghost use Rattle.mem_base.specs.views.Flattened.{view_of};
 ghost use Rattle.mem_base.specs.views.LiveEvents.{lives_of};
 ghost use Rattle.mem_base.specs.views.Listening.{delivered};
-ghost use Rattle.writer_desk.specs.Writers.{first_state, writer_state, IsConfigured, IsReady};
+ghost use Rattle.mem_base.specs.machine.Publishing.{would_publish};
+ghost use Rattle.writer_desk.specs.Writers.{Beside, desk_of, first_state, writer_state, IsAccepted, IsConfigured, IsReady, when_published};
 
 use backed_desk::BackedDesk;
 use generation::Generation;
@@ -13,9 +15,47 @@ use listener_set::Set;
 use mem_base::{Applied, Call, Config, ListenerId, Lives, Refusal, SpaceId, View, What};
 use std::alloc::{AllocError, Global};
 use std::marker::Model;
+use std::sync::Arc;
 use std::sync::ledger::Ledger;
 use step_counter::Steps;
 use transact::{Prepared, Step};
+
+/// What is ready to be published, and its generation once more: that is handed out when it is published.
+#[derive(Drop)]
+struct Due {
+    prepared: Prepared,
+    generation: Arc<Generation, Global>,
+}
+
+impl Model for Due {
+    ghost use Rattle.std.specs.Prelude.{◌≡◌};
+    ghost use Rattle.std.specs.Arc.{arc_value};
+    ghost use Rattle.transact.specs.Preparing.{Readied};
+
+    ghost Value = { Readied };
+
+    ghost view = { λ d. d.prepared };
+
+    ghost invariant = { λ d. arc_value d.generation ≡ d.prepared.generation };
+}
+
+impl Due {
+    fn of(prepared: Prepared) -> Result<Due, AllocError>
+        ensures { IfOk result (λ due. due ≡ prepared) }
+    {
+        let generation = Arc::clone(prepared.generation())?;
+        Ok(Due {
+            prepared,
+            generation,
+        })
+    }
+
+    fn prepared(&self) -> &Prepared
+        ensures { result.now ≡ self.now }
+    {
+        &self.prepared
+    }
+}
 
 /// What the writer keeps of the map: the desk with its pool, who listens, and what is ready to be published.
 ///
@@ -25,7 +65,7 @@ pub struct WriterDesk {
     alloc: Global,
     backed: BackedDesk,
     listeners: Set,
-    due: Option<Prepared>,
+    due: Option<Due>,
 }
 
 impl Model for WriterDesk {
@@ -97,7 +137,52 @@ impl WriterDesk {
         ensures some { IfSome result (λ p. self.now.due ≡ Some p.now) }
         ensures ready { IfSome result (λ p. IsReady self.now.backed p.now) }
     {
-        self.due.as_ref()
+        match &self.due {
+            Some(due) => Some(due.prepared()),
+            None => None,
+        }
+    }
+
+    /// What is due becomes current, and its generation is handed out: `None` exactly where nothing is due.
+    ///
+    /// It takes no memory, and cannot fail.
+    pub fn publish(&mut self) -> Option<Arc<Generation, Global>>
+        ensures generation { option_map arc_value result ≡ option_map (λ r. r.generation) self.old.due }
+        ensures ready { IfSome self.old.due (IsReady self.old.backed) }
+        ensures desk { self.new ≡ when_published self.old }
+    {
+        match self.due.take() {
+            Some(due) => {
+                let Due {
+                    prepared,
+                    generation,
+                } = due;
+                self.backed.done(prepared);
+                Some(generation)
+            }
+            None => None,
+        }
+    }
+
+    /// Whether a private event would be a publish, were it not held up: an accepted change outside all transactions, or an
+    /// outermost commit of pending changes. Nothing is due.
+    ///
+    /// It fails only where memory runs out.
+    pub fn would_publish(&self, config: &Config) -> Result<bool, AllocError>
+        requires rest { self.now.due ≡ None }
+        ensures { IfOk result (λ publishes. (b : Beside) → publishes ≡ would_publish (desk_of self.now b) config.now) }
+    {
+        let desk = self.backed.desk();
+        match *config {
+            Config::Call(call) => {
+                if desk.depth() > 0 || call.is_quiet() {
+                    return Ok(false);
+                }
+                Ok(desk.tree().refusal_of(&call)?.is_none())
+            }
+            Config::Commit => Ok(desk.depth() == 1 && desk.pending()),
+            _ => Ok(false),
+        }
     }
 
     /// A private event of the writer: a call, a begin, a commit, a listener that joins or leaves. Nothing is due before it.
@@ -115,13 +200,11 @@ impl WriterDesk {
         requires rest { self.old.due ≡ None }
         requires held { held ≢ Some Refusal.Memory }
         ensures configured { result ≢ Err Refusal.Memory → IsConfigured self.old config.now held self.new result }
+        ensures accepted { IfOk result (λ applied. IsAccepted self.old config.now self.new applied) }
         ensures unchanged { OnErr result (self.new ≡ self.old) }
     {
         match *config {
-            Config::Begin => {
-                self.backed.begin()?;
-                Ok(Applied::Done)
-            }
+            Config::Begin => self.begin(),
             Config::Commit => self.commit(held, steps),
             Config::Call(call) => self.call(&call, held, steps),
             Config::Listen {
@@ -131,6 +214,19 @@ impl WriterDesk {
             } => self.listen(listener, space, priority),
             Config::Unlisten(listener) => self.unlisten(listener),
         }
+    }
+
+    /// Opens a transaction, inside of those that are open. Nothing is due before it.
+    ///
+    /// It answers what the machine's definitions say, and takes no memory. Where it is refused nothing changes.
+    pub fn begin(&mut self) -> Result<Applied, Refusal>
+        requires rest { self.old.due ≡ None }
+        ensures configured { (held : Option Refusal) → IsConfigured self.old configs.Begin held self.new result }
+        ensures accepted { IfOk result (λ applied. IsAccepted self.old configs.Begin self.new applied) }
+        ensures unchanged { OnErr result (self.new ≡ self.old) }
+    {
+        self.backed.begin()?;
+        Ok(Applied::Done)
     }
 
     // A call: a change outside all transactions is ready to be published then.
@@ -143,6 +239,7 @@ impl WriterDesk {
         requires rest { self.old.due ≡ None }
         requires held { held ≢ Some Refusal.Memory }
         ensures configured { result ≢ Err Refusal.Memory → IsConfigured self.old (configs.Call call.now) held self.new result }
+        ensures accepted { IfOk result (λ applied. IsAccepted self.old (configs.Call call.now) self.new applied) }
         ensures unchanged { OnErr result (self.new ≡ self.old) }
     {
         if self.backed.desk().depth() > 0 || call.is_quiet() {
@@ -165,6 +262,7 @@ impl WriterDesk {
         requires rest { self.old.due ≡ None }
         requires held { held ≢ Some Refusal.Memory }
         ensures configured { result ≢ Err Refusal.Memory → IsConfigured self.old configs.Commit held self.new result }
+        ensures accepted { IfOk result (λ applied. IsAccepted self.old configs.Commit self.new applied) }
         ensures unchanged { OnErr result (self.new ≡ self.old) }
     {
         if let Step::Ready(prepared) = self.backed.commit_prepare(steps)? {
@@ -185,9 +283,10 @@ impl WriterDesk {
         if let Some(why) = held {
             return Err(why);
         }
-        self.listeners.reserve(prepared.changes())?;
-        self.listeners.deliver(prepared.changes());
-        self.due = Some(prepared);
+        let due = Due::of(prepared)?;
+        self.listeners.reserve(due.prepared().changes())?;
+        self.listeners.deliver(due.prepared().changes());
+        self.due = Some(due);
         Ok(())
     }
 
@@ -201,6 +300,7 @@ impl WriterDesk {
         requires rest { self.old.due ≡ None }
         ensures configured { (held : Option Refusal) → result ≢ Err Refusal.Memory
             → IsConfigured self.old (configs.Listen listener space priority) held self.new result }
+        ensures accepted { IfOk result (λ applied. IsAccepted self.old (configs.Listen listener space priority) self.new applied) }
         ensures unchanged { OnErr result (self.new ≡ self.old) }
     {
         if self.backed.desk().tree().root(space).is_none() {
@@ -220,6 +320,7 @@ impl WriterDesk {
         requires rest { self.old.due ≡ None }
         ensures configured { (held : Option Refusal) → result ≢ Err Refusal.Memory
             → IsConfigured self.old (configs.Unlisten listener) held self.new result }
+        ensures accepted { IfOk result (λ applied. IsAccepted self.old (configs.Unlisten listener) self.new applied) }
         ensures unchanged { OnErr result (self.new ≡ self.old) }
     {
         let Some(space) = self.listeners.space_of(listener) else {

@@ -1,11 +1,12 @@
 use Rattle.std.proofs.Common.{rules, ◌≡◌, [], subst, ◌∙◌}
 use Rattle.std.specs.Prelude.{replicate, ◌+◌, List, ℕ}
+use Rattle.mem_base.specs.declared.map.ids.RegionId.{RegionId}
 use Rattle.mem_base.specs.map.Calls.{empty}
 use Rattle.mem_base.specs.map.Limits.{notifier_count}
 use Rattle.generation.specs.Published.{published}
 use Rattle.kept_generations.specs.KeptState.{KeptState, first_kept}
 use Rattle.writer_desk.specs.Writers.{WriterState, writer_state, first_state}
-use Rattle.world_core.specs.Worlds.{Left, left, world_of, IsWorld}
+use Rattle.world_core.specs.Worlds.{world_of, IsWorld}
 use Rattle.world_core.proofs.ReachedLaws.{parts_at_first, world_at_first}
 use Rattle.world_core.proofs.world.World.new.Goals as goal
 
@@ -18,11 +19,10 @@ invariant_of-result-2 c =
     let k_is : first_kept c.args.passes (published 0 empty []) ≡ k = search rules in
     let ws_is : replicate (c.args.words + notifier_count) 0 ≡ ws = search rules in
     let none : [] ≡ c.new-4.result.items = search rules in
-    let no_cells : [] ≡ c.none.result = search rules in
-    subst (λ (x : Left). IsWorld d k ws x) (λ i. left (none i) (no_cells i))
-    (subst (λ (v : List ℕ). IsWorld d k v (left [] [])) ws_is
-    (subst (λ (v : KeptState). IsWorld d v (replicate (c.args.words + notifier_count) 0) (left [] [])) k_is
-    (subst (λ (v : WriterState). IsWorld v (first_kept c.args.passes (published 0 empty [])) (replicate (c.args.words + notifier_count) 0) (left [] [])) d_is
+    subst (λ (x : List RegionId). IsWorld d k ws x) none
+    (subst (λ (v : List ℕ). IsWorld d k v []) ws_is
+    (subst (λ (v : KeptState). IsWorld d v (replicate (c.args.words + notifier_count) 0) []) k_is
+    (subst (λ (v : WriterState). IsWorld v (first_kept c.args.passes (published 0 empty [])) (replicate (c.args.words + notifier_count) 0) []) d_is
     (world_at_first c.args.words c.args.passes))))
 
 pub returns : goal.returns
@@ -34,5 +34,4 @@ returns c =
     let k_is : k ≡ first_kept c.args.passes (published 0 empty []) = search rules in
     let ws_is : ws ≡ replicate (c.args.words + notifier_count) 0 = search rules in
     let none : c.new-4.result.items ≡ [] = search rules in
-    let no_cells : c.none.result ≡ [] = search rules in
-    (λ i. world_of (d_is i) (k_is i) (ws_is i) (left (none i) (no_cells i))) ∙ parts_at_first c.args.words c.args.passes
+    (λ i. world_of (d_is i) (k_is i) (ws_is i) (none i)) ∙ parts_at_first c.args.words c.args.passes

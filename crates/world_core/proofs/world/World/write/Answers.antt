@@ -1,8 +1,23 @@
 use Rattle.std.proofs.Common.{rules, ◌≡◌, Some, None, true, false, [], refl, sym, ap, subst, ◌∙◌, arith}
 use Rattle.std.specs.Prelude.{is_some}
 use Rattle.world_core.specs.Hands.{IsInside}
+use Rattle.mem_base.specs.access.AccessSteps.{writing}
+use Rattle.mem_base.specs.machine.World.{World}
+use Rattle.mem_base.specs.machine.Composites.{accessed}
+use Rattle.world_core.proofs.KeepingLaws.{access_keeps}
 use Rattle.world_core.proofs.world.World.write.Goals as goal
 
 pub leave_unless-number-requires : goal.leave_unless-number-requires
 leave_unless-number-requires c =
     ap (λ o. is_some o) c.write_entered-result.ensures.done.made.inside ∙ c.enter_unless-entered.ensures.inside
+
+pub returns : goal.returns
+returns c =
+    let w : World = c.args.self.now in
+    let v : World = c.leave_unless-number.new.self in
+    let is : v ≡ (accessed w c.args.pass c.args.space c.args.addr (writing c.args.bytes.now)).world = search rules in record {
+      world = is;
+      answer_is = search rules;
+      bytes_are = search rules;
+      keeps = access_keeps w v c.args.pass c.args.space c.args.addr (writing c.args.bytes.now) c.requires is;
+    }

@@ -18,3 +18,8 @@ pub returns-in-Unlisten-clause-configured : goal.returns-in-Unlisten-clause-conf
 returns-in-Unlisten-clause-configured g c =
     subst (λ (k : Config). c.unlisten.result ≢ Err Memory → IsConfigured c.args.self.now k c.args.held c.unlisten.new.self c.unlisten.result)
     (sym c.in-Unlisten.is) (c.unlisten.ensures.configured c.args.held)
+
+pub returns-in-Begin-clause-configured : goal.returns-in-Begin-clause-configured
+returns-in-Begin-clause-configured g c =
+    subst (λ (k : Config). c.begin.result ≢ Err Memory → IsConfigured c.args.self.now k c.args.held c.begin.new.self c.begin.result)
+    (sym c.in-Begin.is) (λ other. c.begin.ensures.configured c.args.held)
