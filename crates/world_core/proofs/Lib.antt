@@ -1,4 +1,10 @@
 pub mod AccessLaws
+pub mod CallLaws
+pub mod HarvestLaws
+pub mod NamedLaws
+pub mod PlaceLaws
 pub mod ReachedLaws
+pub mod ReapLaws
+pub mod StepLaws
 pub mod UnfilledLaws
 pub mod WordLaws

@@ -1,4 +1,6 @@
 pub mod Hands
+pub mod Released
 pub mod RunLaws
+pub mod Steps
 pub mod Unfilled
 pub mod Worlds

@@ -23,7 +23,7 @@ use transact::{Prepared, Step};
 #[derive(Drop)]
 pub struct WriterDesk {
     alloc: Global,
-    backed: BackedDesk,
+    pub(crate) backed: BackedDesk,
     listeners: Set,
     due: Option<Prepared>,
 }
