@@ -76,3 +76,7 @@ pages_few base bits =
     let same : length (pages_of base bits) ≡ length (filter (is_marked bits) (range_with_len 0 64)) =
     length_map (λ bit. base + bit) (filter (is_marked bits) (range_with_len 0 64)) in
     omega (arith, few, many, same)
+
+-- room for the pages of the mark words that are left
+pub room_next : (n index room rest more : ℕ) → index < n → (n - index) * 64 ≤ room → room ≤ rest + more → more ≤ 64 → (n - (index + 1)) * 64 ≤ rest
+room_next n index room rest more near k told few = omega (arith, near, k, told, few)

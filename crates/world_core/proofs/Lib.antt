@@ -5,6 +5,7 @@ pub mod NamedLaws
 pub mod PlaceLaws
 pub mod ReachedLaws
 pub mod ReapLaws
+pub mod ReleaseLaws
 pub mod StepLaws
 pub mod UnfilledLaws
 pub mod WordLaws

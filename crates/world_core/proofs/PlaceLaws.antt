@@ -10,12 +10,14 @@ use Rattle.mem_base.specs.declared.machine.events.Event.TheVariants as events
 use Rattle.mem_base.specs.lists.Every.{Every}
 use Rattle.mem_base.specs.map.Limits.{notifier_count}
 use Rattle.mem_base.specs.access.PlacesByRegion.{notifiers, place_in}
-use Rattle.mem_base.specs.access.Places.{notifiers_place, is_notifiers, past, mark_word, mark_words, pages_in}
+use Rattle.mem_base.specs.access.Places.{notifiers_place, is_notifiers, past, mark_word, mark_words, pages_in, word_of_page}
 use Rattle.mem_base.specs.access.Cells.{touch, words_after, Block}
 use Rattle.mem_base.specs.machine.Desk.{places_of}
 use Rattle.mem_base.specs.machine.World.{World, world, place_in_world, number_in, reply, world_after}
 use Rattle.mem_base.proofs.EveryLaws.{weaker}
+use Rattle.view_laws.proofs.Tests.{same_region}
 use Rattle.turn_laws.proofs.Coupled.{IsWhole}
+use Rattle.turn_laws.proofs.Replaced.{its_region}
 use Rattle.world_laws.proofs.Lists.{found_has}
 use Rattle.kept_generations.specs.KeptState.{KeptState}
 use Rattle.backed_desk.specs.Backed.{all_places}
@@ -33,6 +35,10 @@ last_place (p ∷ ps) np others is = rw others.0 (last_place ps np others.1 is)
 pub other_place : (ps : List Place) (np : Place) (r : RegionId) → (np.region.0 == r.0) ≡ false → place_in (ps ++ np ∷ []) r ≡ place_in ps r
 other_place [] np r other = rw other refl
 other_place (p ∷ ps) np r other = ap (λ (o : Option Place). if p.region.0 == r.0 then Some p else o) (other_place ps np r other)
+
+-- a place that is found is the region's own
+pub own_region : (w : World) (r : RegionId) (p : Place) → place_in_world w r ≡ Some p → p.region ≡ r
+own_region w r p here = same_region p.region r (its_region (places_of w.writer.desk) r p here)
 
 module _ (d : WriterState) (k : KeptState) (ws : List ℕ) (x : Left) (h : IsWorld d k ws x) where
   abbrev here : World
@@ -69,3 +75,7 @@ module _ (d : WriterState) (k : KeptState) (ws : List ℕ) (x : Left) (h : IsWor
       → slice_index ws (p.start + mark_word p client index) ≡ number_in (reply here (events.Harvest p.region client index))
   take_tells p client index placed near =
       word_before d k ws x h p.region p placed (events.Harvest p.region client index) (touch (mark_word p client index) Take true) refl near
+
+-- the mark word of its first page is the mark word
+pub mark_is_at : (p : Place) (client : Client) (index word : ℕ) → word ≡ word_of_page p client (index * 64) → word ≡ mark_word p client index
+mark_is_at p client index word is = let same : index * 64 / 64 ≡ index = omega arith in is ∙ ap (λ (n : ℕ). mark_word p client n) same

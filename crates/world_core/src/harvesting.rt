@@ -49,6 +49,8 @@ impl World {
             → IsCompleted self.old (harvest region client) (harvest_answer (answer_with (λ v. v.items) result)) self.new }
         ensures unchanged { result ≡ Err Refusal.Memory → self.new ≡ self.old }
     {
+        // It tells that a legal history leads here.
+        self.is_reached();
         if let Some(why) = harvest_refusal(self.standing_tree(), region) {
             return Err(why);
         }

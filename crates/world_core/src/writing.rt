@@ -2,6 +2,7 @@
 ghost use Rattle.std.specs.Prelude.{◌≡◌, ◌+◌, ◌^◌, ◌<◌, ◌≤◌, true, length, Some, None, Ok, Err, IfNone};
 ghost use Rattle.mem_base.specs.map.Limits.{notifier_count};
 ghost use Rattle.mem_base.specs.map.Forest.{IsMade};
+ghost use Rattle.mem_base.specs.access.PlacesByRegion.{notifiers};
 ghost use Rattle.mem_base.specs.machine.World.{is_at_rest, place_in_world, possible, world_after};
 ghost use Rattle.mem_base.specs.machine.Orders.{load, load_refusal, loads, notified};
 ghost use Rattle.mem_base.specs.machine.Answers.{notifier_answer, plain_answer};
@@ -48,6 +49,8 @@ impl World {
         requires rest { is_at_rest self.old.writer.desk ≡ true }
         ensures { IsCompleted self.old (load region offset bytes.now) (plain_answer result) self.new }
     {
+        // It tells that a legal history leads here.
+        self.is_reached();
         if let Some(why) = load_refusal(self.standing_tree(), region, offset, bytes.len()) {
             return Err(why);
         }
