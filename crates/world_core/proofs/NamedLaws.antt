@@ -64,7 +64,7 @@ back_from g back number l is =
 
 -- places without those of some regions
 
-same_either_way : (a b : ℕ) → (a == b) ≡ (b == a)
+pub same_either_way : (a b : ℕ) → (a == b) ≡ (b == a)
 same_either_way a b = go (a == b) refl
   where
     go : (c : Bool) → (a == b) ≡ c → c ≡ (b == a)

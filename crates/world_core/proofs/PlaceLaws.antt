@@ -77,5 +77,6 @@ module _ (d : WriterState) (k : KeptState) (ws : List ℕ) (x : Left) (h : IsWor
       word_before d k ws x h p.region p placed (events.Harvest p.region client index) (touch (mark_word p client index) Take true) refl near
 
 -- the mark word of its first page is the mark word
-pub mark_is_at : (p : Place) (client : Client) (index word : ℕ) → word ≡ word_of_page p client (index * 64) → word ≡ mark_word p client index
-mark_is_at p client index word is = let same : index * 64 / 64 ≡ index = omega arith in is ∙ ap (λ (n : ℕ). mark_word p client n) same
+pub mark_is_at : (p : Place) (client : Client) (index page word : ℕ) → page ≡ index * 64 → word ≡ word_of_page p client page → word ≡ mark_word p client index
+mark_is_at p client index page word first is =
+    let same : page / 64 ≡ index = omega (arith, first) in is ∙ ap (λ (n : ℕ). mark_word p client n) same

@@ -10,20 +10,22 @@ use Rattle.world_core.specs.Released.{without_regions}
 use Rattle.world_core.proofs.NamedLaws.{all_stay, without_next}
 
 -- a list from one element on
-from_one : (rs : List RegionId) (i : ℕ) (r : RegionId) → i < length rs → r ≡ get_or rs i r → drop i rs ≡ r ∷ drop (i + 1) rs
-from_one rs i r l is =
-    let next : suc i ≡ i + 1 = omega arith in drop-cons rs i r l ∙ (λ j. sym is j ∷ drop (next j) rs)
+from_one : (rs : List RegionId) (i : ℕ) (d : RegionId) → i < length rs → drop i rs ≡ get_or rs i d ∷ drop (i + 1) rs
+from_one rs i d l = let next : suc i ≡ i + 1 = omega arith in drop-cons rs i d l ∙ (λ j. get_or rs i d ∷ drop (next j) rs)
 
 -- the desk with these places
 abbrev with_places : WriterState → List Place → WriterState
 with_places d places = writer_state (backed_state d.backed.desk (backing_at d.backed.backing.pool_words places)) d.listening d.due
 
-module _ (test : RegionId → Bool) (rs : List RegionId) (i : ℕ) (r : RegionId) (l : i < length rs) (is : r ≡ get_or rs i r) (d : WriterState) where
+module _ (test : RegionId → Bool) (rs : List RegionId) (i : ℕ) (other : RegionId) (l : i < length rs) (d : WriterState) where
+  abbrev r : RegionId
+  r = get_or rs i other
+
   -- one that is not released
   pub pass_one : test r ≡ false → without_regions d (filter test (drop (i + 1) rs)) ≡ without_regions d (filter test (drop i rs))
   pass_one fails =
       ap (λ (b : Bool). without_regions d (if b then r ∷ filter test (drop (i + 1) rs) else filter test (drop (i + 1) rs))) (sym fails)
-      ∙ ap (λ (qs : List RegionId). without_regions d (filter test qs)) (sym (from_one rs i r l is))
+      ∙ ap (λ (qs : List RegionId). without_regions d (filter test qs)) (sym (from_one rs i other l))
 
   -- one that is
   pub release_one : (e : WriterState) → test r ≡ true
@@ -34,7 +36,7 @@ module _ (test : RegionId → Bool) (rs : List RegionId) (i : ℕ) (r : RegionId
       ap (λ (x : WriterState). without_regions x later) released
       ∙ ap (with_places d) (without_next r later d.backed.backing.places)
       ∙ ap (λ (b : Bool). without_regions d (if b then r ∷ later else later)) (sym passes)
-      ∙ ap (λ (qs : List RegionId). without_regions d (filter test qs)) (sym (from_one rs i r l is))
+      ∙ ap (λ (qs : List RegionId). without_regions d (filter test qs)) (sym (from_one rs i other l))
 
 -- when none is left, all that were to be released are
 pub release_last : (test : RegionId → Bool) (rs : List RegionId) (i : ℕ) (d e : WriterState) → length rs ≤ i

@@ -1,10 +1,10 @@
 // The pages that were written, as the writer takes them.
-ghost use Rattle.std.specs.Prelude.{◌≡◌, ◌≢◌, ◌+◌, ◌*◌, ◌<◌, ◌≤◌, true, [], Some, Ok, Err, vec_len, vec_capacity};
+ghost use Rattle.std.specs.Prelude.{◌≡◌, ◌≢◌, ◌+◌, ◌*◌, ◌^◌, ◌<◌, ◌≤◌, true, [], Some, Ok, Err, vec_len, vec_capacity};
 ghost use Rattle.mem_base.specs.declared.machine.events.Event.TheVariants as events;
 ghost use Rattle.mem_base.specs.declared.map.refusals.Refusal.{Refusal};
 ghost use Rattle.mem_base.specs.map.Limits.{pages_per_word};
 ghost use Rattle.mem_base.specs.access.Marks.{pages_from};
-ghost use Rattle.mem_base.specs.access.Places.{mark_words};
+ghost use Rattle.mem_base.specs.access.Places.{mark_words, pages_in};
 ghost use Rattle.mem_base.specs.machine.World.{is_at_rest, number_in, place_in_world, possible, reply, world_after};
 ghost use Rattle.mem_base.specs.machine.Orders.{harvest, harvest_refusal};
 ghost use Rattle.mem_base.specs.machine.Answers.{answer_with, harvest_answer};
@@ -32,9 +32,20 @@ fn harvest_refusal(tree: &Tree, region: RegionId) -> Option<Refusal>
 // How many mark words each client has of a place.
 fn mark_words(place: &Place) -> usize
     ensures value { result ≡ mark_words place.now.bytes }
-    ensures few { pages_per_word * result ≤ place.now.bytes }
+    ensures fits { result * pages_per_word < 2 ^ 64 }
 {
     ((place.bytes / PAGE_SIZE + (PAGES_PER_WORD - 1)) / PAGES_PER_WORD) as usize
+}
+
+// The first page of a mark word of a place.
+fn first_page(place: &Place, index: usize) -> u64
+    requires { index < mark_words place.now.bytes }
+    ensures value { result ≡ index * pages_per_word }
+    ensures page { result < pages_in place.now }
+{
+    // It tells that 64 bits hold the number.
+    let _ = mark_words(place);
+    index as u64 * PAGES_PER_WORD
 }
 
 impl World {
@@ -74,7 +85,7 @@ impl World {
     {
         for index in 0..mark_words(place) {
             let bits = self.take_marks(place, client, index);
-            pages_of(pages, index as u64 * PAGES_PER_WORD, bits);
+            pages_of(pages, first_page(place, index), bits);
         }
     }
 
@@ -88,7 +99,7 @@ impl World {
     {
         // It tells that 64 bits hold the number of words.
         let _ = self.words.len();
-        let (word, _) = mark_of(place, client, index as u64 * PAGES_PER_WORD);
+        let (word, _) = mark_of(place, client, first_page(place, index));
         self.words.step(place.start + word, WordStep::Take)
     }
 }

@@ -40,12 +40,7 @@ impl World {
     ///
     /// Nothing is due or unfilled. Refused with `Unknown` where the region is not there, with `WrongKind` where it has no bytes,
     /// and with `BadSize` where it ends before them; then nothing changes. It takes no memory.
-    pub fn load_bytes(
-        &mut self,
-        region: RegionId,
-        offset: u64,
-        bytes: &[u8],
-    ) -> Result<(), Refusal>
+    pub fn load_bytes(&mut self, region: RegionId, offset: u64, bytes: &[u8]) -> Result<(), Refusal>
         requires rest { is_at_rest self.old.writer.desk ≡ true }
         ensures { IsCompleted self.old (load region offset bytes.now) (plain_answer result) self.new }
     {

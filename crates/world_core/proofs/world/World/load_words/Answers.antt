@@ -1,5 +1,4 @@
-use Rattle.std.proofs.Common.{◌≡◌, ◌+◌, ◌-◌, ◌≤◌, ◌<◌, ℕ, List, length, take, drop, refl, arith}
-use Rattle.mem_base.specs.machine.World.{World}
+use Rattle.std.proofs.Common.{◌+◌, ◌-◌, ◌<◌, ℕ, List, length, take, drop, refl, arith}
 use Rattle.mem_base.specs.machine.Orders.{loads}
 use Rattle.world_core.specs.Steps.{load_of}
 use Rattle.world_core.proofs.StepLaws.{goes_on, loads_from, loads_next}

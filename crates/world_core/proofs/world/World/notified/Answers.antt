@@ -4,7 +4,7 @@ use Rattle.mem_base.specs.declared.access.cells.WordStep.TheVariants.{Take}
 use Rattle.mem_base.specs.declared.machine.events.Hand.TheVariants as hands
 use Rattle.mem_base.specs.declared.machine.events.Event.TheVariants as events
 use Rattle.mem_base.specs.access.Cells.{cell}
-use Rattle.mem_base.specs.machine.World.{World, possible}
+use Rattle.mem_base.specs.machine.World.{possible}
 use Rattle.world_core.proofs.CallLaws.{may_take, word_within}
 use Rattle.world_core.proofs.world.World.notified.Goals as goal
 

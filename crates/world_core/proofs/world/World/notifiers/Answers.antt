@@ -10,13 +10,13 @@ pub overflow_sub-start : goal.overflow_sub-start
 overflow_sub-start c =
     let s = c.self.inside in
     let wide : length s.words ≡ s.desk.backed.backing.pool_words + notifier_count = c.self.invariant.wide in
-    let len : c.len.result ≡ length s.words = search rules in
+    let len : c.len-start.result ≡ length s.words = search rules in
     omega (arith, wide, len)
 
 pub returns-clause-place : goal.returns-clause-place
 returns-clause-place c =
     let s = c.self.inside in
     let x : Left = left s.dropped.items s.unfilled in
-    let len : c.len.result ≡ length s.words = search rules in
+    let len : c.len-start.result ≡ length s.words = search rules in
     sym (ap (λ (w : World). place_in_world w notifiers) c.self.view_is)
-    ∙ notifiers_after s.desk s.kept s.words x c.self.invariant (c.len.result - notifier_count) (ap (λ (n : ℕ). n - notifier_count) len)
+    ∙ notifiers_after s.desk s.kept s.words x c.self.invariant (c.len-start.result - notifier_count) (ap (λ (n : ℕ). n - notifier_count) len)

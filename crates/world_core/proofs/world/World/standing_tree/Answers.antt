@@ -1,5 +1,4 @@
 use Rattle.std.proofs.Common.{rules, ◌≡◌, true, None, sym, ap, subst, ◌∙◌}
-use Rattle.mem_base.specs.declared.map.forests.Forest.{Forest}
 use Rattle.mem_base.specs.map.Forest.{IsMade}
 use Rattle.mem_base.specs.machine.World.{World, is_at_rest}
 use Rattle.world_core.specs.Worlds.{Left, left, world_of}

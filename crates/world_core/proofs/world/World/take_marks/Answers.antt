@@ -1,10 +1,10 @@
-use Rattle.std.proofs.Common.{rules, ◌≡◌, ◌+◌, ◌<◌, ◌≤◌, ◌*◌, ◌/◌, ◌^◌, Some, true, sym, ap, subst, ◌∙◌, arith, length, ℕ, List}
+use Rattle.std.proofs.Common.{rules, ◌≡◌, ◌+◌, ◌<◌, ◌^◌, Some, true, sym, ap, subst, ◌∙◌, arith, length, ℕ, List}
 use Rattle.std.specs.Prelude.{slice_index}
 use Rattle.mem_base.specs.declared.access.cells.WordStep.TheVariants.{Take}
 use Rattle.mem_base.specs.declared.machine.events.Event.{Event}
 use Rattle.mem_base.specs.declared.machine.events.Event.TheVariants as events
 use Rattle.mem_base.specs.access.Cells.{words_after}
-use Rattle.mem_base.specs.access.Places.{mark_word, word_of_page}
+use Rattle.mem_base.specs.access.Places.{mark_word}
 use Rattle.mem_base.specs.machine.World.{World, possible, reply, number_in, world_after, place_in_world}
 use Rattle.world_core.specs.Worlds.{Left, left, world_of}
 use Rattle.world_core.proofs.WordLaws.{far, words_change}
@@ -17,7 +17,8 @@ overflow_add-place c =
     let x : Left = left s.dropped.items s.unfilled in
     let p = c.args.place.now in
     let mark : ℕ = mark_word p c.args.client c.args.index in
-    let word : c.mark_of-word.result.0 ≡ mark = mark_is_at p c.args.client c.args.index c.mark_of-word.result.0 c.mark_of-word.ensures.word in
+    let word : c.mark_of-word.result.0 ≡ mark = mark_is_at p c.args.client c.args.index
+    c.first_page.result c.mark_of-word.result.0 c.first_page.ensures.value c.mark_of-word.ensures.word in
     let here : place_in_world (world_of s.desk s.kept s.words x) p.region ≡ Some p = search rules in
     let near : mark < p.words = mark_within s.desk s.kept s.words x c.self.invariant p c.args.client c.args.index here c.requires.index in
     let l : p.start + mark < length s.words = far s.desk s.kept s.words x c.self.invariant p.region p mark here near in
@@ -30,7 +31,8 @@ step-requires c =
     let x : Left = left s.dropped.items s.unfilled in
     let p = c.args.place.now in
     let mark : ℕ = mark_word p c.args.client c.args.index in
-    let word : c.mark_of-word.result.0 ≡ mark = mark_is_at p c.args.client c.args.index c.mark_of-word.result.0 c.mark_of-word.ensures.word in
+    let word : c.mark_of-word.result.0 ≡ mark = mark_is_at p c.args.client c.args.index
+    c.first_page.result c.mark_of-word.result.0 c.first_page.ensures.value c.mark_of-word.ensures.word in
     let here : place_in_world (world_of s.desk s.kept s.words x) p.region ≡ Some p = search rules in
     let near : mark < p.words = mark_within s.desk s.kept s.words x c.self.invariant p c.args.client c.args.index here c.requires.index in
     subst (λ (n : ℕ). p.start + n < length s.words) (sym word) (far s.desk s.kept s.words x c.self.invariant p.region p mark here near)
@@ -42,7 +44,8 @@ invariant_of-self c =
     let p = c.args.place.now in
     let mark : ℕ = mark_word p c.args.client c.args.index in
     let e : Event = events.Harvest p.region c.args.client c.args.index in
-    let word : c.mark_of-word.result.0 ≡ mark = mark_is_at p c.args.client c.args.index c.mark_of-word.result.0 c.mark_of-word.ensures.word in
+    let word : c.mark_of-word.result.0 ≡ mark = mark_is_at p c.args.client c.args.index
+    c.first_page.result c.mark_of-word.result.0 c.first_page.ensures.value c.mark_of-word.ensures.word in
     let here : place_in_world (world_of s.desk s.kept s.words x) p.region ≡ Some p = search rules in
     let near : mark < p.words = mark_within s.desk s.kept s.words x c.self.invariant p c.args.client c.args.index here c.requires.index in
     let may : possible (world_of s.desk s.kept s.words x) e ≡ true = search rules in
@@ -59,7 +62,8 @@ returns-clause-old c =
     let p = c.args.place.now in
     let mark : ℕ = mark_word p c.args.client c.args.index in
     let e : Event = events.Harvest p.region c.args.client c.args.index in
-    let word : c.mark_of-word.result.0 ≡ mark = mark_is_at p c.args.client c.args.index c.mark_of-word.result.0 c.mark_of-word.ensures.word in
+    let word : c.mark_of-word.result.0 ≡ mark = mark_is_at p c.args.client c.args.index
+    c.first_page.result c.mark_of-word.result.0 c.first_page.ensures.value c.mark_of-word.ensures.word in
     let here : place_in_world (world_of s.desk s.kept s.words x) p.region ≡ Some p = search rules in
     let near : mark < p.words = mark_within s.desk s.kept s.words x c.self.invariant p c.args.client c.args.index here c.requires.index in
     c.step.ensures.old ∙ ap (λ (n : ℕ). slice_index s.words (p.start + n)) word
@@ -73,7 +77,8 @@ returns-clause-world c =
     let p = c.args.place.now in
     let mark : ℕ = mark_word p c.args.client c.args.index in
     let e : Event = events.Harvest p.region c.args.client c.args.index in
-    let word : c.mark_of-word.result.0 ≡ mark = mark_is_at p c.args.client c.args.index c.mark_of-word.result.0 c.mark_of-word.ensures.word in
+    let word : c.mark_of-word.result.0 ≡ mark = mark_is_at p c.args.client c.args.index
+    c.first_page.result c.mark_of-word.result.0 c.first_page.ensures.value c.mark_of-word.ensures.word in
     let here : place_in_world (world_of s.desk s.kept s.words x) p.region ≡ Some p = search rules in
     let near : mark < p.words = mark_within s.desk s.kept s.words x c.self.invariant p c.args.client c.args.index here c.requires.index in
     let words : c.step.new.self ≡ words_after s.words (p.start + mark) Take =

@@ -1,4 +1,4 @@
-use Rattle.std.proofs.Common.{◌≡◌, ◌+◌, ◌-◌, ◌*◌, ◌≤◌, ◌<◌, ◌++◌, ℕ, List, length, refl, ap, subst, ◌∙◌, vec_len, vec_capacity}
+use Rattle.std.proofs.Common.{◌+◌, ◌-◌, ◌*◌, ◌≤◌, ◌<◌, ◌++◌, ℕ, List, length, refl, ap, subst, ◌∙◌, vec_len, vec_capacity}
 use Rattle.mem_base.specs.declared.machine.events.Event.TheVariants as events
 use Rattle.mem_base.specs.access.Marks.{pages_of, pages_from}
 use Rattle.mem_base.specs.access.Places.{mark_words}
@@ -21,10 +21,14 @@ loop-index-preserved c =
     let later = harvests_from region client (index + 1) (n - (index + 1)) in record {
       under = goes_on c.args.self.now v u (harvests_from region client 0 n) (harvests_from region client index (n - index)) later
           (events.Harvest region client index) k.under (harvests_next region client index n near) c.take_marks-bits.ensures.world refl refl;
-      pages = ap (λ (xs : List ℕ). xs ++ pages_from ((index + 1) * 64) (replies_to u later)) c.pages_of.ensures.pages
+      pages = ap (λ (xs : List ℕ). xs ++ pages_from ((index + 1) * 64) (replies_to u later)) (c.pages_of.ensures.pages
+          ∙ ap (λ (base : ℕ). c.loop-index.pages.items ++ pages_of base bits) c.first_page.ensures.value)
           ∙ pages_next c.loop-index.pages.items (pages_from 0 (replies_to c.args.self.now (harvests_from region client 0 n)))
           (replies_to v (harvests_from region client index (n - index))) (replies_to u later) index bits k.pages
           (replies_next v u region client index n bits near c.take_marks-bits.ensures.old c.take_marks-bits.ensures.world);
       room = room_next n index (vec_capacity c.loop-index.pages - vec_len c.loop-index.pages) (vec_capacity c.pages_of.new.out - vec_len c.pages_of.new.out)
-          (length (pages_of (index * 64) bits)) near k.room c.pages_of.ensures.room (pages_few (index * 64) bits);
+          (length (pages_of (index * 64) bits)) near k.room
+          (subst (λ (base : ℕ). vec_capacity c.loop-index.pages - vec_len c.loop-index.pages
+          ≤ vec_capacity c.pages_of.new.out - vec_len c.pages_of.new.out + length (pages_of base bits)) c.first_page.ensures.value c.pages_of.ensures.room)
+          (pages_few (index * 64) bits);
     }
