@@ -71,8 +71,8 @@ fn release_unnamed(desk: &mut WriterDesk, kept: &Kept, regions: &[RegionId])
 }
 
 impl World {
-    /// Releases the dropped regions that no held generation names, which are answered, ascending: each pass is swept first, and
-    /// their places are holes of the pool then. This project's own rule, in place of the reference counts of QEMU's core.
+    /// Sweeps each pass, and then releases the dropped regions that no held generation names: their places are holes of the pool
+    /// again. The released regions are answered, ascending. This project's own rule, in place of the reference counts of QEMU's core.
     ///
     /// Nothing is due or unfilled. It fails only where memory runs out, and then nothing changes.
     pub fn reap(&mut self) -> Result<Vec<RegionId>, Refusal>

@@ -17,7 +17,7 @@ use region_tree::Tree;
 // The owner of the notifiers' words.
 const NOTIFIERS: RegionId = RegionId(u32::MAX);
 
-// Why so many bytes are not loaded at an offset of a region, where they are not.
+// Why this count of bytes is not loaded at an offset of a region; `None` where it is.
 fn load_refusal(tree: &Tree, region: RegionId, offset: u64, count: usize) -> Option<Refusal>
     ensures value { result ≡ load_refusal tree.now region offset count }
     ensures fits { IfNone result (offset + count ≤ 2 ^ 64) }
@@ -53,7 +53,8 @@ impl World {
         Ok(())
     }
 
-    /// Takes a notifier: the number that stood in its word, 0 where it was not set since it was last taken.
+    /// Takes a notifier: answers what stood in its word and leaves 0 there. It is 0 where no write has set the notifier since it was
+    /// last taken.
     ///
     /// Nothing is due or unfilled. It takes no memory.
     pub fn notified(&mut self, number: u32) -> u64
