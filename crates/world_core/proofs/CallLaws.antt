@@ -87,7 +87,8 @@ module _ (w : World) (region : RegionId) (offset : ℕ) (bytes : List ℕ) where
     passes = k.passes;
   }
 
-  pub load_refused : (why : Refusal) → is_at_rest w.writer.desk ≡ true → why_not ≡ Some why → IsCompleted w (load region offset bytes) (plain_answer (Err why)) w
+  pub load_refused : (why : Refusal) → is_at_rest w.writer.desk ≡ true → why_not ≡ Some why
+      → IsCompleted w (load region offset bytes) (plain_answer (Err why)) w
   load_refused why rest some = record {
     world = ap (λ (o : Option Refusal). after_events w (unless o (loads region offset bytes))) (sym some);
     answer_is = ap (λ (o : Option Refusal). plain_answer (or_refused o tt)) (sym some);
@@ -115,7 +116,8 @@ module _ (w : World) (region : RegionId) (client : Client) where
   may_harvest r rest none = subst (λ (o : Option Refusal). MayHappen w (unless o (harvests w.writer.desk region client))) none
       (is_legal w (harvest region client) r rest tt).legal
 
-  pub harvest_done : (v : World) (pages : List ℕ) → is_at_rest w.writer.desk ≡ true → why_unmarked ≡ None → HaveHappened w (harvests w.writer.desk region client) v
+  pub harvest_done : (v : World) (pages : List ℕ) → is_at_rest w.writer.desk ≡ true → why_unmarked ≡ None
+      → HaveHappened w (harvests w.writer.desk region client) v
       → pages ≡ pages_from 0 (replies_to w (harvests w.writer.desk region client)) → IsCompleted w (harvest region client) (harvest_answer (Ok pages)) v
   harvest_done v pages rest none k told = record {
     world = k.world ∙ ap (λ (o : Option Refusal). after_events w (unless o (harvests w.writer.desk region client))) (sym none);
@@ -129,7 +131,8 @@ module _ (w : World) (region : RegionId) (client : Client) where
       → IsCompleted w (harvest region client) (harvest_answer (Err why)) w
   harvest_refused why rest some = record {
     world = ap (λ (o : Option Refusal). after_events w (unless o (harvests w.writer.desk region client))) (sym some);
-    answer_is = ap (λ (o : Option Refusal). harvest_answer (or_refused o (pages_from 0 (replies_to w (unless o (harvests w.writer.desk region client)))))) (sym some);
+    answer_is =
+        ap (λ (o : Option Refusal). harvest_answer (or_refused o (pages_from 0 (replies_to w (unless o (harvests w.writer.desk region client)))))) (sym some);
     rests = rest;
     passes = refl;
   }

@@ -15,7 +15,8 @@ load_words-requires-clause-placed c =
 pub load_words-requires-clause-may : goal.load_words-requires-clause-may
 load_words-requires-clause-may c =
     let here : place_in_world c.args.self.now c.args.region ≡ Some c.in-Some.place = search rules in
-    subst (λ (r : RegionId). MayHappen c.args.self.now (loads r c.args.offset c.args.bytes.now)) (sym (own_region c.args.self.now c.args.region c.in-Some.place here))
+    subst (λ (r : RegionId). MayHappen c.args.self.now (loads r c.args.offset c.args.bytes.now))
+    (sym (own_region c.args.self.now c.args.region c.in-Some.place here))
     c.requires.may
 
 pub returns-in-Some : goal.returns-in-Some
