@@ -1,9 +1,17 @@
 pub mod AccessLaws
+pub mod CallLaws
 pub mod ComposedLaws
 pub mod ConfiguringLaws
+pub mod HarvestLaws
 pub mod KeepingLaws
 pub mod MadeCellLaws
+pub mod NamedLaws
 pub mod NumberLaws
+pub mod PlaceLaws
 pub mod ReachedLaws
+pub mod ReapLaws
+pub mod ReleaseLaws
+pub mod StepLaws
+pub mod UnfilledLaws
 pub mod WordLaws
 pub mod WriterCallLaws

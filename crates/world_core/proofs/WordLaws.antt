@@ -43,7 +43,7 @@ use Rattle.world_core.specs.Hands.{published_as, shown_to, IsInside}
 use Rattle.world_core.specs.Worlds.{world_of, IsReached, IsWorld}
 use Rattle.world_core.proofs.ReachedLaws.{reached_after}
 
-reached_holds : (w : World) → IsReached w → Holds w
+pub reached_holds : (w : World) → IsReached w → Holds w
 reached_holds w r = subst Holds r.leads (holds r.pool_words r.passes r.entries r.legal)
 
 -- places of regions below a pool's end, and the notifiers' after it
@@ -76,10 +76,10 @@ module _ (d : WriterState) (k : KeptState) (ws : List ℕ) (x : List RegionId) (
   abbrev places : List Place
   places = all_places d.backed.backing
 
-  backing : BacksForest d.backed.backing.pool_words here.writer.desk.forest d.backed.backing.places
+  pub backing : BacksForest d.backed.backing.pool_words here.writer.desk.forest d.backed.backing.places
   backing = backs here h.reached
 
-  apart : EveryPair ArePlacesApart places
+  pub apart : EveryPair ArePlacesApart places
   apart = all_apart d.backed.backing.pool_words d.backed.backing.places backing.inside backing.apart
 
   -- a word of a place is one of the words
@@ -93,12 +93,12 @@ module _ (d : WriterState) (k : KeptState) (ws : List ℕ) (x : List RegionId) (
   module _ (r : RegionId) (p : Place) (is : place_in places r ≡ Some p) (e : Event) (t : Touch) (touches : touch_of p e ≡ Some t)
       (near : t.word < p.words) where
     -- the cells after a touch are the words after the step
-    cells_change : blocks_at (words_after ws (p.start + t.word) t.step) places ≡ touched_blocks (blocks_at ws places) (Some r) (touch_at here e (Some r))
+    pub cells_change : blocks_at (words_after ws (p.start + t.word) t.step) places ≡ touched_blocks (blocks_at ws places) (Some r) (touch_at here e (Some r))
     cells_change = (steps_on_cells ws places r p t.word t.step apart is near).1
         ∙ ap (λ (o : Option Touch). touched_blocks (blocks_at ws places) (Some r) o) (sym (touch_there here e r p t is touches))
 
     -- and the cell before it is the word before it
-    word_before : slice_index ws (p.start + t.word) ≡ old_at here (Some r) (touch_at here e (Some r))
+    pub word_before : slice_index ws (p.start + t.word) ≡ old_at here (Some r) (touch_at here e (Some r))
     word_before = sym (steps_on_cells ws places r p t.word t.step apart is near).0
         ∙ ap (λ (o : Option Touch). old_at here (Some r) o) (sym (touch_there here e r p t is touches))
 

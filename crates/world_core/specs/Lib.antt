@@ -1,4 +1,7 @@
 pub mod Configuring
 pub mod Hands
+pub mod Released
 pub mod RunLaws
+pub mod Steps
+pub mod Unfilled
 pub mod Worlds

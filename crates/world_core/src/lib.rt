@@ -7,8 +7,13 @@
 mod accesses;
 mod configuring;
 mod hands;
+mod harvesting;
 mod numbers;
+mod reaping;
+mod shown;
+mod unfilled;
 mod words;
 mod world;
+mod writing;
 
 pub use world::World;

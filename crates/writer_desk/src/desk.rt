@@ -63,7 +63,7 @@ impl Due {
 #[derive(Drop)]
 pub struct WriterDesk {
     alloc: Global,
-    backed: BackedDesk,
+    pub(crate) backed: BackedDesk,
     listeners: Set,
     due: Option<Due>,
 }

@@ -7,5 +7,6 @@
 #![tactic(auto)]
 
 mod desk;
+mod releases;
 
 pub use desk::WriterDesk;

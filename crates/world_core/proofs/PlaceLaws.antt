@@ -1,0 +1,82 @@
+-- Laws of the places of a world: where one is found, and its mark words.
+use Rattle.std.proofs.Common.{◌≡◌, ℕ, ◌+◌, ◌-◌, ◌*◌, ◌/◌, ◌<◌, ◌≤◌, true, false, List, [], ◌∷◌, ◌++◌, length, refl, sym, ap, subst, ◌∙◌, arith}
+use Rattle.std.proofs.Common.{if◌then◌else◌, Option, Some, None}
+use Rattle.std.specs.Prelude.{◌==◌, slice_index}
+use Rattle.mem_base.specs.declared.map.ids.RegionId.{RegionId}
+use Rattle.mem_base.specs.declared.map.kinds.Client.{Client}
+use Rattle.mem_base.specs.declared.access.cells.Place.{Place}
+use Rattle.mem_base.specs.declared.access.cells.WordStep.TheVariants.{Take}
+use Rattle.mem_base.specs.declared.machine.events.Event.TheVariants as events
+use Rattle.mem_base.specs.lists.Every.{Every}
+use Rattle.mem_base.specs.map.Limits.{notifier_count}
+use Rattle.mem_base.specs.access.PlacesByRegion.{notifiers, place_in}
+use Rattle.mem_base.specs.access.Places.{notifiers_place, is_notifiers, past, mark_word, mark_words, pages_in, word_of_page}
+use Rattle.mem_base.specs.access.Cells.{touch, words_after, Block}
+use Rattle.mem_base.specs.machine.Desk.{places_of}
+use Rattle.mem_base.specs.machine.World.{World, world, place_in_world, number_in, reply, world_after}
+use Rattle.mem_base.proofs.EveryLaws.{weaker}
+use Rattle.view_laws.proofs.Tests.{same_region}
+use Rattle.turn_laws.proofs.Coupled.{IsWhole}
+use Rattle.turn_laws.proofs.Replaced.{its_region}
+use Rattle.world_laws.proofs.Lists.{found_has}
+use Rattle.kept_generations.specs.KeptState.{KeptState}
+use Rattle.backed_desk.specs.Backed.{all_places}
+use Rattle.writer_desk.specs.Writers.{WriterState}
+use Rattle.world_core.specs.Worlds.{Left, world_of, IsReached, IsWorld}
+use Rattle.world_core.proofs.WordLaws.{reached_holds, backing, cells_change, word_before}
+
+-- the notifiers' place is the last one, and those of regions come before it
+
+last_place : (ps : List Place) (np : Place) → Every (λ p. is_notifiers p.region ≡ false) ps → np.region ≡ notifiers
+    → place_in (ps ++ np ∷ []) notifiers ≡ Some np
+last_place [] np others is = ap (λ (r : RegionId). if r.0 == notifiers.0 then Some np else None) is
+last_place (p ∷ ps) np others is = rw others.0 (last_place ps np others.1 is)
+
+pub other_place : (ps : List Place) (np : Place) (r : RegionId) → (np.region.0 == r.0) ≡ false → place_in (ps ++ np ∷ []) r ≡ place_in ps r
+other_place [] np r other = rw other refl
+other_place (p ∷ ps) np r other = ap (λ (o : Option Place). if p.region.0 == r.0 then Some p else o) (other_place ps np r other)
+
+-- a place that is found is the region's own
+pub own_region : (w : World) (r : RegionId) (p : Place) → place_in_world w r ≡ Some p → p.region ≡ r
+own_region w r p here = same_region p.region r (its_region (places_of w.writer.desk) r p here)
+
+module _ (d : WriterState) (k : KeptState) (ws : List ℕ) (x : Left) (h : IsWorld d k ws x) where
+  abbrev here : World
+  here = world_of d k ws x
+
+  pub notifiers_after : (start : ℕ) → start ≡ length ws - notifier_count → place_in_world here notifiers ≡ Some (notifiers_place start)
+  notifiers_after start is =
+      let pool_words : ℕ = d.backed.backing.pool_words in
+      let wide : length ws ≡ pool_words + notifier_count = h.wide in
+      let same : pool_words ≡ start = omega (arith, is, wide) in
+      last_place d.backed.backing.places (notifiers_place pool_words)
+      (weaker (λ p. (is_notifiers p.region ≡ false) × (0 < p.words) × (past p ≤ pool_words)) (λ p. is_notifiers p.region ≡ false) (λ p t. t.0)
+      d.backed.backing.places (backing d k ws x h).inside) refl
+      ∙ ap (λ (n : ℕ). Some (notifiers_place n)) same
+
+  -- the mark words of a place are among its words
+  pub mark_within : (p : Place) (client : Client) (index : ℕ) → place_in_world here p.region ≡ Some p → index < mark_words p.bytes
+      → mark_word p client index < p.words
+  mark_within p client index placed l =
+      let w : World = here in
+      let whole : IsWhole (places_of w.writer.desk) p = found_has (IsWhole (places_of w.writer.desk)) (places_of w.writer.desk) p.region p
+      (reached_holds w h.reached).kept.coupled.whole placed in
+      let first : index * 64 < pages_in p = omega (arith, l) in
+      let same : index * 64 / 64 ≡ index = omega arith in
+      subst (λ (n : ℕ). mark_word p client n < p.words) same (whole.marks client (index * 64) first)
+
+  -- a mark word that is taken
+  pub take_is : (p : Place) (client : Client) (index : ℕ) → place_in_world here p.region ≡ Some p → mark_word p client index < p.words
+      → world_of d k (words_after ws (p.start + mark_word p client index) Take) x ≡ world_after here (events.Harvest p.region client index)
+  take_is p client index placed near = ap (λ (bs : List Block). world here.writer k.states bs)
+      (cells_change d k ws x h p.region p placed (events.Harvest p.region client index) (touch (mark_word p client index) Take true) refl near)
+
+  pub take_tells : (p : Place) (client : Client) (index : ℕ) → place_in_world here p.region ≡ Some p → mark_word p client index < p.words
+      → slice_index ws (p.start + mark_word p client index) ≡ number_in (reply here (events.Harvest p.region client index))
+  take_tells p client index placed near =
+      word_before d k ws x h p.region p placed (events.Harvest p.region client index) (touch (mark_word p client index) Take true) refl near
+
+-- the mark word of its first page is the mark word
+pub mark_is_at : (p : Place) (client : Client) (index page word : ℕ) → page ≡ index * 64 → word ≡ word_of_page p client page → word ≡ mark_word p client index
+mark_is_at p client index page word first is =
+    let same : page / 64 ≡ index = omega (arith, first) in is ∙ ap (λ (n : ℕ). mark_word p client n) same
