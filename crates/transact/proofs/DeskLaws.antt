@@ -1,11 +1,12 @@
 -- What a desk's calls leave of it.
-use Rattle.std.proofs.Common.{◌≡◌, ℕ, ◌+◌, ◌<◌, ◌≤◌, ◌^◌, ◌⊎◌, inl, inr, Bool, true, false, List, refl, sym, ap, subst, Ok, ◌∙◌, arith}
+use Rattle.std.proofs.Common.{◌≡◌, ℕ, ◌+◌, ◌<◌, ◌≤◌, ◌^◌, ◌⊎◌, inl, inr, Bool, true, false, List, [], refl, sym, ap, subst, Ok, ◌∙◌, arith}
 use Rattle.std.specs.Prelude.{Option, None, Some, IfSome, option_map, unwrap_or}
 use Rattle.std.proofs.lemmas.Option.{none-some}
 use Rattle.mem_base.specs.declared.map.ids.RegionId.{RegionId}
 use Rattle.mem_base.specs.declared.map.ids.SpaceId.{SpaceId}
 use Rattle.mem_base.specs.declared.map.forests.Forest.{Forest}
 use Rattle.mem_base.specs.declared.map.calls.Call.{Call}
+use Rattle.mem_base.specs.map.Region.{node_of}
 use Rattle.mem_base.specs.map.Calls.{after}
 use Rattle.mem_base.specs.map.Forest.{FitsTypes, IsMade}
 use Rattle.mem_base.specs.machine.Committed.{transaction}
@@ -13,6 +14,7 @@ use Rattle.generation.specs.Published.{Published}
 use Rattle.transact.specs.Desks.{DeskState, IsDesk, desk_state, publishes_due, reached_in}
 use Rattle.transact.specs.declared.spare.Next.{Next}
 use Rattle.transact.specs.Preparing.{Readied, IsOfDesk, IsFromCall, IsFromCommit}
+use Rattle.transact.specs.Noted.{AreNoted}
 use Rattle.transact.specs.Spares.{IsSpare, IsNext}
 use Rattle.transact.proofs.MadeLaws.{made_after, counted_after, closed_made}
 
@@ -25,15 +27,16 @@ one_more now pending = let few = due_at_most now in omega arith
 
 -- an accepted call, inside of a transaction where it is a change
 pub called : (f g : Forest) (call : Call) (depth : ℕ) (pending now : Bool) (current : Published) (known : List (SpaceId × List RegionId))
-    (spare new_spare : Option Forest) → IsDesk (desk_state (transaction f depth pending) current) known spare → FitsTypes call → after f call ≡ Ok g
-    → (depth ≡ 0 → now ≡ false) → publishes_due now ≤ publishes_due pending + 1 → IsSpare g new_spare
-    → IsDesk (desk_state (transaction g depth now) current) known new_spare
-called f g call depth pending now current known spare new_spare d fits e idle due same = record {
+    (noted new_noted : Option (List RegionId)) (spare new_spare : Option Forest) → IsDesk (desk_state (transaction f depth pending) current) known noted spare
+    → FitsTypes call → after f call ≡ Ok g → (depth ≡ 0 → now ≡ false) → publishes_due now ≤ publishes_due pending + 1 → AreNoted current.forest g new_noted
+    → IsSpare g new_spare → IsDesk (desk_state (transaction g depth now) current) known new_noted new_spare
+called f g call depth pending now current known noted new_noted spare new_spare d fits e idle due noted_are same = record {
   made = made_after f g call d.made fits e;
   nested = d.nested;
   idle = idle;
   counted = let more = counted_after f g call e in let few = d.counted in omega arith;
   known_is = d.known_is;
+  noted_are = noted_are;
   spare_is = same;
 }
 
@@ -65,22 +68,24 @@ next_lacks f None is = tt
 next_lacks f (Some n) is = (refl, is.1)
 
 -- what was prepared, when it is current
-pub done_desk : (d : DeskState) (r : Readied) (tree : Forest) (known new_known : List (SpaceId × List RegionId)) (spare new_spare : Option Forest)
-    → IsDesk d known spare → IsOfDesk d r → IsMade r.generation.forest → tree ≡ r.generation.forest → new_known ≡ reached_in r.generation.forest
-    → IsSpare tree new_spare → IsDesk (desk_state (transaction tree 0 false) r.generation) new_known new_spare
-done_desk d r tree known new_known spare new_spare k of_it made e reach second = go of_it.source
+pub done_desk : (d : DeskState) (r : Readied) (tree : Forest) (known new_known : List (SpaceId × List RegionId)) (noted : Option (List RegionId))
+    (spare new_spare : Option Forest) → IsDesk d known noted spare → IsOfDesk d r → IsMade r.generation.forest → tree ≡ r.generation.forest
+    → new_known ≡ reached_in r.generation.forest → IsSpare tree new_spare
+    → IsDesk (desk_state (transaction tree 0 false) r.generation) new_known (Some []) new_spare
+done_desk d r tree known new_known noted spare new_spare k of_it made e reach second = go of_it.source
   where
-    whole : r.generation.number ≤ r.generation.forest.calls → IsDesk (desk_state (transaction tree 0 false) r.generation) new_known new_spare
+    whole : r.generation.number ≤ r.generation.forest.calls → IsDesk (desk_state (transaction tree 0 false) r.generation) new_known (Some []) new_spare
     whole few = record {
       made = subst IsMade (sym e) made;
       nested = omega arith;
       idle = λ outside. refl;
       counted = subst (λ (f : Forest). r.generation.number + 0 ≤ f.calls) (sym e) (let l = few in omega arith);
       known_is = reach;
+      noted_are = λ q out. ap (λ (f : Forest). node_of f.nodes q) (sym e);
       spare_is = second;
     }
 
-    go : IsFromCall d r ⊎ IsFromCommit d r → IsDesk (desk_state (transaction tree 0 false) r.generation) new_known new_spare
+    go : IsFromCall d r ⊎ IsFromCommit d r → IsDesk (desk_state (transaction tree 0 false) r.generation) new_known (Some []) new_spare
     go (inl (outside, one)) =
         let more = counted_after d.state.forest r.generation.forest one.0 one.2 in
         let few = k.counted in
@@ -93,9 +98,9 @@ done_desk d r tree known new_known spare new_spare k of_it made e reach second =
         whole (omega arith)
 
 -- where a change is pending, one more publish has a number
-pub number_fits : (d : DeskState) (known : List (SpaceId × List RegionId)) (spare : Option Forest) → IsDesk d known spare
-    → d.state.pending ≡ true → d.current.number + 1 < 2 ^ 64
-number_fits d known spare k due =
+pub number_fits : (d : DeskState) (known : List (SpaceId × List RegionId)) (noted : Option (List RegionId)) (spare : Option Forest)
+    → IsDesk d known noted spare → d.state.pending ≡ true → d.current.number + 1 < 2 ^ 64
+number_fits d known noted spare k due =
     let few : d.current.number + 1 ≤ d.state.forest.calls = subst (λ b. d.current.number + publishes_due b ≤ d.state.forest.calls) due k.counted in
     let calls : d.state.forest.calls ≤ 2 ^ 62 = (closed_made d.state.forest k.made).few_calls in
     omega arith

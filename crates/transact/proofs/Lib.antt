@@ -6,3 +6,6 @@ pub mod PlacedLaws
 pub mod DeskLaws
 pub mod StepLaws
 pub mod SpareLaws
+pub mod NotedLaws
+pub mod StayLaws
+pub mod LiveLaws

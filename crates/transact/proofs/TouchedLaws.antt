@@ -1,9 +1,10 @@
 -- Whether a space is touched, by the regions that are reached in it.
 use Rattle.std.proofs.Common.{◌≡◌, ℕ, ◌==◌, ◌||◌, not, Bool, true, false, eqb, List, [], ◌∷◌, map, filter, Option, Some, None, refl, sym, ap, ◌∙◌, arith}
-use Rattle.std.specs.Prelude.{find, option_map}
+use Rattle.std.specs.Prelude.{find, option_map, unwrap_or}
 use Rattle.std.specs.List.{list_any}
 use Rattle.std.proofs.lemmas.Bool.Decides.{nat_tests}
 use Rattle.std.proofs.lemmas.List.Folds.{list_any-append}
+use Rattle.std.proofs.lemmas.Option.{none-some}
 use Rattle.mem_base.specs.declared.map.ids.RegionId.{RegionId}
 use Rattle.mem_base.specs.declared.map.ids.SpaceId.{SpaceId}
 use Rattle.mem_base.specs.declared.map.forests.Node.{Node}
@@ -68,3 +69,12 @@ either_first a b x y e f t = t ∙ sym (e ∙ ap (λ z. z || b) (sym f ∙ t))
 
 pub either_second : (a b x y z : Bool) → x ≡ (a || b) → y ≡ a → y ≡ false → z ≡ b → z ≡ x
 either_second a b x y z e f n s = s ∙ sym (e ∙ ap (λ w. w || b) (sym f ∙ n))
+
+-- the regions that are known of a space are those that are reached in it
+pub known_some : (f : Forest) (s : SpaceId) (known : List (SpaceId × List RegionId)) (rs : List RegionId) → known ≡ reached_in f
+    → Some rs ≡ option_map (λ p. p.1) (find (λ p. p.0.0 == s.0) known) → rs ≡ reached f s
+known_some f s known rs e found = go (find (λ p. p.0.0 == s.0) known) found (known_reach f s known e)
+  where
+    go : (o : Option (SpaceId × List RegionId)) → Some rs ≡ option_map (λ p. p.1) o → regions_at o ≡ reached f s → rs ≡ reached f s
+    go None h at = absurd (none-some rs (sym h))
+    go (Some p) h at = ap (λ o. unwrap_or o rs) h ∙ at

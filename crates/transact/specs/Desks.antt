@@ -10,6 +10,7 @@ use Rattle.mem_base.specs.map.Forest.{IsMade}
 use Rattle.mem_base.specs.map.Touched.{reached}
 use Rattle.mem_base.specs.machine.Committed.{TransactionState, transaction}
 use Rattle.generation.specs.Published.{Published, published}
+use Rattle.transact.specs.Noted.{AreNoted}
 use Rattle.transact.specs.Spares.{IsSpare}
 
 -- the forest that calls have made, with the transactions that are open, and the generation that is current
@@ -42,12 +43,13 @@ abbrev pub publishes_due : Bool → ℕ
 publishes_due pending = if pending then 1 else 0
 
 -- the forest is one that accepted calls make; at most 64 transactions are open, and nothing is pending outside them; each
--- publish had a call of its own; of each space of the current generation it is known which regions are reached; and the
--- second tree comes to the same forest
-pub record IsDesk (d : DeskState) (known : List (SpaceId × List RegionId)) (spare : Option Forest) : Type 0 where
+-- publish had a call of its own; of each space of the current generation it is known which regions are reached; the regions
+-- that changed since then are noted, unless there were too many; and the second tree comes to the same forest
+pub record IsDesk (d : DeskState) (known : List (SpaceId × List RegionId)) (noted : Option (List RegionId)) (spare : Option Forest) : Type 0 where
   pub made : IsMade d.state.forest
   pub nested : d.state.depth ≤ most_nested
   pub idle : d.state.depth ≡ 0 → d.state.pending ≡ false
   pub counted : d.current.number + publishes_due d.state.pending ≤ d.state.forest.calls
   pub known_is : known ≡ reached_in d.current.forest
+  pub noted_are : AreNoted d.current.forest d.state.forest noted
   pub spare_is : IsSpare d.state.forest spare

@@ -2,3 +2,4 @@ pub mod Desks
 pub mod Preparing
 pub mod Commits
 pub mod Spares
+pub mod Noted

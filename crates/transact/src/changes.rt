@@ -1,19 +1,19 @@
 // What listeners are told of a generation that is to be published.
-ghost use Rattle.std.specs.Prelude.{◌≡◌, IfOk, map};
-ghost use Rattle.std.specs.Arc.{arc_value};
+ghost use Rattle.std.specs.Prelude.{◌≡◌, IfOk};
 ghost use Rattle.mem_base.specs.map.Forest.{IsMade};
+ghost use Rattle.mem_base.specs.map.Touched.{is_touched};
 ghost use Rattle.mem_base.specs.views.Flattened.{view_of};
 ghost use Rattle.mem_base.specs.views.LiveEvents.{lives_of, ShareNoLive};
-ghost use Rattle.mem_base.specs.views.Listening.{change_of, changes_between};
-ghost use Rattle.generation.specs.Published.{views_of};
+ghost use Rattle.mem_base.specs.views.Listening.{change_of};
+ghost use Rattle.transact.specs.Noted.{AreNoted};
 
+use crate::noted::Noted;
 use flat_lookup::Atlas;
 use generation::Generation;
 use ioevents::{differ, live};
-use mem_base::{Change, Changes, Forest, Lives, SpaceId, View};
+use mem_base::{Change, Forest, Lives, SpaceId, View};
 use std::alloc::{AllocError, Global};
-use std::sync::Arc;
-use view_walk::walk;
+use view_walk::{keep_all, walk};
 
 // The live ioeventfds of a space of a forest, by its view.
 fn lives(alloc: Global, forest: &Forest, view: &View, space: SpaceId) -> Result<Lives, AllocError>
@@ -75,20 +75,69 @@ fn change_for(
     Ok(change)
 }
 
-/// The changes of all spaces of a forest from the current generation to it, in order of making.
-pub(crate) fn changes(
+// How what a space shows differs from the current generation, where its view is the same in both: each range is kept, and where
+// no noted region is a leaf of it, the ioeventfds stay too.
+fn change_still(
     alloc: Global,
     current: &Generation,
+    noted: &Option<Noted>,
     forest: &Forest,
-    atlases: &[(SpaceId, Arc<Atlas, Global>)],
-) -> Result<Changes, AllocError>
+    atlas: &Atlas,
+    space: SpaceId,
+) -> Result<Change, AllocError>
     requires made { IsMade forest.now }
-    requires atlases { map (λ p. (p.0, arc_value p.1)) atlases.now ≡ views_of forest.now }
-    ensures { IfOk result (λ changes. changes ≡ changes_between current.now.forest forest.now) }
+    requires noted { AreNoted current.now.forest forest.now noted.now }
+    requires atlas { atlas.now ≡ view_of forest.now space }
+    requires same { view_of current.now.forest space ≡ view_of forest.now space }
+    ensures change { IfOk result (λ change. change ≡ change_of current.now.forest forest.now space) }
+    ensures apart { IfOk result (λ change. ShareNoLive change.lost change.gained) }
 {
-    let mut changes = Vec::new(alloc);
-    for (space, atlas) in atlases {
-        changes.push(change_for(alloc, current, forest, atlas.view(), *space)?)?;
+    let old = current.forest();
+    let walk = keep_all(alloc, atlas.view())?;
+    if let Some(noted) = noted
+        && !noted.any_leaf(atlas)
+    {
+        return Ok(Change {
+            space,
+            walk,
+            lost: Lives::new(Vec::new(alloc)),
+            gained: Lives::new(Vec::new(alloc)),
+        });
     }
-    Ok(Changes::new(changes))
+    let before = lives(alloc, old, atlas.view(), space)?;
+    let after = lives(alloc, forest, atlas.view(), space)?;
+    let differ = differ(alloc, before.as_slice(), after.as_slice())?;
+    Ok(Change {
+        space,
+        walk,
+        lost: differ.lost,
+        gained: differ.gained,
+    })
+}
+
+/// How what a space shows differs from the current generation to a forest. `atlas` has what it shows there, `touched` says whether
+/// it is touched; `noted` has the regions that may have changed.
+pub(crate) fn change_at(
+    alloc: Global,
+    current: &Generation,
+    noted: &Option<Noted>,
+    touched: bool,
+    forest: &Forest,
+    atlas: &Atlas,
+    space: SpaceId,
+) -> Result<Change, AllocError>
+    requires made { IsMade forest.now }
+    requires noted { AreNoted current.now.forest forest.now noted.now }
+    requires touched { touched ≡ is_touched current.now.forest forest.now space }
+    requires atlas { atlas.now ≡ view_of forest.now space }
+    ensures change { IfOk result (λ change. change ≡ change_of current.now.forest forest.now space) }
+    ensures apart { IfOk result (λ change. ShareNoLive change.lost change.gained) }
+{
+    let _ = current.forest();
+    if touched {
+        let change = change_for(alloc, current, forest, atlas.view(), space)?;
+        return Ok(change);
+    }
+    let change = change_still(alloc, current, noted, forest, atlas, space)?;
+    Ok(change)
 }

@@ -11,6 +11,7 @@ ghost use Rattle.transact.specs.Desks.{first_state, with_state};
 ghost use Rattle.transact.specs.Preparing.{AreDeskPlaces, readied, IsOfDesk, when_done, most_carves};
 ghost use Rattle.transact.specs.Commits.{IsStep};
 
+use crate::noted::{Noted, noting};
 use crate::prepared::{Prepared, Step};
 use crate::preparing::prepare;
 use crate::regions::Regions;
@@ -40,6 +41,8 @@ pub struct Desk {
     current: Arc<Generation, Global>,
     // the regions that are reached in each space of the current generation
     reached: Vec<(SpaceId, Regions)>,
+    // the regions that calls may have changed since then, where they are few
+    noted: Option<Noted>,
 }
 
 impl Model for Desk {
@@ -51,7 +54,7 @@ impl Model for Desk {
 
     ghost view = { λ d. desk_state (transaction d.tree d.depth d.pending) (arc_value d.current) };
 
-    ghost invariant = { λ d. IsDesk (desk_state (transaction d.tree d.depth d.pending) (arc_value d.current)) d.reached.items d.spare };
+    ghost invariant = { λ d. IsDesk (desk_state (transaction d.tree d.depth d.pending) (arc_value d.current)) d.reached.items d.noted d.spare };
 }
 
 // That an address of a call is below 2^64.
@@ -93,6 +96,7 @@ impl Desk {
             pending: false,
             current: Arc::new(alloc, generation)?,
             reached: Vec::new(alloc),
+            noted: Some(Noted::none(alloc)),
         })
     }
 
@@ -158,6 +162,7 @@ impl Desk {
         fits(call);
         let applied = self.tree.apply(call)?;
         self.spare = lacking(self.spare.take(), call);
+        self.noted = noting(self.noted.take(), call, applied);
         if !call.is_quiet() {
             self.pending = true;
         }
@@ -189,15 +194,20 @@ impl Desk {
     {
         fits(call);
         let (mut tree, mut missing) = second(self.alloc, &self.tree, self.spare.take())?;
-        if let Err(why) = tree.apply(call) {
-            self.spare = Some(Spare::new(tree, missing));
-            return Err(why);
-        }
+        let applied = match tree.apply(call) {
+            Ok(applied) => applied,
+            Err(why) => {
+                self.spare = Some(Spare::new(tree, missing));
+                return Err(why);
+            }
+        };
         missing.push(*call)?;
+        self.noted = noting(self.noted.take(), call, applied);
         let prepared = prepare(
             self.alloc,
             &self.current,
             self.reached.as_slice(),
+            &self.noted,
             &tree,
             places,
             steps,
@@ -241,6 +251,7 @@ impl Desk {
             self.alloc,
             &self.current,
             self.reached.as_slice(),
+            &self.noted,
             &self.tree,
             places,
             steps,
@@ -267,5 +278,6 @@ impl Desk {
         self.pending = false;
         self.current = generation;
         self.reached = reached;
+        self.noted = Some(Noted::none(self.alloc));
     }
 }

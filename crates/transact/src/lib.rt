@@ -8,6 +8,7 @@
 
 mod changes;
 mod desk;
+mod noted;
 mod prepared;
 mod preparing;
 mod regions;

@@ -8,9 +8,10 @@ ghost use Rattle.mem_base.specs.access.Places.{is_notifiers};
 ghost use Rattle.mem_base.specs.machine.Desk.{shown_places};
 ghost use Rattle.generation.specs.Published.{views_of};
 ghost use Rattle.transact.specs.Desks.{reached_in};
+ghost use Rattle.transact.specs.Noted.{AreNoted};
 ghost use Rattle.transact.specs.Preparing.{AreDeskPlaces, readied, most_carves};
 
-use crate::changes::changes;
+use crate::noted::Noted;
 use crate::prepared::Prepared;
 use crate::regions::Regions;
 use crate::shown::{Shown, show_spaces};
@@ -52,14 +53,42 @@ fn shows_events(forest: &Forest, atlases: &[(SpaceId, Arc<Atlas, Global>)]) -> b
     any_shown(forest.nodes.as_slice(), atlases)
 }
 
+// Whether a region is a leaf in the view of one of these atlases, with a guess for each of them where it is found; the guesses are
+// those for a greater region then.
+fn is_leaf_from(
+    atlases: &[(SpaceId, Arc<Atlas, Global>)],
+    guesses: &mut [usize],
+    region: RegionId,
+) -> bool
+    requires { length guesses.old ≡ length atlases.now }
+    ensures value { result ≡ list_any (λ p. has_leaf region (arc_value p.1)) atlases.now }
+    ensures guesses { length guesses.new ≡ length guesses.old }
+{
+    for (i, (_, atlas)) in atlases.iter().enumerate() {
+        let (is_leaf, guess) = atlas.has_leaf_from(guesses[i], region);
+        guesses[i] = guess;
+        if is_leaf {
+            return true;
+        }
+    }
+    false
+}
+
 // Whether a generation has this place: its region is a leaf in one of the views, or it is the notifiers' and `notifies`.
-fn is_shown(atlases: &[(SpaceId, Arc<Atlas, Global>)], notifies: bool, place: &Place) -> bool
-    ensures { result ≡ (if is_notifiers place.now.region then notifies else list_any (λ p. has_leaf place.now.region (arc_value p.1)) atlases.now) }
+fn is_shown(
+    atlases: &[(SpaceId, Arc<Atlas, Global>)],
+    guesses: &mut [usize],
+    notifies: bool,
+    place: &Place,
+) -> bool
+    requires { length guesses.old ≡ length atlases.now }
+    ensures value { result ≡ (if is_notifiers place.now.region then notifies else list_any (λ p. has_leaf place.now.region (arc_value p.1)) atlases.now) }
+    ensures guesses { length guesses.new ≡ length guesses.old }
 {
     if place.region.0 == NOTIFIERS.0 {
         return notifies;
     }
-    is_leaf_among(atlases, place.region)
+    is_leaf_from(atlases, guesses, place.region)
 }
 
 // The places that a generation has of these.
@@ -72,9 +101,10 @@ fn kept(
     ensures { IfOk result (λ list. list.items ≡ filter (λ q. if is_notifiers q.region then notifies else list_any
         (λ p. has_leaf q.region (arc_value p.1)) atlases.now) places.now) }
 {
+    let mut guesses = vec![in alloc; 0; atlases.len()]?;
     let mut list = Vec::new(alloc);
     for place in places {
-        if is_shown(atlases, notifies, place) {
+        if is_shown(atlases, guesses.as_mut_slice(), notifies, place) {
             list.push(*place)?;
         }
     }
@@ -99,17 +129,19 @@ fn places_of(
 
 /// The generation that publishes the forest of a tree after the current one, and what listeners are told of it.
 ///
-/// `known` has the regions that are reached in each space of the current generation; `places` the places of all regions that
-/// have words, and the notifiers'. Only spaces that are touched are rendered.
+/// `known` has the regions that are reached in each space of the current generation, `noted` those that may have changed since;
+/// `places` the places of all regions that have words, and the notifiers'. Only spaces that are touched are rendered.
 pub(crate) fn prepare<L: Ledger>(
     alloc: Global,
     current: &Generation,
     known: &[(SpaceId, Regions)],
+    noted: &Option<Noted>,
     tree: &Tree,
     places: &[Place],
     steps: &mut Steps<L>,
 ) -> Result<Prepared, AllocError>
     requires known { known.now ≡ reached_in current.now.forest }
+    requires noted { AreNoted current.now.forest tree.now noted.now }
     requires number { current.now.number + 1 < 2 ^ 64 }
     requires made { IsMade tree.now }
     requires places { AreDeskPlaces tree.now places.now }
@@ -117,15 +149,11 @@ pub(crate) fn prepare<L: Ledger>(
     ensures carves { steps.new ≤ steps.old + most_carves current.now.forest tree.now }
 {
     let forest = tree.forest()?;
-    let Shown { atlases, reached } = show_spaces(
-        alloc,
-        current,
-        known,
-        tree,
-        forest.spaces.as_slice(),
-        steps,
-    )?;
-    let changes = changes(alloc, current, &forest, atlases.as_slice())?;
+    let Shown {
+        atlases,
+        reached,
+        changes,
+    } = show_spaces(alloc, current, known, noted, tree, &forest, steps)?;
     let places = places_of(alloc, &forest, atlases.as_slice(), places)?;
     let number = current.number() + 1;
     let generation = Generation::new(number, forest, atlases, places);

@@ -1,20 +1,24 @@
 // Which regions are reached in a space.
-ghost use Rattle.std.specs.Prelude.{◌≡◌, ◌==◌, ◌++◌, not, find};
-ghost use Rattle.std.specs.List.{list_any};
-ghost use Rattle.mem_base.specs.map.Region.{node_of};
+ghost use Rattle.std.specs.Prelude.{◌≡◌, ◌==◌, ◌&&◌, IfOk, find, option_map};
+ghost use Rattle.mem_base.specs.lists.Booleans.{bool_eq};
+ghost use Rattle.mem_base.specs.map.Forest.{IsMade};
 ghost use Rattle.mem_base.specs.map.Search.{root_of};
-ghost use Rattle.mem_base.specs.map.Touched.{reached, is_touched, stays_alike};
+ghost use Rattle.mem_base.specs.map.Touched.{reached, is_same_region, is_touched};
 ghost use Rattle.transact.specs.Desks.{reached_in, regions_at};
+ghost use Rattle.transact.specs.Noted.{is_among, AreNoted};
 
+use crate::noted::Noted;
 use crate::touched::{any_differs, is_same_region};
 use mem_base::{Forest, RegionId, SpaceId};
 use region_tree::Tree;
+use std::alloc::{AllocError, Global};
 use std::marker::Model;
+use std::sync::Arc;
 
-/// Some regions, by ascending id.
-#[derive(Debug, Drop)]
+/// Some regions, by ascending id. They may be shared.
+#[derive(Drop)]
 pub(crate) struct Regions {
-    items: Vec<RegionId>,
+    items: Arc<Vec<RegionId>, Global>,
 }
 
 impl Model for Regions {
@@ -23,14 +27,34 @@ impl Model for Regions {
 
     ghost Value = { List RegionId };
 
-    ghost view = { λ r. r.items.items };
+    ghost use Rattle.std.specs.Arc.{arc_value};
+
+    ghost view = { λ r. (arc_value r.items).items };
 }
 
 impl Regions {
-    pub(crate) fn new(items: Vec<RegionId>) -> Regions
-        ensures { result ≡ items.items }
+    pub(crate) fn new(alloc: Global, items: Vec<RegionId>) -> Result<Regions, AllocError>
+        ensures { IfOk result (λ regions. regions ≡ items.items) }
     {
-        Regions { items }
+        Ok(Regions {
+            items: Arc::new(alloc, items)?,
+        })
+    }
+
+    /// The same ones, shared.
+    pub(crate) fn shared(&self) -> Result<Regions, AllocError>
+        ensures { IfOk result (λ regions. regions ≡ self.now) }
+    {
+        Ok(Regions {
+            items: Arc::try_clone(&self.items)?,
+        })
+    }
+
+    /// Whether a region is one of them.
+    pub(crate) fn has(&self, region: RegionId) -> bool
+        ensures { result ≡ is_among self.now region }
+    {
+        self.as_slice().iter().any(|one| one.0 == region.0)
     }
 
     pub(crate) fn as_slice(&self) -> &[RegionId]
@@ -52,21 +76,38 @@ fn root_in(forest: &Forest, space: SpaceId) -> Option<RegionId>
     None
 }
 
-// The regions of a space, by what is known of all spaces; none where it is not among them.
-fn regions_at(known: &[(SpaceId, Regions)], space: SpaceId) -> &[RegionId]
-    ensures { result.now ≡ regions_at (find (λ p. p.0.0 == space.0) known.now) }
+// The regions of a space, by what is known of all spaces, if it is among them.
+fn known_at(known: &[(SpaceId, Regions)], space: SpaceId) -> Option<&Regions>
+    ensures { option_map (λ r. r.now) result ≡ option_map (λ p. p.1) (find (λ p. p.0.0 == space.0) known.now) }
 {
     for (id, regions) in known {
         if id.0 == space.0 {
-            return regions.as_slice();
+            return Some(regions);
         }
     }
-    &[]
+    None
 }
 
-/// Whether a space is touched from one forest to another. `known` has the regions that are reached in each space of the
-/// first, and `reach` those that are reached in the space in the second.
-pub(crate) fn is_touched(
+// The same regions; none where the space is not among those that are known.
+fn regions_at(known: &[(SpaceId, Regions)], space: SpaceId) -> &[RegionId]
+    ensures { result.now ≡ regions_at (find (λ p. p.0.0 == space.0) known.now) }
+{
+    match known_at(known, space) {
+        Some(regions) => regions.as_slice(),
+        None => &[],
+    }
+}
+
+// Whether a space has the same root in both forests, and global logging is the same.
+fn is_same_space(old: &Forest, new: &Tree, space: SpaceId) -> bool
+    ensures { result ≡ (is_same_region (root_of old.now space) (root_of new.now space) && bool_eq old.now.global new.now.global) }
+{
+    is_same_region(root_in(old, space), new.root(space)) && old.global == new.is_global()
+}
+
+// Whether a space is touched from one forest to another. `known` has the regions that are reached in each space of the
+// first, and `reach` those that are reached in the space in the second.
+fn is_touched(
     old: &Forest,
     known: &[(SpaceId, Regions)],
     new: &Tree,
@@ -77,11 +118,39 @@ pub(crate) fn is_touched(
     requires reach { reach.now ≡ reached new.now space }
     ensures { result ≡ is_touched old.now new.now space }
 {
-    if !is_same_region(root_in(old, space), new.root(space)) {
-        return true;
-    }
-    if old.global != new.is_global() {
+    if !is_same_space(old, new, space) {
         return true;
     }
     any_differs(old, new, regions_at(known, space)) || any_differs(old, new, reach.as_slice())
+}
+
+/// The regions that are reached in a space in the second of two forests, and whether the space is touched from the first to it.
+///
+/// `known` has the regions that are reached in each space of the first, `noted` those that may have changed. Where these are not
+/// near the space, what is known of it is shared, and nothing else is looked at.
+pub(crate) fn reach_of(
+    alloc: Global,
+    old: &Forest,
+    known: &[(SpaceId, Regions)],
+    noted: &Option<Noted>,
+    new: &Tree,
+    space: SpaceId,
+) -> Result<(Regions, bool), AllocError>
+    requires known { known.now ≡ reached_in old.now }
+    requires noted { AreNoted old.now new.now noted.now }
+    requires old_made { IsMade old.now }
+    requires new_made { IsMade new.now }
+    ensures reach { IfOk result (λ x. x.0 ≡ reached new.now space) }
+    ensures touched { IfOk result (λ x. x.1 ≡ is_touched old.now new.now space) }
+{
+    if let Some(noted) = noted
+        && let Some(regions) = known_at(known, space)
+        && is_same_space(old, new, space)
+        && noted.stay_away(new, regions)
+    {
+        return Ok((regions.shared()?, false));
+    }
+    let reach = Regions::new(alloc, new.reach(space)?)?;
+    let touched = is_touched(old, known, new, &reach, space);
+    Ok((reach, touched))
 }

@@ -1,32 +1,38 @@
-// What the spaces of a forest show that is to be published: their atlases, and the regions that are reached.
+// What the spaces of a forest show that is to be published: their atlases, the regions that are reached, and what is told of them.
 ghost use Rattle.std.specs.Prelude.{◌≡◌, ◌+◌, ◌*◌, ◌≤◌, Some, IsSome, IfOk, map};
 ghost use Rattle.std.specs.Arc.{arc_value};
-ghost use Rattle.mem_base.specs.declared.map.ids.RegionId.{RegionId};
 ghost use Rattle.mem_base.specs.map.Search.{root_of};
 ghost use Rattle.mem_base.specs.map.Forest.{IsMade};
-ghost use Rattle.mem_base.specs.map.Touched.{is_touched};
+ghost use Rattle.mem_base.specs.map.Touched.{reached, is_touched};
 ghost use Rattle.mem_base.specs.views.Flattened.{view_of};
+ghost use Rattle.mem_base.specs.views.LiveEvents.{ShareNoLive};
+ghost use Rattle.mem_base.specs.views.Listening.{change_of, changes_between};
 ghost use Rattle.generation.specs.Published.{views_of};
 ghost use Rattle.transact.specs.Desks.{reached_in};
+ghost use Rattle.transact.specs.Noted.{AreNoted};
 ghost use Rattle.transact.specs.Preparing.{weight_at, carves_of, most_carves};
 
-use crate::regions::{Regions, is_touched};
+use crate::changes::change_at;
+use crate::noted::Noted;
+use crate::regions::{Regions, reach_of};
 use flat_lookup::Atlas;
 use flat_render::render;
 use flat_simplify::simplify;
 use generation::Generation;
-use mem_base::{RegionId, SpaceId};
+use mem_base::{Change, Changes, Forest, SpaceId};
 use region_tree::Tree;
 use std::alloc::{AllocError, Global};
 use std::sync::Arc;
 use std::sync::ledger::Ledger;
 use step_counter::Steps;
 
-/// Of each space of a forest, in order of making, its atlas and the regions that are reached in it.
+/// Of each space of a forest, in order of making, its atlas, the regions that are reached in it, and how it differs from the
+/// current generation.
 #[derive(Drop)]
 pub(crate) struct Shown {
     pub(crate) atlases: Vec<(SpaceId, Arc<Atlas, Global>)>,
     pub(crate) reached: Vec<(SpaceId, Regions)>,
+    pub(crate) changes: Changes,
 }
 
 // The atlas of a space, rendered.
@@ -74,30 +80,68 @@ fn atlas_of<L: Ledger>(
     Ok(Arc::try_clone(atlas)?)
 }
 
-/// What the spaces of a tree show. `known` has the regions that are reached in each space of the current generation.
+// What one space shows: its atlas, the regions that are reached in it, and how it differs from the current generation.
+fn show_space<L: Ledger>(
+    alloc: Global,
+    current: &Generation,
+    known: &[(SpaceId, Regions)],
+    noted: &Option<Noted>,
+    tree: &Tree,
+    forest: &Forest,
+    space: SpaceId,
+    steps: &mut Steps<L>,
+) -> Result<(Arc<Atlas, Global>, Regions, Change), AllocError>
+    requires known { known.now ≡ reached_in current.now.forest }
+    requires noted { AreNoted current.now.forest tree.now noted.now }
+    requires forest { forest.now ≡ tree.now }
+    requires there { IsSome (root_of tree.now space) }
+    requires made { IsMade tree.now }
+    ensures view { IfOk result (λ x. arc_value x.0 ≡ view_of tree.now space) }
+    ensures reach { IfOk result (λ x. x.1 ≡ reached tree.now space) }
+    ensures change { IfOk result (λ x. x.2 ≡ change_of current.now.forest tree.now space) }
+    ensures apart { IfOk result (λ x. ShareNoLive x.2.lost x.2.gained) }
+    ensures carves { steps.new ≤ steps.old + carves_of current.now.forest tree.now space }
+{
+    let (reach, touched) = reach_of(alloc, current.forest(), known, noted, tree, space)?;
+    let atlas = atlas_of(alloc, current, touched, tree, space, steps)?;
+    let change = change_at(alloc, current, noted, touched, forest, &atlas, space)?;
+    Ok((atlas, reach, change))
+}
+
+/// What the spaces of a tree show, which is this forest. `known` has the regions that are reached in each space of the current
+/// generation, `noted` those that may have changed since.
 pub(crate) fn show_spaces<L: Ledger>(
     alloc: Global,
     current: &Generation,
     known: &[(SpaceId, Regions)],
+    noted: &Option<Noted>,
     tree: &Tree,
-    spaces: &[(SpaceId, RegionId)],
+    forest: &Forest,
     steps: &mut Steps<L>,
 ) -> Result<Shown, AllocError>
     requires known { known.now ≡ reached_in current.now.forest }
-    requires spaces { spaces.now ≡ tree.now.spaces }
+    requires noted { AreNoted current.now.forest tree.now noted.now }
+    requires forest { forest.now ≡ tree.now }
     requires made { IsMade tree.now }
     ensures atlases { IfOk result (λ shown. map (λ p. (p.0, arc_value p.1)) shown.atlases.items ≡ views_of tree.now) }
     ensures reached { IfOk result (λ shown. shown.reached.items ≡ reached_in tree.now) }
+    ensures changes { IfOk result (λ shown. shown.changes ≡ changes_between current.now.forest tree.now) }
     ensures carves { steps.new ≤ steps.old + most_carves current.now.forest tree.now }
 {
     let mut atlases = Vec::new(alloc);
     let mut reached = Vec::new(alloc);
-    for (space, _) in spaces {
-        let reach = Regions::new(tree.reach(*space)?);
-        let touched = is_touched(current.forest(), known, tree, &reach, *space);
-        let atlas = atlas_of(alloc, current, touched, tree, *space, steps)?;
+    let mut changes = Vec::new(alloc);
+    for (space, _) in forest.spaces.as_slice() {
+        let (atlas, reach, change) = show_space(
+            alloc, current, known, noted, tree, forest, *space, steps,
+        )?;
         atlases.push((*space, atlas))?;
         reached.push((*space, reach))?;
+        changes.push(change)?;
     }
-    Ok(Shown { atlases, reached })
+    Ok(Shown {
+        atlases,
+        reached,
+        changes: Changes::new(changes),
+    })
 }

@@ -1,6 +1,7 @@
 -- How the two parts of a walk go on with the next range.
 use Rattle.std.proofs.Common.{◌≡◌, ℕ, ◌<◌, ◌≤◌, ◌+◌, Bool, true, false, ◌&&◌, cond, List, [], ◌∷◌, ◌++◌, Option, Some, None, map, refl, sym}
-use Rattle.std.proofs.Common.{ap, ◌∙◌, subst, arith, nat_le, eqb, eqb-true, ne_eqb, append_assoc, append-nil, drop, drop-drop, length, ◌^◌}
+use Rattle.std.proofs.Common.{ap, ◌∙◌, subst, arith, nat_le, eqb, eqb-true, eq-eqb, ne_eqb, append_assoc, append-nil, drop, drop-cons, drop-drop}
+use Rattle.std.proofs.Common.{get_or, length, add-one, ◌^◌}
 use Rattle.view_walk.specs.declared.sides.Side.{Side}
 use Rattle.view_walk.specs.declared.sides.Side.TheVariants.{OldOnly, Both, NewOnly}
 use Rattle.view_walk.specs.Sides.{first_of, side_of}
@@ -166,6 +167,32 @@ walking_both old new steps shown o n os ns e w =
       rising_old = w.rising_old.1;
       rising_new = w.rising_new.1;
     }
+
+bool_eq_itself : (a : Bool) → bool_eq a a ≡ true
+bool_eq_itself true = refl
+bool_eq_itself false = refl
+
+same_itself : (r : FlatRange) → is_same_range r r ≡ true
+same_itself r =
+    let a = eq-eqb r.start r.start refl in
+    let b = eq-eqb r.last r.last refl in
+    let c = eq-eqb r.leaf.0 r.leaf.0 refl in
+    let d = eq-eqb r.offset r.offset refl in
+    let e = bool_eq_itself r.attrs.readonly in
+    let f = bool_eq_itself r.attrs.nonvolatile in
+    let g = bool_eq_itself r.attrs.romd in
+    let h = bool_eq_itself r.attrs.unmergeable in
+    rw (a, b, c, d, e, f, g, h) refl
+
+-- the next range of one and the same view
+pub walking_kept : (view : List FlatRange) (shown : List RangeEvent) (i : ℕ) (r d : FlatRange) → i < length view → r ≡ get_or view i d
+    → IsWalking view view [] shown (drop i view) (drop i view)
+    → IsWalking view view [] (shown ++ added_or_kept r (Some r)) (drop (i + 1) view) (drop (i + 1) view)
+walking_kept view shown i r d l e w =
+    let next : drop i view ≡ r ∷ drop (i + 1) view =
+    drop-cons view i d l ∙ (λ k. sym e k ∷ drop (sym (add-one i) k) view) in
+    walking_both view view [] shown r r (drop (i + 1) view) (drop (i + 1) view) (same_itself r)
+    (subst (λ rs. IsWalking view view [] shown rs rs) next w)
 
 -- an old range that does not begin after the next new one, and is another, is no new one
 pub none_after : (o n : FlatRange) (ns : List FlatRange) → is_same_range o n ≡ false → o.start ≤ n.start → Rises (n ∷ ns) →

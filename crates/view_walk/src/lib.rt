@@ -38,6 +38,18 @@ fn keep(steps: &mut Vec<RangeEvent>, old: FlatRange, new: FlatRange) -> Result<(
     Ok(())
 }
 
+/// The walk from a view to itself, as `walk` gives it: a Keep for each range. Nothing is compared.
+pub fn keep_all(alloc: Global, view: &View) -> Result<Walk, AllocError>
+    ensures value { IfOk result (λ steps. steps ≡ walk view.now view.now) }
+{
+    let ranges = view.as_slice();
+    let mut steps = Vec::with_capacity(alloc, ranges.len())?;
+    for range in ranges {
+        keep(&mut steps, *range, *range)?;
+    }
+    Ok(Walk::new(steps))
+}
+
 /// The walk from one view to another, in one pass over both.
 ///
 /// First a Delete for each old range that is no range of the new view, ascending. Then for each new range, ascending: an

@@ -6,14 +6,9 @@ use Rattle.generation.specs.Published.{views_of}
 use Rattle.transact.proofs.PlacedLaws.{edition_of, ascending_of}
 use Rattle.transact.proofs.preparing.prepare.Goals as goal
 
-pub changes-requires-clause-atlases : goal.changes-requires-clause-atlases
-changes-requires-clause-atlases g c =
-    ap (λ atlases. map (λ p. (p.0, arc_value p.1)) atlases) c.as_slice-2.ensures.value ∙ c.in_ok-atlases.ensures.atlases ∙ ap views_of
-    (sym c.in_ok-forest.ensures)
-
 pub places_of-requires : goal.places_of-requires
 places_of-requires g c =
-    ap (λ atlases. map (λ p. (p.0, arc_value p.1)) atlases) c.as_slice-3.ensures.value ∙ c.in_ok-atlases.ensures.atlases ∙ ap views_of
+    ap (λ atlases. map (λ p. (p.0, arc_value p.1)) atlases) c.as_slice.ensures.value ∙ c.in_ok-atlases.ensures.atlases ∙ ap views_of
     (sym c.in_ok-forest.ensures)
 
 pub new-generation-requires-clause-edition : goal.new-generation-requires-clause-edition

@@ -9,4 +9,4 @@ pub prepare-requires-clause-number : goal.prepare-requires-clause-number
 prepare-requires-clause-number g c =
     let d = desk_state (transaction c.self.inside.tree c.self.inside.depth c.self.inside.pending) (arc_value c.self.inside.current) in
     let same : arc_value c.self.inside.current ≡ c.deref.result.now = search rules in
-    subst (λ current. current.number + 1 < 2 ^ 64) same (number_fits d c.self.inside.reached.items c.self.inside.spare c.self.invariant (search rules))
+    subst (λ current. current.number + 1 < 2 ^ 64) same (number_fits d c.self.inside.reached.items c.self.inside.noted c.self.inside.spare c.self.invariant (search rules))

@@ -1,4 +1,4 @@
-use Rattle.std.proofs.Common.{rules, ◌≡◌, false, subst}
+use Rattle.std.proofs.Common.{rules, ◌≡◌, false, [], Some, sym, ap, subst}
 use Rattle.std.specs.Prelude.{IfSome, option_map}
 use Rattle.std.specs.Arc.{arc_value}
 use Rattle.mem_base.specs.machine.Committed.{transaction}
@@ -29,7 +29,10 @@ invariant_of-self c =
     let of_it : IsOfDesk d r = search rules in
     let call : r.call ≡ option_map (λ (n : Next). n.call) c.prepared.inside.next = search rules in
     let next : IfSome c.prepared.inside.next (IsNext r.generation.forest) = search rules in
-    subst (λ g. IsDesk (desk_state (transaction c.replace.new.tree 0 false) g) c.prepared.inside.reached.items c.replace.new.spare) same
-    (done_desk d r c.replace.new.tree c.self.inside.reached.items c.prepared.inside.reached.items c.self.inside.spare c.replace.new.spare
+    let none : Some [] ≡ Some c.none.result = ap (λ rs. Some rs) (sym c.none.ensures) in
+    subst (λ noted. IsDesk (desk_state (transaction c.replace.new.tree 0 false) (arc_value c.prepared.inside.generation)) c.prepared.inside.reached.items
+    noted c.replace.new.spare) none
+    (subst (λ g. IsDesk (desk_state (transaction c.replace.new.tree 0 false) g) c.prepared.inside.reached.items (Some []) c.replace.new.spare) same
+    (done_desk d r c.replace.new.tree c.self.inside.reached.items c.prepared.inside.reached.items c.self.inside.noted c.self.inside.spare c.replace.new.spare
     c.self.invariant of_it (search rules) (next_tree d r c.prepared.inside.next c.replace.new.tree of_it call next c.replace.ensures.tree)
-    (search rules) c.replace.ensures.spare)
+    (search rules) c.replace.ensures.spare))
