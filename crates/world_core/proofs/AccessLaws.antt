@@ -1,7 +1,7 @@
 -- What entering leaves, and what an access needs.
-use Rattle.std.proofs.Common.{◌≡◌, ℕ, ◌<◌, Bool, true, false, Option, Some, None, refl, sym}
-use Rattle.std.proofs.Common.{ap, subst, ◌∙◌, arith, length, length-set, get_or-set_same, ltb-true}
-use Rattle.std.specs.Prelude.{◌||◌, is_some, nat_lt}
+use Rattle.std.proofs.Common.{◌≡◌, ℕ, ◌<◌, Bool, true, false, Option, Some, None, refl}
+use Rattle.std.proofs.Common.{ap, subst, arith, length, length-set, get_or-set_same, ltb-true}
+use Rattle.std.specs.Prelude.{◌||◌, is_some}
 use Rattle.mem_base.specs.declared.map.ids.PassId.{PassId}
 use Rattle.mem_base.specs.declared.machine.events.Event.TheVariants as events
 use Rattle.mem_base.specs.machine.Passes.{PassState, pass_of, pass_after, with_pass, idle}

@@ -1,5 +1,5 @@
 -- Copies and a publish, and fills, as rows of events.
-use Rattle.std.proofs.Common.{◌≡◌, ℕ, zero, suc, ◌+◌, true, false, List, [], ◌∷◌, ◌++◌, map, take, set, get_or, Option, Some, None, refl, sym, ap, subst, ◌∙◌}
+use Rattle.std.proofs.Common.{◌≡◌, ℕ, zero, suc, true, false, List, [], ◌∷◌, ◌++◌, map, set, get_or, Option, Some, None, refl, sym, ap, subst, ◌∙◌}
 use Rattle.std.specs.Prelude.{◌==◌, Bool, if◌then◌else◌, replicate, option_and_then}
 use Rattle.mem_base.specs.declared.map.ids.RegionId.{RegionId}
 use Rattle.mem_base.specs.declared.map.ids.PassId.{PassId}
@@ -23,7 +23,8 @@ copy_forgotten (k ∷ ks) (suc i) = ap (λ (ys : List PassTrack). with_placed fa
 
 -- the world when the next generation is current
 abbrev pub published_world : World → World
-published_world w = world (writer (record w.writer.desk { due = false }) (published w.writer.generations (carried_by w.writer.desk events.Publish))) w.passes w.blocks
+published_world w =
+    world (writer (record w.writer.desk { due = false }) (published w.writer.generations (carried_by w.writer.desk events.Publish))) w.passes w.blocks
 
 pub publishes_leave : (passes : List PassId) (w : World)
     → (run_events w (map (λ pass. events.Place pass) passes ++ events.Publish ∷ [])).world ≡ published_world w

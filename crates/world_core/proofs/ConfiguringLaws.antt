@@ -12,7 +12,6 @@ use Rattle.mem_base.specs.declared.map.calls.Config.{Config}
 use Rattle.mem_base.specs.declared.map.calls.Config.TheVariants as configs
 use Rattle.mem_base.specs.declared.map.refusals.Refusal.{Refusal}
 use Rattle.mem_base.specs.declared.map.refusals.Refusal.TheVariants.{Memory}
-use Rattle.mem_base.specs.declared.access.cells.Place.{Place}
 use Rattle.mem_base.specs.declared.access.cells.Cell.{Cell}
 use Rattle.mem_base.specs.declared.machine.events.Event.TheVariants as events
 use Rattle.mem_base.specs.lists.Every.{Every}
@@ -21,7 +20,7 @@ use Rattle.mem_base.specs.map.Forest.{IsMade}
 use Rattle.mem_base.specs.access.Places.{past}
 use Rattle.mem_base.specs.access.Cells.{Block}
 use Rattle.mem_base.specs.machine.Passes.{pass_id}
-use Rattle.mem_base.specs.machine.Generations.{Generations, Generation, generation, PassTrack, with_placed}
+use Rattle.mem_base.specs.machine.Generations.{Generations, generation, PassTrack, with_placed}
 use Rattle.mem_base.specs.machine.Desk as desks
 use Rattle.mem_base.specs.machine.Desk.{Desk, places_of, shown_places}
 use Rattle.mem_base.specs.machine.Publishing.{Settled, would_publish, held_up, held_from, held_at, holds_up, forest_in, current_forest}
@@ -29,8 +28,8 @@ use Rattle.mem_base.specs.machine.Configs.{configured}
 use Rattle.mem_base.specs.machine.Reaps.{writer}
 use Rattle.mem_base.specs.machine.World.{World, world, world_after, is_at_rest, block_for}
 use Rattle.mem_base.specs.machine.History.{run_events}
-use Rattle.mem_base.specs.machine.Orders.{configure, sweeps, publishes, pass_ids, events_before, events_after}
-use Rattle.mem_base.specs.machine.Answers.{Answer, call_answer, answer_of_config, number_due}
+use Rattle.mem_base.specs.machine.Orders.{configure, sweeps, publishes, pass_ids, events_before}
+use Rattle.mem_base.specs.machine.Answers.{Answer, call_answer, answer_of_config}
 use Rattle.mem_base.specs.machine.Committed.{commits}
 use Rattle.mem_base.specs.machine.Completions.{IsCompleted}
 use Rattle.view_laws.proofs.Tests.{both_of, true_is_not_false, none_is_not_some, same_some}
@@ -43,11 +42,11 @@ use Rattle.kept_generations.specs.KeptState.{KeptState, generations_of, shown_by
 use Rattle.kept_generations.specs.Sweeping.{all_swept}
 use Rattle.kept_generations.proofs.FoldLaws.{sweeps_run}
 use Rattle.place_words.specs.Blocks.{blocks_at}
-use Rattle.transact.specs.Preparing.{Readied, when_done}
+use Rattle.transact.specs.Preparing.{Readied}
 use Rattle.backing_pool.specs.Backing.{Backing}
-use Rattle.backed_desk.specs.Backed.{backed_state, all_places}
+use Rattle.backed_desk.specs.Backed.{all_places}
 use Rattle.writer_desk.specs.Writers.{WriterState, writer_state, Beside, desk_of, beside_by, settled_as, standing, IsConfigured, IsReady}
-use Rattle.writer_desk.specs.Writers.{IsAccepted, backing_by, applied_by, published_with}
+use Rattle.writer_desk.specs.Writers.{IsAccepted, backing_by, published_with}
 use Rattle.world_core.specs.Worlds.{beside, world_of, IsReached, IsWorld}
 use Rattle.world_core.specs.Configuring.{answer_by, dropped_with, made_place, cleared_at, swept_if, unswept, followed}
 use Rattle.world_core.proofs.ComposedLaws.{publishes_leave, fills_leave_rest}
@@ -241,7 +240,8 @@ module _ (d : WriterState) (k : KeptState) (ws : List ℕ) (dropped : List Regio
         made_current =
             let u : World = left_by true (Some g) in
             let none : unfilled ≡ [] = (out true t).none_due (ap (λ (o : Option Readied). is_some o) due) in
-            let places : shown_places g.generation.forest (all_places e.backed.backing) ≡ g.generation.places = sym (ap (λ (p : Published). p.places) ready.next) in
+            let places : shown_places g.generation.forest (all_places e.backed.backing) ≡ g.generation.places =
+            sym (ap (λ (p : Published). p.places) ready.next) in
             let older : take 7 (map shown_by k.kept) ≡ map shown_by (take 7 k.kept) = take-map shown_by 7 k.kept in
             publishes_leave (pass_ids u.writer.generations) u
             ∙ (λ i. world (writer (record (desks.unswept (desk_by true (Some g))) { due = false; unfilled = none i })
@@ -324,10 +324,16 @@ module _ (d : WriterState) (k : KeptState) (ws : List ℕ) (dropped : List Regio
     clears_at b t =
         let new = backed_then e (Ok a) (dropped_with c dropped) (unfilled_with d.backed c) settled_so b t in
         subst (λ (z : Backing × Applied). Clears z.0 z.1) (λ i. (sym ok.backing i, sym ok.answered i))
-        (made.clears ws d.backed h.wide w.writer.desk.forest back few below c (desk_of e (record { dropped = dropped_with c dropped;
-        unfilled = unfilled_with d.backed c; swept = (swept_if b k).swept })).forest
-        (subst (λ (n : Backing). BacksForest n.pool_words (desk_of e (record { dropped = dropped_with c dropped;
-        unfilled = unfilled_with d.backed c; swept = (swept_if b k).swept })).forest n.places) ok.backing new))
+        (made.clears ws d.backed h.wide w.writer.desk.forest back few below c (desk_of e (record {
+          dropped = dropped_with c dropped;
+          unfilled = unfilled_with d.backed c;
+          swept = (swept_if b k).swept;
+        })).forest
+        (subst (λ (n : Backing). BacksForest n.pool_words (desk_of e (record {
+          dropped = dropped_with c dropped;
+          unfilled = unfilled_with d.backed c;
+          swept = (swept_if b k).swept;
+        })).forest n.places) ok.backing new))
 
     clears_so : Clears e.backed.backing a
     clears_so = go (would_publish w.writer.desk c) refl

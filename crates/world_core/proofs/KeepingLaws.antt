@@ -1,12 +1,11 @@
 -- What passes do keeps the writer's part, and who may make an access may make one again.
-use Rattle.std.proofs.Common.{◌≡◌, ℕ, ◌<◌, Bool, true, false, List, [], ◌∷◌, length, get_or-set_same, get_or-set_other, length-set, lt-ltb, ltb-true}
-use Rattle.std.proofs.Common.{Option, Some, None, refl, sym, ap, subst, ◌∙◌, arith}
+use Rattle.std.proofs.Common.{◌≡◌, ℕ, ◌<◌, Bool, true, false, List, [], ◌∷◌, length, get_or-set_same, get_or-set_other, length-set, ltb-true}
+use Rattle.std.proofs.Common.{refl, sym, ap, subst, ◌∙◌}
 use Rattle.std.specs.Prelude.{◌||◌, ◌&&◌, is_some, is_none, nat_lt}
 use mathlib.Core.Logic.{dite}
 use native.Mathlib.Decide.{ℕ_discrete}
 use Rattle.mem_base.specs.declared.map.ids.PassId.{PassId}
 use Rattle.mem_base.specs.declared.map.ids.SpaceId.{SpaceId}
-use Rattle.mem_base.specs.declared.machine.events.Event.{Event}
 use Rattle.mem_base.specs.declared.machine.events.Event.TheVariants as events
 use Rattle.mem_base.specs.declared.machine.events.Hand.TheVariants as hands
 use Rattle.mem_base.specs.access.AccessSteps.{Transfer, AccessStep, blank, steps, marks, events_of_steps}
@@ -15,7 +14,7 @@ use Rattle.mem_base.specs.machine.World.{World, possible, world_after}
 use Rattle.mem_base.specs.machine.History.{run_events}
 use Rattle.mem_base.specs.machine.Composites.{enters, leaves, enters_unless, leaves_unless, is_entered, steps_in, accessed}
 use Rattle.mem_base.specs.machine.Completions.{KeepsWriter, may_access}
-use Rattle.view_laws.proofs.Tests.{both, both_of, or_left, or_right, true_is_not_false}
+use Rattle.view_laws.proofs.Tests.{both, both_of, or_left, or_right}
 use Rattle.world_core.specs.Worlds.{after_events}
 use Rattle.world_core.proofs.AccessLaws.{entered_by, may_look}
 

@@ -5,7 +5,6 @@ use Rattle.std.specs.Prelude.{◌==◌, if◌then◌else◌, replicate, flat_map
 use Rattle.std.specs.List.{range_with_len}
 use Rattle.mem_base.specs.declared.map.ids.RegionId.{RegionId}
 use Rattle.mem_base.specs.declared.map.forests.Forest.{Forest}
-use Rattle.mem_base.specs.declared.map.calls.Call.{Call}
 use Rattle.mem_base.specs.declared.map.calls.Call.TheVariants as calls
 use Rattle.mem_base.specs.declared.map.calls.Applied.{Applied}
 use Rattle.mem_base.specs.declared.map.calls.Applied.TheVariants.{Made, Done}
@@ -119,7 +118,8 @@ module _ (ws : List ℕ) (s : BackedState) (wide : length ws ≡ s.backing.pool_
             ∙ ap (λ (o : Option Place). blocks_at (cleared_at ws o) ((s.backing.places ++ p ∷ []) ++ notifiers_place s.backing.pool_words ∷ [])) (sym found);
         fills = λ u e. ap (λ (cs : List Cell). (run_events u (map (λ x. events.Fill x) cs)).world.blocks) (append-nil (cells_of p))
             ∙ fills_leave_blocks p.region p.words (range_with_len 0 p.words) u (ap (λ (bs : List Block). cells_in bs p.region) e
-            ∙ new_cells blocks p (notifiers_place s.backing.pool_words ∷ []) s.backing.places strange (no_block ws p.region (all_places s.backing) all_strange));
+            ∙ new_cells blocks p (notifiers_place s.backing.pool_words ∷ []) s.backing.places strange
+            (no_block ws p.region (all_places s.backing) all_strange));
       }
 
   region : (x : Extent) (z : Bool) (o : Option ℕ) → let ps = if z then [] else places_for s.backing made x o in

@@ -1,8 +1,5 @@
-use Rattle.std.proofs.Common.{rules, ◌≡◌, true, List, Option, None, Ok, Err, refl, sym, ap, subst, ◌∙◌}
-use Rattle.std.specs.Prelude.{Result}
-use Rattle.mem_base.specs.declared.map.calls.Applied.{Applied}
+use Rattle.std.proofs.Common.{rules, ◌≡◌, true, Ok, Err, ap, subst, ◌∙◌}
 use Rattle.mem_base.specs.declared.map.calls.Config.TheVariants.{Begin}
-use Rattle.mem_base.specs.declared.map.refusals.Refusal.{Refusal}
 use Rattle.mem_base.specs.machine.Orders.{configure}
 use Rattle.mem_base.specs.machine.Answers.{plain_answer}
 use Rattle.mem_base.specs.machine.World.{World, is_at_rest}

@@ -1,14 +1,10 @@
-use Rattle.std.proofs.Common.{rules, ◌≡◌, ◌≢◌, ℕ, ◌+◌, ◌≤◌, true, List, Option, Some, None, Ok, Err, refl, sym, ap, subst, ◌∙◌, length}
-use Rattle.std.specs.Prelude.{Result, IfSome, option_map}
+use Rattle.std.proofs.Common.{rules, ◌≡◌, ◌≤◌, true, List, None, Ok, Err, sym, ap, subst, ◌∙◌, length}
+use Rattle.std.specs.Prelude.{IfSome}
 use Rattle.std.specs.Arc.{arc_value}
 use Rattle.mem_base.specs.declared.map.ids.RegionId.{RegionId}
-use Rattle.mem_base.specs.declared.map.calls.Applied.{Applied}
-use Rattle.mem_base.specs.declared.map.calls.Config.{Config}
-use Rattle.mem_base.specs.declared.map.refusals.Refusal.{Refusal}
 use Rattle.mem_base.specs.declared.map.refusals.Refusal.TheVariants.{Memory}
 use Rattle.mem_base.specs.map.Forest.{IsMade}
 use Rattle.mem_base.specs.access.Places.{past}
-use Rattle.mem_base.specs.machine.Generations.{Generations}
 use Rattle.mem_base.specs.machine.Publishing.{held_up, would_publish}
 use Rattle.mem_base.specs.machine.Orders.{configure}
 use Rattle.mem_base.specs.machine.Answers.{answer_of_config}
@@ -16,13 +12,13 @@ use Rattle.mem_base.specs.machine.World.{World, is_at_rest}
 use Rattle.mem_base.specs.machine.Completions.{IsCompleted}
 use Rattle.view_laws.proofs.Tests.{same_some}
 use Rattle.generation.specs.Published.{Published}
-use Rattle.kept_generations.specs.KeptState.{KeptState, generations_of}
+use Rattle.kept_generations.specs.KeptState.{generations_of}
 use Rattle.kept_generations.specs.Sweeping.{all_swept}
 use Rattle.backed_desk.specs.Backed.{BackedState}
-use Rattle.writer_desk.specs.Writers.{WriterState, desk_of, IsConfigured, IsAccepted, IsReady, published_with}
-use Rattle.world_core.specs.Worlds.{beside, world_of, IsWorld}
-use Rattle.world_core.specs.Configuring.{dropped_with, made_place, cleared_at, swept_if, unswept, followed}
-use Rattle.world_core.proofs.ConfiguringLaws.{LeavesWorld, held_is_told, has_room, next_number, next_fits, accepted, refused}
+use Rattle.writer_desk.specs.Writers.{WriterState, desk_of, IsConfigured, IsAccepted}
+use Rattle.world_core.specs.Worlds.{beside, world_of}
+use Rattle.world_core.specs.Configuring.{dropped_with, made_place, cleared_at}
+use Rattle.world_core.proofs.ConfiguringLaws.{held_is_told, has_room, next_number, next_fits, accepted, refused}
 use Rattle.world_core.proofs.world.World.configure.Goals as goal
 
 pub configured-requires-clause-held : goal.configured-requires-clause-held

@@ -1,10 +1,10 @@
-use Rattle.std.proofs.Common.{rules, ◌≡◌, Some, None, true, false, [], refl, sym, ap, subst, ◌∙◌, arith}
+use Rattle.std.proofs.Common.{rules, ◌≡◌, true, sym, ap, ◌∙◌}
 use Rattle.std.specs.Prelude.{is_some}
 use Rattle.mem_base.specs.declared.machine.events.Event.TheVariants as events
 use Rattle.mem_base.specs.machine.Passes.{pass_of}
 use Rattle.mem_base.specs.machine.World.{World, possible}
 use Rattle.mem_base.specs.machine.Composites.{enters}
-use Rattle.world_core.specs.Worlds.{IsReached, after_events}
+use Rattle.world_core.specs.Worlds.{after_events}
 use Rattle.world_core.proofs.AccessLaws.{inside_of, entered_by}
 use Rattle.world_core.proofs.world.World.enter_unless.Goals as goal
 

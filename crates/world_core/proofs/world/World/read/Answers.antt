@@ -1,6 +1,5 @@
-use Rattle.std.proofs.Common.{rules, ◌≡◌, Some, None, true, false, [], refl, sym, ap, subst, ◌∙◌, arith}
+use Rattle.std.proofs.Common.{rules, ◌≡◌, ap, ◌∙◌}
 use Rattle.std.specs.Prelude.{is_some}
-use Rattle.world_core.specs.Hands.{IsInside}
 use Rattle.std.specs.Prelude.{length}
 use Rattle.mem_base.specs.access.AccessSteps.{reading}
 use Rattle.mem_base.specs.machine.World.{World}
