@@ -31,7 +31,7 @@ use Rattle.transact.specs.Preparing.{Readied}
 use Rattle.kept_generations.specs.KeptState.{KeptState}
 use Rattle.writer_desk.specs.Writers.{WriterState, standing}
 use Rattle.world_core.specs.Steps.{HaveHappened, MayHappen, replies_to}
-use Rattle.world_core.specs.Worlds.{Left, world_of, IsReached, after_events}
+use Rattle.world_core.specs.Worlds.{world_of, IsReached, after_events}
 use Rattle.world_core.proofs.ReachedLaws.{reached_after}
 use Rattle.world_core.proofs.StepLaws.{load_event}
 
@@ -53,14 +53,14 @@ reached_by w k r l = subst IsReached l.ends (reached_then w (completed w k).entr
 
 -- where nothing is due
 
-pub none_due : (d : WriterState) (k : KeptState) (ws : List ℕ) (x : Left) → is_at_rest (world_of d k ws x).writer.desk ≡ true → d.due ≡ None
+pub none_due : (d : WriterState) (k : KeptState) (ws : List ℕ) (x : List RegionId) → is_at_rest (world_of d k ws x).writer.desk ≡ true → d.due ≡ None
 none_due d k ws x h = go d.due refl (both_of _ _ h).0
   where
     go : (o : Option Readied) → d.due ≡ o → not (is_some o) ≡ true → d.due ≡ None
     go None e n = e
     go (Some r) e n = absurd (grind arith)
 
-pub forest_is : (d : WriterState) (k : KeptState) (ws : List ℕ) (x : Left) → d.due ≡ None → (world_of d k ws x).writer.desk.forest ≡ d.backed.desk.state.forest
+pub forest_is : (d : WriterState) (k : KeptState) (ws : List ℕ) (x : List RegionId) → d.due ≡ None → (world_of d k ws x).writer.desk.forest ≡ d.backed.desk.state.forest
 forest_is d k ws x none = ap (λ (o : Option Readied). (standing d.backed.desk o).forest) none
 
 -- a step of the writer on a word of a place

@@ -12,6 +12,5 @@ pub mod ReachedLaws
 pub mod ReapLaws
 pub mod ReleaseLaws
 pub mod StepLaws
-pub mod UnfilledLaws
 pub mod WordLaws
 pub mod WriterCallLaws

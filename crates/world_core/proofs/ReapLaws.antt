@@ -27,7 +27,7 @@ use Rattle.place_words.proofs.CellLaws.{fewer_keep}
 use Rattle.backed_desk.specs.Backed.{forest_at}
 use Rattle.writer_desk.specs.Writers.{WriterState, desk_of}
 use Rattle.world_core.specs.Released.{without_regions}
-use Rattle.world_core.specs.Worlds.{Left, left, world_of, IsReached, IsWorld}
+use Rattle.world_core.specs.Worlds.{world_of, IsReached, IsWorld}
 use Rattle.world_core.proofs.ReachedLaws.{reached_is_orderly}
 use Rattle.world_core.proofs.WordLaws.{apart}
 use Rattle.world_core.proofs.CallLaws.{is_legal, reached_by, forest_is}
@@ -35,7 +35,7 @@ use Rattle.world_core.proofs.CallLaws.{is_legal, reached_by, forest_is}
 drops_once : (w : World) → IsReached w → DropsOnce w.writer
 drops_once w r = subst (λ (v : World). DropsOnce v.writer) r.leads (regions_are_dropped_once r.pool_words r.passes r.entries r.legal)
 
-module _ (d : WriterState) (k : KeptState) (ws : List ℕ) (x : Left) (h : IsWorld d k ws x) where
+module _ (d : WriterState) (k : KeptState) (ws : List ℕ) (x : List RegionId) (h : IsWorld d k ws x) where
   abbrev here : World
   here = world_of d k ws x
 
@@ -47,21 +47,21 @@ module _ (d : WriterState) (k : KeptState) (ws : List ℕ) (x : Left) (h : IsWor
 
   -- the regions that are released after a sweep of each pass, and those that stay dropped
   abbrev pub gone : KeptState → List RegionId
-  gone s = filter (λ r. not (is_named (generations_of s) r)) x.dropped
+  gone s = filter (λ r. not (is_named (generations_of s) r)) x
 
   abbrev pub stays : KeptState → List RegionId
-  stays s = filter (is_named (generations_of s)) x.dropped
+  stays s = filter (is_named (generations_of s)) x
 
   abbrev pub unswept_by : KeptState → KeptState
   unswept_by s = with_swept s (map (λ swept. false) s.swept)
 
   abbrev then_of : KeptState → List RegionId → World
-  then_of s rs = world_of (without_regions d rs) (unswept_by s) ws (left (stays s) x.unfilled)
+  then_of s rs = world_of (without_regions d rs) (unswept_by s) ws (stays s)
 
   parts_are : then_of (all_swept k) (gone (all_swept k)) ≡ world_after (world_with here (all_swept k)) events.Reap
   parts_are = ap (λ (bs : List Block). world
       (writer (desk_of (without_regions d (gone (all_swept k)))
-      (record { dropped = stays (all_swept k); unfilled = x.unfilled; swept = map (λ swept. false) (all_swept k).swept }))
+      (record { dropped = stays (all_swept k); unfilled = []; swept = map (λ swept. false) (all_swept k).swept }))
       (generations_of (all_swept k))) k.states bs)
       (sym (fewer_keep ws (λ p. not (is_among (gone (all_swept k)) p.region)) d.backed.backing.places
       (notifiers_place d.backed.backing.pool_words ∷ []) (apart d k ws x h)))
@@ -71,8 +71,8 @@ module _ (d : WriterState) (k : KeptState) (ws : List ℕ) (x : Left) (h : IsWor
 
   -- what a reap leaves is a world again, and is the defined one
   pub record IsReaped (e : WriterState) (l : KeptState) (dropped rs : List RegionId) : Type 0 where
-    pub world : IsWorld e l ws (left dropped x.unfilled)
-    pub done : IsCompleted here reap (reap_answer (Ok rs)) (world_of e l ws (left dropped x.unfilled))
+    pub world : IsWorld e l ws dropped
+    pub done : IsCompleted here reap (reap_answer (Ok rs)) (world_of e l ws dropped)
 
   reaped_all : is_at_rest here.writer.desk ≡ true → (let s = all_swept k in IsReaped (without_regions d (gone s)) (unswept_by s) (stays s) (gone s))
   reaped_all rest =
@@ -102,8 +102,8 @@ module _ (d : WriterState) (k : KeptState) (ws : List ℕ) (x : Left) (h : IsWor
       subst (λ (q : List RegionId). IsReaped e l q rs) (sym dropped_is) three
 
   -- a dropped region is not in the forest
-  pub none_there : d.due ≡ None → Every (λ r. node_of (forest_at d.backed).nodes r ≡ None) x.dropped
+  pub none_there : d.due ≡ None → Every (λ r. node_of (forest_at d.backed).nodes r ≡ None) x
   none_there rest =
       weaker (λ r. (node_of here.writer.desk.forest.nodes r ≡ None) × (r.0 < here.writer.desk.forest.made))
       (λ r. node_of (forest_at d.backed).nodes r ≡ None) (λ r t. ap (λ (f : Forest). node_of f.nodes r) (sym (forest_is d k ws x rest)) ∙ t.0)
-      x.dropped (drops_once here h.reached).gone
+      x (drops_once here h.reached).gone

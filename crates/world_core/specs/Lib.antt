@@ -3,5 +3,4 @@ pub mod Hands
 pub mod Released
 pub mod RunLaws
 pub mod Steps
-pub mod Unfilled
 pub mod Worlds

@@ -11,7 +11,6 @@ mod harvesting;
 mod numbers;
 mod reaping;
 mod shown;
-mod unfilled;
 mod words;
 mod world;
 mod writing;
