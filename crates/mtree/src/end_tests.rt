@@ -322,37 +322,6 @@ fn a_generated_script_begins_and_ends_as_defined(rt: HostRuntime) -> Result<(), 
 }
 
 #[test]
-fn a_demo_writes_seven_lines_the_same_each_time(rt: HostRuntime) -> Result<(), Fail> {
-    let words = words_of(rt.alloc(), "demo 1")?;
-    let mut first = MemSink::new(rt.alloc(), ROOM, Vec::new(rt.alloc()))?;
-    let mut second = MemSink::new(rt.alloc(), ROOM, Vec::new(rt.alloc()))?;
-    for sink in [&mut first, &mut second] {
-        let mut source = CalmSource::new(Vec::new(rt.alloc()));
-        let ending = alone(rt.alloc(), words.as_slice(), &mut source, sink);
-        assert_eq!(rt; ending, Ending::Done);
-    }
-    assert_eq!(rt; first.written(), second.written());
-    let names: [&[u8]; 7] = [
-        b"lines ",
-        b"refused ",
-        b"ok ",
-        b"error ",
-        b"decode ",
-        b"ranges ",
-        b"generation ",
-    ];
-    let mut count = 0usize;
-    for line in first.written().split(|byte| *byte == b'\n') {
-        if let Some(name) = names.get(count) {
-            assert!(rt; line.starts_with(name), "line {count}");
-        }
-        count = count.saturating_add(1);
-    }
-    assert_eq!(rt; count, 8);
-    Ok(())
-}
-
-#[test]
 fn the_exit_code_is_that_of_the_ending(rt: HostRuntime) -> Result<(), Fail> {
     // Calls are counted from 1, so call 0 never fails.
     for (word, script, failing_read, failing_write, status) in [

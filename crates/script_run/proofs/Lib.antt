@@ -1,0 +1,10 @@
+pub mod NamedLaws
+pub mod WorldLaws
+pub mod Writing
+pub mod ReadyLaws
+pub mod OrderLaws
+pub mod ShowLaws
+pub mod PassLaws
+pub mod BoundLaws
+pub mod RunLaws
+pub mod WatchLaws
