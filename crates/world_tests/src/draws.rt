@@ -396,9 +396,9 @@ impl Draws {
         let page = offset(&mut self.rng);
         let within = register(&mut self.rng);
         if once_in(&mut self.rng, 4) {
-            return page + 0xff8 + within;
+            return page.saturating_add(within).saturating_add(0xff8);
         }
-        page + within
+        page.saturating_add(within)
     }
 
     /// How many bytes an access has: one register's in every other draw, else up to 16.

@@ -1,6 +1,8 @@
 // A machine between the calls of its user.
-ghost use Rattle.std.specs.Prelude.{◌^◌, ◌≤◌, ◌<◌};
-ghost use Rattle.mem_base.specs.map.Limits.{notifier_count};
+ghost use Rattle.std.specs.Prelude.{◌≡◌, ◌^◌, ◌≤◌, ◌<◌, true};
+ghost use Rattle.mem_base.specs.declared.machine.events.Event.TheVariants as events;
+ghost use Rattle.mem_base.specs.machine.World.{possible};
+ghost use Rattle.world_tests.specs.Ready.{IsReady};
 
 use generation::Generation;
 use mem_base::{
@@ -34,6 +36,18 @@ fn pass_of(vcpu: u32) -> PassId
     ensures { result.0 < 16 }
 {
     PassId(vcpu % MOST_PASSES)
+}
+
+// Leaves where the pass is entered; it may enter then.
+fn leave_first(world: &mut World, pass: PassId)
+    requires ready { IsReady world.old }
+    requires pass { pass.0 < 16 }
+    ensures ready { IsReady world.new }
+    ensures outside { possible world.new (events.Look pass) ≡ true }
+{
+    if world.entered(pass).is_some() {
+        world.leave(pass);
+    }
 }
 
 impl Machine {
@@ -103,16 +117,14 @@ impl Machine {
 
     /// A virtual CPU leaves its generation, where it is in one, and enters the current one, whose number is answered.
     pub(crate) fn enter(&mut self, vcpu: u32) -> u64 {
-        self.leave(vcpu);
-        self.world.enter(pass_of(vcpu))
+        let pass = pass_of(vcpu);
+        leave_first(&mut self.world, pass);
+        self.world.enter(pass)
     }
 
     /// A virtual CPU leaves its generation, where it is in one.
     pub(crate) fn leave(&mut self, vcpu: u32) {
-        let pass = pass_of(vcpu);
-        if self.world.entered(pass).is_some() {
-            self.world.leave(pass);
-        }
+        leave_first(&mut self.world, pass_of(vcpu));
     }
 
     pub(crate) fn read(&mut self, vcpu: u32, space: SpaceId, addr: u64, out: &mut [u8]) -> Access {
