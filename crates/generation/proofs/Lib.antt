@@ -1,3 +1,4 @@
+pub mod NodeLaws
 pub mod PlacedLaws
 pub mod ShownLaws
 pub mod TableLaws

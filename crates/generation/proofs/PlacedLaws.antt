@@ -19,7 +19,7 @@ ids_rise (p ∷ ps) zero (suc j) d h l m = every_at (λ q. p.region.0 < q.region
 ids_rise (p ∷ ps) (suc i) (suc j) d h l m = ids_rise ps i j d h.1 (omega arith) (omega arith)
 
 -- the place at an index is the one of its region
-found_there : (places : List Place) (i : ℕ) (d : Place) (r : RegionId) → i < length places → AscendByRegion places
+pub found_there : (places : List Place) (i : ℕ) (d : Place) (r : RegionId) → i < length places → AscendByRegion places
     → (get_or places i d).region.0 ≡ r.0 → place_in places r ≡ Some (get_or places i d)
 found_there [] i d r l h e = absurd (omega arith)
 found_there (p ∷ ps) zero d r l h e = let t : eqb p.region.0 r.0 ≡ true = grind (arith, nat_tests, e) in rw t refl

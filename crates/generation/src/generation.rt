@@ -1,5 +1,5 @@
 // A generation: a forest with the atlases of its spaces and the places of what it names.
-ghost use Rattle.std.specs.Prelude.{◌≡◌, ◌↔◌, ◌+◌, None, IsNone, IfSome, false, map};
+ghost use Rattle.std.specs.Prelude.{◌≡◌, ◌↔◌, ◌+◌, None, Some, IsNone, IfSome, IfOk, false, map};
 ghost use Rattle.std.specs.List.{list_any};
 ghost use Rattle.std.specs.Arc.{arc_value};
 ghost use Rattle.mem_base.specs.lists.Every.{Every};
@@ -8,6 +8,7 @@ ghost use Rattle.mem_base.specs.map.Kinds.{is_iommu};
 ghost use Rattle.mem_base.specs.map.TableRefusals.{bad_page};
 ghost use Rattle.mem_base.specs.map.Search.{root_of};
 ghost use Rattle.mem_base.specs.map.Forest.{IsMade};
+ghost use Rattle.mem_base.specs.map.Region.{node_of};
 ghost use Rattle.mem_base.specs.views.Flattened.{view_of};
 ghost use Rattle.mem_base.specs.views.LiveEvents.{events_of};
 ghost use Rattle.mem_base.specs.views.Naming.{names};
@@ -16,10 +17,11 @@ ghost use Rattle.mem_base.specs.access.EditionPlaces.{IsEdition};
 ghost use Rattle.generation.specs.Published.{views_of, AscendByRegion};
 
 use crate::atlases::{atlas_among, is_leaf_among};
-use crate::places::place_among;
+use crate::nodes::node_among;
+use crate::places::{Guesses, place_near};
 use flat_lookup::Atlas;
 use mem_base::{Edition, Entry, Forest, Ioevent, Kind, Node, Place, RegionId, SpaceId};
-use std::alloc::Global;
+use std::alloc::{AllocError, Global};
 use std::marker::Model;
 use std::sync::Arc;
 
@@ -30,6 +32,8 @@ pub struct Generation {
     forest: Forest,
     atlases: Vec<(SpaceId, Arc<Atlas, Global>)>,
     places: Vec<Place>,
+    // Where the places stand: each guess is tried before it is used.
+    guesses: Guesses,
     // Whether some region of the forest is an IOMMU region.
     has_iommu: bool,
 }
@@ -65,12 +69,52 @@ impl Generation {
         ensures forest { result.forest ≡ forest }
         ensures places { result.places ≡ places.items }
     {
+        Generation::with(number, forest, atlases, places, Guesses::none())
+    }
+
+    /// The same generation, in which the place of a region is found by one look where the region's number is below the number
+    /// of regions, and else by halving. It takes four bytes of memory for each region, and fails only where memory runs out.
+    pub fn indexed(
+        alloc: Global,
+        number: u64,
+        forest: Forest,
+        atlases: Vec<(SpaceId, Arc<Atlas, Global>)>,
+        places: Vec<Place>,
+    ) -> Result<Generation, AllocError>
+        requires edition { IsEdition forest places.items }
+        requires atlases { map (λ p. (p.0, arc_value p.1)) atlases.items ≡ views_of forest }
+        requires ascending { AscendByRegion places.items }
+        ensures number { IfOk result (λ g. g.number ≡ number) }
+        ensures forest { IfOk result (λ g. g.forest ≡ forest) }
+        ensures places { IfOk result (λ g. g.places ≡ places.items) }
+    {
+        let regions = forest.nodes.as_slice().len();
+        let guesses = Guesses::of(alloc, places.as_slice(), regions)?;
+        Ok(Generation::with(number, forest, atlases, places, guesses))
+    }
+
+    // The same, with these guesses where the places stand.
+    fn with(
+        number: u64,
+        forest: Forest,
+        atlases: Vec<(SpaceId, Arc<Atlas, Global>)>,
+        places: Vec<Place>,
+        guesses: Guesses,
+    ) -> Generation
+        requires edition { IsEdition forest places.items }
+        requires atlases { map (λ p. (p.0, arc_value p.1)) atlases.items ≡ views_of forest }
+        requires ascending { AscendByRegion places.items }
+        ensures number { result.number ≡ number }
+        ensures forest { result.forest ≡ forest }
+        ensures places { result.places ≡ places.items }
+    {
         let has_iommu = has_iommu(forest.nodes.as_slice());
         Generation {
             number,
             forest,
             atlases,
             places,
+            guesses,
             has_iommu,
         }
     }
@@ -81,6 +125,15 @@ impl Generation {
         ensures made { IsMade self.now.forest }
     {
         &self.forest
+    }
+
+    /// The node of a region: `None` exactly where the forest has no such region. It is found by one look where no region was
+    /// dropped, and else by halving.
+    pub fn node(&self, region: RegionId) -> Option<&Node>
+        ensures none { IsNone result ↔ node_of self.now.forest.nodes region ≡ None }
+        ensures some { IfSome result (λ node. node_of self.now.forest.nodes region ≡ Some node.now) }
+    {
+        node_among(&self.forest.nodes, region)
     }
 
     /// The atlas of a space's view: `None` exactly where the forest has no such space.
@@ -109,7 +162,7 @@ impl Generation {
     pub fn entries(&self, region: RegionId) -> &[Entry]
         ensures { result.now ≡ entries_of self.now.forest region }
     {
-        match self.forest.nodes.get(region) {
+        match node_among(&self.forest.nodes, region) {
             Some(node) => node.entries.as_slice(),
             None => &[],
         }
@@ -126,7 +179,7 @@ impl Generation {
         if !self.has_iommu {
             return None;
         }
-        let node = self.forest.nodes.get(region)?;
+        let node = node_among(&self.forest.nodes, region)?;
         match node.kind {
             Kind::Iommu => Some(node.entries.as_slice()),
             _ => None,
@@ -137,7 +190,7 @@ impl Generation {
     pub fn events(&self, region: RegionId) -> &[Ioevent]
         ensures { result.now ≡ events_of self.now.forest region }
     {
-        match self.forest.nodes.get(region) {
+        match node_among(&self.forest.nodes, region) {
             Some(node) => node.events.as_slice(),
             None => &[],
         }
@@ -170,6 +223,6 @@ impl Edition for Generation {
     }
 
     fn place_of(&self, region: RegionId) -> Option<Place> {
-        place_among(self.places.as_slice(), region)
+        place_near(self.places.as_slice(), self.guesses.at(region), region)
     }
 }

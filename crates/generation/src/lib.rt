@@ -8,6 +8,7 @@
 
 mod atlases;
 mod generation;
+mod nodes;
 mod places;
 
 pub use atlases::is_leaf_among;
