@@ -4,13 +4,13 @@ ghost use Rattle.mem_base.specs.access.Trails.{chunks, first_length, trail_of};
 ghost use Rattle.access_run.specs.Leaves.{IsTargetRun};
 
 use generation::Generation;
-use iommu::route;
+use iommu::end_of_route;
 use mem_base::{SpaceId, Target};
 use std::marker::Brand;
 use std::sync::ledger::{Blank, Ledger};
 use step_counter::Steps;
 
-// The route, with a counter of its own.
+// The end of the route, with a counter of its own.
 fn counted<L: Ledger>(
     g: &Generation,
     space: SpaceId,
@@ -30,8 +30,7 @@ fn counted<L: Ledger>(
     ensures most { result.1 ≤ len }
 {
     let mut steps = Steps::<L>::new(blank);
-    let route = route(g, space, addr, len, write, &mut steps);
-    (route.target, route.len)
+    end_of_route(g, space, addr, len, write, &mut steps)
 }
 
 /// The first chunk of the `len` addresses of a space from `addr` on: where it leads, and how many addresses it has.

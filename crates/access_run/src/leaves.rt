@@ -30,7 +30,7 @@ fn backing_of(g: &Generation, spot: &Spot, write: bool) -> Backing
     requires { names g.now.forest spot.now.leaf ≡ true }
     ensures { IsBackedBy g.now spot.now write result }
 {
-    let Some(node) = g.forest().nodes.get(spot.leaf) else {
+    let Some(node) = g.node(spot.leaf) else {
         return Backing::Nothing;
     };
     let Some(place) = g.place_of(spot.leaf) else {
