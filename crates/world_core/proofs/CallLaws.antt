@@ -3,26 +3,23 @@ use Rattle.std.proofs.Common.{◌≡◌, ℕ, ◌<◌, true, false, List, [], �
 use Rattle.std.specs.Prelude.{not, nat_lt, is_some, map, ◌/◌}
 use Rattle.mem_base.specs.declared.map.ids.RegionId.{RegionId}
 use Rattle.mem_base.specs.declared.map.kinds.Client.{Client}
-use Rattle.mem_base.specs.declared.map.forests.Forest.{Forest}
 use Rattle.mem_base.specs.declared.map.refusals.Refusal.{Refusal}
 use Rattle.mem_base.specs.declared.access.cells.Place.{Place}
 use Rattle.mem_base.specs.declared.access.cells.WordStep.{WordStep}
 use Rattle.mem_base.specs.declared.access.cells.WordStep.TheVariants.{Take}
 use Rattle.mem_base.specs.declared.machine.events.Hand.TheVariants as hands
-use Rattle.mem_base.specs.declared.machine.events.Event.{Event}
 use Rattle.mem_base.specs.declared.machine.events.Event.TheVariants as events
 use Rattle.mem_base.specs.map.Limits.{notifier_count, word_size}
 use Rattle.mem_base.specs.lists.Runs.{Run, touched}
 use Rattle.mem_base.specs.map.Forest.{IsMade}
-use Rattle.mem_base.specs.access.PlacesByRegion.{notifiers}
 use Rattle.mem_base.specs.access.Cells.{cell, notifier_cell}
 use Rattle.mem_base.specs.access.Marks.{pages_from}
 use Rattle.mem_base.specs.machine.Reaps.{Writer}
 use Rattle.mem_base.specs.machine.World.{World, possible, reply, world_after, after_telling, number_in, is_at_rest, if_placed, place_in_world}
-use Rattle.mem_base.specs.machine.History.{PureEntry, after_entry, after_entries, IsLegalFrom, run_events}
+use Rattle.mem_base.specs.machine.History.{PureEntry, after_entry, after_entries, IsLegalFrom}
 use Rattle.mem_base.specs.machine.Orders.{Order, load, harvest, notified, unless, loads, harvests, load_refusal, harvest_refusal}
-use Rattle.mem_base.specs.machine.Answers.{plain_answer, harvest_answer, notifier_answer, or_refused, first_or_zero}
-use Rattle.mem_base.specs.machine.Composites.{completed, numbers_of}
+use Rattle.mem_base.specs.machine.Answers.{plain_answer, harvest_answer, notifier_answer, or_refused}
+use Rattle.mem_base.specs.machine.Composites.{completed}
 use Rattle.mem_base.specs.machine.Completions.{IsCompleted}
 use Rattle.view_laws.proofs.Tests.{both_of}
 use Rattle.world_laws.specs.Legal.{IsFitting, IsLegalCall}
@@ -31,7 +28,7 @@ use Rattle.transact.specs.Preparing.{Readied}
 use Rattle.kept_generations.specs.KeptState.{KeptState}
 use Rattle.writer_desk.specs.Writers.{WriterState, standing}
 use Rattle.world_core.specs.Steps.{HaveHappened, MayHappen, replies_to}
-use Rattle.world_core.specs.Worlds.{world_of, IsReached, after_events}
+use Rattle.world_core.specs.Worlds.{Aside, world_of, IsReached, after_events}
 use Rattle.world_core.proofs.ReachedLaws.{reached_after}
 use Rattle.world_core.proofs.StepLaws.{load_event}
 
@@ -53,14 +50,14 @@ reached_by w k r l = subst IsReached l.ends (reached_then w (completed w k).entr
 
 -- where nothing is due
 
-pub none_due : (d : WriterState) (k : KeptState) (ws : List ℕ) (x : List RegionId) → is_at_rest (world_of d k ws x).writer.desk ≡ true → d.due ≡ None
+pub none_due : (d : WriterState) (k : KeptState) (ws : List ℕ) (x : Aside) → is_at_rest (world_of d k ws x).writer.desk ≡ true → d.due ≡ None
 none_due d k ws x h = go d.due refl (both_of _ _ h).0
   where
     go : (o : Option Readied) → d.due ≡ o → not (is_some o) ≡ true → d.due ≡ None
     go None e n = e
     go (Some r) e n = absurd (grind arith)
 
-pub forest_is : (d : WriterState) (k : KeptState) (ws : List ℕ) (x : List RegionId) → d.due ≡ None → (world_of d k ws x).writer.desk.forest ≡ d.backed.desk.state.forest
+pub forest_is : (d : WriterState) (k : KeptState) (ws : List ℕ) (x : Aside) → d.due ≡ None → (world_of d k ws x).writer.desk.forest ≡ d.backed.desk.state.forest
 forest_is d k ws x none = ap (λ (o : Option Readied). (standing d.backed.desk o).forest) none
 
 -- a step of the writer on a word of a place

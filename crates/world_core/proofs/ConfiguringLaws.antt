@@ -47,7 +47,7 @@ use Rattle.backing_pool.specs.Backing.{Backing}
 use Rattle.backed_desk.specs.Backed.{all_places}
 use Rattle.writer_desk.specs.Writers.{WriterState, writer_state, Beside, desk_of, beside_by, settled_as, standing, IsConfigured, IsReady}
 use Rattle.writer_desk.specs.Writers.{IsAccepted, backing_by, published_with}
-use Rattle.world_core.specs.Worlds.{beside, world_of, IsReached, IsWorld}
+use Rattle.world_core.specs.Worlds.{filled_beside, filled_world, IsReached, IsFilledWorld}
 use Rattle.world_core.specs.Configuring.{answer_by, dropped_with, made_place, cleared_at, swept_if, unswept, followed}
 use Rattle.world_core.proofs.ComposedLaws.{publishes_leave, fills_leave_rest}
 use Rattle.world_core.proofs.MadeCellLaws.{unfilled_with}
@@ -59,12 +59,12 @@ use Rattle.world_core.proofs.WriterCallLaws.{sound_of, private_reached, end_reac
 
 -- the parts make a world, and the call leads there with this answer
 pub record LeavesWorld (w : World) (c : Config) (answer : Answer) (d : WriterState) (k : KeptState) (ws : List ℕ) (dropped : List RegionId) : Type 0 where
-  pub world : IsWorld d k ws dropped
-  pub completed : IsCompleted w (configure c) answer (world_of d k ws dropped)
+  pub world : IsFilledWorld d k ws dropped
+  pub completed : IsCompleted w (configure c) answer (filled_world d k ws dropped)
 
 -- what is kept
 
-first_kept_at : (k : KeptState) (o : Option Published) → slice_get k.kept 0 ≡ o → kept_at k k.current ≡ o
+pub first_kept_at : (k : KeptState) (o : Option Published) → slice_get k.kept 0 ≡ o → kept_at k k.current ≡ o
 first_kept_at k o e =
     let zero : k.current - k.current ≡ 0 = omega arith in
     let here : nat_le k.current k.current ≡ true = le-leb k.current k.current (omega arith) in
@@ -105,7 +105,7 @@ would_commit d (configs.Listen listener space priority) = refl
 would_commit d (configs.Unlisten listener) = refl
 
 -- what others keep after an accepted event
-kept_beside : (d : WriterState) (b : Beside) (c : Config) → b.unfilled ≡ [] → beside_by d.backed b c
+pub kept_beside : (d : WriterState) (b : Beside) (c : Config) → b.unfilled ≡ [] → beside_by d.backed b c
     ≡ (record { dropped = dropped_with c b.dropped; unfilled = unfilled_with d.backed c; swept = b.swept })
 kept_beside d b configs.Begin none = λ i. record { dropped = b.dropped; unfilled = none i; swept = b.swept }
 kept_beside d b (configs.Call call) none =
@@ -114,17 +114,17 @@ kept_beside d b configs.Commit none = λ i. record { dropped = b.dropped; unfill
 kept_beside d b (configs.Listen listener space priority) none = λ i. record { dropped = b.dropped; unfilled = none i; swept = b.swept }
 kept_beside d b (configs.Unlisten listener) none = λ i. record { dropped = b.dropped; unfilled = none i; swept = b.swept }
 
-pool_stays : (d : WriterState) (c : Config) → (backing_by d.backed c).pool_words ≡ d.backed.backing.pool_words
+pub pool_stays : (d : WriterState) (c : Config) → (backing_by d.backed c).pool_words ≡ d.backed.backing.pool_words
 pool_stays d configs.Begin = refl
 pool_stays d (configs.Call call) = refl
 pool_stays d configs.Commit = refl
 pool_stays d (configs.Listen listener space priority) = refl
 pool_stays d (configs.Unlisten listener) = refl
 
-module _ (d : WriterState) (k : KeptState) (ws : List ℕ) (dropped : List RegionId) (h : IsWorld d k ws dropped)
-    (rest : is_at_rest (world_of d k ws dropped).writer.desk ≡ true) (c : Config) where
+module _ (d : WriterState) (k : KeptState) (ws : List ℕ) (dropped : List RegionId) (h : IsFilledWorld d k ws dropped)
+    (rest : is_at_rest (filled_world d k ws dropped).writer.desk ≡ true) (c : Config) where
   abbrev w : World
-  w = world_of d k ws dropped
+  w = filled_world d k ws dropped
 
   pub none_due : d.due ≡ None
   none_due = not_some d.due (both_of _ _ rest).0
@@ -136,18 +136,18 @@ module _ (d : WriterState) (k : KeptState) (ws : List ℕ) (dropped : List Regio
   blocks = blocks_at ws (all_places d.backed.backing)
 
   abbrev started : Bool → Desk
-  started b = desk_of d (beside dropped (swept_if b k).swept)
+  started b = desk_of d (filled_beside dropped (swept_if b k).swept)
 
   here : (b : Bool) → current_forest (generations_of (swept_if b k)) ≡ d.backed.desk.current.forest
   here true = current_is k d.backed.desk.current h.current
   here false = current_is k d.backed.desk.current h.current
 
-  swept_is : (b : Bool) → (run_events w (if b then sweeps w.writer.generations else [])).world ≡ world_of d (swept_if b k) ws dropped
+  swept_is : (b : Bool) → (run_events w (if b then sweeps w.writer.generations else [])).world ≡ filled_world d (swept_if b k) ws dropped
   swept_is true = let o = reached_is_orderly w h.reached in
       sweeps_run k w (sym o.all_known) (o.all_flagged ∙ sym o.all_known) (record { generations = refl; states = refl; swept = refl })
   swept_is false = refl
 
-  before : (b : Bool) → would_publish w.writer.desk c ≡ b → (run_events w (events_before w.writer (configure c))).world ≡ world_of d (swept_if b k) ws dropped
+  before : (b : Bool) → would_publish w.writer.desk c ≡ b → (run_events w (events_before w.writer (configure c))).world ≡ filled_world d (swept_if b k) ws dropped
   before b e = ap (λ (z : Bool). (run_events w (if z then sweeps w.writer.generations else [])).world) e ∙ swept_is b
 
   same_passes : (b : Bool) → (swept_if b k).states ≡ k.states
@@ -201,7 +201,7 @@ module _ (d : WriterState) (k : KeptState) (ws : List ℕ) (dropped : List Regio
           (blocks_at ws_then (all_places e.backed.backing))
 
       private : (b : Bool) (o : Option Readied) → would_publish w.writer.desk c ≡ b → e.due ≡ o
-          → world_after (world_of d (swept_if b k) ws dropped) (events.Config c) ≡ left_by b o
+          → world_after (filled_world d (swept_if b k) ws dropped) (events.Config c) ≡ left_by b o
       private b o t due =
           ap (λ (s : Settled). world (writer (desks.unswept s.desk) (generations_of (swept_if b k))) (swept_if b k).states
           (map (block_for blocks) (places_of (desks.unswept s.desk)))) (settles b t)
@@ -210,31 +210,31 @@ module _ (d : WriterState) (k : KeptState) (ws : List ℕ) (dropped : List Regio
 
       -- nothing is due then
       filled : (b : Bool) → would_publish w.writer.desk c ≡ b → e.due ≡ None
-          → (run_events (left_by b None) (map (λ x. events.Fill x) unfilled)).world ≡ world_of e (unswept (swept_if b k)) ws_then dropped_then
+          → (run_events (left_by b None) (map (λ x. events.Fill x) unfilled)).world ≡ filled_world e (unswept (swept_if b k)) ws_then dropped_then
       filled b t none =
           let u : World = left_by b None in
           let same = fills_leave_rest unfilled u in
           (λ i. world (writer (filled_desk unfilled u refl (out b t).distinct i) (same.0 i)) (same.1 i) (fills u (sym cells) i))
-          ∙ ap (λ (x : Option Readied). world_of (writer_state e.backed e.listening x) (unswept (swept_if b k)) ws_then dropped_then) (sym none)
+          ∙ ap (λ (x : Option Readied). filled_world (writer_state e.backed e.listening x) (unswept (swept_if b k)) ws_then dropped_then) (sym none)
 
       leaves_rest : (b : Bool) → would_publish w.writer.desk c ≡ b → e.due ≡ None → e.backed.desk.current ≡ d.backed.desk.current
           → LeavesWorld w c (answer_of_config c r None) e (unswept (swept_if b k)) ws_then dropped_then
       leaves_rest b t none current =
-          let z : World = world_of e (unswept (swept_if b k)) ws_then dropped_then in record {
+          let z : World = filled_world e (unswept (swept_if b k)) ws_then dropped_then in record {
             world = record {
-              reached = subst IsReached (leads_to w c h.reached rest (world_of d (swept_if b k) ws dropped) (left_by b None) z r None (before b t)
+              reached = subst IsReached (leads_to w c h.reached rest (filled_world d (swept_if b k) ws dropped) (left_by b None) z r None (before b t)
                   (private b None t none) (filled b t none)) (end_reached w c h.reached rest);
               current = still_kept b ∙ ap (λ (p : Published). Some p) (sym current);
               wide = wide;
             };
-            completed = completes w c h.reached rest (world_of d (swept_if b k) ws dropped) (left_by b None) z r None (before b t)
+            completed = completes w c h.reached rest (filled_world d (swept_if b k) ws dropped) (left_by b None) z r None (before b t)
                 (private b None t none) (filled b t none) (ap (λ (s : Settled). s.answer) (settles b t)) refl (same_passes b);
           }
 
       -- a publish is due then
       module _ (t : would_publish w.writer.desk c ≡ true) (g : Readied) (due : e.due ≡ Some g) (ready : IsReady e.backed g) where
         abbrev last : World
-        last = world_of (published_with e (Some g)) (after_publish (unswept (all_swept k)) g.generation) ws_then dropped_then
+        last = filled_world (published_with e (Some g)) (after_publish (unswept (all_swept k)) g.generation) ws_then dropped_then
 
         made_current : (run_events (left_by true (Some g)) (publishes (generations_of (all_swept k)))).world ≡ last
         made_current =
@@ -255,12 +255,12 @@ module _ (d : WriterState) (k : KeptState) (ws : List ℕ) (dropped : List Regio
             (after_publish (unswept (all_swept k)) g.generation) ws_then dropped_then
         leaves_due = record {
           world = record {
-            reached = subst IsReached (leads_to w c h.reached rest (world_of d (all_swept k) ws dropped) (left_by true (Some g)) last r (Some (k.current + 1))
+            reached = subst IsReached (leads_to w c h.reached rest (filled_world d (all_swept k) ws dropped) (left_by true (Some g)) last r (Some (k.current + 1))
                 (before true t) (private true (Some g) t due) made_current) (end_reached w c h.reached rest);
             current = first_kept_at (after_publish (unswept (all_swept k)) g.generation) (Some g.generation) refl;
             wide = wide;
           };
-          completed = completes w c h.reached rest (world_of d (all_swept k) ws dropped) (left_by true (Some g)) last r (Some (k.current + 1))
+          completed = completes w c h.reached rest (filled_world d (all_swept k) ws dropped) (left_by true (Some g)) last r (Some (k.current + 1))
               (before true t) (private true (Some g) t due) made_current (ap (λ (s : Settled). s.answer) (settles true t)) refl refl;
         }
 
@@ -298,24 +298,24 @@ module _ (d : WriterState) (k : KeptState) (ws : List ℕ) (dropped : List Regio
     refused_at b t =
         leaves_rest d (Err why) dropped []
         (λ z u. subst (λ (x : WriterState). configured (generations_of (swept_if z k)) (started z) c
-        ≡ settled_as (desk_of x (beside dropped (swept_if z k).swept)) (Err why)) same
-        (is (generations_of (swept_if z k)) (beside dropped (swept_if z k).swept) (here z) (free held told z u)))
+        ≡ settled_as (desk_of x (filled_beside dropped (swept_if z k).swept)) (Err why)) same
+        (is (generations_of (swept_if z k)) (filled_beside dropped (swept_if z k).swept) (here z) (free held told z u)))
         ws (made.same_cells ws d.backed h.wide w.writer.desk.forest back few below) (λ u x. refl) h.wide b t none_due refl
 
-    pub refused : (b : Bool) → b ≡ would_publish (desk_of e (beside dropped k.swept)) c → (kept_then : KeptState) → kept_then ≡ unswept (swept_if b k)
+    pub refused : (b : Bool) → b ≡ would_publish (desk_of e (filled_beside dropped k.swept)) c → (kept_then : KeptState) → kept_then ≡ unswept (swept_if b k)
         → (dropped_then : List RegionId) → dropped_then ≡ dropped → LeavesWorld w c (answer_of_config c (Err why) None) e kept_then ws dropped_then
     refused b t kept_then kept dropped_then drops =
         subst (λ (z : WriterState × KeptState × List RegionId). LeavesWorld w c (answer_of_config c (Err why) None) z.0 z.1 ws z.2)
         (λ i. (sym same i, sym kept i, sym drops i))
-        (refused_at b (sym (t ∙ ap (λ (x : WriterState). would_publish (desk_of x (beside dropped k.swept)) c) same)))
+        (refused_at b (sym (t ∙ ap (λ (x : WriterState). would_publish (desk_of x (filled_beside dropped k.swept)) c) same)))
 
   -- an accepted event
   module _ (e : WriterState) (held : Option Refusal) (a : Applied) (is : IsConfigured d c held e (Ok a))
       (told : held ≡ held_up (generations_of (all_swept k))) (ok : IsAccepted d c e a) where
     settled_so : (b : Bool) → would_publish w.writer.desk c ≡ b → configured (generations_of (swept_if b k)) (started b) c
         ≡ settled_as (desk_of e (record { dropped = dropped_with c dropped; unfilled = unfilled_with d.backed c; swept = (swept_if b k).swept })) (Ok a)
-    settled_so b t = is (generations_of (swept_if b k)) (beside dropped (swept_if b k).swept) (here b) (free held told b t)
-        ∙ ap (λ (x : Beside). settled_as (desk_of e x) (Ok a)) (kept_beside d (beside dropped (swept_if b k).swept) c refl)
+    settled_so b t = is (generations_of (swept_if b k)) (filled_beside dropped (swept_if b k).swept) (here b) (free held told b t)
+        ∙ ap (λ (x : Beside). settled_as (desk_of e x) (Ok a)) (kept_beside d (filled_beside dropped (swept_if b k).swept) c refl)
 
     abbrev Clears : Backing → Applied → Type 0
     Clears n x = made.Clears ws d.backed h.wide w.writer.desk.forest back few below n x (unfilled_with d.backed c)
@@ -412,22 +412,22 @@ module _ (d : WriterState) (k : KeptState) (ws : List ℕ) (dropped : List Regio
 
 -- a begin
 
-module _ (d : WriterState) (k : KeptState) (ws : List ℕ) (dropped : List RegionId) (h : IsWorld d k ws dropped)
-    (rest : is_at_rest (world_of d k ws dropped).writer.desk ≡ true) (e : WriterState) where
+module _ (d : WriterState) (k : KeptState) (ws : List ℕ) (dropped : List RegionId) (h : IsFilledWorld d k ws dropped)
+    (rest : is_at_rest (filled_world d k ws dropped).writer.desk ≡ true) (e : WriterState) where
   abbrev told : Option Refusal
   told = held_up (generations_of (all_swept k))
 
   pub begun : (a : Applied) → ((held : Option Refusal) → IsConfigured d configs.Begin held e (Ok a)) → IsAccepted d configs.Begin e a
       → (kept_then : KeptState) → kept_then ≡ unswept k
-      → LeavesWorld (world_of d k ws dropped) configs.Begin (answer_of_config configs.Begin (Ok a) None) e kept_then ws dropped
+      → LeavesWorld (filled_world d k ws dropped) configs.Begin (answer_of_config configs.Begin (Ok a) None) e kept_then ws dropped
   begun a is ok kept_then kept =
-      subst (λ (x : KeptState). LeavesWorld (world_of d k ws dropped) configs.Begin (answer_of_config configs.Begin (Ok a) None) e x ws dropped) (sym kept)
+      subst (λ (x : KeptState). LeavesWorld (filled_world d k ws dropped) configs.Begin (answer_of_config configs.Begin (Ok a) None) e x ws dropped) (sym kept)
       (accepted_rest d k ws dropped h rest configs.Begin e told a (is told) refl ok ws
       (sym (ap (λ (x : Applied). cleared_at ws (made_place e.backed.backing.places x)) ok.answered)) refl refl)
 
   pub not_begun : e ≡ d → (why : Refusal) → ((held : Option Refusal) → IsConfigured d configs.Begin held e (Err why))
       → (kept_then : KeptState) → kept_then ≡ unswept k
-      → LeavesWorld (world_of d k ws dropped) configs.Begin (answer_of_config configs.Begin (Err why) None) e kept_then ws dropped
+      → LeavesWorld (filled_world d k ws dropped) configs.Begin (answer_of_config configs.Begin (Err why) None) e kept_then ws dropped
   not_begun same why is kept_then kept = refused d k ws dropped h rest configs.Begin e same told why (is told) refl false refl kept_then kept dropped refl
 
 -- an answer of a call as the machine states it

@@ -30,6 +30,8 @@ use Rattle.backing_pool.specs.Backing.{Backing}
 use Rattle.backed_desk.specs.Backed.{BackedState, all_places, backing_at, places_for, forest_at}
 use Rattle.writer_desk.specs.Writers.{unfilled_by, backing_by, applied_by}
 use Rattle.world_core.specs.Configuring.{made_place, cleared_at}
+use Rattle.world_core.specs.Events.{makes_region}
+use Rattle.world_core.specs.Unfilled.{cells_at}
 use Rattle.world_core.proofs.ComposedLaws.{fills_leave_blocks}
 use Rattle.world_core.proofs.WordLaws.{all_apart, all_within}
 
@@ -77,6 +79,7 @@ module _ (ws : List ℕ) (s : BackedState) (wide : length ws ≡ s.backing.pool_
     pub room : IfSome (made_place n.places a) (λ p. past p ≤ length ws)
     pub cells : map (block_for blocks) (all_places n) ≡ blocks_at (cleared_at ws (made_place n.places a)) (all_places n)
     pub fills : (u : World) → u.blocks ≡ map (block_for blocks) (all_places n) → (run_events u (map (λ x. events.Fill x) unfilled)).world.blocks ≡ u.blocks
+    pub left : unfilled ≡ cells_at (made_place n.places a)
 
   others : AreOthers made s.backing.places
   others = weaker (λ p. p.region.0 < (forest_at s).made) (λ p. p.region.0 ≢ made.0) (λ p l e. omega arith) s.backing.places below
@@ -94,6 +97,7 @@ module _ (ws : List ℕ) (s : BackedState) (wide : length ws ≡ s.backing.pool_
     room = subst (λ (o : Option Place). IfSome o (λ p. past p ≤ length ws)) (sym none) tt;
     cells = same_cells ∙ ap (λ (o : Option Place). blocks_at (cleared_at ws o) (all_places s.backing)) (sym none);
     fills = λ u e. refl;
+    left = ap (λ (o : Option Place). cells_at o) (sym none);
   }
 
   without_words : (a : Applied) → made_place s.backing.places a ≡ None → Clears (backing_at s.backing.pool_words (s.backing.places ++ [])) a []
@@ -120,6 +124,7 @@ module _ (ws : List ℕ) (s : BackedState) (wide : length ws ≡ s.backing.pool_
             ∙ fills_leave_blocks p.region p.words (range_with_len 0 p.words) u (ap (λ (bs : List Block). cells_in bs p.region) e
             ∙ new_cells blocks p (notifiers_place s.backing.pool_words ∷ []) s.backing.places strange
             (no_block ws p.region (all_places s.backing) all_strange));
+        left = append-nil (cells_of p) ∙ ap (λ (o : Option Place). cells_at o) (sym found);
       }
 
   region : (x : Extent) (z : Bool) (o : Option ℕ) → let ps = if z then [] else places_for s.backing made x o in
@@ -155,3 +160,34 @@ module _ (ws : List ℕ) (s : BackedState) (wide : length ws ≡ s.backing.pool_
   clears (configs.Call (calls.Unmap r iova)) g new = without_words Done refl
   clears (configs.Call (calls.Event r event)) g new = without_words Done refl
   clears (configs.Call (calls.Unevent r offset size matched value)) g new = without_words Done refl
+
+-- only a call that makes a region gives one a place
+module _ (s : BackedState) (places : List Place) where
+  any_way : (o : Option Place) → IfSome o (λ p. true ≡ true)
+  any_way None = tt
+  any_way (Some p) = refl
+
+  pub made_only : (c : Config) → IfSome (made_place places (applied_by s c)) (λ p. makes_region c ≡ true)
+  made_only configs.Begin = tt
+  made_only configs.Commit = tt
+  made_only (configs.Listen listener space priority) = tt
+  made_only (configs.Unlisten listener) = tt
+  made_only (configs.Call (calls.Region kind size)) = any_way (made_place places (applied_by s (configs.Call (calls.Region kind size))))
+  made_only (configs.Call (calls.Drop r)) = tt
+  made_only (configs.Call (calls.Space space root)) = tt
+  made_only (configs.Call (calls.Add parent offset child priority)) = tt
+  made_only (configs.Call (calls.Del parent child)) = tt
+  made_only (configs.Call (calls.Move child offset)) = tt
+  made_only (configs.Call (calls.Resize r size)) = tt
+  made_only (configs.Call (calls.Retarget alias offset)) = tt
+  made_only (configs.Call (calls.Enable r on)) = tt
+  made_only (configs.Call (calls.Readonly r on)) = tt
+  made_only (configs.Call (calls.Nonvolatile r on)) = tt
+  made_only (configs.Call (calls.Unmergeable r on)) = tt
+  made_only (configs.Call (calls.Romd r on)) = tt
+  made_only (configs.Call (calls.Log r client on)) = tt
+  made_only (configs.Call (calls.Global on)) = tt
+  made_only (configs.Call (calls.Map r iova size space translated perm)) = tt
+  made_only (configs.Call (calls.Unmap r iova)) = tt
+  made_only (configs.Call (calls.Event r event)) = tt
+  made_only (configs.Call (calls.Unevent r offset size matched value)) = tt

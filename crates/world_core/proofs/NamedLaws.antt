@@ -1,12 +1,12 @@
 -- Laws of the first elements of a list, and of lists from which elements are left out.
 use Rattle.std.proofs.Common.{◌≡◌, ℕ, zero, suc, ◌+◌, ◌-◌, ◌<◌, ◌≤◌, eq-eqb, Bool, true, false, ◌||◌, if◌then◌else◌, List, [], ◌∷◌, take, filter}
-use Rattle.std.proofs.Common.{refl, sym, ap, subst, ◌∙◌, arith, Option, Some, None}
+use Rattle.std.proofs.Common.{refl, sym, ap, subst, ◌∙◌, arith, Some, None}
 use Rattle.std.specs.Prelude.{◌==◌, not, nat_le}
 use Rattle.std.specs.List.{slice_get, list_any}
 use Rattle.std.proofs.lemmas.Bool.{eqb-true, eqb-false, le-leb}
 use Rattle.mem_base.specs.declared.map.ids.RegionId.{RegionId}
 use Rattle.mem_base.specs.declared.access.cells.Place.{Place}
-use Rattle.mem_base.specs.machine.Generations.{Generation, Generations, generation_of}
+use Rattle.mem_base.specs.machine.Generations.{Generations, generation_of}
 use Rattle.mem_base.specs.machine.Reaps.{is_among}
 use Rattle.view_laws.proofs.Tests.{none_is_not_some, same_some}
 

@@ -1,5 +1,5 @@
 -- Laws of the places of a world: where one is found, and its mark words.
-use Rattle.std.proofs.Common.{◌≡◌, ℕ, ◌+◌, ◌-◌, ◌*◌, ◌/◌, ◌<◌, ◌≤◌, true, false, List, [], ◌∷◌, ◌++◌, length, refl, sym, ap, subst, ◌∙◌, arith}
+use Rattle.std.proofs.Common.{◌≡◌, ℕ, ◌+◌, ◌-◌, ◌*◌, ◌/◌, ◌<◌, ◌≤◌, true, false, List, [], ◌∷◌, ◌++◌, length, refl, ap, subst, ◌∙◌, arith}
 use Rattle.std.proofs.Common.{if◌then◌else◌, Option, Some, None}
 use Rattle.std.specs.Prelude.{◌==◌, slice_index}
 use Rattle.mem_base.specs.declared.map.ids.RegionId.{RegionId}
@@ -20,9 +20,8 @@ use Rattle.turn_laws.proofs.Coupled.{IsWhole}
 use Rattle.turn_laws.proofs.Replaced.{its_region}
 use Rattle.world_laws.proofs.Lists.{found_has}
 use Rattle.kept_generations.specs.KeptState.{KeptState}
-use Rattle.backed_desk.specs.Backed.{all_places}
 use Rattle.writer_desk.specs.Writers.{WriterState}
-use Rattle.world_core.specs.Worlds.{world_of, IsReached, IsWorld}
+use Rattle.world_core.specs.Worlds.{Aside, world_of, IsWorld}
 use Rattle.world_core.proofs.WordLaws.{reached_holds, backing, cells_change, word_before}
 
 -- the notifiers' place is the last one, and those of regions come before it
@@ -40,7 +39,7 @@ other_place (p ∷ ps) np r other = ap (λ (o : Option Place). if p.region.0 == 
 pub own_region : (w : World) (r : RegionId) (p : Place) → place_in_world w r ≡ Some p → p.region ≡ r
 own_region w r p here = same_region p.region r (its_region (places_of w.writer.desk) r p here)
 
-module _ (d : WriterState) (k : KeptState) (ws : List ℕ) (x : List RegionId) (h : IsWorld d k ws x) where
+module _ (d : WriterState) (k : KeptState) (ws : List ℕ) (x : Aside) (h : IsWorld d k ws x) where
   abbrev here : World
   here = world_of d k ws x
 

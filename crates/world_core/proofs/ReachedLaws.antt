@@ -3,7 +3,6 @@ use Rattle.std.proofs.Common.{◌≡◌, ℕ, ◌+◌, ◌<◌, ◌≤◌, true,
 use Rattle.std.proofs.Common.{List, [], ◌∷◌, ◌++◌, refl, sym, ap, subst, ◌∙◌}
 use Rattle.std.proofs.lemmas.List.{length-replicate}
 use Rattle.std.specs.Prelude.{length, replicate, nat_lt, is_some, is_none}
-use Rattle.mem_base.specs.declared.map.ids.RegionId.{RegionId}
 use Rattle.mem_base.specs.declared.map.ids.PassId.{PassId}
 use Rattle.mem_base.specs.declared.machine.events.Event.TheVariants as events
 use Rattle.mem_base.specs.declared.machine.events.Event.{Event}
@@ -22,7 +21,7 @@ use Rattle.place_words.specs.Blocks.{AreWithin}
 use Rattle.place_words.proofs.CellLaws.{first_zero}
 use Rattle.kept_generations.specs.KeptState.{KeptState, first_kept, with_states, kept_at}
 use Rattle.writer_desk.specs.Writers.{WriterState, first_state}
-use Rattle.world_core.specs.Worlds.{world_of, IsReached, IsWorld}
+use Rattle.world_core.specs.Worlds.{Aside, aside, world_of, IsReached, IsWorld}
 
 after_last : (w : World) (xs : List PureEntry) (x : PureEntry) → after_entries w (xs ++ x ∷ []) ≡ after_entry (after_entries w xs) x
 after_last w [] x = refl
@@ -51,7 +50,7 @@ pub reached_is_orderly : (w : World) → IsReached w → IsOrderly w
 reached_is_orderly w r = subst IsOrderly r.leads (order r.pool_words r.passes r.entries r.legal)
 
 -- an event on the numbers of a pass changes the states of passes alone
-pub passes_change : (d : WriterState) (k l : KeptState) (ws : List ℕ) (x : List RegionId) (states : List PassState) (e : Event) → IsWorld d k ws x
+pub passes_change : (d : WriterState) (k l : KeptState) (ws : List ℕ) (x : Aside) (states : List PassState) (e : Event) → IsWorld d k ws x
     → l ≡ with_states k states → possible (world_of d k ws x) e ≡ true → world_of d l ws x ≡ world_after (world_of d k ws x) e → IsWorld d l ws x
 passes_change d k l ws x states e h is may goes = record {
   reached = subst IsReached (sym goes) (reached_after (world_of d k ws x) e h.reached may);
@@ -91,7 +90,7 @@ may_enter w pass r may =
 
 -- the parts at first make the first world
 pub parts_at_first : (pool_words passes : ℕ) → world_of (first_state pool_words) (first_kept passes (published 0 empty []))
-    (replicate (pool_words + notifier_count) 0) [] ≡ opening pool_words passes
+    (replicate (pool_words + notifier_count) 0) (aside [] []) ≡ opening pool_words passes
 parts_at_first pool_words passes =
     let within : AreWithin (pool_words + notifier_count) (notifiers_place pool_words ∷ []) =
     ((let l : pool_words + notifier_count ≤ pool_words + notifier_count = omega arith in l), tt) in
@@ -99,7 +98,7 @@ parts_at_first pool_words passes =
     (sym (first_zero (pool_words + notifier_count) (notifiers_place pool_words ∷ []) within))
 
 pub world_at_first : (pool_words passes : ℕ) → IsWorld (first_state pool_words) (first_kept passes (published 0 empty []))
-    (replicate (pool_words + notifier_count) 0) []
+    (replicate (pool_words + notifier_count) 0) (aside [] [])
 world_at_first pool_words passes = record {
   reached = subst IsReached (sym (parts_at_first pool_words passes)) (reached_first pool_words passes);
   current = refl;

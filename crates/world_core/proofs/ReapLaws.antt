@@ -1,16 +1,15 @@
 -- A reap of the world's parts is the reap of the world.
-use Rattle.std.proofs.Common.{◌≡◌, ℕ, Bool, true, false, List, [], ◌∷◌, ◌++◌, length, map, filter, refl, sym, ap, subst, ◌∙◌, Option, Some, None, Ok}
+use Rattle.std.proofs.Common.{◌≡◌, ℕ, true, false, List, [], ◌∷◌, map, filter, refl, sym, ap, subst, ◌∙◌, None, Ok}
 use Rattle.std.specs.Prelude.{not, ◌<◌}
 use Rattle.mem_base.specs.declared.map.ids.RegionId.{RegionId}
 use Rattle.mem_base.specs.declared.map.forests.Forest.{Forest}
-use Rattle.mem_base.specs.declared.access.cells.Place.{Place}
 use Rattle.mem_base.specs.declared.machine.events.Event.TheVariants as events
 use Rattle.mem_base.specs.lists.Every.{Every}
 use Rattle.mem_base.specs.map.Region.{node_of}
 use Rattle.mem_base.specs.access.Cells.{Block}
 use Rattle.mem_base.specs.access.Places.{notifiers_place}
 use Rattle.mem_base.specs.machine.Reaps.{writer, is_named, is_among, released}
-use Rattle.mem_base.specs.machine.World.{World, world, world_after, is_at_rest}
+use Rattle.mem_base.specs.machine.World.{World, world, possible, world_after, is_at_rest}
 use Rattle.mem_base.specs.machine.History.{IsOrderly, run_events}
 use Rattle.mem_base.specs.machine.Orders.{reap, sweeps}
 use Rattle.mem_base.specs.machine.Answers.{reap_answer}
@@ -27,15 +26,15 @@ use Rattle.place_words.proofs.CellLaws.{fewer_keep}
 use Rattle.backed_desk.specs.Backed.{forest_at}
 use Rattle.writer_desk.specs.Writers.{WriterState, desk_of}
 use Rattle.world_core.specs.Released.{without_regions}
-use Rattle.world_core.specs.Worlds.{world_of, IsReached, IsWorld}
-use Rattle.world_core.proofs.ReachedLaws.{reached_is_orderly}
+use Rattle.world_core.specs.Worlds.{Aside, aside, world_of, IsReached, IsWorld}
+use Rattle.world_core.proofs.ReachedLaws.{reached_after, reached_is_orderly}
 use Rattle.world_core.proofs.WordLaws.{apart}
 use Rattle.world_core.proofs.CallLaws.{is_legal, reached_by, forest_is}
 
 drops_once : (w : World) → IsReached w → DropsOnce w.writer
 drops_once w r = subst (λ (v : World). DropsOnce v.writer) r.leads (regions_are_dropped_once r.pool_words r.passes r.entries r.legal)
 
-module _ (d : WriterState) (k : KeptState) (ws : List ℕ) (x : List RegionId) (h : IsWorld d k ws x) where
+module _ (d : WriterState) (k : KeptState) (ws : List ℕ) (x : Aside) (h : IsWorld d k ws x) where
   abbrev here : World
   here = world_of d k ws x
 
@@ -47,21 +46,21 @@ module _ (d : WriterState) (k : KeptState) (ws : List ℕ) (x : List RegionId) (
 
   -- the regions that are released after a sweep of each pass, and those that stay dropped
   abbrev pub gone : KeptState → List RegionId
-  gone s = filter (λ r. not (is_named (generations_of s) r)) x
+  gone s = filter (λ r. not (is_named (generations_of s) r)) x.dropped
 
   abbrev pub stays : KeptState → List RegionId
-  stays s = filter (is_named (generations_of s)) x
+  stays s = filter (is_named (generations_of s)) x.dropped
 
   abbrev pub unswept_by : KeptState → KeptState
   unswept_by s = with_swept s (map (λ swept. false) s.swept)
 
   abbrev then_of : KeptState → List RegionId → World
-  then_of s rs = world_of (without_regions d rs) (unswept_by s) ws (stays s)
+  then_of s rs = world_of (without_regions d rs) (unswept_by s) ws (aside (stays s) x.unfilled)
 
   parts_are : then_of (all_swept k) (gone (all_swept k)) ≡ world_after (world_with here (all_swept k)) events.Reap
   parts_are = ap (λ (bs : List Block). world
       (writer (desk_of (without_regions d (gone (all_swept k)))
-      (record { dropped = stays (all_swept k); unfilled = []; swept = map (λ swept. false) (all_swept k).swept }))
+      (record { dropped = stays (all_swept k); unfilled = x.unfilled; swept = map (λ swept. false) (all_swept k).swept }))
       (generations_of (all_swept k))) k.states bs)
       (sym (fewer_keep ws (λ p. not (is_among (gone (all_swept k)) p.region)) d.backed.backing.places
       (notifiers_place d.backed.backing.pool_words ∷ []) (apart d k ws x h)))
@@ -71,8 +70,8 @@ module _ (d : WriterState) (k : KeptState) (ws : List ℕ) (x : List RegionId) (
 
   -- what a reap leaves is a world again, and is the defined one
   pub record IsReaped (e : WriterState) (l : KeptState) (dropped rs : List RegionId) : Type 0 where
-    pub world : IsWorld e l ws dropped
-    pub done : IsCompleted here reap (reap_answer (Ok rs)) (world_of e l ws dropped)
+    pub world : IsWorld e l ws (aside dropped x.unfilled)
+    pub done : IsCompleted here reap (reap_answer (Ok rs)) (world_of e l ws (aside dropped x.unfilled))
 
   reaped_all : is_at_rest here.writer.desk ≡ true → (let s = all_swept k in IsReaped (without_regions d (gone s)) (unswept_by s) (stays s) (gone s))
   reaped_all rest =
@@ -101,9 +100,38 @@ module _ (d : WriterState) (k : KeptState) (ws : List ℕ) (x : List RegionId) (
       let three : IsReaped e l (stays s) rs = subst (λ (q : KeptState). IsReaped e q (stays s) rs) (sym unswept) two in
       subst (λ (q : List RegionId). IsReaped e l q rs) (sym dropped_is) three
 
+  -- the event alone, as the passes were last swept
+
+  release_is : then_of k (gone k) ≡ world_after here events.Reap
+  release_is = ap (λ (bs : List Block). world
+      (writer (desk_of (without_regions d (gone k))
+      (record { dropped = stays k; unfilled = x.unfilled; swept = map (λ swept. false) k.swept }))
+      (generations_of k)) k.states bs)
+      (sym (fewer_keep ws (λ p. not (is_among (gone k) p.region)) d.backed.backing.places
+      (notifiers_place d.backed.backing.pool_words ∷ []) (apart d k ws x h)))
+
+  pub record IsReleased (e : WriterState) (l : KeptState) (dropped : List RegionId) : Type 0 where
+    pub world : IsWorld e l ws (aside dropped x.unfilled)
+    pub is : world_of e l ws (aside dropped x.unfilled) ≡ world_after here events.Reap
+
+  released_all : possible here events.Reap ≡ true → IsReleased (without_regions d (gone k)) (unswept_by k) (stays k)
+  released_all may = record {
+    world = record {
+      reached = subst IsReached (sym release_is) (reached_after here events.Reap h.reached may);
+      current = h.current;
+      wide = h.wide;
+    };
+    is = release_is;
+  }
+
+  pub released_by : (l : KeptState) (e : WriterState) (dropped : List RegionId) → possible here events.Reap ≡ true
+      → e ≡ without_regions d (gone k) → dropped ≡ stays k → l ≡ unswept_by k → IsReleased e l dropped
+  released_by l e dropped may places dropped_is unswept =
+      subst (λ (z : WriterState × KeptState × List RegionId). IsReleased z.0 z.1 z.2) (λ i. (sym places i, sym unswept i, sym dropped_is i)) (released_all may)
+
   -- a dropped region is not in the forest
-  pub none_there : d.due ≡ None → Every (λ r. node_of (forest_at d.backed).nodes r ≡ None) x
+  pub none_there : d.due ≡ None → Every (λ r. node_of (forest_at d.backed).nodes r ≡ None) x.dropped
   none_there rest =
       weaker (λ r. (node_of here.writer.desk.forest.nodes r ≡ None) × (r.0 < here.writer.desk.forest.made))
       (λ r. node_of (forest_at d.backed).nodes r ≡ None) (λ r t. ap (λ (f : Forest). node_of f.nodes r) (sym (forest_is d k ws x rest)) ∙ t.0)
-      x (drops_once here h.reached).gone
+      x.dropped (drops_once here h.reached).gone

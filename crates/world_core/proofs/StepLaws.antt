@@ -1,9 +1,8 @@
 -- Laws of steps that the writer makes one after another.
-use Rattle.std.proofs.Common.{◌≡◌, ℕ, ◌+◌, ◌-◌, ◌*◌, ◌/◌, ◌%◌, ◌<◌, ◌≤◌, min, true, List, [], ◌∷◌, ◌++◌, length, take, drop, map}
-use Rattle.std.proofs.Common.{refl, sym, ap, subst, ◌∙◌, arith, Option, Some, None}
+use Rattle.std.proofs.Common.{◌≡◌, ℕ, ◌+◌, ◌-◌, ◌/◌, ◌%◌, ◌<◌, ◌≤◌, min, true, List, [], ◌∷◌, length, take, drop, map}
+use Rattle.std.proofs.Common.{refl, sym, ap, subst, ◌∙◌, arith}
 use Rattle.std.proofs.lemmas.List.{length-take-le, length-drop}
 use Rattle.mem_base.specs.declared.map.ids.RegionId.{RegionId}
-use Rattle.mem_base.specs.declared.map.kinds.Client.{Client}
 use Rattle.mem_base.specs.declared.access.cells.WordStep.TheVariants.{Replace}
 use Rattle.mem_base.specs.declared.machine.events.Hand.TheVariants as hands
 use Rattle.mem_base.specs.declared.machine.events.Event.{Event}
@@ -14,7 +13,6 @@ use Rattle.mem_base.specs.access.Words.{little_endian}
 use Rattle.mem_base.specs.access.Cells.{cell}
 use Rattle.mem_base.specs.access.MemoryAccess.{replaces}
 use Rattle.mem_base.specs.machine.World.{World, possible, world_after}
-use Rattle.mem_base.specs.machine.History.{IsLegalFrom, run_events}
 use Rattle.mem_base.specs.machine.Orders.{loads}
 use Rattle.access_run.proofs.RunLaws.{first_word}
 use Rattle.world_core.specs.Worlds.{after_events}

@@ -40,7 +40,7 @@ use Rattle.place_words.proofs.CellLaws.{steps_on_cells}
 use Rattle.backed_desk.specs.Backed.{all_places}
 use Rattle.writer_desk.specs.Writers.{WriterState}
 use Rattle.world_core.specs.Hands.{published_as, shown_to, IsInside}
-use Rattle.world_core.specs.Worlds.{world_of, IsReached, IsWorld}
+use Rattle.world_core.specs.Worlds.{Aside, world_of, IsReached, IsWorld}
 use Rattle.world_core.proofs.ReachedLaws.{reached_after}
 
 pub reached_holds : (w : World) → IsReached w → Holds w
@@ -69,7 +69,7 @@ backs w r =
     subst (λ (v : World). ShowsOwnPlaces r.pool_words v.writer) r.leads (generations_show_places r.pool_words r.passes r.entries r.legal) in
     subst (λ (n : ℕ). BacksForest n w.writer.desk.forest w.writer.desk.places) (sym shown.pool) shown.backs
 
-module _ (d : WriterState) (k : KeptState) (ws : List ℕ) (x : List RegionId) (h : IsWorld d k ws x) where
+module _ (d : WriterState) (k : KeptState) (ws : List ℕ) (x : Aside) (h : IsWorld d k ws x) where
   abbrev here : World
   here = world_of d k ws x
 

@@ -1,6 +1,9 @@
+pub mod Cleared
 pub mod Configuring
+pub mod Events
 pub mod Hands
 pub mod Released
 pub mod RunLaws
 pub mod Steps
+pub mod Unfilled
 pub mod Worlds

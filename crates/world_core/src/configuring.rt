@@ -26,8 +26,8 @@ use std::sync::ledger::{Blank, Ledger};
 use step_counter::Steps;
 use writer_desk::WriterDesk;
 
-// The private event, with a counter of carves of its own.
-fn configured<L: Ledger>(
+/// The private event, with a counter of carves of its own.
+pub(crate) fn configured<L: Ledger>(
     desk: &mut WriterDesk,
     config: &Config,
     held: Option<Refusal>,
@@ -58,8 +58,8 @@ fn put(regions: &mut Vec<RegionId>, region: RegionId)
     let _ = regions.insert(at, region);
 }
 
-// A region that is dropped is one of the dropped ones, which ascend. There is room for one more.
-fn note_drop(dropped: &mut Vec<RegionId>, config: &Config)
+/// A region that is dropped is one of the dropped ones, which ascend. There is room for one more.
+pub(crate) fn note_drop(dropped: &mut Vec<RegionId>, config: &Config)
     requires room { vec_len dropped.old < vec_capacity dropped.old }
     ensures { dropped.new.items ≡ dropped_with config.now dropped.old.items }
 {
@@ -68,8 +68,8 @@ fn note_drop(dropped: &mut Vec<RegionId>, config: &Config)
     }
 }
 
-// The words of a region that was made are 0.
-fn clear_made(words: &mut Words, desk: &BackedDesk, applied: Applied)
+/// The words of a region that was made are 0.
+pub(crate) fn clear_made(words: &mut Words, desk: &BackedDesk, applied: Applied)
     requires within { IfSome (made_place desk.now.backing.places applied) (λ p. past p ≤ length words.old) }
     ensures words { words.new ≡ cleared_at words.old (made_place desk.now.backing.places applied) }
     ensures len { length words.new ≡ length words.old }

@@ -29,8 +29,8 @@ fn harvest_refusal(tree: &Tree, region: RegionId) -> Option<Refusal>
     None
 }
 
-// How many mark words each client has of a place.
-fn mark_words(place: &Place) -> usize
+/// How many mark words each client has of a place.
+pub(crate) fn mark_words(place: &Place) -> usize
     ensures value { result ≡ mark_words place.now.bytes }
     ensures fits { result * pages_per_word < 2 ^ 64 }
 {
@@ -89,8 +89,8 @@ impl World {
         }
     }
 
-    // Takes one mark word that a client has of a place.
-    fn take_marks(&mut self, place: &Place, client: Client, index: usize) -> u64
+    /// Takes one mark word that a client has of a place.
+    pub(crate) fn take_marks(&mut self, place: &Place, client: Client, index: usize) -> u64
         requires placed { place_in_world self.old place.now.region ≡ Some place.now }
         requires may { possible self.old (events.Harvest place.now.region client index) ≡ true }
         requires index { index < mark_words place.now.bytes }

@@ -5,12 +5,20 @@
 #![tactic(auto)]
 
 mod accesses;
+mod cells;
+mod changing;
 mod configuring;
+mod events;
 mod hands;
 mod harvesting;
 mod numbers;
+mod possible;
+mod publishing;
 mod reaping;
 mod shown;
+#[cfg(test)]
+mod tests;
+mod unfilled;
 mod words;
 mod world;
 mod writing;

@@ -4,7 +4,8 @@ ghost use Rattle.mem_base.specs.declared.map.refusals.Refusal.{Refusal};
 ghost use Rattle.mem_base.specs.lists.Every.{Every};
 ghost use Rattle.mem_base.specs.map.Region.{node_of};
 ghost use Rattle.mem_base.specs.machine.Reaps.{is_named};
-ghost use Rattle.mem_base.specs.machine.World.{is_at_rest};
+ghost use Rattle.mem_base.specs.declared.machine.events.Event.TheVariants as events;
+ghost use Rattle.mem_base.specs.machine.World.{is_at_rest, possible, world_after};
 ghost use Rattle.mem_base.specs.machine.Orders.{reap};
 ghost use Rattle.mem_base.specs.machine.Answers.{answer_with, reap_answer};
 ghost use Rattle.mem_base.specs.machine.Completions.{IsCompleted};
@@ -98,6 +99,17 @@ impl World {
         unnamed(&self.kept, self.dropped.as_slice(), released);
         release_unnamed(&mut self.desk, &self.kept, self.dropped.as_slice());
         keep_named(&self.kept, &mut self.dropped);
+        self.kept.unsweep();
+    }
+
+    /// Releases the dropped regions that no held generation names, as the passes were last swept.
+    pub(crate) fn release_dropped(&mut self)
+        requires { possible self.old events.Reap ≡ true }
+        ensures { self.new ≡ world_after self.old events.Reap }
+    {
+        let kept = &self.kept;
+        release_unnamed(&mut self.desk, kept, self.dropped.as_slice());
+        keep_named(kept, &mut self.dropped);
         self.kept.unsweep();
     }
 }

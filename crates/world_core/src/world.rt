@@ -6,6 +6,7 @@ ghost use Rattle.mem_base.specs.machine.Passes.{pass_of};
 ghost use Rattle.world_core.specs.Hands.{IsInside, shown_to};
 ghost use Rattle.world_core.specs.Worlds.{IsReached};
 
+use crate::unfilled::Unfilled;
 use generation::Generation;
 use kept_generations::Kept;
 use mem_base::{NOTIFIER_COUNT, PassId, RegionId};
@@ -17,6 +18,8 @@ use writer_desk::WriterDesk;
 
 /// The pure machine. It is seen as the world of the definitions: the writer's desk, the generations that are kept, the passes, and
 /// the cells of all places.
+///
+/// It goes on by one event at a time, or by a call of the writer or of a pass, which makes several.
 #[derive(Drop)]
 pub struct World {
     pub(crate) desk: WriterDesk,
@@ -24,17 +27,18 @@ pub struct World {
     pub(crate) words: Words,
     // ascending
     pub(crate) dropped: Vec<RegionId>,
+    pub(crate) unfilled: Unfilled,
 }
 
 impl Model for World {
     ghost use Rattle.mem_base.specs.machine.World as machine;
-    ghost use Rattle.world_core.specs.Worlds.{world_of, IsWorld};
+    ghost use Rattle.world_core.specs.Worlds.{aside, world_of, IsWorld};
 
     ghost Value = { machine.World };
 
-    ghost view = { λ w. world_of w.desk w.kept w.words w.dropped.items };
+    ghost view = { λ w. world_of w.desk w.kept w.words (aside w.dropped.items w.unfilled.cells) };
 
-    ghost invariant = { λ w. IsWorld w.desk w.kept w.words w.dropped.items };
+    ghost invariant = { λ w. IsWorld w.desk w.kept w.words (aside w.dropped.items w.unfilled.cells) };
 }
 
 impl World {
@@ -54,6 +58,7 @@ impl World {
             kept: Kept::new(alloc, passes, first)?,
             words: Words::new(alloc, words + NOTIFIER_COUNT)?,
             dropped: Vec::new(alloc),
+            unfilled: Unfilled::none(alloc),
         })
     }
 

@@ -14,8 +14,8 @@ use access_cut::number_of;
 use mem_base::{Hand, NOTIFIER_COUNT, Place, Refusal, RegionId, WORD_SIZE, What, WordStep};
 use region_tree::Tree;
 
-// The owner of the notifiers' words.
-const NOTIFIERS: RegionId = RegionId(u32::MAX);
+/// The owner of the notifiers' words.
+pub(crate) const NOTIFIERS: RegionId = RegionId(u32::MAX);
 
 // Why this count of bytes is not loaded at an offset of a region; `None` where it is.
 fn load_refusal(tree: &Tree, region: RegionId, offset: u64, count: usize) -> Option<Refusal>

@@ -1,7 +1,7 @@
 use Rattle.std.proofs.Common.{rules, ◌≡◌, true}
 use Rattle.mem_base.specs.declared.machine.events.Event.TheVariants.{Leave}
 use Rattle.mem_base.specs.machine.World.{possible, world_after}
-use Rattle.world_core.specs.Worlds.{world_of}
+use Rattle.world_core.specs.Worlds.{Aside, aside, world_of}
 use Rattle.world_core.proofs.ReachedLaws.{passes_change}
 use Rattle.mem_base.specs.machine.World.{World}
 use Rattle.mem_base.specs.machine.Composites.{leaves}
@@ -12,7 +12,7 @@ use Rattle.world_core.proofs.world.World.leave.Goals as goal
 pub invariant_of-self : goal.invariant_of-self
 invariant_of-self c =
     let s = c.self.inside in
-    let x = s.dropped.items in
+    let x : Aside = aside s.dropped.items s.unfilled.cells in
     let may : possible (world_of s.desk s.kept s.words x) (Leave c.args.pass) ≡ true = search rules in
     let goes : world_of s.desk c.leave.new.self s.words x ≡ world_after (world_of s.desk s.kept s.words x) (Leave c.args.pass) = search rules in
     passes_change s.desk s.kept c.leave.new.self s.words x _ (Leave c.args.pass) c.self.invariant c.leave.ensures.state may goes
@@ -21,6 +21,6 @@ pub returns-clause-keeps : goal.returns-clause-keeps
 returns-clause-keeps c =
     let s = c.self.inside in
     let w : World = c.args.self.now in
-    let v : World = world_of s.desk c.leave.new.self s.words s.dropped.items in
+    let v : World = world_of s.desk c.leave.new.self s.words (aside s.dropped.items s.unfilled.cells) in
     let is : v ≡ after_events w (leaves c.args.pass) = search rules in
     leave_keeps w v c.args.pass c.requires is

@@ -1,6 +1,5 @@
 use Rattle.std.proofs.Common.{rules, ◌≡◌, Some, true, sym, ap, subst, ◌∙◌, arith}
 use Rattle.std.specs.Prelude.{◌<◌, ◌+◌, ◌^◌, ℕ, List, length}
-use Rattle.mem_base.specs.declared.map.ids.RegionId.{RegionId}
 use Rattle.mem_base.specs.declared.machine.events.Event.{Event}
 use Rattle.mem_base.specs.declared.machine.events.Event.TheVariants as events
 use Rattle.mem_base.specs.access.Cells.{words_after}
@@ -9,14 +8,14 @@ use Rattle.mem_base.specs.access.PlacesByRegion.{place_in}
 use Rattle.mem_base.specs.declared.access.cells.WordStep.TheVariants.{Or}
 use Rattle.mem_base.specs.machine.World.{World, possible, world_after}
 use Rattle.backed_desk.specs.Backed.{all_places}
-use Rattle.world_core.specs.Worlds.{world_of}
+use Rattle.world_core.specs.Worlds.{Aside, aside, world_of}
 use Rattle.world_core.proofs.WordLaws.{far, mark_is, words_change}
 use Rattle.world_core.proofs.world.World.mark_page.Goals as goal
 
 pub overflow_add-place : goal.overflow_add-place
 overflow_add-place c =
     let s = c.self.inside in
-    let x : List RegionId = s.dropped.items in
+    let x : Aside = aside s.dropped.items s.unfilled.cells in
     let p = c.args.place.now in
     let word : c.mark_of-word.result.0 ≡ word_of_page p c.args.client c.args.page = search rules in
     let is : place_in (all_places s.desk.backed.backing) p.region ≡ Some p = search rules in
@@ -32,12 +31,12 @@ step-requires c =
     let word : c.mark_of-word.result.0 ≡ word_of_page p c.args.client c.args.page = search rules in
     let is : place_in (all_places s.desk.backed.backing) p.region ≡ Some p = search rules in
     subst (λ (n : ℕ). p.start + n < length s.words) (sym word)
-    (far s.desk s.kept s.words s.dropped.items c.self.invariant p.region p (word_of_page p c.args.client c.args.page) is c.requires.within)
+    (far s.desk s.kept s.words (aside s.dropped.items s.unfilled.cells) c.self.invariant p.region p (word_of_page p c.args.client c.args.page) is c.requires.within)
 
 pub invariant_of-self : goal.invariant_of-self
 invariant_of-self c =
     let s = c.self.inside in
-    let x : List RegionId = s.dropped.items in
+    let x : Aside = aside s.dropped.items s.unfilled.cells in
     let p = c.args.place.now in
     let e : Event = events.Mark c.args.pass p.region c.args.client c.args.page in
     let is : place_in (all_places s.desk.backed.backing) p.region ≡ Some p = search rules in
@@ -51,7 +50,7 @@ invariant_of-self c =
 pub returns : goal.returns
 returns c =
     let s = c.self.inside in
-    let x : List RegionId = s.dropped.items in
+    let x : Aside = aside s.dropped.items s.unfilled.cells in
     let p = c.args.place.now in
     let e : Event = events.Mark c.args.pass p.region c.args.client c.args.page in
     let is : place_in (all_places s.desk.backed.backing) p.region ≡ Some p = search rules in

@@ -1,9 +1,9 @@
-use Rattle.std.proofs.Common.{rules, ◌≡◌, ◌+◌, ◌-◌, ℕ, length, sym, ap, ◌∙◌, arith, List}
-use Rattle.mem_base.specs.declared.map.ids.RegionId.{RegionId}
+use Rattle.std.proofs.Common.{rules, ◌≡◌, ◌+◌, ◌-◌, ℕ, length, sym, ap, ◌∙◌, arith}
 use Rattle.mem_base.specs.map.Limits.{notifier_count}
 use Rattle.mem_base.specs.access.PlacesByRegion.{notifiers}
 use Rattle.mem_base.specs.machine.World.{World, place_in_world}
 use Rattle.world_core.proofs.PlaceLaws.{notifiers_after}
+use Rattle.world_core.specs.Worlds.{Aside, aside}
 use Rattle.world_core.proofs.world.World.notifiers.Goals as goal
 
 pub overflow_sub-start : goal.overflow_sub-start
@@ -16,7 +16,7 @@ overflow_sub-start c =
 pub returns-clause-place : goal.returns-clause-place
 returns-clause-place c =
     let s = c.self.inside in
-    let x : List RegionId = s.dropped.items in
+    let x : Aside = aside s.dropped.items s.unfilled.cells in
     let len : c.len-start.result ≡ length s.words = search rules in
     sym (ap (λ (w : World). place_in_world w notifiers) c.self.view_is)
     ∙ notifiers_after s.desk s.kept s.words x c.self.invariant (c.len-start.result - notifier_count) (ap (λ (n : ℕ). n - notifier_count) len)

@@ -11,7 +11,7 @@ use Rattle.kept_generations.specs.Sweeping.{all_swept}
 use Rattle.backed_desk.specs.Backed.{forest_at}
 use Rattle.writer_desk.specs.Writers.{WriterState}
 use Rattle.world_core.specs.Released.{without_regions}
-use Rattle.world_core.specs.Worlds.{world_of}
+use Rattle.world_core.specs.Worlds.{Aside, aside, world_of}
 use Rattle.world_core.proofs.CallLaws.{none_due}
 use Rattle.world_core.proofs.ReapLaws.{none_there, IsReaped, reaped_by, gone, stays, unswept_by}
 use Rattle.world_core.proofs.world.World.reap_into.Goals as goal
@@ -19,7 +19,7 @@ use Rattle.world_core.proofs.world.World.reap_into.Goals as goal
 pub release_unnamed-requires : goal.release_unnamed-requires
 release_unnamed-requires c =
     let s = c.self.inside in
-    let x : List RegionId = s.dropped.items in
+    let x : Aside = aside s.dropped.items s.unfilled.cells in
     let rest : is_at_rest (world_of s.desk s.kept s.words x).writer.desk ≡ true =
     ap (λ (w : World). is_at_rest w.writer.desk) c.self.view_is ∙ c.requires.rest in
     let due : s.desk.due ≡ None = none_due s.desk s.kept s.words x rest in
@@ -32,7 +32,7 @@ release_unnamed-requires c =
 pub invariant_of-self : goal.invariant_of-self
 invariant_of-self c =
     let s = c.self.inside in
-    let x : List RegionId = s.dropped.items in
+    let x : Aside = aside s.dropped.items s.unfilled.cells in
     let h = c.self.invariant in
     let k : KeptState = c.sweep_all.new.self in
     let l : KeptState = c.unsweep.new.self in
@@ -53,7 +53,7 @@ invariant_of-self c =
 pub returns : goal.returns
 returns c =
     let s = c.self.inside in
-    let x : List RegionId = s.dropped.items in
+    let x : Aside = aside s.dropped.items s.unfilled.cells in
     let h = c.self.invariant in
     let k : KeptState = c.sweep_all.new.self in
     let l : KeptState = c.unsweep.new.self in
@@ -69,4 +69,4 @@ returns c =
     let unswept : l ≡ unswept_by s.desk s.kept s.words x h k = search rules in
     let all : IsReaped s.desk s.kept s.words x h d l dropped released =
     reaped_by s.desk s.kept s.words x h k l d dropped released rest swept released_is places dropped_is unswept in
-    subst (λ (w : World). IsCompleted w reap (reap_answer (Ok released)) (world_of d l s.words dropped)) c.self.view_is all.done
+    subst (λ (w : World). IsCompleted w reap (reap_answer (Ok released)) (world_of d l s.words (aside dropped s.unfilled.cells))) c.self.view_is all.done

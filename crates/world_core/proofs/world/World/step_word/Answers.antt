@@ -1,20 +1,19 @@
 use Rattle.std.proofs.Common.{rules, ◌≡◌, Some, true, sym, ap, ◌∙◌, arith}
 use Rattle.std.specs.Prelude.{◌<◌, ◌+◌, ◌^◌, ℕ, List, length}
-use Rattle.mem_base.specs.declared.map.ids.RegionId.{RegionId}
 use Rattle.mem_base.specs.declared.machine.events.Event.{Event}
 use Rattle.mem_base.specs.declared.machine.events.Event.TheVariants as events
 use Rattle.mem_base.specs.access.Cells.{cell, words_after}
 use Rattle.mem_base.specs.access.PlacesByRegion.{place_in}
 use Rattle.mem_base.specs.machine.World.{World, possible, reply, number_in, world_after}
 use Rattle.backed_desk.specs.Backed.{all_places}
-use Rattle.world_core.specs.Worlds.{world_of}
+use Rattle.world_core.specs.Worlds.{Aside, aside, world_of}
 use Rattle.world_core.proofs.WordLaws.{far, step_is, step_tells, words_change}
 use Rattle.world_core.proofs.world.World.step_word.Goals as goal
 
 pub overflow_add-place : goal.overflow_add-place
 overflow_add-place c =
     let s = c.self.inside in
-    let x : List RegionId = s.dropped.items in
+    let x : Aside = aside s.dropped.items s.unfilled.cells in
     let p = c.args.place.now in
     let is : place_in (all_places s.desk.backed.backing) p.region ≡ Some p = search rules in
     let l : p.start + c.args.word < length s.words = far s.desk s.kept s.words x c.self.invariant p.region p c.args.word is c.requires.within in
@@ -26,12 +25,12 @@ step-requires c =
     let s = c.self.inside in
     let p = c.args.place.now in
     let is : place_in (all_places s.desk.backed.backing) p.region ≡ Some p = search rules in
-    far s.desk s.kept s.words s.dropped.items c.self.invariant p.region p c.args.word is c.requires.within
+    far s.desk s.kept s.words (aside s.dropped.items s.unfilled.cells) c.self.invariant p.region p c.args.word is c.requires.within
 
 pub invariant_of-self : goal.invariant_of-self
 invariant_of-self c =
     let s = c.self.inside in
-    let x : List RegionId = s.dropped.items in
+    let x : Aside = aside s.dropped.items s.unfilled.cells in
     let p = c.args.place.now in
     let e : Event = events.Word c.args.hand (cell p.region c.args.word) c.args.step in
     let is : place_in (all_places s.desk.backed.backing) p.region ≡ Some p = search rules in
@@ -45,7 +44,7 @@ invariant_of-self c =
 pub returns-clause-old : goal.returns-clause-old
 returns-clause-old c =
     let s = c.self.inside in
-    let x : List RegionId = s.dropped.items in
+    let x : Aside = aside s.dropped.items s.unfilled.cells in
     let p = c.args.place.now in
     let e : Event = events.Word c.args.hand (cell p.region c.args.word) c.args.step in
     let is : place_in (all_places s.desk.backed.backing) p.region ≡ Some p = search rules in
@@ -55,7 +54,7 @@ returns-clause-old c =
 pub returns-clause-world : goal.returns-clause-world
 returns-clause-world c =
     let s = c.self.inside in
-    let x : List RegionId = s.dropped.items in
+    let x : Aside = aside s.dropped.items s.unfilled.cells in
     let p = c.args.place.now in
     let e : Event = events.Word c.args.hand (cell p.region c.args.word) c.args.step in
     let is : place_in (all_places s.desk.backed.backing) p.region ≡ Some p = search rules in

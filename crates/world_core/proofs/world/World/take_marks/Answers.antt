@@ -1,13 +1,12 @@
 use Rattle.std.proofs.Common.{rules, ◌≡◌, ◌+◌, ◌<◌, ◌^◌, Some, true, sym, ap, subst, ◌∙◌, arith, length, ℕ, List}
 use Rattle.std.specs.Prelude.{slice_index}
-use Rattle.mem_base.specs.declared.map.ids.RegionId.{RegionId}
 use Rattle.mem_base.specs.declared.access.cells.WordStep.TheVariants.{Take}
 use Rattle.mem_base.specs.declared.machine.events.Event.{Event}
 use Rattle.mem_base.specs.declared.machine.events.Event.TheVariants as events
 use Rattle.mem_base.specs.access.Cells.{words_after}
 use Rattle.mem_base.specs.access.Places.{mark_word}
 use Rattle.mem_base.specs.machine.World.{World, possible, reply, number_in, world_after, place_in_world}
-use Rattle.world_core.specs.Worlds.{world_of}
+use Rattle.world_core.specs.Worlds.{Aside, aside, world_of}
 use Rattle.world_core.proofs.WordLaws.{far, words_change}
 use Rattle.world_core.proofs.PlaceLaws.{mark_within, mark_is_at, take_is, take_tells}
 use Rattle.world_core.proofs.world.World.take_marks.Goals as goal
@@ -15,7 +14,7 @@ use Rattle.world_core.proofs.world.World.take_marks.Goals as goal
 pub overflow_add-place : goal.overflow_add-place
 overflow_add-place c =
     let s = c.self.inside in
-    let x : List RegionId = s.dropped.items in
+    let x : Aside = aside s.dropped.items s.unfilled.cells in
     let p = c.args.place.now in
     let mark : ℕ = mark_word p c.args.client c.args.index in
     let word : c.mark_of-word.result.0 ≡ mark = mark_is_at p c.args.client c.args.index
@@ -29,7 +28,7 @@ overflow_add-place c =
 pub step-requires : goal.step-requires
 step-requires c =
     let s = c.self.inside in
-    let x : List RegionId = s.dropped.items in
+    let x : Aside = aside s.dropped.items s.unfilled.cells in
     let p = c.args.place.now in
     let mark : ℕ = mark_word p c.args.client c.args.index in
     let word : c.mark_of-word.result.0 ≡ mark = mark_is_at p c.args.client c.args.index
@@ -41,7 +40,7 @@ step-requires c =
 pub invariant_of-self : goal.invariant_of-self
 invariant_of-self c =
     let s = c.self.inside in
-    let x : List RegionId = s.dropped.items in
+    let x : Aside = aside s.dropped.items s.unfilled.cells in
     let p = c.args.place.now in
     let mark : ℕ = mark_word p c.args.client c.args.index in
     let e : Event = events.Harvest p.region c.args.client c.args.index in
@@ -59,7 +58,7 @@ invariant_of-self c =
 pub returns-clause-old : goal.returns-clause-old
 returns-clause-old c =
     let s = c.self.inside in
-    let x : List RegionId = s.dropped.items in
+    let x : Aside = aside s.dropped.items s.unfilled.cells in
     let p = c.args.place.now in
     let mark : ℕ = mark_word p c.args.client c.args.index in
     let e : Event = events.Harvest p.region c.args.client c.args.index in
@@ -74,7 +73,7 @@ returns-clause-old c =
 pub returns-clause-world : goal.returns-clause-world
 returns-clause-world c =
     let s = c.self.inside in
-    let x : List RegionId = s.dropped.items in
+    let x : Aside = aside s.dropped.items s.unfilled.cells in
     let p = c.args.place.now in
     let mark : ℕ = mark_word p c.args.client c.args.index in
     let e : Event = events.Harvest p.region c.args.client c.args.index in
