@@ -102,7 +102,7 @@ fn kept(
         (λ p. has_leaf q.region (arc_value p.1)) atlases.now) places.now) }
 {
     let mut guesses = vec![in alloc; 0; atlases.len()]?;
-    let mut list = Vec::new(alloc);
+    let mut list = Vec::with_capacity(alloc, places.len())?;
     for place in places {
         if is_shown(atlases, guesses.as_mut_slice(), notifies, place) {
             list.push(*place)?;

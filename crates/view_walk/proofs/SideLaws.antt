@@ -5,13 +5,15 @@ use Rattle.std.proofs.Common.{get_or, length, add-one, ◌^◌}
 use Rattle.view_walk.specs.declared.sides.Side.{Side}
 use Rattle.view_walk.specs.declared.sides.Side.TheVariants.{OldOnly, Both, NewOnly}
 use Rattle.view_walk.specs.Sides.{first_of, side_of}
-use Rattle.std.specs.Prelude.{zero, suc, slice_get, if◌then◌else◌, filter, find, not, ◌==◌}
+use Rattle.std.proofs.lemmas.Nat.Bits.{bit_at_or, same_from_bits}
+use Rattle.std.specs.Int.{bit_at}
+use Rattle.std.specs.Prelude.{bit_or, max, zero, suc, slice_get, if◌then◌else◌, filter, find, not, ◌==◌}
 use Rattle.std.specs.List.{list_any}
 use Rattle.std.proofs.lemmas.Bool.Decides.{nat_tests}
 use Rattle.mem_base.specs.map.Attributes.{is_same_flags}
 use Rattle.mem_base.specs.declared.views.flat.FlatRange.{FlatRange}
 use Rattle.mem_base.specs.declared.views.listening.RangeEvent.{RangeEvent}
-use Rattle.mem_base.specs.declared.views.listening.RangeEvent.TheVariants.{Delete, Add}
+use Rattle.mem_base.specs.declared.views.listening.RangeEvent.TheVariants.{Delete, Add, Keep}
 use Rattle.mem_base.specs.lists.Booleans.{bool_eq}
 use Rattle.mem_base.specs.lists.Every.{Every}
 use Rattle.mem_base.specs.views.View.{IsRanges}
@@ -113,6 +115,16 @@ same_start r q h = go (eqb r.start q.start) refl
     go true e = eqb-true r.start q.start e
     go false e = absurd (let no : false ≡ true =
         subst (λ b. (b && (r.last == q.last) && (r.leaf.0 == q.leaf.0) && (r.offset == q.offset) && is_same_flags r.attrs q.attrs) ≡ true) e h in grind arith)
+
+-- a range whose logging mask stays is kept, and that is all
+or_self : (n : ℕ) → bit_or n n ≡ n
+or_self n = same_from_bits (bit_or n n) n (λ i. let e = bit_at_or n n i in e ∙ max_self (bit_at n i))
+  where
+    max_self : (a : ℕ) → max a a ≡ a
+    max_self a = omega arith
+
+pub kept_alone : (r : FlatRange) → added_or_kept r (Some r) ≡ Keep r ∷ []
+kept_alone r = rw (or_self r.attrs.log, eq-eqb r.attrs.log r.attrs.log refl) refl
 
 -- how far a walk is: what was told, and the ranges of each view that are left
 pub record IsWalking (old new : List FlatRange) (steps shown : List RangeEvent) (os ns : List FlatRange) : Type 0 where

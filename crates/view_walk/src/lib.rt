@@ -45,7 +45,7 @@ pub fn keep_all(alloc: Global, view: &View) -> Result<Walk, AllocError>
     let ranges = view.as_slice();
     let mut steps = Vec::with_capacity(alloc, ranges.len())?;
     for range in ranges {
-        keep(&mut steps, *range, *range)?;
+        steps.push(RangeEvent::Keep(*range))?;
     }
     Ok(Walk::new(steps))
 }
