@@ -17,3 +17,5 @@ mod drawn_routes;
 mod plain_routes;
 #[cfg(test)]
 mod routes;
+#[cfg(test)]
+mod touched;

@@ -68,8 +68,8 @@ module _ {S : Type 0} (Copy : ℕ → Generation → S → Type 0) (z : Sizes) w
       let is : r ≡ shared_reply st (events.Look (pass_id p)) Nothing = k.shown.current in
       let now : PassState = record (pass_of st.passes (pass_id p)) { looked = Some r } in
       let shown : WordsShow z (shared st.generations (set st.passes p now) st.words) s.words =
-      subst (WordsShow z (shared st.generations (set st.passes p now) st.words)) (set-get_or s.words (p + 1) 0)
-      (shows_moved z st s.words k.shown p now (get_or s.words (p + 1) 0) ok.many near (k.shown.pins p near)) in
+      subst (WordsShow z (shared st.generations (set st.passes p now) st.words)) (set-get_or s.words (8 * (p + 1)) 0)
+      (shows_moved z st s.words k.shown p now (get_or s.words (8 * (p + 1)) 0) ok.many near (k.shown.pins p near)) in
       let slots' : AllSlots Copy z.passes (shared st.generations (set st.passes p now) st.words) (generations_published k.log) k.held
       (generation_of_pick k.next) s.homes =
       slots_moved Copy z.passes st (generations_published k.log) k.held (generation_of_pick k.next) s.homes s.homes p now in_passes k.slots refl
@@ -93,7 +93,7 @@ module _ {S : Type 0} (Copy : ℕ → Generation → S → Type 0) (z : Sizes) w
 
   pub announce : (slots id : ℕ) (me : Me S View) (p q : ℕ) → p < z.passes → me.0.role ≡ Some (p + 1) → (pass_seen p me.0).looked ≡ Some q
       → (pass_seen p me.0).announced ≡ None
-      → Allows (IsRuled Copy z) slots id me (p + 1) (λ _. q + 1) (λ _. announces Copy (step slots (p + 1) (q + 1) 0 none) me (q + 1))
+      → Allows (IsRuled Copy z) slots id me (8 * (p + 1)) (λ _. q + 1) (λ _. announces Copy (step slots (8 * (p + 1)) (q + 1) 0 none) me (q + 1))
   announce slots id me p q near role there out s k deep at small =
       let st : Shared = state_of z k.log in
       let ok = good Copy z s k in
@@ -103,7 +103,7 @@ module _ {S : Type 0} (Copy : ℕ → Generation → S → Type 0) (z : Sizes) w
       both _ _ (both _ _ (lt-ltb p (length st.passes) in_passes) (ap (λ (h : PassState). is_some h.looked) knows ∙ ap is_some there))
       (ap (λ (h : PassState). is_none h.announced) knows ∙ ap is_none out) in
       let now : PassState = record (pass_of st.passes (pass_id p)) { announced = (pass_of st.passes (pass_id p)).looked } in
-      let shown : WordsShow z (shared st.generations (set st.passes p now) st.words) (set s.words (p + 1) (q + 1)) =
+      let shown : WordsShow z (shared st.generations (set st.passes p now) st.words) (set s.words (8 * (p + 1)) (q + 1)) =
       shows_moved z st s.words k.shown p now (q + 1) ok.many near (ap pin_word (sym (ap (λ (h : PassState). h.looked) knows ∙ there))) in
       let slots' : AllSlots Copy z.passes (shared st.generations (set st.passes p now) st.words) (generations_published k.log) k.held
       (generation_of_pick k.next) s.homes =
@@ -114,7 +114,7 @@ module _ {S : Type 0} (Copy : ℕ → Generation → S → Type 0) (z : Sizes) w
         keeps,
         tt,
         extends Copy z s k id me.0 at (p + 1) (events.Announce (pass_id p)) Nothing 0
-            (set s.words (p + 1) (q + 1)) s.homes k.held k.next me.0.held me.0.next role refl may refl shown k.roomy slots' (λ y. absurd (omega arith))
+            (set s.words (8 * (p + 1)) (q + 1)) s.homes k.held k.next me.0.held me.0.next role refl may refl shown k.roomy slots' (λ y. absurd (omega arith))
             (λ y. (refl, refl)),
         (
           refl,
@@ -147,20 +147,20 @@ module _ {S : Type 0} (Copy : ℕ → Generation → S → Type 0) (z : Sizes) w
       let mine_slots : PassSlots Copy c gs (known_of st.generations (pass_id p)) None k.held next s.homes p =
       subst (λ (e : Option ℕ). PassSlots Copy c gs (known_of st.generations (pass_id p)) e k.held next s.homes p) free (k.slots.each p near) in
       let copy = mine_slots.kept c low (omega arith) (λ e. none_is_no_number c e) in
-      let i : ℕ = 8 * p + r % 8 in
-      let same_place : 8 * p + c % 8 ≡ i = ap (λ (n : ℕ). 8 * p + n % 8) (sym is) in
+      let i : ℕ = 16 * p + r % 8 in
+      let same_place : 16 * p + c % 8 ≡ i = ap (λ (n : ℕ). 16 * p + n % 8) (sym is) in
       let homes' : List (maybe.Option S) = set s.homes i none in
       let log' : List HistoryEntry = k.log ++ history_entry (events.Enter (pass_id p)) Nothing r ∷ [] in
       let now : PassState = record (pass_of st.passes (pass_id p)) { entered = Some r } in
       let shown : WordsShow z (shared st.generations (set st.passes p now) st.words) s.words =
-      subst (WordsShow z (shared st.generations (set st.passes p now) st.words)) (set-get_or s.words (p + 1) 0)
-      (shows_moved z st s.words k.shown p now (get_or s.words (p + 1) 0) ok.many near (k.shown.pins p near)) in
+      subst (WordsShow z (shared st.generations (set st.passes p now) st.words)) (set-get_or s.words (8 * (p + 1)) 0)
+      (shows_moved z st s.words k.shown p now (get_or s.words (8 * (p + 1)) 0) ok.many near (k.shown.pins p near)) in
       let here : PassSlots Copy c gs (known_of st.generations (pass_id p)) (Some r) k.held next homes' p =
-      subst (λ (n : ℕ). PassSlots Copy c gs (known_of st.generations (pass_id p)) (Some n) k.held next (set s.homes (8 * p + n % 8) none) p) (sym is)
+      subst (λ (n : ℕ). PassSlots Copy c gs (known_of st.generations (pass_id p)) (Some n) k.held next (set s.homes (16 * p + n % 8) none) p) (sym is)
       (of_slots.entered Copy c gs (known_of st.generations (pass_id p)) k.held next s.homes p low close mine_slots) in
       let slots' : AllSlots Copy z.passes (shared st.generations (set st.passes p now) st.words) gs k.held next homes' =
       slots_moved Copy z.passes st gs k.held next s.homes homes' p now in_passes k.slots (length-set s.homes i none)
-      (λ v j other l. set_else s.homes i (8 * v + j) none (λ y. other (omega arith))) here in
+      (λ v j other l. set_else s.homes i (16 * v + j) none (λ y. other (omega arith))) here in
       let same_gs : gs ≡ generations_published log' =
       sym (published_append k.log (history_entry (events.Enter (pass_id p)) Nothing r ∷ []) (first_generation ∷ [])) in
       let v' : View = grown me.0 log' me.0.held me.0.next in (
@@ -176,7 +176,7 @@ module _ {S : Type 0} (Copy : ℕ → Generation → S → Type 0) (z : Sizes) w
               (adds Copy z s k id me.0 at (p + 1) (events.Enter (pass_id p)) Nothing r me.0.held me.0.next role may is refl),
           (
             copy.0,
-            ap (λ (y : ℕ). (8 * y + r % 8, copy.0) ∷ me.1) same,
+            ap (λ (y : ℕ). (16 * y + r % 8, copy.0) ∷ me.1) same,
             subst (λ (l : List Generation). Copy r (get_or l r first_generation) copy.0) same_gs
                 (subst (λ (n : ℕ). Copy n (get_or gs n first_generation) copy.0) (sym is) copy.2),
           ),
@@ -186,10 +186,10 @@ module _ {S : Type 0} (Copy : ℕ → Generation → S → Type 0) (z : Sizes) w
         )),
       )
 
-  pub leave : (slots id : ℕ) (me : Me S View) (p g : ℕ) (y : S) → p < z.passes → slots ≡ 8 * z.passes → me.0.role ≡ Some (p + 1)
-      → (pass_seen p me.0).entered ≡ Some g → me.1 ≡ (8 * p + g % 8, y) ∷ []
+  pub leave : (slots id : ℕ) (me : Me S View) (p g : ℕ) (y : S) → p < z.passes → slots ≡ 16 * z.passes → me.0.role ≡ Some (p + 1)
+      → (pass_seen p me.0).entered ≡ Some g → me.1 ≡ (16 * p + g % 8, y) ∷ []
       → ((log : List HistoryEntry) → me.0.sizes ≡ z → IsLegal z log → IsPrefix me.0.seen log → Copy g (generation_published log g) y)
-      → Allows (IsRuled Copy z) slots id me (p + 1) (λ _. 0) (λ _. leaves Copy (step slots (p + 1) 0 0 none) me 0)
+      → Allows (IsRuled Copy z) slots id me (8 * (p + 1)) (λ _. 0) (λ _. leaves Copy (step slots (8 * (p + 1)) 0 0 none) me 0)
   leave slots id me p g y near wide role there carries copies s k deep at small =
       let st : Shared = state_of z k.log in
       let gs : List Generation = generations_published k.log in
@@ -203,12 +203,12 @@ module _ {S : Type 0} (Copy : ℕ → Generation → S → Type 0) (z : Sizes) w
       let numbers = ok.each p near in
       let t = numbers.entered g busy in
       let next : Generation = generation_of_pick k.next in
-      let i : ℕ = 8 * p + g % 8 in
+      let i : ℕ = 16 * p + g % 8 in
       let homes' : List (maybe.Option S) = set s.homes i (some y) in
       let log' : List HistoryEntry = k.log ++ history_entry (events.Leave (pass_id p)) Nothing 0 ∷ [] in
-      let shown : WordsShow z (shared st.generations (set st.passes p idle) st.words) (set s.words (p + 1) 0) =
+      let shown : WordsShow z (shared st.generations (set st.passes p idle) st.words) (set s.words (8 * (p + 1)) 0) =
       shows_moved z st s.words k.shown p idle 0 ok.many near refl in
-      let room : 8 * p + 8 ≤ length s.homes = omega arith in
+      let room : 16 * p + 8 ≤ length s.homes = omega arith in
       let seat = k.seats id me.0 at in
       let here : PassSlots Copy c gs (known_of st.generations (pass_id p)) None k.held next homes' p =
       of_slots.left Copy c gs (known_of st.generations (pass_id p)) g k.held next s.homes p y t.3 t.4 numbers.near numbers.placed room
@@ -216,13 +216,13 @@ module _ {S : Type 0} (Copy : ℕ → Generation → S → Type 0) (z : Sizes) w
       (subst (λ (e : Option ℕ). PassSlots Copy c gs (known_of st.generations (pass_id p)) e k.held next s.homes p) busy (k.slots.each p near)) in
       let slots' : AllSlots Copy z.passes (shared st.generations (set st.passes p idle) st.words) gs k.held next homes' =
       slots_moved Copy z.passes st gs k.held next s.homes homes' p idle in_passes k.slots (length-set s.homes i (some y))
-      (λ v j other l. set_else s.homes i (8 * v + j) (some y) (λ q. other (omega arith))) here in
+      (λ v j other l. set_else s.homes i (16 * v + j) (some y) (λ q. other (omega arith))) here in
       let v' : View = grown me.0 log' me.0.held me.0.next in rw carries (
         v',
         gives,
         tt,
         extends Copy z s k id me.0 at (p + 1) (events.Leave (pass_id p)) Nothing 0
-            (set s.words (p + 1) 0) homes' k.held k.next me.0.held me.0.next role refl may refl shown k.roomy slots' (λ q. absurd (omega arith))
+            (set s.words (8 * (p + 1)) 0) homes' k.held k.next me.0.held me.0.next role refl may refl shown k.roomy slots' (λ q. absurd (omega arith))
             (λ q. (refl, refl)),
         (
           refl,
@@ -233,12 +233,12 @@ module _ {S : Type 0} (Copy : ℕ → Generation → S → Type 0) (z : Sizes) w
       )
 
   pub sweep : (slots id : ℕ) (me : Me S View) (p : ℕ) → p < z.passes → me.0.role ≡ Some 0
-      → Allows (IsRuled Copy z) slots id me (p + 1) (λ r. r) (sweeps Copy (step slots (p + 1) 0 0 none) me)
+      → Allows (IsRuled Copy z) slots id me (8 * (p + 1)) (λ r. r) (sweeps Copy (step slots (8 * (p + 1)) 0 0 none) me)
   sweep slots id me p near role s k deep at small =
       let st : Shared = state_of z k.log in
       let gs : List Generation = generations_published k.log in
       let c : ℕ = st.generations.current in
-      let r : ℕ = get_or s.words (p + 1) 0 in
+      let r : ℕ = get_or s.words (8 * (p + 1)) 0 in
       let ok = good Copy z s k in
       let in_passes = inside Copy z s k id me.0 at p near in
       let next : Generation = generation_of_pick k.next in
@@ -258,7 +258,7 @@ module _ {S : Type 0} (Copy : ℕ → Generation → S → Type 0) (z : Sizes) w
         v',
         keeps,
         tt,
-        subst (λ (ws : List ℕ). IsRuled Copy z record { words = ws; homes = s.homes; views = set s.views id v' }) (sym (set-get_or s.words (p + 1) 0))
+        subst (λ (ws : List ℕ). IsRuled Copy z record { words = ws; homes = s.homes; views = set s.views id v' }) (sym (set-get_or s.words (8 * (p + 1)) 0))
             (extends Copy z s k id me.0 at 0 (events.Sweep
             (pass_id p)) Nothing r s.words s.homes k.held k.next me.0.held me.0.next role refl may is shown k.roomy slots'
             (λ _. let n = (k.seats id me.0 at).counts role in (n.1, n.2)) (λ q. absurd (q refl))),
@@ -275,7 +275,7 @@ module _ {S : Type 0} (Copy : ℕ → Generation → S → Type 0) (z : Sizes) w
   pub reach : (slots id : ℕ) (me : Me S View) (p : ℕ) → p < z.passes → me.0.role ≡ Some 0 → me.0.held ≡ 0 → me.1 ≡ []
       → (generations_seen me.0).current ≤ (known_of (generations_seen me.0) (pass_id p)).lowest + 6
       → (known_of (generations_seen me.0) (pass_id p)).placed ≡ false
-      → Allows (IsRuled Copy z) slots id me (p + 1) (λ r. r) (reaches Copy (step slots (p + 1) 0 0 none) me)
+      → Allows (IsRuled Copy z) slots id me (8 * (p + 1)) (λ r. r) (reaches Copy (step slots (8 * (p + 1)) 0 0 none) me)
   reach slots id me p near role idle_hand empty close free s k deep at small =
       let st : Shared = state_of z k.log in
       let gs : List Generation = generations_published k.log in
@@ -290,7 +290,7 @@ module _ {S : Type 0} (Copy : ℕ → Generation → S → Type 0) (z : Sizes) w
       let ok = (good Copy z s k).each p near in
       let mine_slots : PassSlots Copy c gs was (pass_of st.passes (pass_id p)).entered 0 next s.homes p =
       subst (λ (h : ℕ). SlotsOfPass Copy st gs h next s.homes p) none_held (k.slots.each p near) in
-      let i : ℕ = 8 * p + (c + 1) % 8 in
+      let i : ℕ = 16 * p + (c + 1) % 8 in
       let home = mine_slots.home ((c + 1) % 8) (omega arith) (λ g e q. let t = ok.entered g e in let a = t.3 in let b = t.4 in
       let y = one_turn g (c + 1) 8 (omega arith) (omega arith) (sym q) in absurd (omega arith)) (λ y. absurd (omega arith)) in
       let homes' : List (maybe.Option S) = set s.homes i none in
@@ -301,7 +301,7 @@ module _ {S : Type 0} (Copy : ℕ → Generation → S → Type 0) (z : Sizes) w
             (λ same. subst (λ (y : ℕ). SlotsOfPass Copy st gs (p + 1) next homes' y) (sym same)
             (of_slots.reached Copy c gs was (pass_of st.passes (pass_id p)).entered next s.homes p close' free' mine_slots))
             (λ other. of_slots.stays Copy c gs (known_of st.generations (pass_id v)) (pass_of st.passes (pass_id v)).entered k.held
-            (p + 1) next next s.homes homes' v (λ j l'. set_else s.homes i (8 * v + j) none (λ y. other (omega arith)))
+            (p + 1) next next s.homes homes' v (λ j l'. set_else s.homes i (16 * v + j) none (λ y. other (omega arith)))
             (λ y. absurd (other (omega arith))) (λ y. absurd (omega arith)) (λ _. refl) (k.slots.each v l));
       } in rw empty (
         v',
@@ -310,7 +310,7 @@ module _ {S : Type 0} (Copy : ℕ → Generation → S → Type 0) (z : Sizes) w
         record {
           log = k.log;
           lawful = k.lawful;
-          shown = subst (WordsShow z st) (sym (set-get_or s.words (p + 1) 0)) k.shown;
+          shown = subst (WordsShow z st) (sym (set-get_or s.words (8 * (p + 1)) 0)) k.shown;
           roomy = k.roomy;
           owner = k.owner;
           out = k.out;
@@ -355,16 +355,16 @@ module _ {S : Type 0} (Copy : ℕ → Generation → S → Type 0) (z : Sizes) w
           ap (λ (y : ℕ). record me.0 { held = y + 1 }) same,
           (
             home.0,
-            ap (λ (y : ℕ × ℕ). (8 * y.0 + (y.1 + 1) % 8, home.0) ∷ []) (λ i. (same i, ap (λ (d : Generations). d.current) knows i)),
+            ap (λ (y : ℕ × ℕ). (16 * y.0 + (y.1 + 1) % 8, home.0) ∷ []) (λ i. (same i, ap (λ (d : Generations). d.current) knows i)),
           ),
         )),
       )
 
-  pub place : (slots id : ℕ) (me : Me S View) (p : ℕ) (m : Picked) (y : S) → p < z.passes → slots ≡ 8 * z.passes → me.0.role ≡ Some 0 → me.0.held ≡ p + 1
-      → me.1 ≡ (8 * p + ((generations_seen me.0).current + 1) % 8, y) ∷ []
+  pub place : (slots id : ℕ) (me : Me S View) (p : ℕ) (m : Picked) (y : S) → p < z.passes → slots ≡ 16 * z.passes → me.0.role ≡ Some 0 → me.0.held ≡ p + 1
+      → me.1 ≡ (16 * p + ((generations_seen me.0).current + 1) % 8, y) ∷ []
       → Copy ((generations_seen me.0).current + 1) (generation_of_pick m) y
       → ((v : ℕ) → (known_of (generations_seen me.0) (pass_id v)).placed ≡ true → me.0.next ≡ m)
-      → Allows (IsRuled Copy z) slots id me (p + 1) (λ r. r) (places Copy m (step slots (p + 1) 0 0 none) me)
+      → Allows (IsRuled Copy z) slots id me (8 * (p + 1)) (λ r. r) (places Copy m (step slots (8 * (p + 1)) 0 0 none) me)
   place slots id me p m y near wide role holding carries copy alike s k deep at small =
       let st : Shared = state_of z k.log in
       let gs : List Generation = generations_published k.log in
@@ -382,14 +382,14 @@ module _ {S : Type 0} (Copy : ℕ → Generation → S → Type 0) (z : Sizes) w
       let clear = mine_slots.clear refl in
       let may : shared_possible st (events.Place (pass_id p)) Nothing ≡ true =
       both _ _ (le-leb _ _ clear.0) (both _ _ (lt-ltb p (length st.passes) in_passes) (ap not clear.1)) in
-      let i : ℕ = 8 * p + (c + 1) % 8 in
+      let i : ℕ = 16 * p + (c + 1) % 8 in
       let homes' : List (maybe.Option S) = set s.homes i (some y) in
-      let room : 8 * p + 8 ≤ length s.homes = omega arith in
+      let room : 16 * p + 8 ≤ length s.homes = omega arith in
       let copy' : Copy (c + 1) (generation_of_pick m) y = subst (λ (d : Generations). Copy (d.current + 1) (generation_of_pick m) y) (sym knows) copy in
       let slots' : AllSlots Copy z.passes (after_shared_entry st (history_entry (events.Place (pass_id p)) Nothing 0)) gs 0 (generation_of_pick m) homes' =
       slots_known Copy z.passes st gs k.held 0 next (generation_of_pick m) s.homes homes' p (with_placed true was) (let n = ok.known in
       omega arith) k.slots (length-set s.homes i (some y))
-      (λ v j other l. set_else s.homes i (8 * v + j) (some y) (λ q. other (omega arith)))
+      (λ v j other l. set_else s.homes i (16 * v + j) (some y) (λ q. other (omega arith)))
       (λ v other l. (
         (λ q. absurd (omega arith)),
         (λ q. absurd (other (omega arith))),
@@ -399,12 +399,12 @@ module _ {S : Type 0} (Copy : ℕ → Generation → S → Type 0) (z : Sizes) w
       let v' : View = grown me.0 (k.log ++ history_entry (events.Place (pass_id p)) Nothing 0 ∷ []) 0 m in
       let shown : WordsShow z (after_shared_entry st (history_entry (events.Place (pass_id p)) Nothing 0)) s.words =
       record { wide = k.shown.wide; current = k.shown.current; small = k.shown.small; pins = k.shown.pins; pool = k.shown.pool } in
-      let same_slot : 8 * p + ((generations_seen me.0).current + 1) % 8 ≡ i = ap (λ (d : Generations). 8 * p + (d.current + 1) % 8) (sym knows) in
+      let same_slot : 16 * p + ((generations_seen me.0).current + 1) % 8 ≡ i = ap (λ (d : Generations). 16 * p + (d.current + 1) % 8) (sym knows) in
       rw (carries, same_slot) (
         v',
         gives,
         tt,
-        subst (λ (ws : List ℕ). IsRuled Copy z record { words = ws; homes = homes'; views = set s.views id v' }) (sym (set-get_or s.words (p + 1) 0))
+        subst (λ (ws : List ℕ). IsRuled Copy z record { words = ws; homes = homes'; views = set s.views id v' }) (sym (set-get_or s.words (8 * (p + 1)) 0))
             (extends Copy z s k id me.0 at 0 (events.Place (pass_id p)) Nothing 0 s.words homes' 0 m 0 m role refl may refl shown k.roomy slots'
             (λ _. (refl, refl)) (λ q. absurd (q refl))),
         (
@@ -436,8 +436,8 @@ module _ {S : Type 0} (Copy : ℕ → Generation → S → Type 0) (z : Sizes) w
         wide = length-set s.words 0 new ∙ k.shown.wide;
         current = get_or-set_same s.words 0 new 0 (let w = k.shown.wide in omega arith) ∙ is;
         small = let a = is in omega arith;
-        pins = λ v l. get_or-set_other s.words 0 (v + 1) new 0 (λ q. omega arith) ∙ k.shown.pins v l;
-        pool = λ i l. get_or-set_other s.words 0 (z.passes + 1 + i) new 0 (λ q. omega arith) ∙ k.shown.pool i l;
+        pins = λ v l. get_or-set_other s.words 0 (8 * (v + 1)) new 0 (λ q. omega arith) ∙ k.shown.pins v l;
+        pool = λ i l. get_or-set_other s.words 0 (8 * (z.passes + 1) + i) new 0 (λ q. omega arith) ∙ k.shown.pool i l;
       } in
       let slots' : AllSlots Copy z.passes (after_shared_entry st (history_entry events.Publish x new)) (gs ++ m ∷ []) k.held
       (generation_of_pick k.next) s.homes = record {
@@ -488,10 +488,10 @@ published_more xs log h g l =
 
 -- for a play that names what was picked by the value in hand
 pub place_as : {E Y : Type 0} (number : E → ℕ) (forest : E → Forest) (places : E → List Place) (z : Sizes) (slots id : ℕ) (me : Me (Option (Arc E Y)) View)
-    (p : ℕ) (a : Arc E Y) → p < z.passes → slots ≡ 8 * z.passes → me.0.role ≡ Some 0 → me.0.held ≡ p + 1
-    → me.1 ≡ (8 * p + ((generations_seen me.0).current + 1) % 8, Some a) ∷ [] → number (arc_value a) ≡ (generations_seen me.0).current + 1
+    (p : ℕ) (a : Arc E Y) → p < z.passes → slots ≡ 16 * z.passes → me.0.role ≡ Some 0 → me.0.held ≡ p + 1
+    → me.1 ≡ (16 * p + ((generations_seen me.0).current + 1) % 8, Some a) ∷ [] → number (arc_value a) ≡ (generations_seen me.0).current + 1
     → ((v : ℕ) → (known_of (generations_seen me.0) (pass_id v)).placed ≡ true → me.0.next ≡ picked forest places (arc_value a))
-    → Allows (IsRuled (IsCopy number forest places) z) slots id me (p + 1) (λ r. r) (placed_as forest places (step slots (p + 1) 0 0 none) me)
+    → Allows (IsRuled (IsCopy number forest places) z) slots id me (8 * (p + 1)) (λ r. r) (placed_as forest places (step slots (8 * (p + 1)) 0 0 none) me)
 place_as {E} {Y} number forest places z slots id me p a near wide role holding carries num alike s k deep at small =
     let did = place (IsCopy number forest places) z slots id me p (picked forest places (arc_value a)) (Some a) near wide role holding carries
     (a, refl, num, refl) alike s k deep at small in (

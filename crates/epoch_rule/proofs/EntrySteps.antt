@@ -138,32 +138,32 @@ module _ {S : Type 0} (Copy : ℕ → Generation → S → Type 0) (z : Sizes) (
 -- the words after a step of the pass u
 pub shows_moved : (z : Sizes) (s : Shared) (words : List ℕ) (h : WordsShow z s words) (u : ℕ) (p : PassState) (x : ℕ) → length s.passes ≡ z.passes
     → u < z.passes → x ≡ pin_word p.announced
-    → WordsShow z (shared s.generations (set s.passes u p) s.words) (set words (u + 1) x)
+    → WordsShow z (shared s.generations (set s.passes u p) s.words) (set words (8 * (u + 1)) x)
 shows_moved z s words h u p x many near is = record {
-  wide = length-set words (u + 1) x ∙ h.wide;
-  current = get_or-set_other words (u + 1) 0 x 0 (λ q. omega arith) ∙ h.current;
+  wide = length-set words (8 * (u + 1)) x ∙ h.wide;
+  current = get_or-set_other words (8 * (u + 1)) 0 x 0 (λ q. omega arith) ∙ h.current;
   small = h.small;
   pins = λ v l. dite (ℕ_discrete v u)
-      (λ same. subst (λ (k : ℕ). get_or (set words (u + 1) x) (k + 1) 0 ≡ pin_word (get_or (set s.passes u p) k idle).announced) (sym same)
-      (get_or-set_same words (u + 1) x 0 (let w = h.wide in omega arith)
+      (λ same. subst (λ (k : ℕ). get_or (set words (8 * (u + 1)) x) (8 * (k + 1)) 0 ≡ pin_word (get_or (set s.passes u p) k idle).announced) (sym same)
+      (get_or-set_same words (8 * (u + 1)) x 0 (let w = h.wide in omega arith)
       ∙ (is ∙ ap (λ (g : PassState). pin_word g.announced) (sym (get_or-set_same s.passes u p idle (omega arith))))))
-      (λ other. get_or-set_other words (u + 1) (v + 1) x 0 (λ q. other (omega arith))
+      (λ other. get_or-set_other words (8 * (u + 1)) (8 * (v + 1)) x 0 (λ q. other (omega arith))
       ∙ (h.pins v l ∙ ap (λ (g : PassState). pin_word g.announced) (sym (get_or-set_other s.passes u v p idle other))));
-  pool = λ i l. get_or-set_other words (u + 1) (z.passes + 1 + i) x 0 (λ q. omega arith) ∙ h.pool i l;
+  pool = λ i l. get_or-set_other words (8 * (u + 1)) (8 * (z.passes + 1) + i) x 0 (λ q. omega arith) ∙ h.pool i l;
 }
 
 -- the words after a step on a word of the cabinet
 pub shows_touched : (z : Sizes) (s : Shared) (words : List ℕ) (h : WordsShow z s words) (t x : ℕ) → length s.words ≡ z.words → t < z.words
-    → WordsShow z (shared s.generations s.passes (set s.words t x)) (set words (z.passes + 1 + t) x)
+    → WordsShow z (shared s.generations s.passes (set s.words t x)) (set words (8 * (z.passes + 1) + t) x)
 shows_touched z s words h t x wide near = record {
-  wide = length-set words (z.passes + 1 + t) x ∙ h.wide;
-  current = get_or-set_other words (z.passes + 1 + t) 0 x 0 (λ q. omega arith) ∙ h.current;
+  wide = length-set words (8 * (z.passes + 1) + t) x ∙ h.wide;
+  current = get_or-set_other words (8 * (z.passes + 1) + t) 0 x 0 (λ q. omega arith) ∙ h.current;
   small = h.small;
-  pins = λ v l. get_or-set_other words (z.passes + 1 + t) (v + 1) x 0 (λ q. omega arith) ∙ h.pins v l;
+  pins = λ v l. get_or-set_other words (8 * (z.passes + 1) + t) (8 * (v + 1)) x 0 (λ q. omega arith) ∙ h.pins v l;
   pool = λ i l. dite (ℕ_discrete i t)
-      (λ same. subst (λ (k : ℕ). get_or (set words (z.passes + 1 + t) x) (z.passes + 1 + k) 0 ≡ get_or (set s.words t x) k 0) (sym same)
-      (get_or-set_same words (z.passes + 1 + t) x 0 (let w = h.wide in omega arith) ∙ sym (get_or-set_same s.words t x 0 (omega arith))))
-      (λ other. get_or-set_other words (z.passes + 1 + t) (z.passes + 1 + i) x 0 (λ q. other (omega arith))
+      (λ same. subst (λ (k : ℕ). get_or (set words (8 * (z.passes + 1) + t) x) (8 * (z.passes + 1) + k) 0 ≡ get_or (set s.words t x) k 0) (sym same)
+      (get_or-set_same words (8 * (z.passes + 1) + t) x 0 (let w = h.wide in omega arith) ∙ sym (get_or-set_same s.words t x 0 (omega arith))))
+      (λ other. get_or-set_other words (8 * (z.passes + 1) + t) (8 * (z.passes + 1) + i) x 0 (λ q. other (omega arith))
       ∙ (h.pool i l ∙ sym (get_or-set_other s.words t i x 0 other)));
 }
 
@@ -171,7 +171,7 @@ module _ {S : Type 0} (Copy : ℕ → Generation → S → Type 0) where
   -- the first_slots after a step of the pass u, which changes its own slots alone
   pub slots_moved : (n : ℕ) (s : Shared) (gs : List Generation) (held : ℕ) (next : Generation) (homes homes' : List (maybe.Option S)) (u : ℕ) (p : PassState)
       → u < length s.passes → AllSlots Copy n s gs held next homes → length homes' ≡ length homes
-      → ((v j : ℕ) → v ≢ u → j < 8 → get_elem? homes' (8 * v + j) ≡ get_elem? homes (8 * v + j))
+      → ((v j : ℕ) → v ≢ u → j < 8 → get_elem? homes' (16 * v + j) ≡ get_elem? homes (16 * v + j))
       → PassSlots Copy s.generations.current gs (known_of s.generations (pass_id u)) p.entered held next homes' u
       → AllSlots Copy n (shared s.generations (set s.passes u p) s.words) gs held next homes'
   slots_moved n s gs held next homes homes' u p near k deep away here = record {
@@ -189,7 +189,7 @@ module _ {S : Type 0} (Copy : ℕ → Generation → S → Type 0) where
   -- the first_slots after a step of the writer about the pass u
   pub slots_known : (n : ℕ) (s : Shared) (gs : List Generation) (held held' : ℕ) (next next' : Generation) (homes homes' : List (maybe.Option S)) (u : ℕ)
       (f : PassTrack) → u < length s.generations.passes → AllSlots Copy n s gs held next homes → length homes' ≡ length homes
-      → ((v j : ℕ) → v ≢ u → j < 8 → get_elem? homes' (8 * v + j) ≡ get_elem? homes (8 * v + j))
+      → ((v j : ℕ) → v ≢ u → j < 8 → get_elem? homes' (16 * v + j) ≡ get_elem? homes (16 * v + j))
       → ((v : ℕ) → v ≢ u → v < n → (held' ≡ v + 1 → held ≡ v + 1) × (held ≡ v + 1 → held' ≡ v + 1)
       × ((known_of s.generations (pass_id v)).placed ≡ true → next' ≡ next))
       → PassSlots Copy s.generations.current gs f (pass_of s.passes (pass_id u)).entered held' next' homes' u

@@ -23,13 +23,13 @@ use Rattle.epoch_rule.specs.Plays.{first_view}
 use Rattle.view_laws.proofs.Tests.{same_number}
 
 module _ {S : Type 0} (Copy : ℕ → Generation → S → Type 0) (z : Sizes) where
-  first_pass_slots : (homes : List (maybe.Option S)) (v : ℕ) → HasAt homes (8 * v) (Copy 0 first_generation)
-      → ((j : ℕ) → j < 8 → HasAt homes (8 * v + j) (λ y. Unit {0}))
+  first_pass_slots : (homes : List (maybe.Option S)) (v : ℕ) → HasAt homes (16 * v) (Copy 0 first_generation)
+      → ((j : ℕ) → j < 8 → HasAt homes (16 * v + j) (λ y. Unit {0}))
       → PassSlots Copy 0 (first_generation ∷ []) nothing_known None 0 first_generation homes v
   first_pass_slots homes v copy all = record {
     kept = λ g low high out. let none : 0 ≡ g = omega arith in
-        subst (λ (x : ℕ). HasAt homes (8 * v + x % 8) (Copy x (get_or (first_generation ∷ []) x first_generation))) none
-        (subst (λ (i : ℕ). HasAt homes i (Copy 0 first_generation)) {x = 8 * v} {y = 8 * v + 0} (omega arith) copy);
+        subst (λ (x : ℕ). HasAt homes (16 * v + x % 8) (Copy x (get_or (first_generation ∷ []) x first_generation))) none
+        (subst (λ (i : ℕ). HasAt homes i (Copy 0 first_generation)) {x = 16 * v} {y = 16 * v + 0} (omega arith) copy);
     placed = λ e. absurd (grind arith);
     home = λ j l a b. all j l;
     clear = λ e. absurd (omega arith);
@@ -39,8 +39,8 @@ module _ {S : Type 0} (Copy : ℕ → Generation → S → Type 0) (z : Sizes) w
   alone zero v other e = other refl
   alone (suc j) v other e = some-ne-none v (sym e)
 
-  pub opens : (words : List ℕ) (slots : List S) → length words ≡ z.passes + 1 + z.words → ((i : ℕ) → get_or words i 0 ≡ 0) → length slots ≡ 8 * z.passes
-      → ((v : ℕ) → v < z.passes → (y : S) × (get_elem? slots (8 * v) ≡ some y) × Copy 0 first_generation y)
+  pub opens : (words : List ℕ) (slots : List S) → length words ≡ 8 * (z.passes + 1) + z.words → ((i : ℕ) → get_or words i 0 ≡ 0) → length slots ≡ 16 * z.passes
+      → ((v : ℕ) → v < z.passes → (y : S) × (get_elem? slots (16 * v) ≡ some y) × Copy 0 first_generation y)
       → IsRuled Copy z (opening words slots (first_view z))
   opens words slots wide blank deep copies = record {
     log = [];
@@ -49,8 +49,8 @@ module _ {S : Type 0} (Copy : ℕ → Generation → S → Type 0) (z : Sizes) w
       wide = wide;
       current = blank 0;
       small = omega arith;
-      pins = λ v l. blank (v + 1) ∙ ap (λ (h : PassState). pin_word h.announced) (sym (get_or-replicate z.passes v idle idle l));
-      pool = λ i l. blank (z.passes + 1 + i) ∙ sym (get_or-replicate z.words i 0 0 l);
+      pins = λ v l. blank (8 * (v + 1)) ∙ ap (λ (h : PassState). pin_word h.announced) (sym (get_or-replicate z.passes v idle idle l));
+      pool = λ i l. blank (8 * (z.passes + 1) + i) ∙ sym (get_or-replicate z.words i 0 0 l);
     };
     roomy = (tt, tt);
     owner = λ _. 0;
@@ -63,7 +63,7 @@ module _ {S : Type 0} (Copy : ℕ → Generation → S → Type 0) (z : Sizes) w
       each = λ v l. subst (λ (x : PassTrack × PassState). PassSlots Copy 0 (first_generation ∷ []) x.0 x.1.entered 0 first_generation (map some slots) v)
           (λ i. (sym (get_or-replicate z.passes v nothing_known nothing_known l) i, sym (get_or-replicate z.passes v idle idle l) i))
           (first_pass_slots (map some slots) v (let c = copies v l in
-          (c.0, at_map some slots (8 * v) c.0 c.1, c.2)) (λ j s. let h = some_there slots (8 * v + j) (omega arith) in (h.0, h.1, tt)));
+          (c.0, at_map some slots (16 * v) c.0 c.1, c.2)) (λ j s. let h = some_there slots (16 * v + j) (omega arith) in (h.0, h.1, tt)));
     };
     seats = λ j v e. ⊎_elim (λ (t : (j ≡ 0) × (first_view z ≡ v)). subst
         (λ (y : ℕ × View). SeatKnows z [] (λ _. 0) (replicate z.passes false) 0 (record { forest = empty; places = [] }) y.0 y.1)
@@ -96,12 +96,12 @@ module _ {E Z : Type 0} (e : E) where
     long = ap length h.2.2 ∙ (length-append (old ++ Some h.0 ∷ []) h.2.0
         ∙ (let a = length-append old (Some h.0 ∷ []) in let b = s.long in let c = h.2.1 in omega arith));
     each = λ v l. dite (ℕ_discrete v n)
-        (λ same. subst (λ (x : ℕ). (a : Arc E Z) × (get_elem? new (8 * x) ≡ some (Some a)) × (arc_value a ≡ e)) (sym same)
-        (h.0, ap (λ l. get_elem? l (8 * n)) h.2.2 ∙ at_longer (old ++ Some h.0 ∷ []) h.2.0 (8 * n) (Some h.0) (at_last old (Some h.0) (8 * n) s.long), h.1))
+        (λ same. subst (λ (x : ℕ). (a : Arc E Z) × (get_elem? new (16 * x) ≡ some (Some a)) × (arc_value a ≡ e)) (sym same)
+        (h.0, ap (λ l. get_elem? l (16 * n)) h.2.2 ∙ at_longer (old ++ Some h.0 ∷ []) h.2.0 (16 * n) (Some h.0) (at_last old (Some h.0) (16 * n) s.long), h.1))
         (λ other. let t = s.each v (omega arith) in (
           t.0,
-          ap (λ l. get_elem? l (8 * v)) h.2.2
-              ∙ at_longer (old ++ Some h.0 ∷ []) h.2.0 (8 * v) (Some t.0) (at_longer old (Some h.0 ∷ []) (8 * v) (Some t.0) t.1),
+          ap (λ l. get_elem? l (16 * v)) h.2.2
+              ∙ at_longer (old ++ Some h.0 ∷ []) h.2.0 (16 * v) (Some t.0) (at_longer old (Some h.0 ∷ []) (16 * v) (Some t.0) t.1),
           t.2,
         ));
   }

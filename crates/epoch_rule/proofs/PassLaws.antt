@@ -127,7 +127,7 @@ module _ {E Z : Type 0} (number : E → ℕ) (forest : E → Forest) (places : E
   some_same x y e = ap (λ (o : Option (Arc E Z)). unwrap_or o x) e
 
   -- what entering leaves of the pass
-  pub stands_in : (p r : ℕ) (me : Me (Option (Arc E Z)) View) (o : Option (Arc E Z)) → (pass_seen p me.0).entered ≡ Some r → me.1 ≡ (8 * p + r % 8, None) ∷ []
+  pub stands_in : (p r : ℕ) (me : Me (Option (Arc E Z)) View) (o : Option (Arc E Z)) → (pass_seen p me.0).entered ≡ Some r → me.1 ≡ (16 * p + r % 8, None) ∷ []
       → r < length (generations_published me.0.seen)
       → IsCopy number forest places r (generation_published me.0.seen r) o → PlacesFit me.0.sizes.words (generation_published me.0.seen r)
       → HasItsEdition number forest places p me o
@@ -143,7 +143,7 @@ module _ {E Z : Type 0} (number : E → ℕ) (forest : E → Forest) (places : E
           shows = shows ∙ ap (generation_published me.0.seen) (sym is);
           roomy = subst (PlacesFit me.0.sizes.words) (sym shows) roomy;
         },
-        carries ∙ ap (λ (z : ℕ). (8 * p + z % 8, None) ∷ []) (sym is),
+        carries ∙ ap (λ (z : ℕ). (16 * p + z % 8, None) ∷ []) (sym is),
       )
 
   pub entered_at : (p : ℕ) (me : Me (Option (Arc E Z)) View) (o : Option (Arc E Z)) (e : E) → value_in o ≡ Some e → HasItsEdition number forest places p me o

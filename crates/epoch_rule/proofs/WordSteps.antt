@@ -1,5 +1,5 @@
 -- The steps on the cabinet's words.
-use Rattle.std.proofs.Common.{◌≡◌, ℕ, zero, suc, ◌+◌, ◌-◌, ◌%◌, ◌<◌, ◌≤◌, eqb, Bool, true, false, List, [], ◌∷◌, ◌++◌, length, get_or, set}
+use Rattle.std.proofs.Common.{◌≡◌, ℕ, zero, suc, ◌+◌, ◌*◌, ◌-◌, ◌%◌, ◌<◌, ◌≤◌, eqb, Bool, true, false, List, [], ◌∷◌, ◌++◌, length, get_or, set}
 use Rattle.std.proofs.Common.{sym, refl, ap, ◌∙◌, subst, arith, Some}
 use Rattle.std.specs.Prelude.{MatchBool, slice_get}
 use Rattle.std.proofs.lemmas.Bool.{lt-ltb, le-leb, eqb-true}
@@ -39,11 +39,11 @@ use Rattle.epoch_rule.proofs.EntrySteps.{grown, good, extends, adds, shows_touch
 module _ {S : Type 0} (Copy : ℕ → Generation → S → Type 0) (z : Sizes) where
   -- a word of the table is what the history leaves
   had_word : (s : State S View) (k : IsRuled Copy z s) (id : ℕ) (me : Me S View) → get_elem? s.views id ≡ some me.0 → (a : ℕ) → me.0.role ≡ Some a
-      → (word : ℕ) → word < z.words → HadWord me.0.sizes me.0.seen word (get_or s.words (z.passes + 1 + word) 0) k.log
+      → (word : ℕ) → word < z.words → HadWord me.0.sizes me.0.seen word (get_or s.words (8 * (z.passes + 1) + word) 0) k.log
   had_word s k id me at a role word inside = let seat = k.seats id me.0 at in record {
     begins = seat.begins;
     lawful = subst (λ (y : Sizes). IsLegal y k.log) (sym (seat.knows a role)) k.lawful;
-    value = subst (λ (y : Sizes). get_or (state_of y k.log).words word 0 ≡ get_or s.words (z.passes + 1 + word) 0) (sym (seat.knows a role))
+    value = subst (λ (y : Sizes). get_or (state_of y k.log).words word 0 ≡ get_or s.words (8 * (z.passes + 1) + word) 0) (sym (seat.knows a role))
         (sym (k.shown.pool word inside));
   }
 
@@ -54,13 +54,13 @@ module _ {S : Type 0} (Copy : ℕ → Generation → S → Type 0) (z : Sizes) w
       → ((n : ℕ) → n < 18446744073709551616 → f n ≡ word_after t.touch.step n)
       → ((log : List HistoryEntry) → me.0.sizes ≡ z → IsLegal z log → IsPrefix me.0.seen log → own_entries a me.0.seen ≡ own_entries a log
       → shared_possible (state_of z log) e (At p) ≡ true)
-      → Allows (IsRuled Copy z) slots id me (z.passes + 1 + t.word) f (λ r. touched a e p t me r)
+      → Allows (IsRuled Copy z) slots id me (8 * (z.passes + 1) + t.word) f (λ r. touched a e p t me r)
   touch slots id me a e p t f kind role inside does able s k deep at small =
       let st : Shared = state_of z k.log in
       let gs : List Generation = generations_published k.log in
       let ok = good Copy z s k in
       let seat = k.seats id me.0 at in
-      let i : ℕ = z.passes + 1 + t.word in
+      let i : ℕ = 8 * (z.passes + 1) + t.word in
       let old : ℕ = get_or s.words i 0 in
       let r : ℕ = told_by t old in
       let same : old ≡ get_or st.words t.word 0 = k.shown.pool t.word inside in
@@ -118,7 +118,7 @@ entered_is z log l v near g is =
 module _ {S : Type 0} (Copy : ℕ → Generation → S → Type 0) (z : Sizes) where
   -- the same for a step that is ready, at the word's own number
   pub ready_touch : (slots id : ℕ) (me : Me S View) (a : ℕ) (e : Event) (p : Place) (t : PoolTouch) (index : ℕ) (f : ℕ → ℕ) → IsStepReady z me.0 a e p t
-      → index ≡ z.passes + 1 + t.word
+      → index ≡ 8 * (z.passes + 1) + t.word
       → ((n : ℕ) → n < 18446744073709551616 → f n ≡ word_after t.touch.step n)
       → Allows (IsRuled Copy z) slots id me index f (λ r. touched a e p t me r)
   ready_touch slots id me a e p t index f r is does =
@@ -127,7 +127,7 @@ module _ {S : Type 0} (Copy : ℕ → Generation → S → Type 0) (z : Sizes) w
 
   -- a step that tells not what it found
   pub ready_store : (slots id : ℕ) (me : Me S View) (a : ℕ) (e : Event) (p : Place) (t : PoolTouch) (index value : ℕ) → IsStepReady z me.0 a e p t
-      → index ≡ z.passes + 1 + t.word
+      → index ≡ 8 * (z.passes + 1) + t.word
       → ((n : ℕ) → n < 18446744073709551616 → value ≡ word_after t.touch.step n)
       → Allows (IsRuled Copy z) slots id me index (λ _. value) (λ _ w. (old : ℕ) × touched a e p t me old w)
   ready_store slots id me a e p t index value r is does s k deep at small =
@@ -135,7 +135,7 @@ module _ {S : Type 0} (Copy : ℕ → Generation → S → Type 0) (z : Sizes) w
 
   -- a compare-exchange
   pub ready_try : (slots id : ℕ) (me : Me S View) (a : ℕ) (e : Event) (p : Place) (t : PoolTouch) (index old new : ℕ) → IsStepReady z me.0 a e p t
-      → index ≡ z.passes + 1 + t.word
+      → index ≡ 8 * (z.passes + 1) + t.word
       → new ≡ word_after t.touch.step old
       → Allows (IsRuled Copy z) slots id me index (λ n. either (eqb n old) new n) (λ r w. MatchBool (eqb r old) (touched a e p t me r w)
       ((w ≡ me) × WordWas me.0.sizes me.0.seen t.word r))
@@ -172,7 +172,7 @@ module _ {S : Type 0} (Copy : ℕ → Generation → S → Type 0) (z : Sizes) w
 
   -- a load that shows no event
   pub ready_look : (slots id : ℕ) (me : Me S View) (a : ℕ) (e : Event) (p : Place) (t : PoolTouch) (index : ℕ) → IsStepReady z me.0 a e p t
-      → index ≡ z.passes + 1 + t.word
+      → index ≡ 8 * (z.passes + 1) + t.word
       → Allows (IsRuled Copy z) slots id me index (λ n. n) (λ r w. (w ≡ me) × WordWas me.0.sizes me.0.seen t.word r)
   ready_look slots id me a e p t index r is s k deep at small = let did = peek Copy z slots id me index s k deep at small in (
     did.0,

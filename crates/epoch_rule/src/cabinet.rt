@@ -52,9 +52,9 @@ impl<E: Edition + Drop> Cabinet<E> {
     {
         let shared = &self.table.shared;
         let looked = shared.load::<Looks>(&mut pass.seat, 0);
-        shared.store::<Announces>(&mut pass.seat, pass.number as usize + 1, looked + 1);
+        shared.store::<Announces>(&mut pass.seat, 8 * (pass.number as usize + 1), looked + 1);
         let number = shared.load::<Enters>(&mut pass.seat, 0);
-        let slot = 8 * pass.number as usize + (number % 8) as usize;
+        let slot = 16 * pass.number as usize + (number % 8) as usize;
         pass.edition = shared.exchange(&mut pass.seat, slot, None);
         number
     }
@@ -68,9 +68,9 @@ impl<E: Edition + Drop> Cabinet<E> {
     {
         let shared = &self.table.shared;
         if let Some(edition) = pass.edition.take() {
-            let slot = 8 * pass.number as usize + (edition.number() % 8) as usize;
+            let slot = 16 * pass.number as usize + (edition.number() % 8) as usize;
             shared.exchange(&mut pass.seat, slot, Some(edition));
-            shared.store::<Leaves>(&mut pass.seat, pass.number as usize + 1, 0);
+            shared.store::<Leaves>(&mut pass.seat, 8 * (pass.number as usize + 1), 0);
         }
     }
 

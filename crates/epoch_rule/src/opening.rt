@@ -27,7 +27,7 @@ fn filled<T: Clone + std::marker::Copy + Drop>(
     Ok(items)
 }
 
-/// Appends the slots of one pass: a copy of edition 0, and seven empty ones.
+/// Appends the slots of one pass: a copy of edition 0, and fifteen empty ones.
 fn add_slots<E: Edition + Drop>(
     slots: &mut Vec<Slot<E>>,
     first: &Arc<E, Global>,
@@ -36,7 +36,7 @@ fn add_slots<E: Edition + Drop>(
 {
     let copy = Arc::try_clone(first)?;
     slots.push(Some(copy))?;
-    for _ in 0..7usize {
+    for _ in 0..15usize {
         slots.push(None)?;
     }
     Ok(())
@@ -75,7 +75,7 @@ impl<E: Edition + Drop> Cabinet<E> {
         let none = Found { word: 0, lowest: 0 };
         let known = filled(alloc, passes as usize, none)?;
         let out = filled(alloc, passes as usize, false)?;
-        let blank = filled(alloc, passes as usize + 1 + words, 0u64)?;
+        let blank = filled(alloc, 8 * (passes as usize + 1) + words, 0u64)?;
         let slots = first_slots(alloc, passes, &first)?;
         let sizes = Sizes { passes, words };
         let Ok((table, seat)) = Table::new(alloc, blank.as_slice(), slots, &sizes) else {

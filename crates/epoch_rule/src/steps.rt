@@ -29,7 +29,7 @@ pub(crate) fn sweep<E: Edition + Drop>(
     ensures seat { (seat.new.table_id ≡ seat.old.table_id) × (seat.new.me.1 ≡ seat.old.me.1) × KeepsSlot seat.old.me.0 seat.new.me.0 }
     ensures adds { ComesNext 0 seat.old.me.0 (Sweep (pass_id pass)) Nothing result seat.new.me.0 }
 {
-    shared.load::<Sweeps>(seat, pass as usize + 1)
+    shared.load::<Sweeps>(seat, 8 * (pass as usize + 1))
 }
 
 /// Gives the pass its copy of the next generation. The slot that it takes is of no generation that the pass may use.
@@ -51,10 +51,10 @@ pub(crate) fn place<E: Edition + Drop>(
         × (seat.new.me.0.next ≡ picked E.forest E.places (arc_value copy)) }
     ensures adds { ComesNext 0 seat.old.me.0 (Place (pass_id pass)) Nothing 0 seat.new.me.0 }
 {
-    shared.load::<Reaches>(seat, pass as usize + 1);
-    let slot = 8 * pass as usize + (next % 8) as usize;
+    shared.load::<Reaches>(seat, 8 * (pass as usize + 1));
+    let slot = 16 * pass as usize + (next % 8) as usize;
     drop(shared.exchange(seat, slot, Some(copy)));
-    shared.load::<Places>(seat, pass as usize + 1);
+    shared.load::<Places>(seat, 8 * (pass as usize + 1));
 }
 
 /// Makes the next generation the current one.

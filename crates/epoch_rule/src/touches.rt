@@ -1,5 +1,5 @@
 // The touches of the cabinet's words.
-ghost use Rattle.std.specs.Prelude.{◌≡◌, ℕ, ◌+◌, ◌^◌, ◌≤◌, ◌<◌};
+ghost use Rattle.std.specs.Prelude.{◌≡◌, ℕ, ◌+◌, ◌*◌, ◌^◌, ◌≤◌, ◌<◌};
 ghost use Rattle.mem_base.specs.access.Words.{replaced};
 ghost use Rattle.mem_base.specs.declared.machine.events.Hand.TheVariants.{Pass, Writer};
 ghost use Rattle.mem_base.specs.access.Places.{mark_word, word_of_page};
@@ -83,7 +83,7 @@ fn step_word<E: Edition + Drop>(
 ) -> u64
     requires table { (seat.old.table_id ≡ shared.now.table_id) × Suits shared.now.table_id shared.now.key }
     requires ready { IsReady shared.now.key seat.old.me.0 hand place.now word (Step step) }
-    requires index { index ≡ shared.now.key.passes + 1 + (place.now.start + word) }
+    requires index { index ≡ 8 * (shared.now.key.passes + 1) + (place.now.start + word) }
     requires whole { IsWholeStep step }
     ensures table { seat.new.table_id ≡ seat.old.table_id }
     ensures seat { (seat.new.me.1 ≡ seat.old.me.1) × KeepsSlot seat.old.me.0 seat.new.me.0 }
@@ -120,7 +120,7 @@ fn try_word<E: Edition + Drop>(
 ) -> u64
     requires table { (seat.old.table_id ≡ shared.now.table_id) × Suits shared.now.table_id shared.now.key }
     requires ready { IsReady shared.now.key seat.old.me.0 hand place.now word (Try old first bytes value) }
-    requires index { index ≡ shared.now.key.passes + 1 + (place.now.start + word) }
+    requires index { index ≡ 8 * (shared.now.key.passes + 1) + (place.now.start + word) }
     requires part { first + bytes ≤ 8 }
     ensures table { seat.new.table_id ≡ seat.old.table_id }
     ensures seat { (seat.new.me.1 ≡ seat.old.me.1) × KeepsSlot seat.old.me.0 seat.new.me.0 }
@@ -152,7 +152,7 @@ fn mark_page<E: Edition + Drop>(
 ) -> u64
     requires table { (seat.old.table_id ≡ shared.now.table_id) × Suits shared.now.table_id shared.now.key }
     requires ready { IsReady shared.now.key seat.old.me.0 (Pass pass) place.now word (Mark client page) }
-    requires index { index ≡ shared.now.key.passes + 1 + (place.now.start + word) }
+    requires index { index ≡ 8 * (shared.now.key.passes + 1) + (place.now.start + word) }
     requires word { word ≡ word_of_page place.now client page }
     ensures table { seat.new.table_id ≡ seat.old.table_id }
     ensures seat { (seat.new.me.1 ≡ seat.old.me.1) × KeepsSlot seat.old.me.0 seat.new.me.0 }
@@ -178,7 +178,7 @@ fn harvest_word<E: Edition + Drop>(
 ) -> u64
     requires table { (seat.old.table_id ≡ shared.now.table_id) × Suits shared.now.table_id shared.now.key }
     requires ready { IsReady shared.now.key seat.old.me.0 Writer place.now word (Harvest client index) }
-    requires index { at ≡ shared.now.key.passes + 1 + (place.now.start + word) }
+    requires index { at ≡ 8 * (shared.now.key.passes + 1) + (place.now.start + word) }
     requires word { word ≡ mark_word place.now client index }
     ensures table { seat.new.table_id ≡ seat.old.table_id }
     ensures seat { (seat.new.me.1 ≡ seat.old.me.1) × KeepsSlot seat.old.me.0 seat.new.me.0 }
@@ -201,7 +201,7 @@ fn fill_word<E: Edition + Drop>(
 ) -> u64
     requires table { (seat.old.table_id ≡ shared.now.table_id) × Suits shared.now.table_id shared.now.key }
     requires ready { IsReady shared.now.key seat.old.me.0 Writer place.now word Fill }
-    requires index { index ≡ shared.now.key.passes + 1 + (place.now.start + word) }
+    requires index { index ≡ 8 * (shared.now.key.passes + 1) + (place.now.start + word) }
     ensures table { seat.new.table_id ≡ seat.old.table_id }
     ensures seat { (seat.new.me.1 ≡ seat.old.me.1) × KeepsSlot seat.old.me.0 seat.new.me.0 }
     ensures told { Told Writer place.now word Fill seat.old.me.0 result seat.new.me.0 }
@@ -226,7 +226,7 @@ fn look<E: Edition + Drop>(
 ) -> u64
     requires table { (seat.old.table_id ≡ shared.now.table_id) × Suits shared.now.table_id shared.now.key }
     requires ready { IsReady shared.now.key seat.old.me.0 hand place.now word Look }
-    requires index { index ≡ shared.now.key.passes + 1 + (place.now.start + word) }
+    requires index { index ≡ 8 * (shared.now.key.passes + 1) + (place.now.start + word) }
     ensures table { seat.new.table_id ≡ seat.old.table_id }
     ensures seat { (seat.new.me.1 ≡ seat.old.me.1) × KeepsSlot seat.old.me.0 seat.new.me.0 }
     ensures told { Told hand place.now word Look seat.old.me.0 result seat.new.me.0 }
@@ -262,7 +262,7 @@ pub(crate) fn touch_word<E: Edition + Drop>(
     ensures seat { (seat.new.me.1 ≡ seat.old.me.1) × KeepsSlot seat.old.me.0 seat.new.me.0 }
     ensures told { Told hand place.now word touch seat.old.me.0 result seat.new.me.0 }
 {
-    let index = passes as usize + 1 + (place.start + word);
+    let index = 8 * (passes as usize + 1) + (place.start + word);
     match touch {
         Touch::Look => look(shared, seat, index, hand, place, word),
         Touch::Step(step) => step_word(shared, seat, index, hand, place, word, step),

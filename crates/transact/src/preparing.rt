@@ -156,6 +156,6 @@ pub(crate) fn prepare<L: Ledger>(
     } = show_spaces(alloc, current, known, noted, tree, &forest, steps)?;
     let places = places_of(alloc, &forest, atlases.as_slice(), places)?;
     let number = current.number() + 1;
-    let generation = Generation::new(number, forest, atlases, places);
+    let generation = Generation::indexed(alloc, number, forest, atlases, places)?;
     Ok(Prepared::new(Arc::new(alloc, generation)?, changes, reached))
 }

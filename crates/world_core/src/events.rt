@@ -71,7 +71,7 @@ impl World {
                 self.fill(&cell);
                 Reply::Done
             }
-            Event::Config(_) => unreachable!(),
+            Event::Config(_) => Reply::Done,
             Event::Reap => {
                 self.release_dropped();
                 Reply::Done

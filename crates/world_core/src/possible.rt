@@ -87,7 +87,7 @@ impl World {
                 index,
             } => self.may_take(region, client, index),
             Event::Fill { cell } => self.unfilled.has(&cell),
-            Event::Config(_) => unreachable!(),
+            Event::Config(_) => false,
             Event::Reap => {
                 let rests = self.is_at_rest();
                 rests && self.kept.is_all_swept()

@@ -12,7 +12,7 @@ returns-in_default-place_of c =
     let g = c.args.g.now in
     let spot = c.args.spot.now in
     let n = c.in-Some.node.now in
-    let is : node_of g.forest.nodes spot.leaf ≡ Some n = ap (λ f. node_of f.nodes spot.leaf) (sym c.forest.ensures.value) ∙ c.in-Some.ensures.some in
+    let is : node_of g.forest.nodes spot.leaf ≡ Some n = c.in-Some.ensures.some in
     let none : place_in g.places spot.leaf ≡ None = sym c.place_of.ensures.value ∙ c.in_default-place_of.is in
     λ t w. unplaced g c.place_of.ensures.shown spot.leaf n c.requires is spot t none
 
@@ -21,7 +21,7 @@ returns-in-Ram c =
     let g = c.args.g.now in
     let spot = c.args.spot.now in
     let n = c.in-Some.node.now in
-    let is : node_of g.forest.nodes spot.leaf ≡ Some n = ap (λ f. node_of f.nodes spot.leaf) (sym c.forest.ensures.value) ∙ c.in-Some.ensures.some in
+    let is : node_of g.forest.nodes spot.leaf ≡ Some n = c.in-Some.ensures.some in
     let found : place_in g.places spot.leaf ≡ Some c.in-Some-place_of.place = sym c.place_of.ensures.value ∙ c.in-Some-place_of.is in
     let kind = c.in-Ram.is in
     memory_there g c.place_of.ensures.shown spot.leaf n c.requires is spot refl c.in-Some-place_of.place found c.args.write
@@ -33,7 +33,7 @@ returns-then-not-write c =
     let g = c.args.g.now in
     let spot = c.args.spot.now in
     let n = c.in-Some.node.now in
-    let is : node_of g.forest.nodes spot.leaf ≡ Some n = ap (λ f. node_of f.nodes spot.leaf) (sym c.forest.ensures.value) ∙ c.in-Some.ensures.some in
+    let is : node_of g.forest.nodes spot.leaf ≡ Some n = c.in-Some.ensures.some in
     let found : place_in g.places spot.leaf ≡ Some c.in-Some-place_of.place = sym c.place_of.ensures.value ∙ c.in-Some-place_of.is in
     memory_there g c.place_of.ensures.shown spot.leaf n c.requires is spot refl c.in-Some-place_of.place found c.args.write
     (ap has_bytes c.in-RomDevice.is)
@@ -44,7 +44,7 @@ returns-else-spot c =
     let g = c.args.g.now in
     let spot = c.args.spot.now in
     let n = c.in-Some.node.now in
-    let is : node_of g.forest.nodes spot.leaf ≡ Some n = ap (λ f. node_of f.nodes spot.leaf) (sym c.forest.ensures.value) ∙ c.in-Some.ensures.some in
+    let is : node_of g.forest.nodes spot.leaf ≡ Some n = c.in-Some.ensures.some in
     let found : place_in g.places spot.leaf ≡ Some c.in-Some-place_of.place = sym c.place_of.ensures.value ∙ c.in-Some-place_of.is in
     let off : (spot.attrs.romd && not c.args.write) ≡ false = mode_off spot.attrs.romd c.args.write c.else-spot.either in
     device_there g c.place_of.ensures.shown spot.leaf n c.requires is spot refl c.in-Some-place_of.place found c.args.write c.in-RomDevice.device
@@ -55,7 +55,7 @@ returns-in-Io c =
     let g = c.args.g.now in
     let spot = c.args.spot.now in
     let n = c.in-Some.node.now in
-    let is : node_of g.forest.nodes spot.leaf ≡ Some n = ap (λ f. node_of f.nodes spot.leaf) (sym c.forest.ensures.value) ∙ c.in-Some.ensures.some in
+    let is : node_of g.forest.nodes spot.leaf ≡ Some n = c.in-Some.ensures.some in
     let found : place_in g.places spot.leaf ≡ Some c.in-Some-place_of.place = sym c.place_of.ensures.value ∙ c.in-Some-place_of.is in
     device_there g c.place_of.ensures.shown spot.leaf n c.requires is spot refl c.in-Some-place_of.place found c.args.write c.in-Io.device
     (ap device_of c.in-Io.is) (λ t w. io_apart n c.in-Io.device spot t c.in-Io.is)

@@ -30,8 +30,8 @@ exchange-requires g c =
     let t = c.requires.table in
     let went = c.load.ensures.2 p refl in
     let next : c.args.next ≡ (generations_seen v).current + 1 = c.requires.next in
-    let hand : c.load.new.seat.me.1 ≡ (8 * p + c.args.next % 8, went.1.0) ∷ [] = went.1.1 ∙ ap (λ (y : ℕ). (8 * p + y % 8, went.1.0) ∷ []) (sym next) in
-    (c.load.ensures.0 ∙ t.0, (went.1.0, hand ∙ ap (λ l. (8 * p + c.args.next % 8, went.1.0) ∷ rest l) (sym hand)))
+    let hand : c.load.new.seat.me.1 ≡ (16 * p + c.args.next % 8, went.1.0) ∷ [] = went.1.1 ∙ ap (λ (y : ℕ). (16 * p + y % 8, went.1.0) ∷ []) (sym next) in
+    (c.load.ensures.0 ∙ t.0, (went.1.0, hand ∙ ap (λ l. (16 * p + c.args.next % 8, went.1.0) ∷ rest l) (sym hand)))
 
 pub load-requires-2 : goal.load-requires-2
 load-requires-2 g c =
@@ -46,18 +46,18 @@ load-requires-2 g c =
     let writer = c.requires.writer in
     let went = c.load.ensures.2 p refl in
     let next : c.args.next ≡ (generations_seen v).current + 1 = c.requires.next in
-    let hand : c.load.new.seat.me.1 ≡ (8 * p + c.args.next % 8, went.1.0) ∷ [] = went.1.1 ∙ ap (λ (y : ℕ). (8 * p + y % 8, went.1.0) ∷ []) (sym next) in
+    let hand : c.load.new.seat.me.1 ≡ (16 * p + c.args.next % 8, went.1.0) ∷ [] = went.1.1 ∙ ap (λ (y : ℕ). (16 * p + y % 8, went.1.0) ∷ []) (sym next) in
     let now = c.exchange.ensures in
     let view : c.exchange.new.seat.me.0 ≡ record v { held = p + 1 } = ap (λ m. m.0) now.3 ∙ went.0 in
-    let holds : c.exchange.new.seat.me.1 ≡ (8 * p + c.args.next % 8, Some c.args.copy) ∷ [] = ap (λ m. m.1) now.3
-    ∙ ap (λ l. (8 * p + c.args.next % 8, Some c.args.copy) ∷ l) (ap rest hand) in
+    let holds : c.exchange.new.seat.me.1 ≡ (16 * p + c.args.next % 8, Some c.args.copy) ∷ [] = ap (λ m. m.1) now.3
+    ∙ ap (λ l. (16 * p + c.args.next % 8, Some c.args.copy) ∷ l) (ap rest hand) in
     let now_next : c.args.next ≡ (generations_seen c.exchange.new.seat.me.0).current + 1 = next
     ∙ ap (λ (w : View). (generations_seen w).current + 1) (sym view) in (
       now.0 ∙ (c.load.ensures.0 ∙ t.0),
       omega arith,
       place_as num forest places _ _ _ _ p c.args.copy t.2 t.1.1
           (ap (λ w. w.role) view ∙ writer.0) (ap (λ w. w.held) view)
-          (holds ∙ ap (λ (y : ℕ). (8 * p + y % 8, Some c.args.copy) ∷ []) now_next)
+          (holds ∙ ap (λ (y : ℕ). (16 * p + y % 8, Some c.args.copy) ∷ []) now_next)
           (c.requires.copy.0 ∙ now_next)
           (λ u placed. ap (λ w. w.next) view ∙ c.requires.copy.1 u (ap (λ (w : View). (known_of (generations_seen w) (pass_id u)).placed) (sym view) ∙ placed)),
     )
@@ -68,10 +68,10 @@ returns-clause-seat g c =
     let p : ℕ = c.args.pass in
     let went = c.load.ensures.2 p refl in
     let next : c.args.next ≡ (generations_seen v).current + 1 = c.requires.next in
-    let hand : c.load.new.seat.me.1 ≡ (8 * p + c.args.next % 8, went.1.0) ∷ [] = went.1.1 ∙ ap (λ (y : ℕ). (8 * p + y % 8, went.1.0) ∷ []) (sym next) in
+    let hand : c.load.new.seat.me.1 ≡ (16 * p + c.args.next % 8, went.1.0) ∷ [] = went.1.1 ∙ ap (λ (y : ℕ). (16 * p + y % 8, went.1.0) ∷ []) (sym next) in
     let now = c.exchange.ensures in
-    let holds : c.exchange.new.seat.me.1 ≡ (8 * p + c.args.next % 8, Some c.args.copy) ∷ [] = ap (λ m. m.1) now.3
-    ∙ ap (λ l. (8 * p + c.args.next % 8, Some c.args.copy) ∷ l) (ap rest hand) in
+    let holds : c.exchange.new.seat.me.1 ≡ (16 * p + c.args.next % 8, Some c.args.copy) ∷ [] = ap (λ m. m.1) now.3
+    ∙ ap (λ l. (16 * p + c.args.next % 8, Some c.args.copy) ∷ l) (ap rest hand) in
     let did = c.load-2.ensures.2 _ _ holds in (c.load-2.ensures.0 ∙ (now.0 ∙ c.load.ensures.0), did.0, did.1, did.2)
 
 pub returns-clause-adds : goal.returns-clause-adds
@@ -80,11 +80,11 @@ returns-clause-adds g c =
     let p : ℕ = c.args.pass in
     let went = c.load.ensures.2 p refl in
     let next : c.args.next ≡ (generations_seen v).current + 1 = c.requires.next in
-    let hand : c.load.new.seat.me.1 ≡ (8 * p + c.args.next % 8, went.1.0) ∷ [] = went.1.1 ∙ ap (λ (y : ℕ). (8 * p + y % 8, went.1.0) ∷ []) (sym next) in
+    let hand : c.load.new.seat.me.1 ≡ (16 * p + c.args.next % 8, went.1.0) ∷ [] = went.1.1 ∙ ap (λ (y : ℕ). (16 * p + y % 8, went.1.0) ∷ []) (sym next) in
     let now = c.exchange.ensures in
     let view : c.exchange.new.seat.me.0 ≡ record v { held = p + 1 } = ap (λ m. m.0) now.3 ∙ went.0 in
-    let holds : c.exchange.new.seat.me.1 ≡ (8 * p + c.args.next % 8, Some c.args.copy) ∷ [] = ap (λ m. m.1) now.3
-    ∙ ap (λ l. (8 * p + c.args.next % 8, Some c.args.copy) ∷ l) (ap rest hand) in
+    let holds : c.exchange.new.seat.me.1 ≡ (16 * p + c.args.next % 8, Some c.args.copy) ∷ [] = ap (λ m. m.1) now.3
+    ∙ ap (λ l. (16 * p + c.args.next % 8, Some c.args.copy) ∷ l) (ap rest hand) in
     let did = (c.load-2.ensures.2 _ _ holds).3 p refl in
     let h : ComesNext 0 (record v { held = p + 1 }) (Place (pass_id p)) Nothing 0 c.load-2.new.seat.me.0 =
     subst (λ w. ComesNext 0 w (Place (pass_id p)) Nothing 0 c.load-2.new.seat.me.0) view did in

@@ -99,7 +99,7 @@ exchange-requires g c =
     let told = c.store.ensures.2.1 p (looked.role ∙ inv.0) in
     let took = (c.load-number.ensures.2 p (told.role ∙ (looked.role ∙ inv.0))).1 in (
       c.load-number.ensures.0 ∙ (c.store.ensures.0 ∙ (c.load-looked.ensures.0 ∙ t)),
-      (took.0, took.1 ∙ ap (λ l. (8 * p + c.load-number.result % 8, took.0) ∷ rest l) (sym took.1)),
+      (took.0, took.1 ∙ ap (λ l. (16 * p + c.load-number.result % 8, took.0) ∷ rest l) (sym took.1)),
     )
 
 pub invariant_of-pass : goal.invariant_of-pass
@@ -141,7 +141,7 @@ invariant_of-pass g c =
       suits_on _ _ _ _ (sym table) (sym sizes) inv.2,
       stands_in num forest places p r c.exchange.new.seat.me c.exchange.result
           (ap (λ m. (pass_seen p m.0).entered) now.3 ∙ ap (λ (h : PassState). h.entered) (pass_added p _ _ _ _ _ refl came))
-          (ap (λ m. m.1) now.3 ∙ ap (λ l. (8 * p + r % 8, None) ∷ l) bare)
+          (ap (λ m. m.1) now.3 ∙ ap (λ l. (16 * p + r % 8, None) ∷ l) bare)
           (omega arith)
           copy
           (subst (λ (y : Sizes × List HistoryEntry). PlacesFit y.0.words (generation_published y.1 r))

@@ -38,7 +38,7 @@ store-requires g c =
       omega arith,
       leave (IsCopy num forest places) _ _ _ c.exchange.new.seat.me p r (Some a) (omega arith) b role
           (ap (λ m. (pass_seen p m.0).entered) x.3 ∙ (st.0.entered ∙ ap (λ (y : ℕ). Some y) (sym is)))
-          (ap (λ m. m.1) x.3 ∙ ap (λ l. (8 * p + r % 8, Some a) ∷ l) (ap rest st.1))
+          (ap (λ m. m.1) x.3 ∙ ap (λ l. (16 * p + r % 8, Some a) ∷ l) (ap rest st.1))
           (λ log same lawful begins. (
             a,
             refl,

@@ -1,4 +1,4 @@
-use Rattle.std.proofs.Common.{ℕ, ◌+◌, length, replicate, sym, refl, ap, ◌∙◌, subst, false}
+use Rattle.std.proofs.Common.{ℕ, ◌+◌, ◌*◌, length, replicate, sym, refl, ap, ◌∙◌, subst, false}
 use Rattle.std.specs.Prelude.{Some}
 use lib.ListN.{length-replicate}
 use Rattle.atomic_table.specs.Table.{opening}
@@ -17,7 +17,7 @@ new-requires g c =
     let forest = g.E.Edition.forest in
     let places = g.E.Edition.places in
     let z : Sizes = record { passes = c.args.passes; words = c.args.words } in
-    let n : ℕ = c.args.passes + 1 + c.args.words in
+    let n : ℕ = 8 * (c.args.passes + 1) + c.args.words in
     let s = c.in_ok-slots.ensures in
     let first = c.requires.first in
     subst (λ ws. IsRuled (IsCopy num forest places) z (opening ws c.in_ok-slots.slots.items (first_view z)))
@@ -38,7 +38,7 @@ new-requires g c =
 pub invariant_of-writer : goal.invariant_of-writer
 invariant_of-writer g c =
     let k = c.in-Ok.ensures.ok in
-    let n : ℕ = c.args.passes + 1 + c.args.words in
+    let n : ℕ = 8 * (c.args.passes + 1) + c.args.words in
     let s = c.in_ok-slots.ensures in
     let words = ap (λ t. t.words) k.2 ∙ (k.0 ∙ (ap length (c.as_slice.ensures.value ∙ c.in_ok-blank.ensures) ∙ length-replicate n 0)) in
     let slots = ap (λ t. t.slots) k.2 ∙ (k.1 ∙ s.long) in
