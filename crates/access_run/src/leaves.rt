@@ -26,6 +26,7 @@ pub(crate) enum Backing {
 
 // What a write, or a read, reaches at a spot: a ROM device is read directly while its mode is on, and is a device otherwise.
 // What has neither bytes nor registers has no place.
+#[inline(always)]
 fn backing_of(g: &Generation, spot: &Spot, write: bool) -> Backing
     requires { names g.now.forest spot.now.leaf ≡ true }
     ensures { IsBackedBy g.now spot.now write result }

@@ -30,12 +30,14 @@ const PASSES: u32 = 16;
 /// The words of the cabinet: those of the pool, and after them the notifiers'.
 const CABINET: usize = WORDS + 64;
 
-/// A virtual CPU, how long its last accesses took, in nanoseconds, and a sum over what it read.
+/// A virtual CPU, how long its last accesses took, in nanoseconds, and a sum over what it read. A virtual CPU is written at each
+/// access, so those of a list stand more than a line of 64 bytes apart.
 #[derive(Drop)]
 struct Reader<'c> {
     vcpu: Vcpu<'c>,
     nanos: u64,
     sum: u64,
+    apart: [u64; 16],
 }
 
 /// Whether the places lie in the cabinet's words.
@@ -207,6 +209,7 @@ fn crew<'c>(
                 vcpu: Vcpu::new(cabinet, pass),
                 nanos: 0,
                 sum: 0,
+                apart: [0; 16],
             })?;
         }
     }

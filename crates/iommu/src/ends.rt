@@ -14,6 +14,7 @@ use step_counter::Steps;
 /// addresses from there on share the route. An access asks for these two alone, so the translations on the way are not kept.
 ///
 /// It takes no memory, and as many look-ups as `route`.
+#[inline(always)]
 pub fn end_of_route<L: Ledger>(
     g: &Generation,
     space: SpaceId,

@@ -25,6 +25,7 @@ pub(crate) enum Hop {
 
 // What is found at an address of a space, and how many addresses, from there on and at most `limit`, find the same thing,
 // byte after byte.
+#[inline(always)]
 fn search<L: Ledger>(
     g: &Generation,
     space: SpaceId,
@@ -63,6 +64,7 @@ fn shut_for(entries: &[Entry], offset: u64, run: u64, write: bool) -> u64
 }
 
 // The hop at an offset of an IOMMU region, for `run` offsets from there on.
+#[inline(never)]
 fn through(entries: &[Entry], offset: u64, run: u64, write: bool) -> Hop
     requires sorted { AreEntries entries.now }
     requires pages { ArePages entries.now }
@@ -83,6 +85,7 @@ fn through(entries: &[Entry], offset: u64, run: u64, write: bool) -> Hop
 }
 
 /// One hop of a route on which a translation may still be used.
+#[inline(always)]
 pub(crate) fn hop_from<L: Ledger>(
     g: &Generation,
     space: SpaceId,
@@ -114,6 +117,7 @@ pub(crate) fn hop_from<L: Ledger>(
 }
 
 /// The end of a route on which no more translation may be used, and how many addresses share it.
+#[inline(never)]
 pub(crate) fn last<L: Ledger>(
     g: &Generation,
     space: SpaceId,

@@ -1,5 +1,6 @@
 -- Parts of a table in order: their places by the first offset, and those that a table gives.
-use Rattle.std.proofs.Common.{◌≡◌, ◌≢◌, ℕ, zero, suc, ◌+◌, ◌<◌, ◌≤◌, ◌^◌, min, max, Bool, true, false, ◌&&◌, ◌||◌, cond, eqb, ltb, List, [], ◌∷◌, ◌++◌, length, get_or, drop}
+use Rattle.std.proofs.Common.{◌≡◌, ◌≢◌, ℕ, zero, suc, ◌+◌, ◌<◌, ◌≤◌, ◌^◌, min, max, Bool, true, false, ◌&&◌, ◌||◌, cond, eqb, ltb}
+use Rattle.std.proofs.Common.{List, [], ◌∷◌, ◌++◌, length, get_or, drop}
 use Rattle.std.proofs.Common.{map, filter, Result, Ok, Err, refl, sym, ap, ◌∙◌, arith, add-one}
 use Rattle.std.specs.Prelude.{nat_le}
 use Rattle.std.specs.List.{list_any}
@@ -31,8 +32,11 @@ before_is a b l = let t : ltb a b ≡ true = grind (arith, nat_tests) in rw t re
 
 rising_parts : (ps : List Part) → AreParts ps → IsRising part_order ps
 rising_parts [] h = tt
-rising_parts (p ∷ ps) h =
-    (weaker (λ q. p.to < q.from) (λ q. part_order p q ≡ Less) (λ q l. let w = h.0 in before_is p.from q.from (omega arith)) ps h.1, rising_parts ps h.2)
+rising_parts (p ∷ ps) h = (
+  weaker (λ q. p.to < q.from) (λ q. part_order p q ≡ Less) (λ q l. let w = h.0 in before_is p.from q.from (omega arith)) ps
+      h.1,
+  rising_parts ps h.2,
+)
 
 part_total : IsTotalOrder part_order
 part_total = on_total (λ (p : Part). p.from) nat_cmp_total
@@ -103,8 +107,10 @@ absent_at p (q ∷ qs) i h e =
 
 -- Parts that a table gives
 
-part_within : (first last : ℕ) (e : Entry) → first ≤ last → meets_offsets first last e ≡ true → (part_of first last e).from ≤ (part_of first last e).to
-part_within first last e l m = let a : e.iova ≤ last = grind (arith, nat_tests) in let b : first ≤ e.iova + e.mask = grind (arith, nat_tests) in omega arith
+part_within : (first last : ℕ) (e : Entry) → first ≤ last → meets_offsets first last e ≡ true
+    → (part_of first last e).from ≤ (part_of first last e).to
+part_within first last e l m = let a : e.iova ≤ last = grind (arith, nat_tests) in let b : first ≤ e.iova + e.mask = grind
+    (arith, nat_tests) in omega arith
 
 parts_after : (first last : ℕ) (e : Entry) (es : List Entry) → Every (λ x. e.iova + e.mask < x.iova) es
     → Every (λ q. (part_of first last e).to < q.from) (parts_of es first last)
@@ -122,7 +128,8 @@ parts_are first last [] l h = tt
 parts_are first last (e ∷ es) l h =
     let rest = parts_are first last es l h.2 in
     elim (meets_offsets first last e) as (λ b. meets_offsets first last e ≡ b
-    → AreParts (map (part_of first last) (cond b (e ∷ filter (meets_offsets first last) es) (filter (meets_offsets first last) es)))) [
+    → AreParts (map (part_of first last) (cond b (e ∷ filter (meets_offsets first last) es)
+    (filter (meets_offsets first last) es)))) [
       | true ↦ λ m. (part_within first last e l m, parts_after first last e es h.1, rest)
       | false ↦ λ m. rest
     ] refl
@@ -130,4 +137,5 @@ parts_are first last (e ∷ es) l h =
 -- when no translation is left, all parts were found
 pub all_found : (parts : List Part) (i : ℕ) (es : List Entry) (first last : ℕ) → length es ≤ i
     → parts ++ parts_of (drop i es) first last ≡ parts_of es first last → parts ≡ parts_of es first last
-all_found parts i es first last l e = sym (append-nil parts) ∙ ap (λ left. parts ++ parts_of left first last) (sym (drop_all i es l)) ∙ e
+all_found parts i es first last l e = sym (append-nil parts)
+    ∙ ap (λ left. parts ++ parts_of left first last) (sym (drop_all i es l)) ∙ e

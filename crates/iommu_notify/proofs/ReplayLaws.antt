@@ -1,5 +1,6 @@
 -- The notices on the way from some parts to others, replayed.
-use Rattle.std.proofs.Common.{◌≡◌, ℕ, zero, suc, ◌+◌, ◌<◌, ◌≤◌, Bool, true, false, not, ◌&&◌, ◌||◌, cond, eqb, ltb, List, [], ◌∷◌, ◌++◌, length, map, filter}
+use Rattle.std.proofs.Common.{◌≡◌, ℕ, zero, suc, ◌+◌, ◌<◌, ◌≤◌, Bool, true, false, not, ◌&&◌, ◌||◌, cond, eqb, ltb, List, [], ◌∷◌}
+use Rattle.std.proofs.Common.{◌++◌, length, map, filter}
 use Rattle.std.proofs.Common.{Option, Some, refl, sym, ap, subst, ◌∙◌, arith, append_assoc}
 use Rattle.std.specs.Prelude.{nat_lt, option_and_then}
 use Rattle.std.specs.List.{list_any}
@@ -15,7 +16,8 @@ use Rattle.mem_base.specs.declared.access.notices.Notice.TheVariants.{Map, Unmap
 use Rattle.mem_base.specs.lists.Every.{Every}
 use Rattle.mem_base.specs.lists.Sorting.{put_by}
 use Rattle.mem_base.specs.views.Replay.{if_fits}
-use Rattle.mem_base.specs.access.Parts.{is_same_part, is_same_perm, meets_part, notices_between, part_order, parts_after, parts_after_all, parts_without}
+use Rattle.mem_base.specs.access.Parts.{is_same_part, is_same_perm, meets_part, notices_between, part_order, parts_after}
+use Rattle.mem_base.specs.access.Parts.{parts_after_all, parts_without}
 use Rattle.mem_base.proofs.EveryLaws.{weaker, every_filter, every_push}
 use Rattle.iommu_notify.specs.PartLists.{AreParts}
 
@@ -58,7 +60,8 @@ is_perm Both Both e = refl
 
 same_self : (p : Part) → is_same_part p p ≡ true
 same_self p =
-    let a = eqb_same p.from in let b = eqb_same p.to in let c = eqb_same p.space.0 in let d = eqb_same p.addr in let e = same_perm p.perm in
+    let a = eqb_same p.from in let b = eqb_same p.to in let c = eqb_same p.space.0 in let d = eqb_same p.addr in let e = same_perm
+    p.perm in
     rw (a, b, c, d, e) refl
 
 and_left : (a b : Bool) → a && b ≡ true → a ≡ true
@@ -72,20 +75,23 @@ and_right false b e = absurd (let x : false ≡ true = e in cc)
 abbrev part : ℕ → ℕ → ℕ → ℕ → Perm → Part
 part from to space addr perm = record { from = from; to = to; space = record { 0 = space }; addr = addr; perm = perm }
 
-same_fields : (from to space addr : ℕ) (perm : Perm) (q : Part) → from ≡ q.from → to ≡ q.to → space ≡ q.space.0 → addr ≡ q.addr → perm ≡ q.perm
+same_fields : (from to space addr : ℕ) (perm : Perm) (q : Part) → from ≡ q.from → to ≡ q.to → space ≡ q.space.0 → addr ≡ q.addr
+    → perm ≡ q.perm
     → part from to space addr perm ≡ q
 same_fields from to space addr perm q a b c d e = rw (a, b, c, d, e) refl
 
 is_part : (p q : Part) → is_same_part p q ≡ true → p ≡ q
 is_part p q e =
-    let four = and_left ((eqb p.from q.from) && (eqb p.to q.to) && (eqb p.space.0 q.space.0) && (eqb p.addr q.addr)) (is_same_perm p.perm q.perm) e in
+    let four = and_left ((eqb p.from q.from) && (eqb p.to q.to) && (eqb p.space.0 q.space.0) && (eqb p.addr q.addr))
+    (is_same_perm p.perm q.perm) e in
     let three = and_left ((eqb p.from q.from) && (eqb p.to q.to) && (eqb p.space.0 q.space.0)) (eqb p.addr q.addr) four in
     let two = and_left ((eqb p.from q.from) && (eqb p.to q.to)) (eqb p.space.0 q.space.0) three in
     same_fields p.from p.to p.space.0 p.addr p.perm q
     (is_number p.from q.from (and_left (eqb p.from q.from) (eqb p.to q.to) two))
     (is_number p.to q.to (and_right (eqb p.from q.from) (eqb p.to q.to) two))
     (is_number p.space.0 q.space.0 (and_right ((eqb p.from q.from) && (eqb p.to q.to)) (eqb p.space.0 q.space.0) three))
-    (is_number p.addr q.addr (and_right ((eqb p.from q.from) && (eqb p.to q.to) && (eqb p.space.0 q.space.0)) (eqb p.addr q.addr) four))
+    (is_number p.addr q.addr (and_right ((eqb p.from q.from) && (eqb p.to q.to) && (eqb p.space.0 q.space.0)) (eqb p.addr q.addr)
+    four))
     (is_perm p.perm q.perm (and_right ((eqb p.from q.from) && (eqb p.to q.to) && (eqb p.space.0 q.space.0) && (eqb p.addr q.addr))
     (is_same_perm p.perm q.perm) e))
 
@@ -105,7 +111,8 @@ none_after p [] h = refl
 none_after p (q ∷ qs) h = let differs = less_apart p q h.0 in rw differs (none_after p qs h.1)
 
 -- what was told first, and then the rest
-pub after_then : (s : Option (List Part)) (xs ys : List Notice) → parts_after_all s (xs ++ ys) ≡ parts_after_all (parts_after_all s xs) ys
+pub after_then : (s : Option (List Part)) (xs ys : List Notice)
+    → parts_after_all s (xs ++ ys) ≡ parts_after_all (parts_after_all s xs) ys
 after_then s [] ys = refl
 after_then s (x ∷ xs) ys = after_then (option_and_then (λ qs. parts_after qs x) s) xs ys
 
@@ -118,13 +125,15 @@ IsBeforeOne q x = (x.from ≤ x.to) × (x.to < q.from)
 
 before_rest : (front : List Part) (p : Part) (ps : List Part) → IsBefore front (p ∷ ps) → IsBefore front ps
 before_rest front p ps h =
-    weaker (λ x. (x.from ≤ x.to) × Every (λ q. x.to < q.from) (p ∷ ps)) (λ x. (x.from ≤ x.to) × Every (λ q. x.to < q.from) ps) (λ x k. (k.0, k.1.1)) front h
+    weaker (λ x. (x.from ≤ x.to) × Every (λ q. x.to < q.from) (p ∷ ps)) (λ x. (x.from ≤ x.to) × Every (λ q. x.to < q.from) ps)
+    (λ x k. (k.0, k.1.1)) front h
 
 before_one : (front : List Part) (p : Part) (ps : List Part) → IsBefore front (p ∷ ps) → Every (IsBeforeOne p) front
 before_one front p ps h =
     weaker (λ x. (x.from ≤ x.to) × Every (λ q. x.to < q.from) (p ∷ ps)) (IsBeforeOne p) (λ x k. (k.0, k.1.0)) front h
 
-before_more : (front : List Part) (p : Part) (ps : List Part) → IsBefore front (p ∷ ps) → AreParts (p ∷ ps) → IsBefore (front ++ p ∷ []) ps
+before_more : (front : List Part) (p : Part) (ps : List Part) → IsBefore front (p ∷ ps) → AreParts (p ∷ ps)
+    → IsBefore (front ++ p ∷ []) ps
 before_more front p ps h k =
     every_push (λ x. (x.from ≤ x.to) × Every (λ q. x.to < q.from) ps) front p (before_rest front p ps h) (k.0, k.1)
 
@@ -134,7 +143,8 @@ begin_after p ps l h = weaker (λ q. p.to < q.from) (λ q. p.from < q.from) (λ 
 any_middle : (p : Part) (front ps : List Part) → list_any (is_same_part p) (front ++ p ∷ ps) ≡ true
 any_middle p [] ps = let same = same_self p in rw same refl
 any_middle p (x ∷ xs) ps =
-    elim (is_same_part p x) as (λ b. b || list_any (is_same_part p) (xs ++ p ∷ ps) ≡ true) [ true ↦ refl | false ↦ any_middle p xs ps ]
+    elim (is_same_part p x) as (λ b. b || list_any (is_same_part p) (xs ++ p ∷ ps) ≡ true)
+    [ true ↦ refl | false ↦ any_middle p xs ps ]
 
 none_taken : (p : Part) (ps : List Part) → Every (λ q. p.from < q.from) ps → filter (λ q. not (is_same_part p q)) ps ≡ ps
 none_taken p [] h = refl
@@ -161,7 +171,8 @@ unmaps : (front ps new : List Part) → IsBefore front ps → AreParts ps
 unmaps front [] new b h = refl
 unmaps front (p ∷ ps) new b h =
     elim (list_any (is_same_part p) new) as (λ t. parts_after_all (Some (front ++ p ∷ ps))
-    (map (λ q. Unmap q) (cond (not t) (p ∷ parts_without ps new) (parts_without ps new))) ≡ Some (front ++ cond t (p ∷ kept ps new) (kept ps new))) [
+    (map (λ q. Unmap q) (cond (not t) (p ∷ parts_without ps new) (parts_without ps new)))
+    ≡ Some (front ++ cond t (p ∷ kept ps new) (kept ps new))) [
       | true ↦
           ap (λ l. parts_after_all (Some l) (map (λ q. Unmap q) (parts_without ps new))) (sym (append_assoc front (p ∷ []) ps))
           ∙ unmaps (front ++ p ∷ []) ps new (before_more front p ps b h) h.2
@@ -175,10 +186,12 @@ unmaps front (p ∷ ps) new b h =
 none_met : (q : Part) (front ks : List Part) → q.from ≤ q.to → Every (IsBeforeOne q) front → Every (λ x. q.to < x.from) ks
     → list_any (meets_part q) (front ++ ks) ≡ false
 none_met q [] [] l h k = refl
-none_met q [] (x ∷ xs) l h k = let past : nat_lt q.to x.from ≡ true = (let w = k.0 in grind (arith, nat_tests)) in rw past (none_met q [] xs l tt k.1)
+none_met q [] (x ∷ xs) l h k = let past : nat_lt q.to x.from
+    ≡ true = (let w = k.0 in grind (arith, nat_tests)) in rw past (none_met q [] xs l tt k.1)
 none_met q (x ∷ xs) ks l h k = let rest = none_met q xs ks l h.1 k in misses (nat_lt q.to x.from) rest
   where
-    misses : (t : Bool) → list_any (meets_part q) (xs ++ ks) ≡ false → not t && not (nat_lt x.to q.from) || list_any (meets_part q) (xs ++ ks) ≡ false
+    misses : (t : Bool) → list_any (meets_part q) (xs ++ ks) ≡ false
+        → not t && not (nat_lt x.to q.from) || list_any (meets_part q) (xs ++ ks) ≡ false
     misses true e = e
     misses false e = let past : nat_lt x.to q.from ≡ true = (let w = h.0.1 in grind (arith, nat_tests)) in rw past e
 
@@ -213,11 +226,13 @@ maps front (q ∷ qs) old b h =
     elim (list_any (is_same_part q) old) as (λ t. parts_after_all (Some (front ++ cond t (q ∷ kept qs old) (kept qs old)))
     (map (λ p. Map p) (cond (not t) (q ∷ parts_without qs old) (parts_without qs old))) ≡ Some (front ++ q ∷ qs)) [
       | true ↦
-          ap (λ l. parts_after_all (Some l) (map (λ p. Map p) (parts_without qs old))) (sym (append_assoc front (q ∷ []) (kept qs old)))
+          ap (λ l. parts_after_all (Some l) (map (λ p. Map p) (parts_without qs old)))
+          (sym (append_assoc front (q ∷ []) (kept qs old)))
           ∙ rest ∙ ap (λ l. let o : Option (List Part) = Some l in o) (append_assoc front (q ∷ []) qs)
       | false ↦
           let after = every_filter (λ x. q.to < x.from) (λ p. list_any (is_same_part p) old) qs h.1 in
-          ap (λ s. parts_after_all s (map (λ p. Map p) (parts_without qs old))) (map_one q front (kept qs old) h.0 (before_one front q qs b) after
+          ap (λ s. parts_after_all s (map (λ p. Map p) (parts_without qs old)))
+          (map_one q front (kept qs old) h.0 (before_one front q qs b) after
           ∙ ap (λ l. let o : Option (List Part) = Some l in o) (sym (append_assoc front (q ∷ []) (kept qs old))))
           ∙ rest ∙ ap (λ l. let o : Option (List Part) = Some l in o) (append_assoc front (q ∷ []) qs)
     ]
@@ -227,17 +242,20 @@ none_kept [] = refl
 none_kept (p ∷ ps) = none_kept ps
 
 -- a part that none of these is may be left out
-kept_past : (xs : List Part) (p : Part) (ps : List Part) → Every (λ x. is_same_part x p ≡ false) xs → kept xs (p ∷ ps) ≡ kept xs ps
+kept_past : (xs : List Part) (p : Part) (ps : List Part) → Every (λ x. is_same_part x p ≡ false) xs
+    → kept xs (p ∷ ps) ≡ kept xs ps
 kept_past [] p ps h = refl
 kept_past (x ∷ xs) p ps h =
     let differs = h.0 in
-    rw differs (elim (list_any (is_same_part x) ps) as (λ t. cond t (x ∷ kept xs (p ∷ ps)) (kept xs (p ∷ ps)) ≡ cond t (x ∷ kept xs ps) (kept xs ps))
+    rw differs (elim (list_any (is_same_part x) ps) as
+    (λ t. cond t (x ∷ kept xs (p ∷ ps)) (kept xs (p ∷ ps)) ≡ cond t (x ∷ kept xs ps) (kept xs ps))
     [ true ↦ ap (λ l. x ∷ l) (kept_past xs p ps h.1) | false ↦ kept_past xs p ps h.1 ])
 
 all_apart : (p : Part) (qs : List Part) → Every (λ q. p.from < q.from) qs → Every (λ x. is_same_part x p ≡ false) qs
 all_apart p qs h = weaker (λ q. p.from < q.from) (λ x. is_same_part x p ≡ false) (λ x l. more_apart x p l) qs h
 
-begin_later : (a : ℕ) (q : Part) (qs : List Part) → a < q.from → Every (λ x. q.from < x.from) qs → Every (λ x. a < x.from) (q ∷ qs)
+begin_later : (a : ℕ) (q : Part) (qs : List Part) → a < q.from → Every (λ x. q.from < x.from) qs
+    → Every (λ x. a < x.from) (q ∷ qs)
 begin_later a q qs l h = (l, weaker (λ x. q.from < x.from) (λ x. a < x.from) (λ x k. omega arith) qs h)
 
 data Order (a b : ℕ) : Type 0 where
@@ -248,7 +266,8 @@ data Order (a b : ℕ) : Type 0 where
 order_of : (a b : ℕ) → Order a b
 order_of a b = elim (ltb a b) as (λ t. ltb a b ≡ t → Order a b) [
   | true ↦ λ t. less (grind (arith, nat_tests))
-  | false ↦ λ t. elim (eqb a b) as (λ e. eqb a b ≡ e → Order a b) [ true ↦ λ e. same (is_number a b e) | false ↦ λ e. more (grind (arith, nat_tests)) ] refl
+  | false ↦ λ t. elim (eqb a b) as (λ e. eqb a b ≡ e → Order a b)
+      [ true ↦ λ e. same (is_number a b e) | false ↦ λ e. more (grind (arith, nat_tests)) ] refl
 ] refl
 
 not_back : (p q : Part) → is_same_part p q ≡ false → is_same_part q p ≡ false
@@ -261,7 +280,8 @@ not_back p q u = elim (is_same_part q p) as (λ b. is_same_part q p ≡ b → b 
 ] refl
 
 -- where both begin at one offset
-swap_same : (p q : Part) (ps qs : List Part) → p.from ≡ q.from → Every (λ x. p.from < x.from) ps → Every (λ x. q.from < x.from) qs → kept ps qs ≡ kept qs ps
+swap_same : (p q : Part) (ps qs : List Part) → p.from ≡ q.from → Every (λ x. p.from < x.from) ps → Every (λ x. q.from < x.from) qs
+    → kept ps qs ≡ kept qs ps
     → (t : Bool) → is_same_part p q ≡ t → kept (p ∷ ps) (q ∷ qs) ≡ kept (q ∷ qs) (p ∷ ps)
 swap_same p q ps qs e ps_after qs_after both_rest t is = by_same t is
   where
@@ -286,7 +306,8 @@ swap_same p q ps qs e ps_after qs_after both_rest t is = by_same t is
         rw (t, absent, back, missing) rest
 
 swap_step : (p q : Part) (ps qs : List Part) → AreParts (p ∷ ps) → AreParts (q ∷ qs) → kept ps (q ∷ qs) ≡ kept (q ∷ qs) ps
-    → kept (p ∷ ps) qs ≡ kept qs (p ∷ ps) → kept ps qs ≡ kept qs ps → Order p.from q.from → kept (p ∷ ps) (q ∷ qs) ≡ kept (q ∷ qs) (p ∷ ps)
+    → kept (p ∷ ps) qs ≡ kept qs (p ∷ ps) → kept ps qs ≡ kept qs ps → Order p.from q.from
+    → kept (p ∷ ps) (q ∷ qs) ≡ kept (q ∷ qs) (p ∷ ps)
 swap_step p q ps qs h k left right both_rest (less b) =
     let all = begin_later p.from q qs b (begin_after q qs k.0 k.1) in
     let absent = none_after p (q ∷ qs) all in
@@ -308,9 +329,11 @@ swap (suc n) (p ∷ ps) (q ∷ qs) l h k =
     (swap n ps qs (omega arith) h.2 k.2) (order_of p.from q.from)
 
 -- the notices on the way from some parts to others lead there
-pub replay_between : (old new : List Part) → AreParts old → AreParts new → parts_after_all (Some old) (notices_between old new) ≡ Some new
+pub replay_between : (old new : List Part) → AreParts old → AreParts new
+    → parts_after_all (Some old) (notices_between old new) ≡ Some new
 replay_between old new h k =
     after_then (Some old) (map (λ p. Unmap p) (parts_without old new)) (map (λ p. Map p) (parts_without new old))
     ∙ ap (λ s. parts_after_all s (map (λ p. Map p) (parts_without new old)))
-    (unmaps [] old new tt h ∙ ap (λ l. let o : Option (List Part) = Some l in o) (swap (length old + length new) old new (omega arith) h k))
+    (unmaps [] old new tt h ∙ ap (λ l. let o : Option (List Part) = Some l in o)
+    (swap (length old + length new) old new (omega arith) h k))
     ∙ maps [] new old tt k

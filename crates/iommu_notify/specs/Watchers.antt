@@ -1,5 +1,6 @@
 -- What the watchers with their journal are seen as.
-use Rattle.std.specs.Prelude.{◌≡◌, ◌==◌, ℕ, ◌≤◌, false, not, Bool, List, [], ◌∷◌, map, filter, flat_map, drop, length, Option, Some}
+use Rattle.std.specs.Prelude.{◌≡◌, ◌==◌, ℕ, ◌≤◌, false, not, Bool, List, [], ◌∷◌, map, filter, flat_map, drop, length, Option}
+use Rattle.std.specs.Prelude.{Some}
 use Rattle.std.specs.Option.{option_or}
 use Rattle.std.specs.List.{list_any}
 use Rattle.mem_base.specs.declared.map.ids.NotifierId.{NotifierId}
@@ -50,7 +51,8 @@ has_watcher s id = list_any (is_joined id) s.joined
 
 -- why a watcher does not join: the id is there already, the range is empty, or too many watch
 abbrev pub join_refusal : NoticesState → NotifierId → ℕ → ℕ → Option Refusal
-join_refusal s id first last = option_or (refuse_if (has_watcher s id) (NameTaken (what.Notifier id))) (watch_refusal (watchers_of s) first last)
+join_refusal s id first last = option_or (refuse_if (has_watcher s id) (NameTaken (what.Notifier id)))
+    (watch_refusal (watchers_of s) first last)
 
 -- the notices that a watcher got since it joined, one after another, leave it just its parts
 abbrev pub IsReplayed : List Noticed → Joined → Type 0

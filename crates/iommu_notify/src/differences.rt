@@ -28,7 +28,8 @@ fn unmap_each(
     others: &[Part],
 ) -> Result<(), AllocError>
     requires { AreParts others.now }
-    ensures { OnOk result (notices.new.items ≡ notices.old.items ++ noticed id (map (λ p. Unmap p) (parts_without parts.now others.now))) }
+    ensures { OnOk result (notices.new.items ≡ notices.old.items ++ noticed id
+        (map (λ p. Unmap p) (parts_without parts.now others.now))) }
 {
     for part in parts {
         if !has_part(others, part) {
@@ -46,7 +47,8 @@ fn map_each(
     others: &[Part],
 ) -> Result<(), AllocError>
     requires { AreParts others.now }
-    ensures { OnOk result (notices.new.items ≡ notices.old.items ++ noticed id (map (λ p. Map p) (parts_without parts.now others.now))) }
+    ensures { OnOk result (notices.new.items ≡ notices.old.items ++ noticed id
+        (map (λ p. Map p) (parts_without parts.now others.now))) }
 {
     for part in parts {
         if !has_part(others, part) {

@@ -1,12 +1,15 @@
 // All watchers, and all that they were told.
-ghost use Rattle.std.specs.Prelude.{◌≡◌, ◌≢◌, ◌++◌, ◌∷◌, [], true, false, None, Some, map, flat_map, length, IfOk, OnOk, OnErr, IfErr};
+ghost use Rattle.std.specs.Prelude.{◌≡◌, ◌≢◌, ◌++◌, ◌∷◌, [], true, false, None, Some, map, flat_map, length, IfOk, OnOk, OnErr};
+ghost use Rattle.std.specs.Prelude.{IfErr};
 ghost use Rattle.std.specs.List.{list_any};
 ghost use Rattle.mem_base.specs.declared.map.refusals.What.TheVariants as what;
 ghost use Rattle.mem_base.specs.declared.map.refusals.Refusal.TheVariants.{Memory, Unknown};
-ghost use Rattle.mem_base.specs.script.Watching.{notices_all, notices_of, caught_up, with_parts, parts_shown, with_number, without_number};
+ghost use Rattle.mem_base.specs.script.Watching.{notices_all, notices_of, caught_up, with_parts, parts_shown, with_number};
+ghost use Rattle.mem_base.specs.script.Watching.{without_number};
 ghost use Rattle.mem_base.specs.lists.Every.{Every};
 ghost use Rattle.iommu_notify.specs.PartLists.{AreParts};
-ghost use Rattle.iommu_notify.specs.Watchers.{caught, has_watcher, is_joined, join_refusal, leaving, new_watcher, told, watchers_of, AreReplayed};
+ghost use Rattle.iommu_notify.specs.Watchers.{caught, has_watcher, is_joined, join_refusal, leaving, new_watcher, told};
+ghost use Rattle.iommu_notify.specs.Watchers.{watchers_of, AreReplayed};
 
 use crate::watchers::Watcher;
 use generation::Generation;
@@ -164,10 +167,12 @@ impl Notices {
     ///
     /// It is refused with `Unknown` exactly where it is not there. A refusal, or a lack of memory, changes nothing.
     pub fn unwatch(&mut self, id: NotifierId) -> Result<(), Refusal>
-        ensures refused { IfErr result (λ why. why ≢ Memory → (why ≡ Unknown (what.Notifier id)) × (has_watcher self.old id ≡ false)) }
+        ensures refused { IfErr result (λ why. why ≢ Memory → (why ≡ Unknown (what.Notifier id))
+            × (has_watcher self.old id ≡ false)) }
         ensures accepted { OnOk result (has_watcher self.old id ≡ true) }
         ensures watchers { OnOk result (watchers_of self.new ≡ without_number id.0 (watchers_of self.old)) }
-        ensures journal { OnOk result (self.new.journal ≡ self.old.journal ++ flat_map (notices_of []) (with_number id.0 (watchers_of self.old))) }
+        ensures journal { OnOk result (self.new.journal ≡ self.old.journal ++ flat_map (notices_of [])
+            (with_number id.0 (watchers_of self.old))) }
         ensures replayed { AreReplayed self.new }
         ensures unchanged { OnErr result (self.new ≡ self.old) }
     {
@@ -187,7 +192,8 @@ impl Notices {
     /// Out of memory, nothing changes.
     pub fn catch_up(&mut self, generation: &Generation) -> Result<(), AllocError>
         ensures watchers { OnOk result (watchers_of self.new ≡ caught_up generation.now.forest (watchers_of self.old)) }
-        ensures journal { OnOk result (self.new.journal ≡ self.old.journal ++ notices_all generation.now.forest (watchers_of self.old)) }
+        ensures journal { OnOk result (self.new.journal ≡ self.old.journal ++ notices_all generation.now.forest
+            (watchers_of self.old)) }
         ensures replayed { AreReplayed self.new }
         ensures unchanged { OnErr result (self.new ≡ self.old) }
     {

@@ -71,9 +71,11 @@ impl Watcher {
         generation: &Generation,
         notices: &mut Vec<(NotifierId, Notice)>,
     ) -> Result<Watcher, AllocError>
-        ensures watcher { IfOk result (λ w. w ≡ joined (with_parts (parts_shown generation.now.forest self.now.watcher) self.now.watcher) self.now.since) }
+        ensures watcher { IfOk result (λ w. w ≡ joined
+            (with_parts (parts_shown generation.now.forest self.now.watcher) self.now.watcher) self.now.since) }
         ensures parts { IfOk result (λ w. AreParts w.watcher.parts) }
-        ensures told { OnOk result (notices.new.items ≡ notices.old.items ++ notices_of (parts_shown generation.now.forest self.now.watcher) self.now.watcher) }
+        ensures told { OnOk result (notices.new.items ≡ notices.old.items ++ notices_of
+            (parts_shown generation.now.forest self.now.watcher) self.now.watcher) }
     {
         let parts = parts_in(alloc, generation, self.region, self.first, self.last)?;
         tell(notices, self.id, &self.parts, &parts)?;

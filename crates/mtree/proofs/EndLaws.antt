@@ -24,7 +24,8 @@ had_any None = ([], tt)
 had_any (Some known) = (known, refl)
 
 -- more than the most came
-pub had_long : (old new : Option (List ℕ)) → SomeCame old new (λ bytes. most_text < length bytes) → (bytes : List ℕ) × Had old bytes
+pub had_long : (old new : Option (List ℕ)) → SomeCame old new (λ bytes. most_text < length bytes)
+    → (bytes : List ℕ) × Had old bytes
     × (most_text < length bytes)
 had_long None new came = (came.0, tt, came.2)
 had_long (Some known) None came = absurd came.1
@@ -32,22 +33,26 @@ had_long (Some known) (Some rest) came = (known, refl, omega (arith, ap length c
 
 -- a text that is too long is no script
 pub script_of-long : (bytes : List ℕ) → most_text < length bytes → script_of bytes ≡ Err too_long
-script_of-long bytes long = ap (λ b. cond b (script_from Start 1 (slice_split (λ b. eqb b 10) bytes)) (Err too_long)) (lt-leb (length bytes) most_text long)
+script_of-long bytes long = ap (λ b. cond b (script_from Start 1 (slice_split (λ b. eqb b 10) bytes)) (Err too_long))
+    (lt-leb (length bytes) most_text long)
 
 pub TakesPrefix-at : {K : Type 0} (written : K → Option (List ℕ)) (holds : K → List ℕ → Type 0) (a b : K) (text other : List ℕ)
     → other ≡ text → TakesPrefix written holds a b text → TakesPrefix written holds a b other
 TakesPrefix-at written holds a b text other e p = subst (λ t. TakesPrefix written holds a b t) (sym e) p
 
-module _ {S K : Type 0} (left : S → Option (List ℕ)) (read_faults : S → ℕ) (written : K → Option (List ℕ)) (holds : K → List ℕ → Type 0)
+module _ {S K : Type 0} (left : S → Option (List ℕ)) (read_faults : S → ℕ) (written : K → Option (List ℕ))
+    (holds : K → List ℕ → Type 0)
     (write_faults : K → ℕ) where
   -- by the task that the words ask for
-  pub ends_by : (source source' : S) (sink sink' : K) (ending : Ending) (words : List (List ℕ)) (task : Option Task) → task_of words ≡ task
+  pub ends_by : (source source' : S) (sink sink' : K) (ending : Ending) (words : List (List ℕ)) (task : Option Task)
+      → task_of words ≡ task
       → EndsTask left read_faults written holds write_faults source source' sink sink' ending task
       → Ends left read_faults written holds write_faults source source' sink sink' ending words
   ends_by source source' sink sink' ending words task e h =
       subst (EndsTask left read_faults written holds write_faults source source' sink sink' ending) (sym e) h
 
-  says_nothing : (text : List ℕ) (said : Ending) (sink : K) → (Memory ≡ said → ⊥) → Says written holds write_faults text said sink sink Memory
+  says_nothing : (text : List ℕ) (said : Ending) (sink : K) → (Memory ≡ said → ⊥)
+      → Says written holds write_faults text said sink sink Memory
   says_nothing text said sink other = record {
     whole = λ e. absurd (other e);
     only = inr (inr refl);
@@ -59,7 +64,8 @@ module _ {S K : Type 0} (left : S → Option (List ℕ)) (read_faults : S → �
   alone source = record { same_left = refl; same_faults = refl }
 
   -- memory ran out before anything was done
-  pub out_of_memory : (source : S) (sink : K) (task : Option Task) → EndsTask left read_faults written holds write_faults source source sink sink Memory task
+  pub out_of_memory : (source : S) (sink : K) (task : Option Task)
+      → EndsTask left read_faults written holds write_faults source source sink sink Memory task
   out_of_memory source sink (Some Run) =
       let had = had_any (left source) in record {
         done = λ e. cc;

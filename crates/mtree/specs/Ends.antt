@@ -19,10 +19,12 @@ use Rattle.mtree.specs.declared.endings.Ending.TheVariants as endings
 use Rattle.mtree.specs.Program.{Came, Had, IfBad, demo_text, ending_of, status_of, text_of_script}
 
 -- `run`: by the source and the sink before and after, and the ending
-pub record Runs {S K : Type 0} (left : S → Option (List ℕ)) (read_faults : S → ℕ) (written : K → Option (List ℕ)) (holds : K → List ℕ → Type 0)
+pub record Runs {S K : Type 0} (left : S → Option (List ℕ)) (read_faults : S → ℕ) (written : K → Option (List ℕ))
+    (holds : K → List ℕ → Type 0)
     (write_faults : K → ℕ) (source source' : S) (sink sink' : K) (ending : Ending) : Type 0 where
   -- the source was read to its end, its bytes are a script, and the whole text of that was written
-  pub done : ending ≡ endings.Done → (bytes : Text) × (lines : List Line) × AllCame (left source) (left source') bytes × (script_of bytes ≡ Ok lines)
+  pub done : ending ≡ endings.Done → (bytes : Text) × (lines : List Line) × AllCame (left source) (left source') bytes
+      × (script_of bytes ≡ Ok lines)
       × Takes written holds sink sink' (text_of lines)
   -- the bytes that came are no script, and exactly the line that says why was written
   pub bad : IfBad ending (λ bad. (bytes : Text) × Came (left source) (left source') bytes × (script_of bytes ≡ Err bad)
@@ -40,7 +42,8 @@ pub record Runs {S K : Type 0} (left : S → Option (List ℕ)) (read_faults : S
       → (Rose (write_faults sink) (write_faults sink') → ⊥) → (ending ≡ ending_of (script_of bytes)) ⊎ (ending ≡ endings.Memory)
 
 -- a text that stands without the source: by the text, the ending that comes where all of it was written, and the sink
-pub record Says {K : Type 0} (written : K → Option (List ℕ)) (holds : K → List ℕ → Type 0) (write_faults : K → ℕ) (text : Text) (said : Ending)
+pub record Says {K : Type 0} (written : K → Option (List ℕ)) (holds : K → List ℕ → Type 0) (write_faults : K → ℕ) (text : Text)
+    (said : Ending)
     (sink sink' : K) (ending : Ending) : Type 0 where
   -- the whole text was written
   pub whole : ending ≡ said → Takes written holds sink sink' text
@@ -56,14 +59,15 @@ pub record IsLeftAlone {S : Type 0} (left : S → Option (List ℕ)) (read_fault
   pub same_left : left source' ≡ left source
   pub same_faults : read_faults source' ≡ read_faults source
 
--- by what the words ask for: `run` reads a script and runs it, `make` writes the script of its seed, `demo` the summary of what that
--- script writes; all other words, `race` among them, are answered with the usage line
+-- by what the words ask for: `run` reads a script and runs it, `make` writes the script of its seed, `demo` the summary of what
+-- that script writes; all other words, `race` among them, are answered with the usage line
 abbrev pub EndsTask : {S K : Type 0} → (S → Option (List ℕ)) → (S → ℕ) → (K → Option (List ℕ)) → (K → List ℕ → Type 0) → (K → ℕ)
     → S → S → K → K → Ending → Option Task → Type 0
 EndsTask left read_faults written holds write_faults source source' sink sink' ending (Some Run) =
     Runs left read_faults written holds write_faults source source' sink sink' ending
 EndsTask left read_faults written holds write_faults source source' sink sink' ending (Some (Make seed)) =
-    IsLeftAlone left read_faults source source' × Says written holds write_faults (text_of_seed seed) endings.Done sink sink' ending
+    IsLeftAlone left read_faults source source' × Says written holds write_faults (text_of_seed seed) endings.Done sink sink'
+    ending
 EndsTask left read_faults written holds write_faults source source' sink sink' ending (Some (Demo seed)) =
     IsLeftAlone left read_faults source source' × Says written holds write_faults (demo_text seed) endings.Done sink sink' ending
 EndsTask left read_faults written holds write_faults source source' sink sink' ending _ =

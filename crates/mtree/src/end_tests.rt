@@ -3,16 +3,17 @@
 use crate::endings::Ending;
 use crate::tests::{ROOM, USAGE, parts_of, run_of, run_over, words_of};
 use crate::top::{alone, exit_code, mtree};
-use crate::worked::MAPS;
+use crate::worked::WORKED;
 use mem_base::{BadScript, Cause};
-use outside::{CalmSource, MemSink, MemSource, OpenGate, StdSource};
+use outside::{CalmSource, MemSink, MemSource, OpenGate, StdSink, StdSource};
 use std::alloc::Global;
-use std::io::{self, Read};
+use std::io::{self, ErrorKind, Read, Write};
 use std::process::ExitCode;
 use std::test::Fail;
 
-/// The map of the manual's picture.
-const SCRIPT: &str = "region A container 0x8000\n\
+/// The map of the manual's picture, on a machine with the least memory.
+const SCRIPT: &str = "machine 4K\n\
+                  region A container 0x8000\n\
                   region B container 0x4000\n\
                   region C io 0x6000 latch\n\
                   region D io 0x1000 latch\n\
@@ -54,12 +55,43 @@ impl Read for Drip<'_> {
     }
 }
 
+/// A reader that gives one byte a call, and fails where it has none left.
+#[derive(Drop)]
+struct Broken<'a>(&'a [u8]);
+
+impl Read for Broken<'_> {
+    fn read(&mut self, buf: &mut [u8]) -> io::Result<usize> {
+        if self.0.is_empty() {
+            return Err(io::Error::from(ErrorKind::UnexpectedEof));
+        }
+        let count = buf.len().min(1);
+        self.0.read(&mut buf[..count])
+    }
+}
+
+/// A writer that takes one byte a call.
+#[derive(Drop)]
+struct Slow<'a>(&'a mut Vec<u8>);
+
+impl Write for Slow<'_> {
+    fn write(&mut self, buf: &[u8]) -> io::Result<usize> {
+        let count = buf.len().min(1);
+        self.0.write(&buf[..count])
+    }
+
+    fn flush(&mut self) -> io::Result<()> {
+        Ok(())
+    }
+}
+
 /// The script and the output of the case of this name.
 fn case_of(name: &str) -> Option<(&str, &str)> {
-    for case in MAPS.split('~').skip(1) {
-        if let Some((other, script, output)) = parts_of(case) {
-            if other == name {
-                return Some((script, output));
+    for table in WORKED {
+        for case in table.split('~').skip(1) {
+            if let Some((other, script, output)) = parts_of(case) {
+                if other == name {
+                    return Some((script, output));
+                }
             }
         }
     }
@@ -72,6 +104,52 @@ fn a_byte_a_call_gives_the_same_text(rt: HostRuntime) -> Result<(), Fail> {
     let (ending, written) = run_over(rt.alloc(), &mut source, ROOM, &[])?;
     assert_eq!(rt; ending, Ending::Done);
     assert_eq!(rt; written.as_slice(), first_lines(rt.alloc(), 6)?.as_slice());
+    Ok(())
+}
+
+#[test]
+fn a_writer_that_takes_a_byte_a_call_gets_the_same_text(rt: HostRuntime) -> Result<(), Fail> {
+    let words = words_of(rt.alloc(), "run")?;
+    let mut source = CalmSource::new(SCRIPT.as_bytes().to_vec(rt.alloc())?);
+    let mut written = Vec::new(rt.alloc());
+    let mut sink = StdSink::new(Slow(&mut written));
+    let ending = alone(rt.alloc(), words.as_slice(), &mut source, &mut sink);
+    assert_eq!(rt; ending, Ending::Done);
+    assert_eq!(rt; written.as_slice(), first_lines(rt.alloc(), 6)?.as_slice());
+    Ok(())
+}
+
+#[test]
+fn a_reader_that_breaks_after_any_byte_has_nothing_written(rt: HostRuntime) -> Result<(), Fail> {
+    for (count, _) in SCRIPT.as_bytes().iter().enumerate() {
+        let mut source = StdSource::new(Broken(&SCRIPT.as_bytes()[..count]));
+        let (ending, written) = run_over(rt.alloc(), &mut source, ROOM, &[])?;
+        assert_eq!(rt; ending, Ending::ReadFault, "{count} bytes");
+        assert!(rt; written.is_empty(), "{count} bytes");
+    }
+    Ok(())
+}
+
+#[test]
+fn a_writer_that_is_full_after_any_byte_has_the_text_up_to_there(
+    rt: HostRuntime,
+) -> Result<(), Fail> {
+    let words = words_of(rt.alloc(), "run")?;
+    let whole = first_lines(rt.alloc(), 6)?;
+    let mut room = Vec::new(rt.alloc());
+    for byte in &whole {
+        let mut source = CalmSource::new(SCRIPT.as_bytes().to_vec(rt.alloc())?);
+        let mut sink = StdSink::new(room.as_mut_slice());
+        let ending = alone(rt.alloc(), words.as_slice(), &mut source, &mut sink);
+        assert_eq!(rt; ending, Ending::WriteFault);
+        assert!(rt; whole.starts_with(room.as_slice()));
+        room.push(!*byte)?;
+    }
+    let mut source = CalmSource::new(SCRIPT.as_bytes().to_vec(rt.alloc())?);
+    let mut sink = StdSink::new(room.as_mut_slice());
+    let ending = alone(rt.alloc(), words.as_slice(), &mut source, &mut sink);
+    assert_eq!(rt; ending, Ending::Done);
+    assert_eq!(rt; room.as_slice(), whole.as_slice());
     Ok(())
 }
 
@@ -318,6 +396,58 @@ fn a_generated_script_begins_and_ends_as_defined(rt: HostRuntime) -> Result<(), 
     let front = b"machine 0x1000000\nregion sys container 0x40000000\nbegin\nspace s sys\n";
     assert!(rt; sink.written().starts_with(front.as_slice()));
     assert!(rt; sink.written().ends_with(b"\nshow s\n".as_slice()));
+    Ok(())
+}
+
+/// What the program writes of this source for these words.
+fn written_for(alloc: Global, words: &str, script: &[u8]) -> Result<Vec<u8>, Fail> {
+    let words = words_of(alloc, words)?;
+    let mut source = CalmSource::new(script.to_vec(alloc)?);
+    let mut written = Vec::new(alloc);
+    let mut sink = StdSink::new(&mut written);
+    let _ = alone(alloc, words.as_slice(), &mut source, &mut sink);
+    Ok(written)
+}
+
+/// How many lines begin and end so.
+fn count_lines(text: &str, front: &str, back: &str) -> usize {
+    text.lines()
+        .filter(|line| line.starts_with(front) && line.ends_with(back))
+        .count()
+}
+
+/// The first five lines of the summary of a run's text, by plain searches in it.
+fn kinds_in(alloc: Global, text: &str) -> Result<String, Fail> {
+    let both = count_lines(text, "", " error+decode");
+    let lines = count_lines(text, "", "");
+    let refused = count_lines(text, "refused ", "");
+    let ok = count_lines(text, "", " ok");
+    let error = count_lines(text, "", " error").saturating_add(both);
+    let decode = count_lines(text, "", " decode").saturating_add(both);
+    Ok(format!(in alloc;
+        "lines {lines}\nrefused {refused}\nok {ok}\nerror {error}\ndecode {decode}\n"
+    )?)
+}
+
+/// The last two lines of the summary of a run's text that ends with a view, by plain searches in it.
+fn view_in(alloc: Global, text: &str) -> Result<String, Fail> {
+    let view = text.rsplit_once("view ").map_or("", |cut| cut.1);
+    let (head, ranges) = view.split_once('\n').unwrap_or(("", ""));
+    let generation = head.rsplit_once(" g").map_or("", |cut| cut.1);
+    let count = count_lines(ranges, "", "");
+    Ok(format!(in alloc; "ranges {count}\ngeneration {generation}\n")?)
+}
+
+#[test]
+fn demo_counts_the_lines_that_the_run_of_its_script_writes(rt: HostRuntime) -> Result<(), Fail> {
+    let script = written_for(rt.alloc(), "make 7", b"")?;
+    let written = written_for(rt.alloc(), "run", script.as_slice())?;
+    let text = str::from_utf8(&written).unwrap_or("");
+    let told = written_for(rt.alloc(), "demo 7", b"")?;
+    let mut counted = kinds_in(rt.alloc(), text)?;
+    counted.push_str(&view_in(rt.alloc(), text)?)?;
+    assert!(rt; counted.starts_with("lines 2"));
+    assert_eq!(rt; told.as_slice(), counted.as_bytes());
     Ok(())
 }
 

@@ -14,6 +14,8 @@ mod kept;
 #[cfg(test)]
 mod language;
 #[cfg(test)]
+mod machines;
+#[cfg(test)]
 mod tests;
 mod top;
 #[cfg(test)]

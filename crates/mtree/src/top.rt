@@ -1,5 +1,6 @@
 // The top call: all that the program does, over the words, the source and the sink that it is handed.
-ghost use Rattle.std.specs.Prelude.{◌≡◌, ◌≤◌, ◌⊎◌, [], List, ℕ, map, length, string_bytes, OnOk, OnErr, IfOk, IsTrue, Ok, Err, Some};
+ghost use Rattle.std.specs.Prelude.{◌≡◌, ◌≤◌, ◌⊎◌, [], List, ℕ, map, length, string_bytes, OnOk, OnErr, IfOk, IsTrue, Ok, Err};
+ghost use Rattle.std.specs.Prelude.{Some};
 ghost use Rattle.outside.specs.Causes.{Rose};
 ghost use Rattle.outside.specs.Source.{AllCame};
 ghost use Rattle.outside.specs.Sink.{Takes, TakesPrefix};
@@ -63,12 +64,15 @@ fn refuse<K: Sink>(alloc: Global, bad: BadScript, sink: &mut K) -> Ending
 
 // Runs the script that the bytes are.
 fn run_text<K: Sink>(alloc: Global, text: &[u8], sink: &mut K) -> Ending
-    ensures done { result ≡ Ending.Done → (lines : List scripts.Line) × (script_of text.now ≡ Ok lines) × Takes K.written K.holds sink.old sink.new (text_of lines) }
-    ensures bad { IfBad result (λ bad. (script_of text.now ≡ Err bad) × Takes K.written K.holds sink.old sink.new (bad_line bad)) }
+    ensures done { result ≡ Ending.Done → (lines : List scripts.Line) × (script_of text.now ≡ Ok lines)
+        × Takes K.written K.holds sink.old sink.new (text_of lines) }
+    ensures bad { IfBad result (λ bad. (script_of text.now ≡ Err bad)
+        × Takes K.written K.holds sink.old sink.new (bad_line bad)) }
     ensures write { result ≡ Ending.WriteFault → Rose (K.faults sink.old) (K.faults sink.new) }
     ensures never { (result ≡ Ending.Usage → ⊥) × (result ≡ Ending.ReadFault → ⊥) }
     ensures prefix { TakesPrefix K.written K.holds sink.old sink.new (text_of_script (script_of text.now)) }
-    ensures complete { (Rose (K.faults sink.old) (K.faults sink.new) → ⊥) → (result ≡ ending_of (script_of text.now)) ⊎ (result ≡ Ending.Memory) }
+    ensures complete { (Rose (K.faults sink.old) (K.faults sink.new) → ⊥)
+        → (result ≡ ending_of (script_of text.now)) ⊎ (result ≡ Ending.Memory) }
     ensures later { K.faults sink.old ≤ K.faults sink.new }
 {
     match parse(alloc, text) {
@@ -84,15 +88,19 @@ fn run_text<K: Sink>(alloc: Global, text: &[u8], sink: &mut K) -> Ending
 
 // Runs the script that the source gives.
 fn run_source<S: Source, K: Sink>(alloc: Global, source: &mut S, sink: &mut K) -> Ending
-    ensures done { result ≡ Ending.Done → (bytes : List ℕ) × (lines : List scripts.Line) × AllCame (S.left source.old) (S.left source.new) bytes
+    ensures done { result ≡ Ending.Done → (bytes : List ℕ) × (lines : List scripts.Line)
+        × AllCame (S.left source.old) (S.left source.new) bytes
         × (script_of bytes ≡ Ok lines)
         × Takes K.written K.holds sink.old sink.new (text_of lines) }
-    ensures bad { IfBad result (λ bad. (bytes : List ℕ) × Came (S.left source.old) (S.left source.new) bytes × (script_of bytes ≡ Err bad)
+    ensures bad { IfBad result (λ bad. (bytes : List ℕ) × Came (S.left source.old) (S.left source.new) bytes
+        × (script_of bytes ≡ Err bad)
         × Takes K.written K.holds sink.old sink.new (bad_line bad)) }
-    ensures read { result ≡ Ending.ReadFault → Rose (S.faults source.old) (S.faults source.new) × Takes K.written K.holds sink.old sink.new [] }
+    ensures read { result ≡ Ending.ReadFault → Rose (S.faults source.old) (S.faults source.new)
+        × Takes K.written K.holds sink.old sink.new [] }
     ensures write { result ≡ Ending.WriteFault → Rose (K.faults sink.old) (K.faults sink.new) }
     ensures never { result ≡ Ending.Usage → ⊥ }
-    ensures prefix { (bytes : List ℕ) × Had (S.left source.old) bytes × TakesPrefix K.written K.holds sink.old sink.new (text_of_script (script_of bytes)) }
+    ensures prefix { (bytes : List ℕ) × Had (S.left source.old) bytes
+        × TakesPrefix K.written K.holds sink.old sink.new (text_of_script (script_of bytes)) }
     ensures complete { (bytes : List ℕ) → S.left source.old ≡ Some bytes → (Rose (S.faults source.old) (S.faults source.new) → ⊥)
         → (Rose (K.faults sink.old) (K.faults sink.new) → ⊥) → (result ≡ ending_of (script_of bytes)) ⊎ (result ≡ Ending.Memory) }
 {
@@ -173,7 +181,8 @@ pub fn alone<S: Source, K: Sink>(
     source: &mut S,
     sink: &mut K,
 ) -> Ending
-    ensures { Ends S.left S.faults K.written K.holds K.faults source.old source.new sink.old sink.new result (map string_bytes words.now) }
+    ensures { Ends S.left S.faults K.written K.holds K.faults source.old source.new sink.old sink.new result
+        (map string_bytes words.now) }
 {
     match task_of(alloc, words) {
         Ok(Task::Run) => run_source(alloc, source, sink),
@@ -193,7 +202,8 @@ pub fn mtree<R: Threads + Wait + Sync, S: Source, K: Sink, G: Gate>(
     sink: &mut K,
     _gate: &G,
 ) -> Ending
-    ensures { Ends S.left S.faults K.written K.holds K.faults source.old source.new sink.old sink.new result (map string_bytes words.now) }
+    ensures { Ends S.left S.faults K.written K.holds K.faults source.old source.new sink.old sink.new result
+        (map string_bytes words.now) }
 {
     alone(alloc, words, source, sink)
 }
@@ -206,7 +216,8 @@ pub fn exit_code<R: Threads + Wait + Sync, S: Source, K: Sink>(
     source: &mut S,
     sink: &mut K,
 ) -> ExitCode
-    ensures { ExitsWith result (λ ending. Ends S.left S.faults K.written K.holds K.faults source.old source.new sink.old sink.new ending
+    ensures { ExitsWith result (λ ending. Ends S.left S.faults K.written K.holds K.faults source.old source.new sink.old sink.new
+        ending
         (map string_bytes words.now)) }
 {
     let ending = mtree(rt, alloc, words, source, sink, &OpenGate);

@@ -1,7 +1,9 @@
 -- What is counted over lines, one after another.
-use Rattle.std.specs.Prelude.{ℕ, ◌+◌, ◌≤◌, if◌then◌else◌, Bool, List, [], ◌∷◌, ◌++◌, length, reverse, Option, Some, None, option_map, codes, IfSome}
+use Rattle.std.specs.Prelude.{ℕ, ◌+◌, ◌≤◌, if◌then◌else◌, Bool, List, [], ◌∷◌, ◌++◌, length, reverse, Option, Some, None}
+use Rattle.std.specs.Prelude.{option_map, codes, IfSome}
 use Rattle.mem_base.specs.script.Spelling.{Text}
-use Rattle.mem_base.specs.script.Summary.{count, generation_in, is_decode, is_error, is_ok, is_refusal, is_view, last_view, number_line}
+use Rattle.mem_base.specs.script.Summary.{count, generation_in, is_decode, is_error, is_ok, is_refusal, is_view, last_view}
+use Rattle.mem_base.specs.script.Summary.{number_line}
 
 pub record Counted : Type 0 where
   pub lines : ℕ

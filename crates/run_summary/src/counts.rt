@@ -21,9 +21,11 @@ impl Model for Counts {
 
     ghost Value = { Counted };
 
-    ghost view = { λ c. record { lines = c.lines; refused = c.refused; ok = c.ok; error = c.error; decode = c.decode; view = c.view } };
+    ghost view = { λ c. record
+        { lines = c.lines; refused = c.refused; ok = c.ok; error = c.error; decode = c.decode; view = c.view } };
 
-    ghost invariant = { λ c. AreCounts (record { lines = c.lines; refused = c.refused; ok = c.ok; error = c.error; decode = c.decode; view = c.view }) };
+    ghost invariant = { λ c. AreCounts (record
+        { lines = c.lines; refused = c.refused; ok = c.ok; error = c.error; decode = c.decode; view = c.view }) };
 }
 
 // One more where the test holds.

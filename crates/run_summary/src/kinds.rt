@@ -1,7 +1,8 @@
 // What a line tells.
 ghost use Rattle.std.specs.Prelude.{◌≡◌, Some, option_map, slice_get};
 ghost use Rattle.mem_base.specs.script.Lines.{tokens_of};
-ghost use Rattle.mem_base.specs.script.Summary.{begins_with, ends_with, generation_in, is_decode, is_error, is_ok, is_refusal, is_view};
+ghost use Rattle.mem_base.specs.script.Summary.{begins_with, ends_with, generation_in, is_decode, is_error, is_ok, is_refusal};
+ghost use Rattle.mem_base.specs.script.Summary.{is_view};
 
 use script_text::{Tokens, digits};
 

@@ -66,8 +66,9 @@ fn add_view(line: &mut Line, counts: &Counts) -> Result<(), AllocError>
     add_number(line, "generation", counts.generation())
 }
 
-/// The summary of a run's text, as seven lines: how many lines it has; how many of them tell a refusal, an access without a fault, one
-/// with an error, one with a decode error; how many lines follow the beginning of the last view, and that view's generation.
+/// The summary of a run's text, as seven lines: how many lines it has; how many of them tell a refusal, an access without a
+/// fault, one with an error, one with a decode error; how many lines follow the beginning of the last view, and that view's
+/// generation.
 ///
 /// It fails only where memory runs out.
 pub fn summary(alloc: Global, text: &[u8]) -> Result<Line, AllocError>

@@ -1,5 +1,6 @@
 -- The numbers of notifiers and passes, and the lengths, of every command that was read.
-use Rattle.std.proofs.Common.{◌≡◌, ◌<◌, ◌≤◌, ◌==◌, List, [], ◌∷◌, ℕ, Bool, true, false, Ok, Err, Some, None, Option, refl, sym, ap, subst, ◌∙◌, arith, decimal}
+use Rattle.std.proofs.Common.{◌≡◌, ◌<◌, ◌≤◌, ◌==◌, List, [], ◌∷◌, ℕ, Bool, true, false, Ok, Err, Some, None, Option, refl, sym}
+use Rattle.std.proofs.Common.{ap, subst, ◌∙◌, arith, decimal}
 use Rattle.std.proofs.Common.{codes, option_map, if◌then◌else◌}
 use Rattle.std.specs.Prelude.{◌&&◌, ◌%◌, ◌/◌, ◌^◌, drop, nat_le, take}
 use Rattle.std.specs.Option.{option_or, option_and_then}
@@ -12,12 +13,14 @@ use Rattle.mem_base.specs.declared.script.commands.Command.TheVariants as comman
 use Rattle.mem_base.specs.declared.script.places.Section.{Section}
 use Rattle.mem_base.specs.lists.Every.{Every as Each}
 use Rattle.mem_base.specs.map.Limits.{most_passes}
-use Rattle.mem_base.specs.script.Spelling.{Text, digits, leads_with_no_zero, length_of, machine_size, name_of, nonzero, number_of, pass_of, whole_pages}
+use Rattle.mem_base.specs.script.Spelling.{Text, digits, leads_with_no_zero, length_of, machine_size, name_of, nonzero, number_of}
+use Rattle.mem_base.specs.script.Spelling.{pass_of, whole_pages}
 use Rattle.mem_base.specs.script.Scripts.{Line}
 use Rattle.mem_base.specs.script.Sound.{Sound}
 use Rattle.mem_base.specs.script.Operands.{Form, ends, then_read, value_in, with_value}
 use Rattle.mem_base.specs.script.RegionForms.{alias, container, io, iommu, ram, region, region_forms, reserve, rom, romdev}
-use Rattle.mem_base.specs.script.DeskForms.{at, desk_forms, dirty, drop_region, listen, load, machine, notified, show, space, unlisten, unwatch, watch}
+use Rattle.mem_base.specs.script.DeskForms.{at, desk_forms, dirty, drop_region, listen, load, machine, notified, show, space}
+use Rattle.mem_base.specs.script.DeskForms.{unlisten, unwatch, watch}
 use Rattle.mem_base.specs.script.ChangeForms.{change, change_forms}
 use Rattle.mem_base.specs.script.Forms.{changed, command, form_of}
 use Rattle.mem_base.specs.script.Operands.{made_by}
@@ -27,7 +30,8 @@ use Rattle.mem_base.specs.script.Run.{default_words, pool_words, words_named}
 use Rattle.script_laws.proofs.Tokens.{Law, Spelled}
 use Rattle.script_laws.proofs.Numerals.{digits_fit, number_fits}
 use Rattle.script_laws.proofs.Spelled.{bytes_law, client_law, length_law, machine_law, mapped_some, name_law, short_law}
-use Rattle.script_laws.proofs.Reading.{Every, Outcome, address_law, ended, ended_after, found, no_ok, same_Ok, size_law, took, took_form, took_priority}
+use Rattle.script_laws.proofs.Reading.{Every, Outcome, address_law, ended, ended_after, found, no_ok, same_Ok, size_law, took}
+use Rattle.script_laws.proofs.Reading.{took_form, took_priority}
 use Rattle.script_laws.proofs.DeviceLaws.{took_device}
 use Rattle.view_laws.proofs.Tests.{none_is_not_some, same_some}
 use Rattle.script_run.specs.Bounds.{IsBounded}
@@ -63,7 +67,8 @@ machine_fits text n e = go (number_of (2 ^ 29) text) refl e
 
     go : (o : Option ℕ) → number_of (2 ^ 29) text ≡ o → option_and_then whole_pages o ≡ Some n → n ≤ 2 ^ 29
     go None is e = none_is_not_some n e
-    go (Some m) is e = let most = number_fits (2 ^ 29) text m is in let same = whole m ((m % 4096 == 0) && nat_le 4096 m) e in omega arith
+    go (Some m) is e = let most = number_fits (2 ^ 29) text m is in let same = whole m ((m % 4096 == 0) && nat_le 4096 m) e in
+        omega arith
 
 notifier_law : Law (number_of 63) decimal
 notifier_law = short_law 63 (omega arith)
@@ -113,12 +118,22 @@ reserve_bounded name n t y e =
 region_table : (name : Text) → Spelled name_of name name → Every Bounded (region_forms name)
 region_table name n = (
   container_bounded name n,
-  (ram_bounded name n, (rom_bounded name n, (romdev_bounded name n, (io_bounded name n, (iommu_bounded name n, (alias_bounded name n, (reserve_bounded name n, tt))))))),
+  (
+    ram_bounded name n,
+    (
+      rom_bounded name n,
+      (
+        romdev_bounded name n,
+        (io_bounded name n, (iommu_bounded name n, (alias_bounded name n, (reserve_bounded name n, tt)))),
+      ),
+    ),
+  ),
 )
 
 region_bounded : Bounded region
 region_bounded t y e =
-    took name_law t _ _ _ e λ name n t e. took_form Bounded (region_forms name) t y (region_table name n) e λ f again t e. again t y e
+    took name_law t _ _ _ e λ name n t e. took_form Bounded (region_forms name) t y (region_table name n) e λ f again t e. again t
+    y e
 
 -- The other lines of the desk
 
@@ -154,7 +169,8 @@ unlisten_bounded t y e =
 
 watch_bounded : Bounded watch
 watch_bounded t y e =
-    took name_law t _ _ _ e λ name n t e. took name_law t _ _ _ e λ region r t e. took address_law t _ _ _ e λ first f t e. took address_law t _ _ _ e
+    took name_law t _ _ _ e λ name n t e. took name_law t _ _ _ e λ region r t e. took address_law t _ _ _ e λ first f t e. took
+    address_law t _ _ _ e
     λ last l t e.
     ended IsBounded (commands.Watch name region first last) t _ e tt
 
@@ -221,7 +237,16 @@ desk_table = (
                     unlisten_bounded,
                     (
                       watch_bounded,
-                      (unwatch_bounded, (show_bounded, (at_bounded, (notified_bounded, (dirty_bounded, (par_bounded, (end_bounded, tt))))))),
+                      (
+                        unwatch_bounded,
+                        (
+                          show_bounded,
+                          (
+                            at_bounded,
+                            (notified_bounded, (dirty_bounded, (par_bounded, (end_bounded, tt)))),
+                          ),
+                        ),
+                      ),
                     ),
                   ),
                 ),
@@ -277,14 +302,22 @@ pass_dma_bounded : (n : ℕ) → IsPass n → Bounded (pass_dma (pass n))
 pass_dma_bounded n v t y e =
     took name_law t _ _ _ e λ space s t e. took address_law t _ _ _ e λ addr a t e. took length_law t _ _ _ e λ count l t e.
     took to_law t _ _ _ e λ word w t e. took name_law t _ _ _ e λ to_space p t e. took address_law t _ _ _ e λ to_addr q t e.
-    ended IsBounded (commands.PassDma (pass n) space addr count to_space to_addr) t _ e (v, length_fits (decimal count) count l.reads)
+    ended IsBounded (commands.PassDma (pass n) space addr count to_space to_addr) t _ e
+    (v, length_fits (decimal count) count l.reads)
 
 pass_table : (n : ℕ) → IsPass n → Every Bounded (pass_forms (pass n))
-pass_table n v = (pass_enter_bounded n v, (pass_leave_bounded n v, (pass_read_bounded n v, (pass_write_bounded n v, (pass_do_bounded n, (pass_dma_bounded n v, tt))))))
+pass_table n v = (
+  pass_enter_bounded n v,
+  (
+    pass_leave_bounded n v,
+    (pass_read_bounded n v, (pass_write_bounded n v, (pass_do_bounded n, (pass_dma_bounded n v, tt)))),
+  ),
+)
 
 -- All lines
 
-desk_line : (word : Text) (t : List Text) (f : Form Command) (y : Command) → value_in desk_forms word ≡ Some f → f t ≡ Ok y → IsBounded y
+desk_line : (word : Text) (t : List Text) (f : Form Command) (y : Command) → value_in desk_forms word ≡ Some f → f t ≡ Ok y
+    → IsBounded y
 desk_line word t f y is e = found Bounded desk_forms word f is desk_table λ again. again t y e
 
 change_line : (f : Form MapChange) (t : List Text) (y : Command) → changed f t ≡ Ok y → IsBounded y
@@ -294,8 +327,10 @@ change_line f t y e = by (f t) e
     by (Err c) e = no_ok e
     by (Ok c) e = subst IsBounded (same_Ok (commands.Change c) y (Ok (commands.Change c)) refl e) tt
 
-pass_line_bounded : (word : Text) (n : ℕ) (t : List Text) (y : Command) → pass_of word ≡ Some n → pass_line n t ≡ Ok y → IsBounded y
-pass_line_bounded word n t y is e = took_form Bounded (pass_forms (pass n)) t y (pass_table n (pass_fits word n is)) e λ f again t e. again t y e
+pass_line_bounded : (word : Text) (n : ℕ) (t : List Text) (y : Command) → pass_of word ≡ Some n → pass_line n t ≡ Ok y
+    → IsBounded y
+pass_line_bounded word n t y is e = took_form Bounded (pass_forms (pass n)) t y (pass_table n (pass_fits word n is)) e
+    λ f again t e. again t y e
 
 either : {X P : Type 0} (a b : Option X) (x : X) → option_or a b ≡ Some x → (a ≡ Some x → P) → (b ≡ Some x → P) → P
 either None b x e f g = g e
@@ -303,7 +338,8 @@ either (Some z) b x e f g = f e
 
 line_bounded : (word : Text) (t : List Text) (f : Form Command) (y : Command) → form_of word ≡ Some f → f t ≡ Ok y → IsBounded y
 line_bounded word t f y is e =
-    either (value_in desk_forms word) (option_or (option_map changed (value_in change_forms word)) (option_map pass_line (pass_of word))) f is
+    either (value_in desk_forms word) (option_or (option_map changed (value_in change_forms word))
+    (option_map pass_line (pass_of word))) f is
     (λ is. desk_line word t f y is e) λ is.
     either (option_map changed (value_in change_forms word)) (option_map pass_line (pass_of word)) f is
     (λ is. mapped_some changed (value_in change_forms word) f is λ g is same. change_line g t y (ap (λ h. h t) same ∙ e))
@@ -313,7 +349,8 @@ pub command_bounded : Bounded command
 command_bounded [] y e = no_ok e
 command_bounded (word ∷ t) y e = by (form_of word) refl e
   where
-    by : (o : Option (Form Command)) → form_of word ≡ o → then_read (with_value causes.Word o t) (λ form. form) ≡ Ok y → IsBounded y
+    by : (o : Option (Form Command)) → form_of word ≡ o → then_read (with_value causes.Word o t) (λ form. form) ≡ Ok y
+        → IsBounded y
     by None is e = no_ok e
     by (Some f) is e = line_bounded word t f y is e
 

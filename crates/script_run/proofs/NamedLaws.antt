@@ -1,5 +1,6 @@
 -- Laws of a table of names, as what is there changes.
-use Rattle.std.proofs.Common.{◌≡◌, ◌≢◌, ◌<◌, ◌≤◌, ◌+◌, ℕ, suc, Bool, true, false, ◌&&◌, cond, if◌then◌else◌, List, [], ◌∷◌, ◌++◌, length, Option, Some, None}
+use Rattle.std.proofs.Common.{◌≡◌, ◌≢◌, ◌<◌, ◌≤◌, ◌+◌, ℕ, suc, Bool, true, false, ◌&&◌, cond, if◌then◌else◌, List, [], ◌∷◌, ◌++◌}
+use Rattle.std.proofs.Common.{length, Option, Some, None}
 use Rattle.std.proofs.Common.{refl, sym, ap, subst, ◌∙◌, arith, eqb, eqb-true, ne_eqb, zero-add, add-zero, add-one, add_assoc}
 use mathlib.Core.Logic.{dite}
 use native.Mathlib.Decide.{ℕ_discrete}
@@ -26,7 +27,8 @@ either_way false true f g = g refl
 either_way false false f g = refl
 
 bytes_eq-sym : (x y : Text) → bytes_eq x y ≡ bytes_eq y x
-bytes_eq-sym x y = either_way (bytes_eq x y) (bytes_eq y x) (λ e. text_same y x (sym (same_text x y e))) (λ e. text_same x y (sym (same_text y x e)))
+bytes_eq-sym x y = either_way (bytes_eq x y) (bytes_eq y x) (λ e. text_same y x (sym (same_text x y e)))
+    (λ e. text_same x y (sym (same_text y x e)))
 
 -- tests that agree on the numbers of some names
 from_agree : (n : ℕ) (names : List Text) (p q : ℕ → Bool) → ((k : ℕ) → n ≤ k → k < n + length names → p k ≡ q k) → (name : Text)
@@ -37,7 +39,8 @@ from_agree n (x ∷ xs) p q h name =
     let ih = from_agree (n + 1) xs p q (λ k l m. h k (omega arith) (omega arith)) name in
     (λ i. if bytes_eq x name && here i then Some n else ih i)
 
-single_agree : (n : ℕ) (names : List Text) (p q : ℕ → Bool) → ((k : ℕ) → n ≤ k → k < n + length names → p k ≡ q k) → AreSingle n names p → AreSingle n names q
+single_agree : (n : ℕ) (names : List Text) (p q : ℕ → Bool) → ((k : ℕ) → n ≤ k → k < n + length names → p k ≡ q k)
+    → AreSingle n names p → AreSingle n names q
 single_agree n [] p q h s = tt
 single_agree n (x ∷ xs) p q h s =
     let here : p n ≡ q n = h n (omega arith) (omega arith) in
@@ -58,7 +61,8 @@ from_push n (y ∷ ys) x p name = go (bytes_eq y name && p n) (from_push (n + 1)
     further : n + 1 + length ys ≡ n + suc (length ys)
     further = omega arith
 
-    go : (b : Bool) → number_from (n + 1) (ys ++ x ∷ []) p name ≡ option_or (number_from (n + 1) ys p name) (at_end (n + 1) ys x p name)
+    go : (b : Bool) → number_from (n + 1) (ys ++ x ∷ []) p name
+        ≡ option_or (number_from (n + 1) ys p name) (at_end (n + 1) ys x p name)
         → (if b then Some n else number_from (n + 1) (ys ++ x ∷ []) p name)
         ≡ option_or (if b then Some n else number_from (n + 1) ys p name) (at_end n (y ∷ ys) x p name)
     go true ih = refl
@@ -73,7 +77,8 @@ none_or : (a b : Option ℕ) → a ≡ None → b ≡ None → option_or a b ≡
 none_or None b e f = f
 none_or (Some n) b e f = e
 
-single_push : (n : ℕ) (names : List Text) (x : Text) (p : ℕ → Bool) → AreSingle n names p → number_from n names p x ≡ None → AreSingle n (names ++ x ∷ []) p
+single_push : (n : ℕ) (names : List Text) (x : Text) (p : ℕ → Bool) → AreSingle n names p → number_from n names p x ≡ None
+    → AreSingle n (names ++ x ∷ []) p
 unfolding at_end
 single_push n [] x p s free = (λ t. refl, tt)
 single_push n (y ∷ ys) x p s free =
@@ -82,7 +87,8 @@ single_push n (y ∷ ys) x p s free =
       single_push (n + 1) ys x p s.1 apart.1,
     )
   where
-    other : (b : Bool) → bytes_eq x y ≡ b → (bytes_eq y x && p n) ≡ false → p n ≡ true → (if b && p (n + 1 + length ys) then Some (n + 1 + length ys) else None)
+    other : (b : Bool) → bytes_eq x y ≡ b → (bytes_eq y x && p n) ≡ false → p n ≡ true
+        → (if b && p (n + 1 + length ys) then Some (n + 1 + length ys) else None)
         ≡ None
     other false e h t = refl
     other true e h t = true_is_not_false (bytes_eq y x && p n) (both (bytes_eq y x) (p n) (bytes_eq-sym y x ∙ e) t) h
@@ -117,18 +123,21 @@ module _ (p q : ℕ → Bool) (r : ℕ) (others : (k : ℕ) → k ≢ r → q k 
   above n [] x e = none_is_not_some r e
   above n (y ∷ ys) x e = go (bytes_eq y x && p n) e (above (n + 1) ys x)
     where
-      go : (b : Bool) → (if b then Some n else number_from (n + 1) ys p x) ≡ Some r → (number_from (n + 1) ys p x ≡ Some r → n + 1 ≤ r) → n ≤ r
+      go : (b : Bool) → (if b then Some n else number_from (n + 1) ys p x) ≡ Some r
+          → (number_from (n + 1) ys p x ≡ Some r → n + 1 ≤ r) → n ≤ r
       go true e ih = let s = same_some n r e in omega arith
       go false e ih = let l = ih e in omega arith
 
   beyond : (n : ℕ) (names : List Text) (x : Text) → r < n → number_from n names q x ≡ number_from n names p x
   beyond n names x l = from_agree n names q p (λ k a b. others k (λ e. omega arith)) x
 
-  name_gone : (n : ℕ) (names : List Text) (x : Text) → AreSingle n names p → number_from n names p x ≡ Some r → number_from n names q x ≡ None
+  name_gone : (n : ℕ) (names : List Text) (x : Text) → AreSingle n names p → number_from n names p x ≡ Some r
+      → number_from n names q x ≡ None
   name_gone n [] x s e = none_is_not_some r e
   name_gone n (y ∷ ys) x s e = go (bytes_eq y x && p n) refl e (name_gone (n + 1) ys x s.1)
     where
-      head : (c : Bool) → (bytes_eq y x && q n) ≡ c → c ≡ false → number_from (n + 1) ys q x ≡ None → (if c then Some n else number_from (n + 1) ys q x) ≡ None
+      head : (c : Bool) → (bytes_eq y x && q n) ≡ c → c ≡ false → number_from (n + 1) ys q x ≡ None
+          → (if c then Some n else number_from (n + 1) ys q x) ≡ None
       head false e f ih = ih
       head true e f ih = true_is_not_false true refl f
 
@@ -166,11 +175,13 @@ module _ (p q : ℕ → Bool) (r : ℕ) (others : (k : ℕ) → k ≢ r → q k 
 
       go : (b : Bool) → (bytes_eq z x && p n) ≡ b → (if b then Some n else number_from (n + 1) zs p x) ≡ Some r
           → (number_from (n + 1) zs p x ≡ Some r → number_from (n + 1) zs q y ≡ number_from (n + 1) zs p y)
-          → (if bytes_eq z y && q n then Some n else number_from (n + 1) zs q y) ≡ (if bytes_eq z y && p n then Some n else number_from (n + 1) zs p y)
+          → (if bytes_eq z y && q n then Some n else number_from (n + 1) zs q y)
+          ≡ (if bytes_eq z y && p n then Some n else number_from (n + 1) zs p y)
       go true h e ih =
           let t = both_of (bytes_eq z x) (p n) h in
           let is : n ≡ r = same_some n r e in
-          let head : (bytes_eq z y && q n) ≡ (bytes_eq z y && p n) = both_off (bytes_eq z y) (not_it (bytes_eq z y) refl (same_text z x t.0)) in
+          let head : (bytes_eq z y && q n) ≡ (bytes_eq z y && p n) = both_off (bytes_eq z y)
+          (not_it (bytes_eq z y) refl (same_text z x t.0)) in
           let tail : number_from (n + 1) zs q y ≡ number_from (n + 1) zs p y = beyond (n + 1) zs y (omega arith) in
           (λ i. if head i then Some n else tail i)
       go false h e ih =
@@ -186,7 +197,8 @@ bound_push : (bound : List (Text × ℕ)) (x name : Text) (n : ℕ)
 bound_push [] x name n = refl
 bound_push (e ∷ es) x name n = go (bytes_eq name e.0) (bound_push es x name n)
   where
-    go : (b : Bool) → number_of (es ++ (x, n) ∷ []) name ≡ option_or (number_of es name) (if bytes_eq name x then Some n else None)
+    go : (b : Bool) → number_of (es ++ (x, n) ∷ []) name
+        ≡ option_or (number_of es name) (if bytes_eq name x then Some n else None)
         → (if b then Some e.1 else number_of (es ++ (x, n) ∷ []) name)
         ≡ option_or (if b then Some e.1 else number_of es name) (if bytes_eq name x then Some n else None)
     go true ih = refl
@@ -202,7 +214,8 @@ pub named_none : (p : ℕ → Bool) → IsNamed (table [] []) p
 named_none p = record { finds = λ name. refl; single = tt }
 
 -- one more, whose name is free
-pub named_push : (t : Table) (p q : ℕ → Bool) (x : Text) → IsNamed t p → number_of t.bound x ≡ None → ((k : ℕ) → k < length t.made → q k ≡ p k)
+pub named_push : (t : Table) (p q : ℕ → Bool) (x : Text) → IsNamed t p → number_of t.bound x ≡ None
+    → ((k : ℕ) → k < length t.made → q k ≡ p k)
     → q (length t.made) ≡ true → IsNamed (table (t.bound ++ (x, length t.made) ∷ []) (t.made ++ x ∷ [])) q
 unfolding at_end
 named_push t p q x k free same new = record {
@@ -210,7 +223,8 @@ named_push t p q x k free same new = record {
       bound_push t.bound x name (length t.made)
       ∙ (λ i. option_or ((k.finds name ∙ agrees name) i) (last name i))
       ∙ sym (from_push 0 t.made x q name);
-  single = single_push 0 t.made x q (single_agree 0 t.made p q (λ n l m. sym (same n (omega arith))) k.single) (sym (agrees x) ∙ sym (k.finds x) ∙ free);
+  single = single_push 0 t.made x q (single_agree 0 t.made p q (λ n l m. sym (same n (omega arith))) k.single)
+      (sym (agrees x) ∙ sym (k.finds x) ∙ free);
 }
   where
     agrees : (name : Text) → number_from 0 t.made p name ≡ number_from 0 t.made q name
@@ -223,20 +237,24 @@ named_push t p q x k free same new = record {
     last : (name : Text) → (if bytes_eq name x then Some (length t.made) else None)
         ≡ (if bytes_eq x name && q (0 + length t.made) then Some (0 + length t.made) else None)
     last name =
-        ap (λ (b : Bool). if b then Some (length t.made) else None) (bytes_eq-sym name x ∙ and_true (bytes_eq x name) (q (length t.made)) new)
+        ap (λ (b : Bool). if b then Some (length t.made) else None)
+        (bytes_eq-sym name x ∙ and_true (bytes_eq x name) (q (length t.made)) new)
         ∙ ap (λ (n : ℕ). if bytes_eq x name && q n then Some n else None) (sym (zero-add (length t.made)))
 
 -- what had a name is there no more
-pub named_drop : (t u : Table) (p q : ℕ → Bool) (x : Text) (r : ℕ) → IsNamed t p → number_of t.bound x ≡ Some r → ((k : ℕ) → k ≢ r → q k ≡ p k)
+pub named_drop : (t u : Table) (p q : ℕ → Bool) (x : Text) (r : ℕ) → IsNamed t p → number_of t.bound x ≡ Some r
+    → ((k : ℕ) → k ≢ r → q k ≡ p k)
     → q r ≡ false → Rebinds t.bound u.bound x None → u.made ≡ t.made → IsNamed u q
 named_drop t u p q x r k found others gone binds same =
     let at : number_from 0 t.made p x ≡ Some r = sym (k.finds x) ∙ found in
     record {
-      finds = λ name. binds name ∙ go name (bytes_eq x name) refl at ∙ ap (λ (made : List Text). number_from 0 made q name) (sym same);
+      finds = λ name. binds name ∙ go name (bytes_eq x name) refl at ∙ ap (λ (made : List Text). number_from 0 made q name)
+          (sym same);
       single = subst (λ (made : List Text). AreSingle 0 made q) (sym same) (single_left p q r others gone 0 t.made k.single);
     }
   where
     go : (name : Text) (b : Bool) → bytes_eq x name ≡ b → number_from 0 t.made p x ≡ Some r
         → (if b then None else number_of t.bound name) ≡ number_from 0 t.made q name
-    go name true e at = sym (ap (number_from 0 t.made q) (sym (same_text x name e)) ∙ name_gone p q r others gone 0 t.made x k.single at)
+    go name true e at = sym (ap (number_from 0 t.made q) (sym (same_text x name e))
+        ∙ name_gone p q r others gone 0 t.made x k.single at)
     go name false e at = k.finds name ∙ sym (other_names p q r others gone 0 t.made x name e at)

@@ -35,12 +35,15 @@ use Rattle.mem_base.specs.script.Named.{Names}
 use Rattle.script_names.specs.Tables.{AllNames, Rebinds, Table, number_of, printed_names, table}
 use Rattle.script_run.specs.Ready.{IsNamed, IsReady, is_region, is_listener, watches}
 use Rattle.script_run.proofs.NamedLaws.{named_drop, named_push, named_same}
-use Rattle.script_run.proofs.WorldLaws.{IsGone, LeavesCall, LeavesListen, LeavesUnlisten, SameMap, any_push, call_leaves, change_keeps, dropped_gone}
-use Rattle.script_run.proofs.WorldLaws.{dropped_others, listen_leaves, made_others, made_there, or_false, or_true, unlisten_leaves}
+use Rattle.script_run.proofs.WorldLaws.{IsGone, LeavesCall, LeavesListen, LeavesUnlisten, SameMap, any_push, call_leaves}
+use Rattle.script_run.proofs.WorldLaws.{change_keeps, dropped_gone}
+use Rattle.script_run.proofs.WorldLaws.{dropped_others, listen_leaves, made_others, made_there, or_false, or_true}
+use Rattle.script_run.proofs.WorldLaws.{unlisten_leaves}
 
 -- the same regions and the same listeners are there
 pub record SameThere (d e : Desk) : Type 0 where
-  pub regions : (n : ℕ) → is_some (node_of e.forest.nodes (record { 0 = n })) ≡ is_some (node_of d.forest.nodes (record { 0 = n }))
+  pub regions : (n : ℕ) → is_some (node_of e.forest.nodes (record { 0 = n }))
+      ≡ is_some (node_of d.forest.nodes (record { 0 = n }))
   pub made : e.forest.made ≡ d.forest.made
   pub listeners : (n : ℕ) → listening.listens e.listening (record { 0 = n }) ≡ listening.listens d.listening (record { 0 = n })
 
@@ -66,20 +69,24 @@ change_there w call q = let c = completed w (configure (configs.Call call)) in
     call_there w.writer.desk c.world.writer.desk call (refusal_in c.answer) q (call_leaves w call)
 
 -- a refused call
-pub refused_there : (w : World) (call : Call) (why : Refusal) → refusal_in (completed w (configure (configs.Call call))).answer ≡ Some why
+pub refused_there : (w : World) (call : Call) (why : Refusal)
+    → refusal_in (completed w (configure (configs.Call call))).answer ≡ Some why
     → SameThere w.writer.desk (completed w (configure (configs.Call call))).world.writer.desk
 refused_there w call why e = let c = completed w (configure (configs.Call call)) in
-    same_there w.writer.desk c.world.writer.desk (subst (LeavesCall w.writer.desk call c.world.writer.desk) e (call_leaves w call))
+    same_there w.writer.desk c.world.writer.desk (subst (LeavesCall w.writer.desk call c.world.writer.desk) e
+    (call_leaves w call))
 
 -- where the passes are as they were, each may make an access as before
 pub same_may : (w v : World) → v.passes ≡ w.passes → (pass : PassId) → may_access w pass ≡ true → may_access v pass ≡ true
 same_may w v e pass t =
-    ap (λ (ps : List PassState). is_some (pass_of ps pass).entered || (is_pass ps pass && is_none (pass_of ps pass).announced)) e ∙ t
+    ap (λ (ps : List PassState). is_some (pass_of ps pass).entered || (is_pass ps pass && is_none (pass_of ps pass).announced)) e
+    ∙ t
 
 pub ready_by : (names : AllNames) (w v : World) (watchers : List Watcher) (k : Order) (answer : Answer) → IsReady names w watchers
     → IsCompleted w k answer v → SameThere w.writer.desk (completed w k).world.writer.desk → IsReady names v watchers
 ready_by names w v watchers k answer r c s =
-    let t : SameThere w.writer.desk v.writer.desk = subst (λ (x : World). SameThere w.writer.desk x.writer.desk) (sym c.world) s in record {
+    let t : SameThere w.writer.desk v.writer.desk = subst (λ (x : World). SameThere w.writer.desk x.writer.desk) (sym c.world)
+    s in record {
       regions = named_same names.regions (is_region w) (is_region v) t.regions r.regions;
       spaces = r.spaces;
       listeners = named_same names.listeners (is_listener w) (is_listener v) t.listeners r.listeners;
@@ -94,7 +101,8 @@ ready_by names w v watchers k answer r c s =
 
 module _ (names after : AllNames) (w v : World) (watchers : List Watcher) (answer : Answer) (r : IsReady names w watchers) where
   -- a region was made
-  pub region_made : (kind : Kind) (size : ℕ) (name : Text) → IsCompleted w (configure (configs.Call (calls.Region kind size))) answer v
+  pub region_made : (kind : Kind) (size : ℕ) (name : Text)
+      → IsCompleted w (configure (configs.Call (calls.Region kind size))) answer v
       → refusal_in answer ≡ None → number_of names.regions.bound name ≡ None
       → after.regions ≡ table (names.regions.bound ++ (name, length names.regions.made) ∷ []) (names.regions.made ++ name ∷ [])
       → after ≡ record names { regions = after.regions; kinds = after.kinds } → IsReady after v watchers
@@ -111,12 +119,16 @@ module _ (names after : AllNames) (w v : World) (watchers : List Watcher) (answe
             (named_push names.regions (is_region w) (is_region v) name r.regions free
             (λ n m. ap (λ (g : Forest). is_some (node_of g.nodes (record { 0 = n }))) forest
             ∙ made_others f kind size (record { 0 = n }) (subst (λ (q : ℕ). n < q) r.made m))
-            (ap (is_region v) r.made ∙ ap (λ (g : Forest). is_some (node_of g.nodes (record { 0 = f.made }))) forest ∙ made_there f kind size));
+            (ap (is_region v) r.made ∙ ap (λ (g : Forest). is_some (node_of g.nodes (record { 0 = f.made }))) forest
+            ∙ made_there f kind size));
         spaces = subst (λ (t : Table). IsNamed t (λ n. true)) (sym (ap (λ (x : AllNames). x.spaces) others)) r.spaces;
         listeners = subst (λ (t : Table). IsNamed t (is_listener v)) (sym (ap (λ (x : AllNames). x.listeners) others))
-            (named_same names.listeners (is_listener w) (is_listener v) (λ n. ap (list_any (listening.is_listener (record { 0 = n }))) listeners) r.listeners);
-        notifiers = subst (λ (t : Table). IsNamed t (watches watchers)) (sym (ap (λ (x : AllNames). x.notifiers) others)) r.notifiers;
-        made = ap (λ (t : Table). length t.made) regions ∙ length-append names.regions.made (name ∷ []) ∙ ap (λ (n : ℕ). n + 1) r.made
+            (named_same names.listeners (is_listener w) (is_listener v)
+            (λ n. ap (list_any (listening.is_listener (record { 0 = n }))) listeners) r.listeners);
+        notifiers = subst (λ (t : Table). IsNamed t (watches watchers)) (sym (ap (λ (x : AllNames). x.notifiers) others))
+            r.notifiers;
+        made = ap (λ (t : Table). length t.made) regions ∙ length-append names.regions.made (name ∷ [])
+            ∙ ap (λ (n : ℕ). n + 1) r.made
             ∙ sym (ap (λ (g : Forest). g.made) forest);
         fresh = λ n f. r.fresh n (subst (λ (t : Table). length t.made ≤ n) (ap (λ (x : AllNames). x.notifiers) others) f);
         rests = c.rests;
@@ -124,16 +136,21 @@ module _ (names after : AllNames) (w v : World) (watchers : List Watcher) (answe
       }
 
   -- a space was made
-  pub space_made : (space : SpaceId) (root : RegionId) (name : Text) → IsCompleted w (configure (configs.Call (calls.Space space root))) answer v
+  pub space_made : (space : SpaceId) (root : RegionId) (name : Text)
+      → IsCompleted w (configure (configs.Call (calls.Space space root))) answer v
       → number_of names.spaces.bound name ≡ None
       → after.spaces ≡ table (names.spaces.bound ++ (name, length names.spaces.made) ∷ []) (names.spaces.made ++ name ∷ [])
       → after ≡ record names { spaces = after.spaces } → IsReady after v watchers
   space_made space root name c free spaces others =
-      let k = ready_by names w v watchers (configure (configs.Call (calls.Space space root))) answer r c (change_there w (calls.Space space root) refl) in record {
+      let k = ready_by names w v watchers (configure (configs.Call (calls.Space space root))) answer r c
+      (change_there w (calls.Space space root) refl) in record {
         regions = subst (λ (t : Table). IsNamed t (is_region v)) (sym (ap (λ (x : AllNames). x.regions) others)) k.regions;
-        spaces = subst (λ (t : Table). IsNamed t (λ n. true)) (sym spaces) (named_push names.spaces (λ n. true) (λ n. true) name r.spaces free (λ n m. refl) refl);
-        listeners = subst (λ (t : Table). IsNamed t (is_listener v)) (sym (ap (λ (x : AllNames). x.listeners) others)) k.listeners;
-        notifiers = subst (λ (t : Table). IsNamed t (watches watchers)) (sym (ap (λ (x : AllNames). x.notifiers) others)) r.notifiers;
+        spaces = subst (λ (t : Table). IsNamed t (λ n. true)) (sym spaces)
+            (named_push names.spaces (λ n. true) (λ n. true) name r.spaces free (λ n m. refl) refl);
+        listeners = subst (λ (t : Table). IsNamed t (is_listener v)) (sym (ap (λ (x : AllNames). x.listeners) others))
+            k.listeners;
+        notifiers = subst (λ (t : Table). IsNamed t (watches watchers)) (sym (ap (λ (x : AllNames). x.notifiers) others))
+            r.notifiers;
         made = ap (λ (x : AllNames). length x.regions.made) others ∙ k.made;
         fresh = λ n f. r.fresh n (subst (λ (t : Table). length t.made ≤ n) (ap (λ (x : AllNames). x.notifiers) others) f);
         rests = c.rests;
@@ -144,7 +161,8 @@ module _ (names after : AllNames) (w v : World) (watchers : List Watcher) (answe
   pub listener_made : (space : SpaceId) (priority : ℤ) (name : Text)
       → IsCompleted w (configure (configs.Listen (record { 0 = length names.listeners.made }) space priority)) answer v
       → refusal_in answer ≡ None → number_of names.listeners.bound name ≡ None
-      → after.listeners ≡ table (names.listeners.bound ++ (name, length names.listeners.made) ∷ []) (names.listeners.made ++ name ∷ [])
+      → after.listeners ≡ table (names.listeners.bound ++ (name, length names.listeners.made) ∷ [])
+      (names.listeners.made ++ name ∷ [])
       → after ≡ record names { listeners = after.listeners } → IsReady after v watchers
   listener_made space priority name c e free listeners others =
       let l : Listener = record { listener = record { 0 = length names.listeners.made }; space = space; priority = priority } in
@@ -157,15 +175,18 @@ module _ (names after : AllNames) (w v : World) (watchers : List Watcher) (answe
       ∙ ap (list_any (listening.is_listener (record { 0 = n }))) m.1
       ∙ any_push (listening.is_listener (record { 0 = n })) w.writer.desk.listening.listeners l) in record {
         regions = subst (λ (t : Table). IsNamed t (is_region v)) (sym (ap (λ (x : AllNames). x.regions) others))
-            (named_same names.regions (is_region w) (is_region v) (λ n. ap (λ (g : Forest). is_some (node_of g.nodes (record { 0 = n }))) forest) r.regions);
+            (named_same names.regions (is_region w) (is_region v)
+            (λ n. ap (λ (g : Forest). is_some (node_of g.nodes (record { 0 = n }))) forest) r.regions);
         spaces = subst (λ (t : Table). IsNamed t (λ n. true)) (sym (ap (λ (x : AllNames). x.spaces) others)) r.spaces;
         listeners = subst (λ (t : Table). IsNamed t (is_listener v)) (sym listeners)
             (named_push names.listeners (is_listener w) (is_listener v) name r.listeners free
-            (λ n q. there n ∙ or_false (is_listener w n) (length names.listeners.made == n) (ne_eqb (length names.listeners.made) n (λ s. omega arith)))
+            (λ n q. there n ∙ or_false (is_listener w n) (length names.listeners.made == n)
+            (ne_eqb (length names.listeners.made) n (λ s. omega arith)))
             (there (length names.listeners.made)
             ∙ or_true (is_listener w (length names.listeners.made)) (length names.listeners.made == length names.listeners.made)
             (eq-eqb (length names.listeners.made) (length names.listeners.made) refl)));
-        notifiers = subst (λ (t : Table). IsNamed t (watches watchers)) (sym (ap (λ (x : AllNames). x.notifiers) others)) r.notifiers;
+        notifiers = subst (λ (t : Table). IsNamed t (watches watchers)) (sym (ap (λ (x : AllNames). x.notifiers) others))
+            r.notifiers;
         made = ap (λ (x : AllNames). length x.regions.made) others ∙ r.made ∙ sym (ap (λ (g : Forest). g.made) forest);
         fresh = λ n f. r.fresh n (subst (λ (t : Table). length t.made ≤ n) (ap (λ (x : AllNames). x.notifiers) others) f);
         rests = c.rests;
@@ -188,12 +209,15 @@ module _ (names after : AllNames) (w v : World) (watchers : List Watcher) (answe
       ap (λ (x : World). x.writer.desk.listening.listeners) c.world ∙ l.1 in
       let made : after.regions.made ≡ names.regions.made = ap (λ (x : Names). x.regions) same in record {
         regions = named_drop names.regions after.regions (is_region w) (is_region v) name region.0 r.regions named
-            (λ n ne. ap (λ (g : Forest). is_some (node_of g.nodes (record { 0 = n }))) forest ∙ dropped_others f region (record { 0 = n }) ne)
+            (λ n ne. ap (λ (g : Forest). is_some (node_of g.nodes (record { 0 = n }))) forest
+            ∙ dropped_others f region (record { 0 = n }) ne)
             (ap (λ (g : Forest). is_some (node_of g.nodes region)) forest ∙ dropped_gone f region) binds made;
         spaces = subst (λ (t : Table). IsNamed t (λ n. true)) (sym (ap (λ (x : AllNames). x.spaces) others)) r.spaces;
         listeners = subst (λ (t : Table). IsNamed t (is_listener v)) (sym (ap (λ (x : AllNames). x.listeners) others))
-            (named_same names.listeners (is_listener w) (is_listener v) (λ n. ap (list_any (listening.is_listener (record { 0 = n }))) listeners) r.listeners);
-        notifiers = subst (λ (t : Table). IsNamed t (watches watchers)) (sym (ap (λ (x : AllNames). x.notifiers) others)) r.notifiers;
+            (named_same names.listeners (is_listener w) (is_listener v)
+            (λ n. ap (list_any (listening.is_listener (record { 0 = n }))) listeners) r.listeners);
+        notifiers = subst (λ (t : Table). IsNamed t (watches watchers)) (sym (ap (λ (x : AllNames). x.notifiers) others))
+            r.notifiers;
         made = ap length made ∙ r.made ∙ sym (ap (λ (g : Forest). g.made) forest);
         fresh = λ n f. r.fresh n (subst (λ (t : Table). length t.made ≤ n) (ap (λ (x : AllNames). x.notifiers) others) f);
         rests = c.rests;
@@ -212,13 +236,17 @@ module _ (names after : AllNames) (w v : World) (watchers : List Watcher) (answe
       let forest : v.writer.desk.forest ≡ w.writer.desk.forest = ap (λ (x : World). x.writer.desk.forest) c.world ∙ m.forest in
       let made : after.listeners.made ≡ names.listeners.made = ap (λ (x : Names). x.listeners) same in record {
         regions = subst (λ (t : Table). IsNamed t (is_region v)) (sym (ap (λ (x : AllNames). x.regions) others))
-            (named_same names.regions (is_region w) (is_region v) (λ n. ap (λ (g : Forest). is_some (node_of g.nodes (record { 0 = n }))) forest) r.regions);
+            (named_same names.regions (is_region w) (is_region v)
+            (λ n. ap (λ (g : Forest). is_some (node_of g.nodes (record { 0 = n }))) forest) r.regions);
         spaces = subst (λ (t : Table). IsNamed t (λ n. true)) (sym (ap (λ (x : AllNames). x.spaces) others)) r.spaces;
         listeners = named_drop names.listeners after.listeners (is_listener w) (is_listener v) name id.0 r.listeners named
-            (λ n ne. ap (λ (x : World). list_any (listening.is_listener (record { 0 = n })) x.writer.desk.listening.listeners) c.world
+            (λ n ne. ap (λ (x : World). list_any (listening.is_listener (record { 0 = n })) x.writer.desk.listening.listeners)
+            c.world
             ∙ m.others (record { 0 = n }) ne)
-            (ap (λ (x : World). list_any (listening.is_listener id) x.writer.desk.listening.listeners) c.world ∙ m.gone) binds made;
-        notifiers = subst (λ (t : Table). IsNamed t (watches watchers)) (sym (ap (λ (x : AllNames). x.notifiers) others)) r.notifiers;
+            (ap (λ (x : World). list_any (listening.is_listener id) x.writer.desk.listening.listeners) c.world ∙ m.gone) binds
+            made;
+        notifiers = subst (λ (t : Table). IsNamed t (watches watchers)) (sym (ap (λ (x : AllNames). x.notifiers) others))
+            r.notifiers;
         made = ap (λ (x : AllNames). length x.regions.made) others ∙ r.made ∙ sym (ap (λ (g : Forest). g.made) forest);
         fresh = λ n f. r.fresh n (subst (λ (t : Table). length t.made ≤ n) (ap (λ (x : AllNames). x.notifiers) others) f);
         rests = c.rests;
@@ -232,7 +260,9 @@ pub listen_refused : (w : World) (l : Listener) (why : Refusal)
 listen_refused w l why e = let c = completed w (configure (configs.Listen l.listener l.space l.priority)) in
     same_there w.writer.desk c.world.writer.desk (subst (LeavesListen w.writer.desk l c.world.writer.desk) e (listen_leaves w l))
 
-pub unlisten_refused : (w : World) (id : ListenerId) (why : Refusal) → refusal_in (completed w (configure (configs.Unlisten id))).answer ≡ Some why
+pub unlisten_refused : (w : World) (id : ListenerId) (why : Refusal)
+    → refusal_in (completed w (configure (configs.Unlisten id))).answer ≡ Some why
     → SameThere w.writer.desk (completed w (configure (configs.Unlisten id))).world.writer.desk
 unlisten_refused w id why e = let c = completed w (configure (configs.Unlisten id)) in
-    same_there w.writer.desk c.world.writer.desk (subst (LeavesUnlisten w.writer.desk id c.world.writer.desk) e (unlisten_leaves w id))
+    same_there w.writer.desk c.world.writer.desk (subst (LeavesUnlisten w.writer.desk id c.world.writer.desk) e
+    (unlisten_leaves w id))

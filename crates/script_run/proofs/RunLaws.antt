@@ -1,5 +1,6 @@
 -- The text of a run, command after command.
-use Rattle.std.proofs.Common.{◌≡◌, ◌<◌, ◌≤◌, ◌+◌, ℕ, zero, suc, Bool, true, false, ◌||◌, ◌&&◌, List, [], ◌∷◌, ◌++◌, length, drop, get_or, add-one, Option, Some, None, Result, OnOk}
+use Rattle.std.proofs.Common.{◌≡◌, ◌<◌, ◌≤◌, ◌+◌, ℕ, zero, suc, Bool, true, false, ◌||◌, ◌&&◌, List, [], ◌∷◌, ◌++◌, length, drop}
+use Rattle.std.proofs.Common.{get_or, add-one, Option, Some, None, Result, OnOk}
 use Rattle.std.proofs.Common.{refl, sym, ap, subst, ◌∙◌, arith, if◌then◌else◌, replicate}
 use Rattle.std.specs.Prelude.{is_some, is_none, nat_lt, map}
 use Rattle.std.specs.List.{list_any}
@@ -49,13 +50,16 @@ ready_first pool = record {
   passes = may_first pool;
 }
 
-pub starts_ready : (names : AllNames) (w : World) (watchers : List Watcher) (pool : ℕ) → names ≡ no_tables → w ≡ opening pool most_passes → watchers ≡ []
+pub starts_ready : (names : AllNames) (w : World) (watchers : List Watcher) (pool : ℕ) → names ≡ no_tables
+    → w ≡ opening pool most_passes → watchers ≡ []
     → IsReady names w watchers
 starts_ready names w watchers pool e f h =
     subst (λ (x : List Watcher). IsReady names w x) (sym h)
-    (subst (λ (x : World). IsReady names x []) (sym f) (subst (λ (x : AllNames). IsReady x (opening pool most_passes) []) (sym e) (ready_first pool)))
+    (subst (λ (x : World). IsReady names x []) (sym f)
+    (subst (λ (x : AllNames). IsReady x (opening pool most_passes) []) (sym e) (ready_first pool)))
 
-pub starts_at : (names : AllNames) (w : World) (watchers : List Watcher) (pool : ℕ) → names ≡ no_tables → w ≡ opening pool most_passes → watchers ≡ []
+pub starts_at : (names : AllNames) (w : World) (watchers : List Watcher) (pool : ℕ) → names ≡ no_tables
+    → w ≡ opening pool most_passes → watchers ≡ []
     → state_of names w watchers ≡ start pool
 starts_at names w watchers pool e f h = (λ i. state_of (e i) (f i) (h i))
 
@@ -64,9 +68,11 @@ starts_at names w watchers pool e f h = (λ i. state_of (e i) (f i) (h i))
 next_text : (state : State) (lines : List Line) (i : ℕ) (line : Line) → i < length lines → line ≡ get_or lines i line
     → text_from state (drop i lines) ≡ (step state line.0 line.1).0 ++ text_from (step state line.0 line.1).1 (drop (i + 1) lines)
 next_text state lines i line l is =
-    ap (text_from state) (drop-cons lines i line l ∙ ap (λ x. x ∷ drop (suc i) lines) (sym is) ∙ ap (λ n. line ∷ drop n lines) (sym (add-one i)))
+    ap (text_from state) (drop-cons lines i line l ∙ ap (λ x. x ∷ drop (suc i) lines) (sym is)
+    ∙ ap (λ n. line ∷ drop n lines) (sym (add-one i)))
 
-pub script_next : {K : Type 0} (written : K → Option (List ℕ)) (holds : K → List ℕ → Type 0) (faults : K → ℕ) (a b c : K) (whole : List ℕ)
+pub script_next : {K : Type 0} (written : K → Option (List ℕ)) (holds : K → List ℕ → Type 0) (faults : K → ℕ) (a b c : K)
+    (whole : List ℕ)
     (state after : State) (lines : List Line) (i : ℕ) (line : Line) → i < length lines → line ≡ get_or lines i line
     → Through written holds faults a b whole (text_from state (drop i lines))
     → Takes written holds b c (step state line.0 line.1).0 → faults b ≤ faults c → after ≡ (step state line.0 line.1).1
@@ -76,7 +82,8 @@ script_next written holds faults a b c whole state after lines i line l is k t m
     (through_next written holds faults a b c whole (step state line.0 line.1).0 _
     (subst (Through written holds faults a b whole) (next_text state lines i line l is) k) t m)
 
-pub script_prefix : {K : Type 0} (written : K → Option (List ℕ)) (holds : K → List ℕ → Type 0) (faults : K → ℕ) (a b c : K) (whole : List ℕ)
+pub script_prefix : {K : Type 0} (written : K → Option (List ℕ)) (holds : K → List ℕ → Type 0) (faults : K → ℕ) (a b c : K)
+    (whole : List ℕ)
     (state : State) (lines : List Line) (i : ℕ) (line : Line) → i < length lines → line ≡ get_or lines i line
     → Through written holds faults a b whole (text_from state (drop i lines))
     → TakesPrefix written holds b c (step state line.0 line.1).0 → TakesPrefix written holds a c whole
@@ -84,15 +91,19 @@ script_prefix written holds faults a b c whole state lines i line l is k t =
     through_prefix written holds faults a b c whole (step state line.0 line.1).0 _
     (subst (Through written holds faults a b whole) (next_text state lines i line l is) k) t
 
-each_split : (P : Line → Type 0) (lines : List Line) (i : ℕ) (line : Line) → i < length lines → line ≡ get_or lines i line → Every P (drop i lines)
+each_split : (P : Line → Type 0) (lines : List Line) (i : ℕ) (line : Line) → i < length lines → line ≡ get_or lines i line
+    → Every P (drop i lines)
     → P line × Every P (drop (i + 1) lines)
 each_split P lines i line l is h =
-    subst (Every P) (drop-cons lines i line l ∙ ap (λ x. x ∷ drop (suc i) lines) (sym is) ∙ ap (λ n. line ∷ drop n lines) (sym (add-one i))) h
+    subst (Every P) (drop-cons lines i line l ∙ ap (λ x. x ∷ drop (suc i) lines) (sym is)
+    ∙ ap (λ n. line ∷ drop n lines) (sym (add-one i))) h
 
-pub each_here : (P : Line → Type 0) (lines : List Line) (i : ℕ) (line : Line) → i < length lines → line ≡ get_or lines i line → Every P (drop i lines) → P line
+pub each_here : (P : Line → Type 0) (lines : List Line) (i : ℕ) (line : Line) → i < length lines → line ≡ get_or lines i line
+    → Every P (drop i lines) → P line
 each_here P lines i line l is h = (each_split P lines i line l is h).0
 
-pub each_later : (P : Line → Type 0) (lines : List Line) (i : ℕ) (line : Line) → i < length lines → line ≡ get_or lines i line → Every P (drop i lines)
+pub each_later : (P : Line → Type 0) (lines : List Line) (i : ℕ) (line : Line) → i < length lines → line ≡ get_or lines i line
+    → Every P (drop i lines)
     → Every P (drop (i + 1) lines)
 each_later P lines i line l is h = (each_split P lines i line l is h).1
 
@@ -106,7 +117,8 @@ same_watchers : (f : Forest) (watchers : List Watcher) (n : ℕ) → watches (ca
 same_watchers f [] n = refl
 same_watchers f (w ∷ ws) n = (λ i. is_watcher n w || same_watchers f ws n i)
 
-pub caught_ready : (names : AllNames) (w : World) (watchers after : List Watcher) (f : Forest) → after ≡ caught_up f watchers → IsReady names w watchers
+pub caught_ready : (names : AllNames) (w : World) (watchers after : List Watcher) (f : Forest) → after ≡ caught_up f watchers
+    → IsReady names w watchers
     → IsReady names w after
 caught_ready names w watchers after f e r = record {
   regions = r.regions;

@@ -1,5 +1,6 @@
 -- Watchers that join and leave.
-use Rattle.std.proofs.Common.{◌≡◌, ◌≢◌, ◌<◌, ◌≤◌, ◌+◌, ℕ, Bool, true, false, ◌||◌, cond, List, [], ◌∷◌, ◌++◌, length, Option, Some, None, Result, OnOk}
+use Rattle.std.proofs.Common.{◌≡◌, ◌≢◌, ◌<◌, ◌≤◌, ◌+◌, ℕ, Bool, true, false, ◌||◌, cond, List, [], ◌∷◌, ◌++◌, length, Option}
+use Rattle.std.proofs.Common.{Some, None, Result, OnOk}
 use Rattle.std.proofs.Common.{refl, sym, ap, subst, ◌∙◌, arith, ne_eqb, eq-eqb, if◌then◌else◌}
 use Rattle.std.specs.Prelude.{not, filter, map, ◌==◌}
 use Rattle.view_laws.proofs.Tests.{none_is_not_some}
@@ -23,7 +24,8 @@ use Rattle.script_run.proofs.WorldLaws.{any_push, or_false, or_true}
 -- one more watcher, with the next number
 pub watcher_made : (names after : AllNames) (w : World) (old new : List Watcher) (x : Watcher) (name : Text) → IsReady names w old
     → x.id.0 ≡ length names.notifiers.made → new ≡ old ++ x ∷ [] → number_of names.notifiers.bound name ≡ None
-    → after.notifiers ≡ table (names.notifiers.bound ++ (name, length names.notifiers.made) ∷ []) (names.notifiers.made ++ name ∷ [])
+    → after.notifiers ≡ table (names.notifiers.bound ++ (name, length names.notifiers.made) ∷ [])
+    (names.notifiers.made ++ name ∷ [])
     → after ≡ record names { notifiers = after.notifiers } → IsReady after w new
 watcher_made names after w old new x name r is joins free notifiers others = record {
   regions = subst (λ (t : Table). IsNamed t (is_region w)) (sym (ap (λ (y : AllNames). y.regions) others)) r.regions;
@@ -32,7 +34,8 @@ watcher_made names after w old new x name r is joins free notifiers others = rec
   notifiers = subst (λ (t : Table). IsNamed t (watches new)) (sym notifiers)
       (named_push names.notifiers (watches old) (watches new) name r.notifiers free
       (λ n l. there n ∙ or_false (watches old n) (x.id.0 == n) (ne_eqb x.id.0 n (λ s. omega arith)))
-      (there (length names.notifiers.made) ∙ or_true (watches old (length names.notifiers.made)) (x.id.0 == length names.notifiers.made)
+      (there (length names.notifiers.made) ∙ or_true (watches old (length names.notifiers.made))
+      (x.id.0 == length names.notifiers.made)
       (eq-eqb x.id.0 (length names.notifiers.made) is)));
   made = ap (λ (y : AllNames). length y.regions.made) others ∙ r.made;
   fresh = λ n l.
@@ -89,7 +92,8 @@ watcher_left names after w old new number name r leaves named binds same others 
     }
 
 -- a refusal that is not for an id that is taken
-pub not_taken : (taken : Bool) (why : Refusal) (rest : Option Refusal) → taken ≡ false → option_or (refuse_if taken why) rest ≡ rest
+pub not_taken : (taken : Bool) (why : Refusal) (rest : Option Refusal) → taken ≡ false
+    → option_or (refuse_if taken why) rest ≡ rest
 not_taken true why rest e = absurd (grind arith)
 not_taken false why rest e = refl
 

@@ -1,5 +1,6 @@
 -- What a call of the writer leaves of the map: which regions are there, and who listens.
-use Rattle.std.proofs.Common.{◌≡◌, ◌≢◌, ℕ, ◌+◌, ◌-◌, ◌/◌, ◌<◌, eq-eqb, ne_eqb, Bool, true, false, ◌&&◌, ◌||◌, cond, List, [], ◌∷◌, ◌++◌, length, map, Option, Some, None, Result, Ok, Err}
+use Rattle.std.proofs.Common.{◌≡◌, ◌≢◌, ℕ, ◌+◌, ◌-◌, ◌/◌, ◌<◌, eq-eqb, ne_eqb, Bool, true, false, ◌&&◌, ◌||◌, cond, List, [], ◌∷◌}
+use Rattle.std.proofs.Common.{◌++◌, length, map, Option, Some, None, Result, Ok, Err}
 use Rattle.std.proofs.Common.{refl, sym, ap, subst, ◌∙◌, arith, if◌then◌else◌}
 use Rattle.std.specs.Prelude.{is_some, is_none, not, ◌==◌, filter, option_map}
 use Rattle.std.specs.List.{list_any, range_with_len}
@@ -43,11 +44,15 @@ use Rattle.mem_base.specs.views.Listening.{joined, join_refusal, left, leave_ref
 use Rattle.mem_base.specs.machine.Generations.{Generations}
 use Rattle.mem_base.specs.machine.Desk.{Desk, cells_of, region_order, places_of}
 use Rattle.mem_base.specs.machine.Reaps.{Writer}
-use Rattle.mem_base.specs.machine.Publishing.{Settled, settled, refused_desk, unless_refused, held_up, readied, publishing, current_forest, would_publish}
-use Rattle.mem_base.specs.machine.Configs.{configured, made, backed, kept_back, after_call, begun, committed, listened, unlistened, without_listener}
+use Rattle.mem_base.specs.machine.Publishing.{Settled, settled, refused_desk, unless_refused, held_up, readied, publishing}
+use Rattle.mem_base.specs.machine.Publishing.{current_forest, would_publish}
+use Rattle.mem_base.specs.machine.Configs.{configured, made, backed, kept_back, after_call, begun, committed, listened}
+use Rattle.mem_base.specs.machine.Configs.{unlistened, without_listener}
 use Rattle.mem_base.specs.machine.World.{World, world_after}
 use Rattle.mem_base.specs.machine.History.{run_events}
-use Rattle.mem_base.specs.machine.Orders.{Order, configure, reap, load, harvest, notified, sweeps, publishes, unless, loads, harvests, pass_ids, load_refusal, harvest_refusal, mark_words_at, events_before, events_after}
+use Rattle.mem_base.specs.machine.Orders.{Order, configure, reap, load, harvest, notified, sweeps, publishes, unless, loads}
+use Rattle.mem_base.specs.machine.Orders.{harvests, pass_ids, load_refusal, harvest_refusal, mark_words_at, events_before}
+use Rattle.mem_base.specs.machine.Orders.{events_after}
 use Rattle.mem_base.specs.machine.Orders as orders
 use Rattle.mem_base.specs.declared.map.kinds.Kind.{Kind}
 use Rattle.mem_base.specs.declared.map.kinds.Client.{Client}
@@ -79,7 +84,8 @@ IsPlain e = (w : World) → SameMap w.writer.desk (world_after w e).writer.desk
 
 plain_run : (es : List Event) → Every IsPlain es → (w : World) → SameMap w.writer.desk (run_events w es).world.writer.desk
 plain_run [] h w = same_map w.writer.desk
-plain_run (e ∷ es) h w = then_same w.writer.desk (world_after w e).writer.desk (run_events (world_after w e) es).world.writer.desk (h.0 w)
+plain_run (e ∷ es) h w = then_same w.writer.desk (world_after w e).writer.desk (run_events (world_after w e) es).world.writer.desk
+    (h.0 w)
     (plain_run es h.1 (world_after w e))
 
 plain_each : {A : Type 0} (f : A → Event) → ((x : A) → IsPlain (f x)) → (xs : List A) → Every IsPlain (map f xs)
@@ -118,7 +124,8 @@ plain_after w (configure k) =
 plain_after w reap = tt
 plain_after w (load region offset bytes) =
     plain_unless (load_refusal w.desk.forest region offset (length bytes)) (loads region offset bytes)
-    (plain_each (λ x. events.Word hands.Writer (cell region (x.start / word_size)) (replaces offset bytes x)) (λ x w. record { forest = refl; listeners = refl })
+    (plain_each (λ x. events.Word hands.Writer (cell region (x.start / word_size)) (replaces offset bytes x))
+    (λ x w. record { forest = refl; listeners = refl })
     (touched word_size offset (length bytes)))
 plain_after w (harvest region client) =
     plain_unless (harvest_refusal w.desk.forest region) (harvests w.desk region client)
@@ -142,7 +149,8 @@ pub record Configures (w : World) (c : Config) (v : World) (refused : Option Ref
   pub refusal : refused ≡ err_in (configured generations desk c).answer
   pub after : SameMap (configured generations desk c).desk v.writer.desk
 
-refused_config : (c : Config) (r : Result Applied Refusal) (number : Option ℕ) → refusal_in (answer_of_config c r number) ≡ err_in r
+refused_config : (c : Config) (r : Result Applied Refusal) (number : Option ℕ)
+    → refusal_in (answer_of_config c r number) ≡ err_in r
 refused_config configs.Begin (Ok x) number = refl
 refused_config configs.Begin (Err why) number = refl
 refused_config (configs.Call call) (Ok x) number = refl
@@ -162,8 +170,10 @@ configures w c =
       generations = before.world.writer.generations;
       desk = before.world.writer.desk;
       before = plain_run (events_before w.writer (configure c)) (plain_before w.writer (configure c)) w;
-      refusal = refused_config c (configured before.world.writer.generations before.world.writer.desk c).answer (number_due private.writer);
-      after = let later = plain_run (events_after private.writer (configure c)) (plain_after private.writer (configure c)) private in
+      refusal = refused_config c (configured before.world.writer.generations before.world.writer.desk c).answer
+          (number_due private.writer);
+      after = let later = plain_run (events_after private.writer (configure c)) (plain_after private.writer (configure c))
+          private in
           record { forest = later.forest; listeners = later.listeners };
     }
 
@@ -176,10 +186,13 @@ reap_keeps w =
 
 pub load_keeps : (w : World) (region : RegionId) (offset : ℕ) (bytes : List ℕ)
     → SameMap w.writer.desk (completed w (load region offset bytes)).world.writer.desk
-load_keeps w region offset bytes = plain_run (events_after w.writer (load region offset bytes)) (plain_after w.writer (load region offset bytes)) w
+load_keeps w region offset bytes = plain_run (events_after w.writer (load region offset bytes))
+    (plain_after w.writer (load region offset bytes)) w
 
-pub harvest_keeps : (w : World) (region : RegionId) (client : Client) → SameMap w.writer.desk (completed w (harvest region client)).world.writer.desk
-harvest_keeps w region client = plain_run (events_after w.writer (harvest region client)) (plain_after w.writer (harvest region client)) w
+pub harvest_keeps : (w : World) (region : RegionId) (client : Client)
+    → SameMap w.writer.desk (completed w (harvest region client)).world.writer.desk
+harvest_keeps w region client = plain_run (events_after w.writer (harvest region client))
+    (plain_after w.writer (harvest region client)) w
 
 pub notified_keeps : (w : World) (number : ℕ) → SameMap w.writer.desk (completed w (notified number)).world.writer.desk
 notified_keeps w number = plain_run (events_after w.writer (notified number)) (plain_after w.writer (notified number)) w
@@ -206,12 +219,14 @@ module _ (g : Generations) (d : Desk) (call : Call) (f : Forest) (is : f ≡ cou
   made_left : (x : Extent) (r : RegionId) → CallLeft d call (made d f r x)
   made_left x r = go (words_of x == 0)
     where
-      go : (b : Bool) → CallLeft d call (if b then settled (record d { forest = f }) (Made r) else backed d f r x (first_fit d.pool_words d.places (words_of x)))
+      go : (b : Bool) → CallLeft d call (if b then settled (record d { forest = f }) (Made r) else backed d f r x
+          (first_fit d.pool_words d.places (words_of x)))
       go true = (is, refl)
       go false = backed_left x (first_fit d.pool_words d.places (words_of x)) r
 
 kept_left : (d : Desk) (call : Call) (f : Forest) → f ≡ counted (changed d.forest call) → CallLeft d call (kept_back d call f)
-kept_left d (calls.Region kind size) f is = made_left (record { current = 0; kept = []; passes = [] }) d (calls.Region kind size) f is (extent_of kind size) (record { 0 = d.forest.made })
+kept_left d (calls.Region kind size) f is = made_left (record { current = 0; kept = []; passes = [] }) d (calls.Region kind size)
+    f is (extent_of kind size) (record { 0 = d.forest.made })
 kept_left d (calls.Drop region) f is = (is, refl)
 kept_left d (calls.Space space root) f is = (is, refl)
 kept_left d (calls.Add parent offset child priority) f is = (is, refl)
@@ -243,7 +258,8 @@ called_left g d call = go (forest_after d.forest call) refl
     go (Err why) e = same_map d
     go (Ok f) e = let ok = after-accepted d.forest f call e in at f ok.1 ((d.depth == 0) && not (is_quiet call))
 
-leaves_same : (d d2 e e2 : Desk) (call : Call) (o : Option Refusal) → SameMap d d2 → SameMap e e2 → LeavesCall d2 call e o → LeavesCall d call e2 o
+leaves_same : (d d2 e e2 : Desk) (call : Call) (o : Option Refusal) → SameMap d d2 → SameMap e e2 → LeavesCall d2 call e o
+    → LeavesCall d call e2 o
 leaves_same d d2 e e2 call None k l m =
     (l.forest ∙ m.0 ∙ ap (λ (f : Forest). counted (changed f call)) k.forest, l.listeners ∙ m.1 ∙ k.listeners)
 leaves_same d d2 e e2 call (Some why) k l m = then_same d d2 e2 k (then_same d2 e e2 m l)
@@ -255,7 +271,8 @@ call_leaves w call =
     let v = (completed w (configure (configs.Call call))).world in
     let s = configured k.generations k.desk (configs.Call call) in
     subst (LeavesCall w.writer.desk call v.writer.desk) (sym k.refusal)
-    (leaves_same w.writer.desk k.desk s.desk v.writer.desk call (err_in s.answer) k.before k.after (called_left k.generations k.desk call))
+    (leaves_same w.writer.desk k.desk s.desk v.writer.desk call (err_in s.answer) k.before k.after
+    (called_left k.generations k.desk call))
 
 -- Begin and commit
 
@@ -266,12 +283,14 @@ commit_same g d = go (d.depth == 0)
     held None = record { forest = refl; listeners = refl }
     held (Some why) = same_map d
 
-    inner : (b : Bool) → SameMap d (if b then publishing g d d.forest Done else settled (record d { depth = d.depth - 1 }) Done).desk
+    inner : (b : Bool) → SameMap d (if b then publishing g d d.forest Done else settled (record d { depth = d.depth - 1 })
+        Done).desk
     inner true = held (held_up g)
     inner false = record { forest = refl; listeners = refl }
 
     go : (b : Bool) → SameMap d (if b then refused_desk d NoTransaction
-        else if (d.depth == 1) && d.pending then publishing g d d.forest Done else settled (record d { depth = d.depth - 1 }) Done).desk
+        else if (d.depth == 1) && d.pending then publishing g d d.forest Done else settled (record d { depth = d.depth - 1 })
+        Done).desk
     go true = same_map d
     go false = inner ((d.depth == 1) && d.pending)
 
@@ -290,7 +309,8 @@ begin_keeps w =
 pub commit_keeps : (w : World) → SameMap w.writer.desk (completed w (configure configs.Commit)).world.writer.desk
 commit_keeps w =
     let k = configures w configs.Commit in
-    then_same w.writer.desk k.desk _ k.before (then_same k.desk (committed k.generations k.desk).desk _ (commit_same k.generations k.desk) k.after)
+    then_same w.writer.desk k.desk _ k.before (then_same k.desk (committed k.generations k.desk).desk _
+    (commit_same k.generations k.desk) k.after)
 
 -- Listeners
 
@@ -299,16 +319,22 @@ abbrev pub LeavesListen : Desk → Listener → Desk → Option Refusal → Type
 LeavesListen d l e None = (e.forest ≡ d.forest) × (e.listening.listeners ≡ d.listening.listeners ++ l ∷ [])
 LeavesListen d l e (Some why) = SameMap d e
 
-listen_left : (g : Generations) (d : Desk) (l : Listener) → LeavesListen d l (listened g d l).desk (err_in (listened g d l).answer)
+listen_left : (g : Generations) (d : Desk) (l : Listener)
+    → LeavesListen d l (listened g d l).desk (err_in (listened g d l).answer)
 listen_left g d l = go (first_refusal (unknown_space d.forest l.space ∷ join_refusal d.listening l.listener ∷ []))
   where
     go : (o : Option Refusal)
-        → let s = unless_refused o d (settled (record d { listening = joined d.listening l (view_of (current_forest g) l.space) (lives_of (current_forest g) l.space) }) Done) in
+        → let s = unless_refused o d (settled
+        (record d {
+          listening = joined d.listening l (view_of (current_forest g) l.space)
+              (lives_of (current_forest g) l.space);
+        }) Done) in
         LeavesListen d l s.desk (err_in s.answer)
     go None = (refl, refl)
     go (Some why) = same_map d
 
-listen_same : (d d2 e e2 : Desk) (l : Listener) (o : Option Refusal) → SameMap d d2 → SameMap e e2 → LeavesListen d2 l e o → LeavesListen d l e2 o
+listen_same : (d d2 e e2 : Desk) (l : Listener) (o : Option Refusal) → SameMap d d2 → SameMap e e2 → LeavesListen d2 l e o
+    → LeavesListen d l e2 o
 listen_same d d2 e e2 l None k j m =
     (j.forest ∙ m.0 ∙ k.forest, j.listeners ∙ m.1 ∙ ap (λ (ls : List Listener). ls ++ l ∷ []) k.listeners)
 listen_same d d2 e e2 l (Some why) k j m = then_same d d2 e2 k (then_same d2 e e2 m j)
@@ -320,13 +346,15 @@ listen_leaves w l =
     let v = (completed w (configure (configs.Listen l.listener l.space l.priority))).world in
     let s = configured k.generations k.desk (configs.Listen l.listener l.space l.priority) in
     subst (LeavesListen w.writer.desk l v.writer.desk) (sym k.refusal)
-    (listen_same w.writer.desk k.desk s.desk v.writer.desk l (err_in s.answer) k.before k.after (listen_left k.generations k.desk l))
+    (listen_same w.writer.desk k.desk s.desk v.writer.desk l (err_in s.answer) k.before k.after
+    (listen_left k.generations k.desk l))
 
 -- one listener fewer, where it is not refused: the others are there as before
 pub record IsGone (d : Desk) (id : ListenerId) (e : Desk) : Type 0 where
   pub forest : e.forest ≡ d.forest
   pub gone : list_any (is_listener id) e.listening.listeners ≡ false
-  pub others : (m : ListenerId) → m.0 ≢ id.0 → list_any (is_listener m) e.listening.listeners ≡ list_any (is_listener m) d.listening.listeners
+  pub others : (m : ListenerId) → m.0 ≢ id.0 → list_any (is_listener m) e.listening.listeners
+      ≡ list_any (is_listener m) d.listening.listeners
 
 abbrev pub LeavesUnlisten : Desk → ListenerId → Desk → Option Refusal → Type 0
 LeavesUnlisten d id e None = IsGone d id e
@@ -345,7 +373,8 @@ none_without id (l ∷ ls) = go (is_listener id l) refl (none_without id ls)
     go true e ih = ih
     go false e ih = (λ i. e i || list_any (is_listener id) (without id ls)) ∙ ih
 
-some_without : (id m : ListenerId) → m.0 ≢ id.0 → (ls : List Listener) → list_any (is_listener m) (without id ls) ≡ list_any (is_listener m) ls
+some_without : (id m : ListenerId) → m.0 ≢ id.0 → (ls : List Listener)
+    → list_any (is_listener m) (without id ls) ≡ list_any (is_listener m) ls
 unfolding without
 some_without id m ne [] = refl
 some_without id m ne (l ∷ ls) = go (is_listener id l) refl (some_without id m ne ls)
@@ -354,7 +383,8 @@ some_without id m ne (l ∷ ls) = go (is_listener id l) refl (some_without id m 
     other e = ne_eqb l.listener.0 m.0 (λ same. ne (sym same ∙ e))
 
     go : (b : Bool) → is_listener id l ≡ b → list_any (is_listener m) (without id ls) ≡ list_any (is_listener m) ls
-        → list_any (is_listener m) (cond (not b) (l ∷ without id ls) (without id ls)) ≡ (is_listener m l || list_any (is_listener m) ls)
+        → list_any (is_listener m) (cond (not b) (l ∷ without id ls) (without id ls))
+        ≡ (is_listener m l || list_any (is_listener m) ls)
     go true e ih = ih ∙ (λ i. sym (other (eqb-true l.listener.0 id.0 e)) i || list_any (is_listener m) ls)
     go false e ih = (λ i. is_listener m l || ih i)
 
@@ -365,8 +395,12 @@ gone_in g d id [] e = record { forest = refl; gone = sym e; others = λ m ne. re
 gone_in g d id (l ∷ ls) e = go (l.listener.0 == id.0) e (gone_in g d id ls)
   where
     go : (b : Bool) → (b || list_any (is_listener id) ls) ≡ list_any (is_listener id) d.listening.listeners
-        → ((list_any (is_listener id) ls ≡ list_any (is_listener id) d.listening.listeners) → IsGone d id (without_listener ls id g d))
-        → IsGone d id (if b then record d { listening = left d.listening id (view_of (current_forest g) l.space) (lives_of (current_forest g) l.space) }
+        → ((list_any (is_listener id) ls ≡ list_any (is_listener id) d.listening.listeners)
+        → IsGone d id (without_listener ls id g d))
+        → IsGone d id (if b then record d {
+          listening = left d.listening id (view_of (current_forest g) l.space)
+              (lives_of (current_forest g) l.space);
+        }
         else without_listener ls id g d)
     go true e ih = record {
       forest = refl;
@@ -375,7 +409,8 @@ gone_in g d id (l ∷ ls) e = go (l.listener.0 == id.0) e (gone_in g d id ls)
     }
     go false e ih = ih e
 
-unlisten_left : (g : Generations) (d : Desk) (id : ListenerId) → LeavesUnlisten d id (unlistened g d id).desk (err_in (unlistened g d id).answer)
+unlisten_left : (g : Generations) (d : Desk) (id : ListenerId)
+    → LeavesUnlisten d id (unlistened g d id).desk (err_in (unlistened g d id).answer)
 unlisten_left g d id = go (leave_refusal d.listening id)
   where
     go : (o : Option Refusal) → let s = unless_refused o d (settled (without_listener d.listening.listeners id g d) Done) in
@@ -383,7 +418,8 @@ unlisten_left g d id = go (leave_refusal d.listening id)
     go None = gone_in g d id d.listening.listeners refl
     go (Some why) = same_map d
 
-unlisten_same : (d d2 e e2 : Desk) (id : ListenerId) (o : Option Refusal) → SameMap d d2 → SameMap e e2 → LeavesUnlisten d2 id e o → LeavesUnlisten d id e2 o
+unlisten_same : (d d2 e e2 : Desk) (id : ListenerId) (o : Option Refusal) → SameMap d d2 → SameMap e e2 → LeavesUnlisten d2 id e o
+    → LeavesUnlisten d id e2 o
 unlisten_same d d2 e e2 id None k j m = record {
   forest = j.forest ∙ m.forest ∙ k.forest;
   gone = ap (list_any (is_listener id)) j.listeners ∙ m.gone;
@@ -398,7 +434,8 @@ unlisten_leaves w id =
     let v = (completed w (configure (configs.Unlisten id))).world in
     let s = configured k.generations k.desk (configs.Unlisten id) in
     subst (LeavesUnlisten w.writer.desk id v.writer.desk) (sym k.refusal)
-    (unlisten_same w.writer.desk k.desk s.desk v.writer.desk id (err_in s.answer) k.before k.after (unlisten_left k.generations k.desk id))
+    (unlisten_same w.writer.desk k.desk s.desk v.writer.desk id (err_in s.answer) k.before k.after
+    (unlisten_left k.generations k.desk id))
 
 -- Which regions an accepted call leaves
 
@@ -429,12 +466,15 @@ pub change_keeps : (f : Forest) (call : Call) → is_quiet call ≡ false → Sa
 change_keeps f (calls.Region kind size) e = true_is_not_false true refl e
 change_keeps f (calls.Drop region) e = true_is_not_false true refl e
 change_keeps f (calls.Space space root) e = record { there = λ q. refl; made = refl }
-change_keeps f (calls.Add parent offset child priority) e = record { there = changed_there f.nodes child _ (λ n. refl); made = refl }
+change_keeps f (calls.Add parent offset child priority) e =
+    record { there = changed_there f.nodes child _ (λ n. refl); made = refl }
 change_keeps f (calls.Del parent child) e = record { there = changed_there f.nodes child _ (λ n. refl); made = refl }
 change_keeps f (calls.Move child offset) e =
     record { there = changed_there f.nodes child (moved offset f.placings) (moved_id offset f.placings); made = refl }
-change_keeps f (calls.Resize region size) e = record { there = changed_there f.nodes region (edited (calls.Resize region size)) (λ n. refl); made = refl }
-change_keeps f (calls.Retarget alias offset) e = record { there = changed_there f.nodes alias (edited (calls.Retarget alias offset)) (λ n. refl); made = refl }
+change_keeps f (calls.Resize region size) e =
+    record { there = changed_there f.nodes region (edited (calls.Resize region size)) (λ n. refl); made = refl }
+change_keeps f (calls.Retarget alias offset) e =
+    record { there = changed_there f.nodes alias (edited (calls.Retarget alias offset)) (λ n. refl); made = refl }
 change_keeps f (calls.Enable region on) e = record { there = changed_there f.nodes region _ (λ n. refl); made = refl }
 change_keeps f (calls.Readonly region on) e = record { there = changed_there f.nodes region _ (λ n. refl); made = refl }
 change_keeps f (calls.Nonvolatile region on) e = record { there = changed_there f.nodes region _ (λ n. refl); made = refl }
@@ -442,12 +482,15 @@ change_keeps f (calls.Unmergeable region on) e = record { there = changed_there 
 change_keeps f (calls.Romd region on) e = record { there = changed_there f.nodes region _ (λ n. refl); made = refl }
 change_keeps f (calls.Log region client on) e = record { there = changed_there f.nodes region _ (λ n. refl); made = refl }
 change_keeps f (calls.Global on) e = record { there = λ q. refl; made = refl }
-change_keeps f (calls.Map region iova size space translated perm) e = record { there = changed_there f.nodes region _ (λ n. refl); made = refl }
+change_keeps f (calls.Map region iova size space translated perm) e =
+    record { there = changed_there f.nodes region _ (λ n. refl); made = refl }
 change_keeps f (calls.Unmap region iova) e = record { there = changed_there f.nodes region _ (λ n. refl); made = refl }
 change_keeps f (calls.Event region event) e = record { there = changed_there f.nodes region _ (λ n. refl); made = refl }
-change_keeps f (calls.Unevent region offset size matched value) e = record { there = changed_there f.nodes region _ (λ n. refl); made = refl }
+change_keeps f (calls.Unevent region offset size matched value) e =
+    record { there = changed_there f.nodes region _ (λ n. refl); made = refl }
 
-there_push : (nodes : List Node) (n : Node) (q : RegionId) → is_some (node_of (nodes ++ n ∷ []) q) ≡ (is_some (node_of nodes q) || has_id q n)
+there_push : (nodes : List Node) (n : Node) (q : RegionId)
+    → is_some (node_of (nodes ++ n ∷ []) q) ≡ (is_some (node_of nodes q) || has_id q n)
 there_push [] n q = go (has_id q n)
   where
     go : (b : Bool) → is_some (if b then Some n else None) ≡ b
@@ -470,14 +513,18 @@ or_false false b e = e
 
 pub made_there : (f : Forest) (kind : Kind) (size : ℕ) → let g = counted (changed f (calls.Region kind size)) in
     is_some (node_of g.nodes (record { 0 = f.made })) ≡ true
-made_there f kind size = there_push f.nodes _ (record { 0 = f.made }) ∙ or_true (is_some (node_of f.nodes (record { 0 = f.made }))) (f.made == f.made)
+made_there f kind size = there_push f.nodes _ (record { 0 = f.made })
+    ∙ or_true (is_some (node_of f.nodes (record { 0 = f.made }))) (f.made == f.made)
     (eq-eqb f.made f.made refl)
 
-pub made_others : (f : Forest) (kind : Kind) (size : ℕ) (q : RegionId) → q.0 < f.made → let g = counted (changed f (calls.Region kind size)) in
+pub made_others : (f : Forest) (kind : Kind) (size : ℕ) (q : RegionId) → q.0 < f.made
+    → let g = counted (changed f (calls.Region kind size)) in
     is_some (node_of g.nodes q) ≡ is_some (node_of f.nodes q)
-made_others f kind size q l = there_push f.nodes _ q ∙ or_false (is_some (node_of f.nodes q)) (f.made == q.0) (ne_eqb f.made q.0 (λ e. omega arith))
+made_others f kind size q l = there_push f.nodes _ q
+    ∙ or_false (is_some (node_of f.nodes q)) (f.made == q.0) (ne_eqb f.made q.0 (λ e. omega arith))
 
-pub dropped_gone : (f : Forest) (region : RegionId) → is_some (node_of (counted (changed f (calls.Drop region))).nodes region) ≡ false
+pub dropped_gone : (f : Forest) (region : RegionId)
+    → is_some (node_of (counted (changed f (calls.Drop region))).nodes region) ≡ false
 dropped_gone f region = ap is_some (node_of-dropped region f.nodes)
 
 pub dropped_others : (f : Forest) (region q : RegionId) → q.0 ≢ region.0
@@ -492,6 +539,7 @@ any_push p [] x = go (p x)
     go false = refl
 any_push p (y ∷ ys) x = go (p y) (any_push p ys x)
   where
-    go : (b : Bool) → list_any p (ys ++ x ∷ []) ≡ (list_any p ys || p x) → (b || list_any p (ys ++ x ∷ [])) ≡ ((b || list_any p ys) || p x)
+    go : (b : Bool) → list_any p (ys ++ x ∷ []) ≡ (list_any p ys || p x)
+        → (b || list_any p (ys ++ x ∷ [])) ≡ ((b || list_any p ys) || p x)
     go true e = refl
     go false e = e

@@ -15,7 +15,8 @@ pub record IsLeft (state : State) (names : AllNames) (w : World) (watchers : Lis
   pub ready : IsReady names w watchers
 
 -- the text of an outcome was written, a prefix of it where the call failed; and after Ok its state is left
-pub record Performs {K : Type 0} (written : K → Option (List ℕ)) (holds : K → List ℕ → Type 0) (faults : K → ℕ) (old new : K) (x : Outcome)
+pub record Performs {K : Type 0} (written : K → Option (List ℕ)) (holds : K → List ℕ → Type 0) (faults : K → ℕ) (old new : K)
+    (x : Outcome)
     (names : AllNames) (w : World) (watchers : List Watcher) (result : Result (Unit {0}) RunFault) : Type 0 where
   pub wrote : Writes written holds faults old new x.0 Write result
   pub left : OnOk result (IsLeft x.1 names w watchers)

@@ -35,7 +35,8 @@ pub(crate) fn say_heard<M: Machine, K: Sink>(
     sink: &mut K,
 ) -> Result<(), RunFault>
     ensures { Writes K.written K.holds K.faults sink.old sink.new
-        (told_lines (printed_names names.now) (drop from (M.world machine.now).writer.desk.listening.journal)) RunFault.Write result }
+        (told_lines (printed_names names.now) (drop from (M.world machine.now).writer.desk.listening.journal)) RunFault.Write
+        result }
 {
     say_all_told(line, names, later(machine.journal(), from), sink)
 }
@@ -50,7 +51,8 @@ pub(crate) fn say_refusal<M: Machine, K: Sink>(
     line: &mut Line,
     sink: &mut K,
 ) -> Result<(), RunFault>
-    ensures told { (text : List ℕ) → (why ≢ Refusal.Memory → text ≡ refused_line number (refusal_text (printed_names names.now) why)
+    ensures told { (text : List ℕ) → (why ≢ Refusal.Memory → text ≡ refused_line number
+        (refusal_text (printed_names names.now) why)
         ++ told_lines (printed_names names.now) (drop from (M.world machine.now).writer.desk.listening.journal))
         → Writes K.written K.holds K.faults sink.old sink.new text RunFault.Write result }
     ensures goes_on { OnOk result (why ≢ Refusal.Memory) }

@@ -15,8 +15,11 @@ use mem_base::{Call, Ioevent, MapChange, Name, RegionId, SpaceId};
 // The region that a name stands for, or the name itself.
 fn known_region<'a, M: Machine>(session: &Session<M>, name: &'a Name) -> Result<RegionId, &'a Name>
     requires { IsReady session.now.names (M.world session.now.machine) (watchers_of session.now.notices) }
-    ensures found { IfOk result (λ region. region_named (state_of session.now.names (M.world session.now.machine) (watchers_of session.now.notices)) name.now ≡ Some region) }
-    ensures unknown { IfErr result (λ it. (it.now ≡ name.now) × (region_named (state_of session.now.names (M.world session.now.machine) (watchers_of session.now.notices)) name.now ≡ None)) }
+    ensures found { IfOk result (λ region. region_named
+        (state_of session.now.names (M.world session.now.machine) (watchers_of session.now.notices)) name.now ≡ Some region) }
+    ensures unknown { IfErr result (λ it. (it.now ≡ name.now)
+        × (region_named (state_of session.now.names (M.world session.now.machine) (watchers_of session.now.notices)) name.now
+        ≡ None)) }
 {
     match session.region(name) {
         Some(region) => Ok(region),
@@ -27,8 +30,11 @@ fn known_region<'a, M: Machine>(session: &Session<M>, name: &'a Name) -> Result<
 // The space that a name stands for, or the name itself.
 fn known_space<'a, M: Machine>(session: &Session<M>, name: &'a Name) -> Result<SpaceId, &'a Name>
     requires { IsReady session.now.names (M.world session.now.machine) (watchers_of session.now.notices) }
-    ensures found { IfOk result (λ space. space_named (state_of session.now.names (M.world session.now.machine) (watchers_of session.now.notices)) name.now ≡ Some space) }
-    ensures unknown { IfErr result (λ it. (it.now ≡ name.now) × (space_named (state_of session.now.names (M.world session.now.machine) (watchers_of session.now.notices)) name.now ≡ None)) }
+    ensures found { IfOk result (λ space. space_named
+        (state_of session.now.names (M.world session.now.machine) (watchers_of session.now.notices)) name.now ≡ Some space) }
+    ensures unknown { IfErr result (λ it. (it.now ≡ name.now)
+        × (space_named (state_of session.now.names (M.world session.now.machine) (watchers_of session.now.notices)) name.now
+        ≡ None)) }
 {
     match session.space(name) {
         Some(space) => Ok(space),
@@ -54,10 +60,14 @@ pub(crate) fn call_of<'a, M: Machine>(
     change: &'a MapChange,
 ) -> Result<Call, &'a Name>
     requires { IsReady session.now.names (M.world session.now.machine) (watchers_of session.now.notices) }
-    ensures found { IfOk result (λ call. (line : ℕ) (rest : Call → Outcome) → with_call (state_of session.now.names (M.world session.now.machine) (watchers_of session.now.notices)) line change.now rest ≡ rest call) }
+    ensures found { IfOk result (λ call. (line : ℕ) (rest : Call → Outcome) → with_call
+        (state_of session.now.names (M.world session.now.machine) (watchers_of session.now.notices)) line change.now rest
+        ≡ rest call) }
     ensures change { IfOk result (λ call. is_quiet call ≡ false) }
-    ensures unknown { IfErr result (λ name. (line : ℕ) (rest : Call → Outcome) → with_call (state_of session.now.names (M.world session.now.machine) (watchers_of session.now.notices)) line change.now rest
-        ≡ writes (state_of session.now.names (M.world session.now.machine) (watchers_of session.now.notices)) (refused_line line (unknown_text name.now))) }
+    ensures unknown { IfErr result (λ name. (line : ℕ) (rest : Call → Outcome) → with_call
+        (state_of session.now.names (M.world session.now.machine) (watchers_of session.now.notices)) line change.now rest
+        ≡ writes (state_of session.now.names (M.world session.now.machine) (watchers_of session.now.notices))
+        (refused_line line (unknown_text name.now))) }
 {
     match change {
         MapChange::Add {

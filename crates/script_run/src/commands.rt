@@ -1,10 +1,12 @@
 // What each command does.
-ghost use Rattle.std.specs.Prelude.{◌≡◌, []};
+ghost use Rattle.std.specs.Prelude.{◌≡◌, [], ℕ, IfSome, false, is_some, true};
 ghost use Rattle.mem_base.specs.script.Run.{is_desk_line, own_step, step};
 ghost use Rattle.mem_base.specs.script.Shows.{catches_up};
-ghost use Rattle.mem_base.specs.script.States.{writes};
+ghost use Rattle.mem_base.specs.script.States.{State, writes};
+ghost use Rattle.mem_base.specs.script.WriterSteps.{make_region};
 ghost use Rattle.iommu_notify.specs.Watchers.{watchers_of};
 ghost use Rattle.script_run.specs.Bounds.{IsBounded};
+ghost use Rattle.script_run.specs.Groups.{makes_region};
 ghost use Rattle.script_run.specs.Performs.{Performs};
 ghost use Rattle.script_run.specs.Ready.{state_of, IsReady};
 
@@ -13,7 +15,7 @@ use crate::faults::RunFault;
 use crate::lists::say_notices;
 use crate::machine::Machine;
 use crate::session::Session;
-use mem_base::{Command, Kind};
+use mem_base::{Command, Kind, Name, Size};
 use outside::Sink;
 
 // A command of the desk, and not of a pass.
@@ -33,9 +35,29 @@ fn is_desk_line(command: &Command) -> bool
     )
 }
 
+// The name, the kind and the size of the region that a command makes, unless that is an alias.
+fn region_made(command: &Command) -> Option<(&Name, Kind, Size)>
+    ensures made { IfSome result (λ r. (s : State) (line : ℕ)
+        → own_step s line command.now ≡ make_region s line r.0.now r.1 r.2) }
+    ensures known { is_some result ≡ makes_region command.now }
+{
+    match command {
+        Command::RegionContainer { name, size } => Some((name, Kind::Container, *size)),
+        Command::RegionRam { name, size } => Some((name, Kind::Ram, *size)),
+        Command::RegionRom { name, size } => Some((name, Kind::Rom, *size)),
+        Command::RegionRomDevice { name, size, device } => {
+            Some((name, Kind::RomDevice(*device), *size))
+        }
+        Command::RegionIo { name, size, device } => Some((name, Kind::Io(*device), *size)),
+        Command::RegionIommu { name, size } => Some((name, Kind::Iommu, *size)),
+        Command::RegionReserve { name, size } => Some((name, Kind::Reserve, *size)),
+        _ => None,
+    }
+}
+
 impl<M: Machine> Session<M> {
-    // What a command does itself.
-    fn own_step<K: Sink>(
+    // What a command of a pass does itself; in a plain run the ends of a block do nothing.
+    fn pass_step<K: Sink>(
         &mut self,
         number: u32,
         command: &Command,
@@ -43,66 +65,63 @@ impl<M: Machine> Session<M> {
     ) -> Result<(), RunFault>
         requires ready { IsReady self.old.names (M.world self.old.machine) (watchers_of self.old.notices) }
         requires bounded { IsBounded command.now }
+        requires pass { is_desk_line command.now ≡ false }
         ensures { Performs K.written K.holds K.faults sink.old sink.new
             (own_step (state_of self.old.names (M.world self.old.machine) (watchers_of self.old.notices)) number command.now)
             self.new.names (M.world self.new.machine) (watchers_of self.new.notices) result }
     {
         match command {
-            Command::RegionContainer { name, size } => self.region_of(
-                number,
-                name,
-                Kind::Container,
-                *size,
-                sink,
-            ),
-            Command::RegionRam { name, size } => self.region_of(
-                number,
-                name,
-                Kind::Ram,
-                *size,
-                sink,
-            ),
-            Command::RegionRom { name, size } => self.region_of(
-                number,
-                name,
-                Kind::Rom,
-                *size,
-                sink,
-            ),
-            Command::RegionRomDevice { name, size, device } => self.region_of(
-                number,
-                name,
-                Kind::RomDevice(*device),
-                *size,
-                sink,
-            ),
-            Command::RegionIo { name, size, device } => self.region_of(
-                number,
-                name,
-                Kind::Io(*device),
-                *size,
-                sink,
-            ),
-            Command::RegionIommu { name, size } => self.region_of(
-                number,
-                name,
-                Kind::Iommu,
-                *size,
-                sink,
-            ),
+            Command::PassEnter { pass } => self.enter(*pass, sink),
+            Command::PassLeave { pass } => self.leave(*pass, sink),
+            Command::PassRead {
+                pass,
+                space,
+                addr,
+                len,
+            } => self.read(number, *pass, space, *addr, *len, sink),
+            Command::PassWrite {
+                pass,
+                space,
+                addr,
+                bytes,
+            } => self.write(number, *pass, space, *addr, bytes, sink),
+            Command::PassDo { pass, change } => self.change_by(number, *pass, change, sink),
+            Command::PassDma {
+                pass,
+                space,
+                addr,
+                len,
+                to_space,
+                to_addr,
+            } => self.copy(number, *pass, space, *addr, *len, to_space, *to_addr, sink),
+            Command::Par | Command::End => Ok(()),
+            _ => unreachable!(),
+        }
+    }
+
+    // What a command of the desk does itself, where it makes no region or an alias.
+    fn other_step<K: Sink>(
+        &mut self,
+        number: u32,
+        command: &Command,
+        sink: &mut K,
+    ) -> Result<(), RunFault>
+        requires ready { IsReady self.old.names (M.world self.old.machine) (watchers_of self.old.notices) }
+        requires bounded { IsBounded command.now }
+        requires desk { is_desk_line command.now ≡ true }
+        requires other { makes_region command.now ≡ false }
+        ensures { Performs K.written K.holds K.faults sink.old sink.new
+            (own_step (state_of self.old.names (M.world self.old.machine) (watchers_of self.old.notices)) number command.now)
+            self.new.names (M.world self.new.machine) (watchers_of self.new.notices) result }
+    {
+        match command {
+            Command::Machine { size: _ } => Ok(()),
             Command::RegionAlias {
                 name,
                 size,
                 target,
                 offset,
             } => self.alias_of(number, name, *size, target, *offset, sink),
-            Command::RegionReserve { name, size } => self.region_of(
-                number,
-                name,
-                Kind::Reserve,
-                *size,
-                sink,
-            ),
             Command::Space { name, root } => self.space_of(number, name, root, sink),
             Command::Change(change) => self.change(number, change, sink),
             Command::Load {
@@ -131,30 +150,27 @@ impl<M: Machine> Session<M> {
             Command::At { space, addr } => self.find(number, space, *addr, sink),
             Command::Notified { number: notifier } => self.notified(number, *notifier, sink),
             Command::Dirty { region, client } => self.dirty(number, region, *client, sink),
-            Command::PassEnter { pass } => self.enter(*pass, sink),
-            Command::PassLeave { pass } => self.leave(*pass, sink),
-            Command::PassRead {
-                pass,
-                space,
-                addr,
-                len,
-            } => self.read(number, *pass, space, *addr, *len, sink),
-            Command::PassWrite {
-                pass,
-                space,
-                addr,
-                bytes,
-            } => self.write(number, *pass, space, *addr, bytes, sink),
-            Command::PassDo { pass, change } => self.change_by(number, *pass, change, sink),
-            Command::PassDma {
-                pass,
-                space,
-                addr,
-                len,
-                to_space,
-                to_addr,
-            } => self.copy(number, *pass, space, *addr, *len, to_space, *to_addr, sink),
-            Command::Machine { size: _ } | Command::Par | Command::End => Ok(()),
+            _ => unreachable!(),
+        }
+    }
+
+    // What a command of the desk does itself.
+    fn desk_step<K: Sink>(
+        &mut self,
+        number: u32,
+        command: &Command,
+        sink: &mut K,
+    ) -> Result<(), RunFault>
+        requires ready { IsReady self.old.names (M.world self.old.machine) (watchers_of self.old.notices) }
+        requires bounded { IsBounded command.now }
+        requires desk { is_desk_line command.now ≡ true }
+        ensures { Performs K.written K.holds K.faults sink.old sink.new
+            (own_step (state_of self.old.names (M.world self.old.machine) (watchers_of self.old.notices)) number command.now)
+            self.new.names (M.world self.new.machine) (watchers_of self.new.notices) result }
+    {
+        match region_made(command) {
+            Some((name, kind, size)) => self.region_of(number, name, kind, size, sink),
+            None => self.other_step(number, command, sink),
         }
     }
 
@@ -191,10 +207,10 @@ impl<M: Machine> Session<M> {
             self.new.names (M.world self.new.machine) (watchers_of self.new.notices) result }
     {
         if is_desk_line(command) {
-            self.own_step(number, command, sink)?;
+            self.desk_step(number, command, sink)?;
             self.catch_up(sink)
         } else {
-            self.own_step(number, command, sink)
+            self.pass_step(number, command, sink)
         }
     }
 }

@@ -18,7 +18,8 @@ pub(crate) fn say_ranges<K: Sink>(
     ranges: &[FlatRange],
     sink: &mut K,
 ) -> Result<(), RunFault>
-    ensures { Writes K.written K.holds K.faults sink.old sink.new (range_lines (printed_names names.now) ranges.now) RunFault.Write result }
+    ensures { Writes K.written K.holds K.faults sink.old sink.new (range_lines (printed_names names.now) ranges.now)
+        RunFault.Write result }
 {
     for range in ranges {
         say_range(line, names, *range, sink)?;
@@ -33,7 +34,8 @@ pub(crate) fn say_all_released<K: Sink>(
     regions: &[RegionId],
     sink: &mut K,
 ) -> Result<(), RunFault>
-    ensures { Writes K.written K.holds K.faults sink.old sink.new (released_lines (printed_names names.now) regions.now) RunFault.Write result }
+    ensures { Writes K.written K.holds K.faults sink.old sink.new (released_lines (printed_names names.now) regions.now)
+        RunFault.Write result }
 {
     for region in regions {
         say_released(line, names, *region, sink)?;
@@ -48,7 +50,8 @@ pub(crate) fn say_all_told<K: Sink>(
     told: &[(ListenerId, ListenerEvent)],
     sink: &mut K,
 ) -> Result<(), RunFault>
-    ensures { Writes K.written K.holds K.faults sink.old sink.new (told_lines (printed_names names.now) told.now) RunFault.Write result }
+    ensures { Writes K.written K.holds K.faults sink.old sink.new (told_lines (printed_names names.now) told.now) RunFault.Write
+        result }
 {
     for (listener, event) in told {
         say_told(line, names, *listener, *event, sink)?;
@@ -63,7 +66,8 @@ pub(crate) fn say_notices<K: Sink>(
     notices: &[(NotifierId, Notice)],
     sink: &mut K,
 ) -> Result<(), RunFault>
-    ensures { Writes K.written K.holds K.faults sink.old sink.new (notice_lines (printed_names names.now) notices.now) RunFault.Write result }
+    ensures { Writes K.written K.holds K.faults sink.old sink.new (notice_lines (printed_names names.now) notices.now)
+        RunFault.Write result }
 {
     for (notifier, notice) in notices {
         say_notice(line, names, *notifier, *notice, sink)?;

@@ -10,7 +10,8 @@ ghost use Rattle.mem_base.specs.machine.Passes.{pass_of};
 ghost use Rattle.mem_base.specs.machine.Generations.{generation, generation_of};
 ghost use Rattle.mem_base.specs.machine.History.{run_events};
 ghost use Rattle.mem_base.specs.machine.Orders.{configure, harvest, load, notified, reap};
-ghost use Rattle.mem_base.specs.machine.Answers.{answer_with, call_answer, commit_answer, harvest_answer, notifier_answer, plain_answer, reap_answer};
+ghost use Rattle.mem_base.specs.machine.Answers.{answer_with, call_answer, commit_answer, harvest_answer, notifier_answer};
+ghost use Rattle.mem_base.specs.machine.Answers.{plain_answer, reap_answer};
 ghost use Rattle.mem_base.specs.machine.Composites.{enters, leaves};
 ghost use Rattle.mem_base.specs.machine.Completions.{may_access, IsAccessed, IsCompleted, KeepsWriter};
 
@@ -51,7 +52,8 @@ pub trait Machine {
     fn listen(&mut self, listener: ListenerId, space: SpaceId, priority: i32) -> Result<(), Refusal>
         requires { is_at_rest (world self.old).writer.desk ≡ true }
         ensures completed { result ≢ Err Refusal.Memory
-            → IsCompleted (world self.old) (configure (configs.Listen listener space priority)) (plain_answer result) (world self.new) }
+            → IsCompleted (world self.old) (configure (configs.Listen listener space priority)) (plain_answer result)
+            (world self.new) }
         ensures unchanged { result ≡ Err Refusal.Memory → world self.new ≡ world self.old };
 
     /// A listener leaves.
@@ -77,7 +79,8 @@ pub trait Machine {
     fn harvest(&mut self, region: RegionId, client: Client) -> Result<Vec<u64>, Refusal>
         requires { is_at_rest (world self.old).writer.desk ≡ true }
         ensures completed { result ≢ Err Refusal.Memory
-            → IsCompleted (world self.old) (harvest region client) (harvest_answer (answer_with (λ v. v.items) result)) (world self.new) }
+            → IsCompleted (world self.old) (harvest region client) (harvest_answer (answer_with (λ v. v.items) result))
+            (world self.new) }
         ensures unchanged { result ≡ Err Refusal.Memory → world self.new ≡ world self.old };
 
     /// Takes the value of a notifier.

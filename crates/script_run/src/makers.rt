@@ -4,7 +4,7 @@ ghost use Rattle.mem_base.specs.declared.map.calls.Call.TheVariants as calls;
 ghost use Rattle.mem_base.specs.declared.map.calls.Config.TheVariants as configs;
 ghost use Rattle.mem_base.specs.declared.map.kinds.Kind.TheVariants as kinds;
 ghost use Rattle.mem_base.specs.machine.Orders.{configure};
-ghost use Rattle.mem_base.specs.script.States.{listener_named, where_known, with_region, with_space};
+ghost use Rattle.mem_base.specs.script.States.{State, listener_named, where_known, with_region, with_space};
 ghost use Rattle.mem_base.specs.script.WriterSteps.{calls_map, does, listen, make_region, make_space, ordered, silent};
 ghost use Rattle.script_names.specs.Tables.{number_of};
 ghost use Rattle.iommu_notify.specs.Watchers.{watchers_of};
@@ -43,9 +43,10 @@ impl<M: Machine> Session<M> {
     ) -> Result<(), RunFault>
         requires ready { IsReady self.old.names (M.world self.old.machine) (watchers_of self.old.notices) }
         requires free { number_of self.old.names.regions.bound name.now ≡ None }
-        ensures { Performs K.written K.holds K.faults sink.old sink.new
-            (ordered (state_of self.old.names (M.world self.old.machine) (watchers_of self.old.notices)) number
-            (record (state_of self.old.names (M.world self.old.machine) (watchers_of self.old.notices)).names { regions = self.old.names.regions.made ++ name.now ∷ []; kinds = self.old.names.kinds ++ kind ∷ [] })
+        ensures { let before : State = state_of self.old.names (M.world self.old.machine) (watchers_of self.old.notices) in
+            Performs K.written K.holds K.faults sink.old sink.new
+            (ordered before number (record before.names
+            { regions = self.old.names.regions.made ++ name.now ∷ []; kinds = self.old.names.kinds ++ kind ∷ [] })
             (configure (configs.Call (calls.Region kind size))) silent)
             self.new.names (M.world self.new.machine) (watchers_of self.new.notices) result }
     {
@@ -83,7 +84,8 @@ impl<M: Machine> Session<M> {
     ) -> Result<(), RunFault>
         requires { IsReady self.old.names (M.world self.old.machine) (watchers_of self.old.notices) }
         ensures { Performs K.written K.holds K.faults sink.old sink.new
-            (make_region (state_of self.old.names (M.world self.old.machine) (watchers_of self.old.notices)) number name.now kind size)
+            (make_region (state_of self.old.names (M.world self.old.machine) (watchers_of self.old.notices)) number name.now kind
+            size)
             self.new.names (M.world self.new.machine) (watchers_of self.new.notices) result }
     {
         match self.region(name) {
@@ -103,8 +105,9 @@ impl<M: Machine> Session<M> {
         sink: &mut K,
     ) -> Result<(), RunFault>
         requires { IsReady self.old.names (M.world self.old.machine) (watchers_of self.old.notices) }
-        ensures { Performs K.written K.holds K.faults sink.old sink.new
-            (with_region (state_of self.old.names (M.world self.old.machine) (watchers_of self.old.notices)) number target.now (λ t. make_region (state_of self.old.names (M.world self.old.machine) (watchers_of self.old.notices)) number name.now (kinds.Alias t offset) size))
+        ensures { let before : State = state_of self.old.names (M.world self.old.machine) (watchers_of self.old.notices) in
+            Performs K.written K.holds K.faults sink.old sink.new
+            (with_region before number target.now (λ t. make_region before number name.now (kinds.Alias t offset) size))
             self.new.names (M.world self.new.machine) (watchers_of self.new.notices) result }
     {
         match self.region(target) {
@@ -129,9 +132,9 @@ impl<M: Machine> Session<M> {
     ) -> Result<(), RunFault>
         requires ready { IsReady self.old.names (M.world self.old.machine) (watchers_of self.old.notices) }
         requires free { number_of self.old.names.spaces.bound name.now ≡ None }
-        ensures { Performs K.written K.holds K.faults sink.old sink.new
-            (ordered (state_of self.old.names (M.world self.old.machine) (watchers_of self.old.notices)) number
-            (record (state_of self.old.names (M.world self.old.machine) (watchers_of self.old.notices)).names { spaces = self.old.names.spaces.made ++ name.now ∷ [] })
+        ensures { let before : State = state_of self.old.names (M.world self.old.machine) (watchers_of self.old.notices) in
+            Performs K.written K.holds K.faults sink.old sink.new
+            (ordered before number (record before.names { spaces = self.old.names.spaces.made ++ name.now ∷ [] })
             (configure (configs.Call (calls.Space (record { 0 = length self.old.names.spaces.made }) root))) silent)
             self.new.names (M.world self.new.machine) (watchers_of self.new.notices) result }
     {
@@ -187,8 +190,9 @@ impl<M: Machine> Session<M> {
         sink: &mut K,
     ) -> Result<(), RunFault>
         requires { IsReady self.old.names (M.world self.old.machine) (watchers_of self.old.notices) }
-        ensures { Performs K.written K.holds K.faults sink.old sink.new
-            (with_region (state_of self.old.names (M.world self.old.machine) (watchers_of self.old.notices)) number root.now (λ r. make_space (state_of self.old.names (M.world self.old.machine) (watchers_of self.old.notices)) number name.now r))
+        ensures { let before : State = state_of self.old.names (M.world self.old.machine) (watchers_of self.old.notices) in
+            Performs K.written K.holds K.faults sink.old sink.new
+            (with_region before number root.now (λ r. make_space before number name.now r))
             self.new.names (M.world self.new.machine) (watchers_of self.new.notices) result }
     {
         match self.region(root) {
@@ -208,9 +212,9 @@ impl<M: Machine> Session<M> {
     ) -> Result<(), RunFault>
         requires ready { IsReady self.old.names (M.world self.old.machine) (watchers_of self.old.notices) }
         requires free { number_of self.old.names.listeners.bound name.now ≡ None }
-        ensures { Performs K.written K.holds K.faults sink.old sink.new
-            (ordered (state_of self.old.names (M.world self.old.machine) (watchers_of self.old.notices)) number
-            (record (state_of self.old.names (M.world self.old.machine) (watchers_of self.old.notices)).names { listeners = self.old.names.listeners.made ++ name.now ∷ [] })
+        ensures { let before : State = state_of self.old.names (M.world self.old.machine) (watchers_of self.old.notices) in
+            Performs K.written K.holds K.faults sink.old sink.new
+            (ordered before number (record before.names { listeners = self.old.names.listeners.made ++ name.now ∷ [] })
             (configure (configs.Listen (record { 0 = length self.old.names.listeners.made }) space priority)) silent)
             self.new.names (M.world self.new.machine) (watchers_of self.new.notices) result }
     {
@@ -249,7 +253,8 @@ impl<M: Machine> Session<M> {
     ) -> Result<(), RunFault>
         requires { IsReady self.old.names (M.world self.old.machine) (watchers_of self.old.notices) }
         ensures { Performs K.written K.holds K.faults sink.old sink.new
-            (listen (state_of self.old.names (M.world self.old.machine) (watchers_of self.old.notices)) number name.now space priority)
+            (listen (state_of self.old.names (M.world self.old.machine) (watchers_of self.old.notices)) number name.now space
+            priority)
             self.new.names (M.world self.new.machine) (watchers_of self.new.notices) result }
     {
         match self.listener(name) {
@@ -268,8 +273,9 @@ impl<M: Machine> Session<M> {
         sink: &mut K,
     ) -> Result<(), RunFault>
         requires { IsReady self.old.names (M.world self.old.machine) (watchers_of self.old.notices) }
-        ensures { Performs K.written K.holds K.faults sink.old sink.new
-            (with_space (state_of self.old.names (M.world self.old.machine) (watchers_of self.old.notices)) number space.now (λ s. listen (state_of self.old.names (M.world self.old.machine) (watchers_of self.old.notices)) number name.now s priority))
+        ensures { let before : State = state_of self.old.names (M.world self.old.machine) (watchers_of self.old.notices) in
+            Performs K.written K.holds K.faults sink.old sink.new
+            (with_space before number space.now (λ s. listen before number name.now s priority))
             self.new.names (M.world self.new.machine) (watchers_of self.new.notices) result }
     {
         match self.space(space) {
@@ -289,7 +295,8 @@ impl<M: Machine> Session<M> {
         requires ready { IsReady self.old.names (M.world self.old.machine) (watchers_of self.old.notices) }
         requires named { number_of self.old.names.regions.bound name.now ≡ Some region.0 }
         ensures { Performs K.written K.holds K.faults sink.old sink.new
-            (calls_map (state_of self.old.names (M.world self.old.machine) (watchers_of self.old.notices)) number (calls.Drop region))
+            (calls_map (state_of self.old.names (M.world self.old.machine) (watchers_of self.old.notices)) number
+            (calls.Drop region))
             self.new.names (M.world self.new.machine) (watchers_of self.new.notices) result }
     {
         let from = self.machine.journal().len();
@@ -318,8 +325,9 @@ impl<M: Machine> Session<M> {
         sink: &mut K,
     ) -> Result<(), RunFault>
         requires { IsReady self.old.names (M.world self.old.machine) (watchers_of self.old.notices) }
-        ensures { Performs K.written K.holds K.faults sink.old sink.new
-            (with_region (state_of self.old.names (M.world self.old.machine) (watchers_of self.old.notices)) number name.now (λ r. calls_map (state_of self.old.names (M.world self.old.machine) (watchers_of self.old.notices)) number (calls.Drop r)))
+        ensures { let before : State = state_of self.old.names (M.world self.old.machine) (watchers_of self.old.notices) in
+            Performs K.written K.holds K.faults sink.old sink.new
+            (with_region before number name.now (λ r. calls_map before number (calls.Drop r)))
             self.new.names (M.world self.new.machine) (watchers_of self.new.notices) result }
     {
         match self.region(name) {
@@ -339,7 +347,8 @@ impl<M: Machine> Session<M> {
         requires ready { IsReady self.old.names (M.world self.old.machine) (watchers_of self.old.notices) }
         requires named { number_of self.old.names.listeners.bound name.now ≡ Some listener.0 }
         ensures { Performs K.written K.holds K.faults sink.old sink.new
-            (does (state_of self.old.names (M.world self.old.machine) (watchers_of self.old.notices)) number (configure (configs.Unlisten listener)))
+            (does (state_of self.old.names (M.world self.old.machine) (watchers_of self.old.notices)) number
+            (configure (configs.Unlisten listener)))
             self.new.names (M.world self.new.machine) (watchers_of self.new.notices) result }
     {
         let from = self.machine.journal().len();
@@ -368,8 +377,10 @@ impl<M: Machine> Session<M> {
         sink: &mut K,
     ) -> Result<(), RunFault>
         requires { IsReady self.old.names (M.world self.old.machine) (watchers_of self.old.notices) }
-        ensures { Performs K.written K.holds K.faults sink.old sink.new
-            (where_known (state_of self.old.names (M.world self.old.machine) (watchers_of self.old.notices)) number name.now (listener_named (state_of self.old.names (M.world self.old.machine) (watchers_of self.old.notices)) name.now) (λ l. does (state_of self.old.names (M.world self.old.machine) (watchers_of self.old.notices)) number (configure (configs.Unlisten l))))
+        ensures { let before : State = state_of self.old.names (M.world self.old.machine) (watchers_of self.old.notices) in
+            Performs K.written K.holds K.faults sink.old sink.new
+            (where_known before number name.now (listener_named before name.now)
+            (λ l. does before number (configure (configs.Unlisten l))))
             self.new.names (M.world self.new.machine) (watchers_of self.new.notices) result }
     {
         match self.listener(name) {

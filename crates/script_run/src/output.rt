@@ -29,7 +29,8 @@ pub(crate) fn say_at<K: Sink>(
     found: Option<Spot>,
     sink: &mut K,
 ) -> Result<(), RunFault>
-    ensures { Writes K.written K.holds K.faults sink.old sink.new (at_line (printed_names names.now) space.now addr found) RunFault.Write result }
+    ensures { Writes K.written K.holds K.faults sink.old sink.new (at_line (printed_names names.now) space.now addr found)
+        RunFault.Write result }
 {
     line.clear();
     add_at_line(line, names, space, addr, found)?;
@@ -59,7 +60,8 @@ pub(crate) fn say_range<K: Sink>(
     range: FlatRange,
     sink: &mut K,
 ) -> Result<(), RunFault>
-    ensures { Writes K.written K.holds K.faults sink.old sink.new (range_line (printed_names names.now) range) RunFault.Write result }
+    ensures { Writes K.written K.holds K.faults sink.old sink.new (range_line (printed_names names.now) range) RunFault.Write
+        result }
 {
     line.clear();
     add_range_line(line, names, range)?;
@@ -195,7 +197,8 @@ pub(crate) fn say_released<K: Sink>(
     region: RegionId,
     sink: &mut K,
 ) -> Result<(), RunFault>
-    ensures { Writes K.written K.holds K.faults sink.old sink.new (released_line (printed_names names.now) region) RunFault.Write result }
+    ensures { Writes K.written K.holds K.faults sink.old sink.new (released_line (printed_names names.now) region) RunFault.Write
+        result }
 {
     line.clear();
     add_released_line(line, names, region)?;
@@ -211,7 +214,8 @@ pub(crate) fn say_told<K: Sink>(
     event: ListenerEvent,
     sink: &mut K,
 ) -> Result<(), RunFault>
-    ensures { Writes K.written K.holds K.faults sink.old sink.new (told_line (printed_names names.now) (listener, event)) RunFault.Write result }
+    ensures { Writes K.written K.holds K.faults sink.old sink.new (told_line (printed_names names.now) (listener, event))
+        RunFault.Write result }
 {
     line.clear();
     add_told_line(line, names, listener, event)?;
@@ -227,7 +231,8 @@ pub(crate) fn say_notice<K: Sink>(
     notice: Notice,
     sink: &mut K,
 ) -> Result<(), RunFault>
-    ensures { Writes K.written K.holds K.faults sink.old sink.new (notice_line (printed_names names.now) (notifier, notice)) RunFault.Write result }
+    ensures { Writes K.written K.holds K.faults sink.old sink.new (notice_line (printed_names names.now) (notifier, notice))
+        RunFault.Write result }
 {
     line.clear();
     add_notice_line(line, names, notifier, notice)?;
@@ -242,7 +247,8 @@ pub(crate) fn say_unknown<K: Sink>(
     name: &[u8],
     sink: &mut K,
 ) -> Result<(), RunFault>
-    ensures { Writes K.written K.holds K.faults sink.old sink.new (refused_line number (unknown_text name.now)) RunFault.Write result }
+    ensures { Writes K.written K.holds K.faults sink.old sink.new (refused_line number (unknown_text name.now)) RunFault.Write
+        result }
 {
     line.clear();
     add_unknown_line(line, number, name)?;
@@ -257,7 +263,8 @@ pub(crate) fn say_taken<K: Sink>(
     name: &[u8],
     sink: &mut K,
 ) -> Result<(), RunFault>
-    ensures { Writes K.written K.holds K.faults sink.old sink.new (refused_line number (taken_text name.now)) RunFault.Write result }
+    ensures { Writes K.written K.holds K.faults sink.old sink.new (refused_line number (taken_text name.now)) RunFault.Write
+        result }
 {
     line.clear();
     add_taken_line(line, number, name)?;
@@ -273,7 +280,8 @@ pub(crate) fn say_refused<K: Sink>(
     why: Refusal,
     sink: &mut K,
 ) -> Result<(), RunFault>
-    ensures { Writes K.written K.holds K.faults sink.old sink.new (refused_line number (refusal_text (printed_names names.now) why)) RunFault.Write result }
+    ensures { Writes K.written K.holds K.faults sink.old sink.new
+        (refused_line number (refusal_text (printed_names names.now) why)) RunFault.Write result }
 {
     line.clear();
     add_refused_line(line, number, names, why)?;

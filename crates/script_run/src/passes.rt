@@ -7,7 +7,7 @@ ghost use Rattle.mem_base.specs.machine.World.{possible};
 ghost use Rattle.mem_base.specs.machine.History.{run_events};
 ghost use Rattle.mem_base.specs.machine.Composites.{enters_unless, is_entered, leaves, leaves_unless};
 ghost use Rattle.mem_base.specs.machine.Completions.{may_access, KeepsWriter};
-ghost use Rattle.mem_base.specs.script.States.{with_space};
+ghost use Rattle.mem_base.specs.script.States.{State, with_space};
 ghost use Rattle.mem_base.specs.script.PassSteps.{copy, enter, leave, read, write};
 ghost use Rattle.iommu_notify.specs.Watchers.{watchers_of};
 ghost use Rattle.script_run.specs.Performs.{Performs};
@@ -106,7 +106,8 @@ impl<M: Machine> Session<M> {
         requires ready { IsReady self.old.names (M.world self.old.machine) (watchers_of self.old.notices) }
         requires pass { pass.0 < most_passes }
         ensures { Performs K.written K.holds K.faults sink.old sink.new
-            (read (state_of self.old.names (M.world self.old.machine) (watchers_of self.old.notices)) pass space addr (length out.old))
+            (read (state_of self.old.names (M.world self.old.machine) (watchers_of self.old.notices)) pass space addr
+            (length out.old))
             self.new.names (M.world self.new.machine) (watchers_of self.new.notices) result }
     {
         let access = self.machine.read(pass, space, addr, out);
@@ -126,8 +127,9 @@ impl<M: Machine> Session<M> {
         requires ready { IsReady self.old.names (M.world self.old.machine) (watchers_of self.old.notices) }
         requires pass { pass.0 < most_passes }
         requires len { len ≤ 64 }
-        ensures { Performs K.written K.holds K.faults sink.old sink.new
-            (with_space (state_of self.old.names (M.world self.old.machine) (watchers_of self.old.notices)) number space.now (λ s. read (state_of self.old.names (M.world self.old.machine) (watchers_of self.old.notices)) pass s addr len))
+        ensures { let before : State = state_of self.old.names (M.world self.old.machine) (watchers_of self.old.notices) in
+            Performs K.written K.holds K.faults sink.old sink.new
+            (with_space before number space.now (λ s. read before pass s addr len))
             self.new.names (M.world self.new.machine) (watchers_of self.new.notices) result }
     {
         let mut bytes = [0; 64];
@@ -168,8 +170,9 @@ impl<M: Machine> Session<M> {
     ) -> Result<(), RunFault>
         requires ready { IsReady self.old.names (M.world self.old.machine) (watchers_of self.old.notices) }
         requires pass { pass.0 < most_passes }
-        ensures { Performs K.written K.holds K.faults sink.old sink.new
-            (with_space (state_of self.old.names (M.world self.old.machine) (watchers_of self.old.notices)) number space.now (λ s. write (state_of self.old.names (M.world self.old.machine) (watchers_of self.old.notices)) pass s addr bytes.now))
+        ensures { let before : State = state_of self.old.names (M.world self.old.machine) (watchers_of self.old.notices) in
+            Performs K.written K.holds K.faults sink.old sink.new
+            (with_space before number space.now (λ s. write before pass s addr bytes.now))
             self.new.names (M.world self.new.machine) (watchers_of self.new.notices) result }
     {
         match self.space(space) {
@@ -192,7 +195,8 @@ impl<M: Machine> Session<M> {
         requires ready { IsReady self.old.names (M.world self.old.machine) (watchers_of self.old.notices) }
         requires pass { pass.0 < most_passes }
         ensures { Performs K.written K.holds K.faults sink.old sink.new
-            (copy (state_of self.old.names (M.world self.old.machine) (watchers_of self.old.notices)) pass space addr (length out.old) to_space to_addr)
+            (copy (state_of self.old.names (M.world self.old.machine) (watchers_of self.old.notices)) pass space addr
+            (length out.old) to_space to_addr)
             self.new.names (M.world self.new.machine) (watchers_of self.new.notices) result }
     {
         let entered = enter_unless(&mut self.machine, pass);
@@ -221,8 +225,9 @@ impl<M: Machine> Session<M> {
         requires ready { IsReady self.old.names (M.world self.old.machine) (watchers_of self.old.notices) }
         requires pass { pass.0 < most_passes }
         requires len { len ≤ 64 }
-        ensures { Performs K.written K.holds K.faults sink.old sink.new
-            (with_space (state_of self.old.names (M.world self.old.machine) (watchers_of self.old.notices)) number to_space.now (λ t. copy (state_of self.old.names (M.world self.old.machine) (watchers_of self.old.notices)) pass space addr len t to_addr))
+        ensures { let before : State = state_of self.old.names (M.world self.old.machine) (watchers_of self.old.notices) in
+            Performs K.written K.holds K.faults sink.old sink.new
+            (with_space before number to_space.now (λ t. copy before pass space addr len t to_addr))
             self.new.names (M.world self.new.machine) (watchers_of self.new.notices) result }
     {
         let mut bytes = [0; 64];
@@ -255,8 +260,10 @@ impl<M: Machine> Session<M> {
         requires ready { IsReady self.old.names (M.world self.old.machine) (watchers_of self.old.notices) }
         requires pass { pass.0 < most_passes }
         requires len { len ≤ 64 }
-        ensures { Performs K.written K.holds K.faults sink.old sink.new
-            (with_space (state_of self.old.names (M.world self.old.machine) (watchers_of self.old.notices)) number space.now (λ s. with_space (state_of self.old.names (M.world self.old.machine) (watchers_of self.old.notices)) number to_space.now (λ t. copy (state_of self.old.names (M.world self.old.machine) (watchers_of self.old.notices)) pass s addr len t to_addr)))
+        ensures { let before : State = state_of self.old.names (M.world self.old.machine) (watchers_of self.old.notices) in
+            Performs K.written K.holds K.faults sink.old sink.new
+            (with_space before number space.now (λ s. with_space before number to_space.now
+            (λ t. copy before pass s addr len t to_addr)))
             self.new.names (M.world self.new.machine) (watchers_of self.new.notices) result }
     {
         match self.space(space) {

@@ -32,7 +32,8 @@ impl<M: Machine> Session<M> {
     // The region that a name stands for.
     pub(crate) fn region(&self, name: &Name) -> Option<RegionId>
         requires { IsReady self.now.names (M.world self.now.machine) (watchers_of self.now.notices) }
-        ensures named { result ≡ region_named (state_of self.now.names (M.world self.now.machine) (watchers_of self.now.notices)) name.now }
+        ensures named { result ≡ region_named (state_of self.now.names (M.world self.now.machine) (watchers_of self.now.notices))
+            name.now }
         ensures table { result ≡ option_map (λ n. record { 0 = n }) (number_of self.now.names.regions.bound name.now) }
     {
         self.names
@@ -44,7 +45,8 @@ impl<M: Machine> Session<M> {
     // The space that a name stands for.
     pub(crate) fn space(&self, name: &Name) -> Option<SpaceId>
         requires { IsReady self.now.names (M.world self.now.machine) (watchers_of self.now.notices) }
-        ensures named { result ≡ space_named (state_of self.now.names (M.world self.now.machine) (watchers_of self.now.notices)) name.now }
+        ensures named { result ≡ space_named (state_of self.now.names (M.world self.now.machine) (watchers_of self.now.notices))
+            name.now }
         ensures table { result ≡ option_map (λ n. record { 0 = n }) (number_of self.now.names.spaces.bound name.now) }
     {
         self.names.spaces().number_of(name.as_bytes()).map(SpaceId)
@@ -53,7 +55,8 @@ impl<M: Machine> Session<M> {
     // The listener that a name stands for.
     pub(crate) fn listener(&self, name: &Name) -> Option<ListenerId>
         requires { IsReady self.now.names (M.world self.now.machine) (watchers_of self.now.notices) }
-        ensures named { result ≡ listener_named (state_of self.now.names (M.world self.now.machine) (watchers_of self.now.notices)) name.now }
+        ensures named { result ≡ listener_named (state_of self.now.names (M.world self.now.machine)
+            (watchers_of self.now.notices)) name.now }
         ensures table { result ≡ option_map (λ n. record { 0 = n }) (number_of self.now.names.listeners.bound name.now) }
     {
         self.names
@@ -65,7 +68,8 @@ impl<M: Machine> Session<M> {
     // The watcher that a name stands for.
     pub(crate) fn watcher(&self, name: &Name) -> Option<NotifierId>
         requires { IsReady self.now.names (M.world self.now.machine) (watchers_of self.now.notices) }
-        ensures named { result ≡ watcher_named (state_of self.now.names (M.world self.now.machine) (watchers_of self.now.notices)) name.now }
+        ensures named { result ≡ watcher_named (state_of self.now.names (M.world self.now.machine) (watchers_of self.now.notices))
+            name.now }
         ensures table { result ≡ option_map (λ n. record { 0 = n }) (number_of self.now.names.notifiers.bound name.now) }
     {
         self.names
@@ -83,7 +87,8 @@ impl<M: Machine> Session<M> {
     ) -> Result<(), RunFault>
         requires { IsReady self.old.names (M.world self.old.machine) (watchers_of self.old.notices) }
         ensures { Performs K.written K.holds K.faults sink.old sink.new
-            (writes (state_of self.old.names (M.world self.old.machine) (watchers_of self.old.notices)) (refused_line number (unknown_text name.now)))
+            (writes (state_of self.old.names (M.world self.old.machine) (watchers_of self.old.notices))
+            (refused_line number (unknown_text name.now)))
             self.new.names (M.world self.new.machine) (watchers_of self.new.notices) result }
     {
         say_unknown(&mut self.line, number, name.as_bytes(), sink)
@@ -98,7 +103,8 @@ impl<M: Machine> Session<M> {
     ) -> Result<(), RunFault>
         requires { IsReady self.old.names (M.world self.old.machine) (watchers_of self.old.notices) }
         ensures { Performs K.written K.holds K.faults sink.old sink.new
-            (writes (state_of self.old.names (M.world self.old.machine) (watchers_of self.old.notices)) (refused_line number (taken_text name.now)))
+            (writes (state_of self.old.names (M.world self.old.machine) (watchers_of self.old.notices))
+            (refused_line number (taken_text name.now)))
             self.new.names (M.world self.new.machine) (watchers_of self.new.notices) result }
     {
         say_taken(&mut self.line, number, name.as_bytes(), sink)

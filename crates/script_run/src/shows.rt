@@ -3,7 +3,7 @@ ghost use Rattle.std.specs.Prelude.{◌≡◌, ◌<◌};
 ghost use Rattle.mem_base.specs.map.Search.{look};
 ghost use Rattle.mem_base.specs.views.Flattened.{view_of};
 ghost use Rattle.mem_base.specs.script.Shows.{at, show};
-ghost use Rattle.mem_base.specs.script.States.{with_space};
+ghost use Rattle.mem_base.specs.script.States.{State, with_space};
 ghost use Rattle.iommu_notify.specs.Watchers.{watchers_of};
 ghost use Rattle.script_run.specs.Performs.{Performs};
 ghost use Rattle.script_run.specs.Ready.{state_of, IsReady};
@@ -81,8 +81,9 @@ impl<M: Machine> Session<M> {
         sink: &mut K,
     ) -> Result<(), RunFault>
         requires { IsReady self.old.names (M.world self.old.machine) (watchers_of self.old.notices) }
-        ensures { Performs K.written K.holds K.faults sink.old sink.new
-            (with_space (state_of self.old.names (M.world self.old.machine) (watchers_of self.old.notices)) number space.now (λ s. show (state_of self.old.names (M.world self.old.machine) (watchers_of self.old.notices)) space.now s))
+        ensures { let before : State = state_of self.old.names (M.world self.old.machine) (watchers_of self.old.notices) in
+            Performs K.written K.holds K.faults sink.old sink.new
+            (with_space before number space.now (λ s. show before space.now s))
             self.new.names (M.world self.new.machine) (watchers_of self.new.notices) result }
     {
         match self.space(space) {
@@ -124,8 +125,9 @@ impl<M: Machine> Session<M> {
         sink: &mut K,
     ) -> Result<(), RunFault>
         requires { IsReady self.old.names (M.world self.old.machine) (watchers_of self.old.notices) }
-        ensures { Performs K.written K.holds K.faults sink.old sink.new
-            (with_space (state_of self.old.names (M.world self.old.machine) (watchers_of self.old.notices)) number space.now (λ s. at (state_of self.old.names (M.world self.old.machine) (watchers_of self.old.notices)) space.now addr s))
+        ensures { let before : State = state_of self.old.names (M.world self.old.machine) (watchers_of self.old.notices) in
+            Performs K.written K.holds K.faults sink.old sink.new
+            (with_space before number space.now (λ s. at before space.now addr s))
             self.new.names (M.world self.new.machine) (watchers_of self.new.notices) result }
     {
         match self.space(space) {

@@ -3,7 +3,7 @@ ghost use Rattle.std.specs.Prelude.{◌≡◌, ◌≢◌, [], None, Some, List, 
 ghost use Rattle.outside.specs.Sink.{Writes};
 ghost use Rattle.mem_base.specs.script.RefusalLines.{refusal_text, refused_line};
 ghost use Rattle.mem_base.specs.script.Shows.{joins_unless, unwatch, watch};
-ghost use Rattle.mem_base.specs.script.States.{watcher_named, where_known, with_region};
+ghost use Rattle.mem_base.specs.script.States.{State, watcher_named, where_known, with_region};
 ghost use Rattle.mem_base.specs.script.Watching.{watch_refusal};
 ghost use Rattle.script_names.specs.Tables.{number_of, printed_names};
 ghost use Rattle.iommu_notify.specs.Watchers.{new_watcher, watchers_of};
@@ -30,7 +30,8 @@ fn say_no<K: Sink>(
     line: &mut Line,
     sink: &mut K,
 ) -> Result<(), RunFault>
-    ensures told { (text : List ℕ) → (why ≢ Refusal.Memory → text ≡ refused_line number (refusal_text (printed_names names.now) why))
+    ensures told { (text : List ℕ) → (why ≢ Refusal.Memory → text ≡ refused_line number
+        (refusal_text (printed_names names.now) why))
         → Writes K.written K.holds K.faults sink.old sink.new text RunFault.Write result }
     ensures goes_on { OnOk result (why ≢ Refusal.Memory) }
 {
@@ -54,7 +55,8 @@ impl<M: Machine> Session<M> {
         requires ready { IsReady self.old.names (M.world self.old.machine) (watchers_of self.old.notices) }
         requires free { number_of self.old.names.notifiers.bound name.now ≡ None }
         ensures { Performs K.written K.holds K.faults sink.old sink.new
-            (joins_unless (state_of self.old.names (M.world self.old.machine) (watchers_of self.old.notices)) number (watch_refusal (watchers_of self.old.notices) first last) name.now
+            (joins_unless (state_of self.old.names (M.world self.old.machine) (watchers_of self.old.notices)) number
+            (watch_refusal (watchers_of self.old.notices) first last) name.now
             (new_watcher (record { 0 = length self.old.names.notifiers.made }) region first last))
             self.new.names (M.world self.new.machine) (watchers_of self.new.notices) result }
     {
@@ -94,7 +96,8 @@ impl<M: Machine> Session<M> {
     ) -> Result<(), RunFault>
         requires { IsReady self.old.names (M.world self.old.machine) (watchers_of self.old.notices) }
         ensures { Performs K.written K.holds K.faults sink.old sink.new
-            (watch (state_of self.old.names (M.world self.old.machine) (watchers_of self.old.notices)) number name.now region first last)
+            (watch (state_of self.old.names (M.world self.old.machine) (watchers_of self.old.notices)) number name.now region
+            first last)
             self.new.names (M.world self.new.machine) (watchers_of self.new.notices) result }
     {
         match self.watcher(name) {
@@ -114,8 +117,9 @@ impl<M: Machine> Session<M> {
         sink: &mut K,
     ) -> Result<(), RunFault>
         requires { IsReady self.old.names (M.world self.old.machine) (watchers_of self.old.notices) }
-        ensures { Performs K.written K.holds K.faults sink.old sink.new
-            (with_region (state_of self.old.names (M.world self.old.machine) (watchers_of self.old.notices)) number region.now (λ r. watch (state_of self.old.names (M.world self.old.machine) (watchers_of self.old.notices)) number name.now r first last))
+        ensures { let before : State = state_of self.old.names (M.world self.old.machine) (watchers_of self.old.notices) in
+            Performs K.written K.holds K.faults sink.old sink.new
+            (with_region before number region.now (λ r. watch before number name.now r first last))
             self.new.names (M.world self.new.machine) (watchers_of self.new.notices) result }
     {
         match self.region(region) {
@@ -159,8 +163,9 @@ impl<M: Machine> Session<M> {
         sink: &mut K,
     ) -> Result<(), RunFault>
         requires { IsReady self.old.names (M.world self.old.machine) (watchers_of self.old.notices) }
-        ensures { Performs K.written K.holds K.faults sink.old sink.new
-            (where_known (state_of self.old.names (M.world self.old.machine) (watchers_of self.old.notices)) number name.now (watcher_named (state_of self.old.names (M.world self.old.machine) (watchers_of self.old.notices)) name.now) (λ id. unwatch (state_of self.old.names (M.world self.old.machine) (watchers_of self.old.notices)) id))
+        ensures { let before : State = state_of self.old.names (M.world self.old.machine) (watchers_of self.old.notices) in
+            Performs K.written K.holds K.faults sink.old sink.new
+            (where_known before number name.now (watcher_named before name.now) (λ id. unwatch before id))
             self.new.names (M.world self.new.machine) (watchers_of self.new.notices) result }
     {
         match self.watcher(name) {

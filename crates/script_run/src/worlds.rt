@@ -90,8 +90,8 @@ impl Machine for World {
     }
 }
 
-/// Runs a script on a machine of its own, with the pool that the script names and 16 passes, and writes the script's text: each line
-/// as one piece with its line feed.
+/// Runs a script on a machine of its own, with the pool that the script names and 16 passes, and writes the script's text:
+/// each line as one piece with its line feed.
 ///
 /// It answers `Write` only where a write failed. After that and after `Memory`, a prefix of the text was written.
 pub fn run<K: Sink>(alloc: Global, script: &Script, sink: &mut K) -> Result<(), RunFault>

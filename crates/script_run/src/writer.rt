@@ -5,8 +5,9 @@ ghost use Rattle.mem_base.specs.declared.map.calls.Config.TheVariants as configs
 ghost use Rattle.mem_base.specs.map.Calls.{is_quiet};
 ghost use Rattle.mem_base.specs.map.Limits.{notifier_count};
 ghost use Rattle.mem_base.specs.machine.Orders.{configure, harvest, load, notified, reap};
-ghost use Rattle.mem_base.specs.script.States.{listener_named, where_known, with_region, with_space};
-ghost use Rattle.mem_base.specs.script.WriterSteps.{calls_map, does, ordered, pages_in, published_in, released_in, value_in, with_call};
+ghost use Rattle.mem_base.specs.script.States.{State, listener_named, where_known, with_region, with_space};
+ghost use Rattle.mem_base.specs.script.WriterSteps.{calls_map, does, ordered, pages_in, published_in, released_in, value_in};
+ghost use Rattle.mem_base.specs.script.WriterSteps.{with_call};
 ghost use Rattle.iommu_notify.specs.Watchers.{watchers_of};
 ghost use Rattle.script_run.specs.Performs.{Performs};
 ghost use Rattle.script_run.specs.Ready.{state_of, IsReady};
@@ -51,8 +52,9 @@ impl<M: Machine> Session<M> {
         sink: &mut K,
     ) -> Result<(), RunFault>
         requires { IsReady self.old.names (M.world self.old.machine) (watchers_of self.old.notices) }
-        ensures { Performs K.written K.holds K.faults sink.old sink.new
-            (with_call (state_of self.old.names (M.world self.old.machine) (watchers_of self.old.notices)) number change.now (λ call. calls_map (state_of self.old.names (M.world self.old.machine) (watchers_of self.old.notices)) number call))
+        ensures { let before : State = state_of self.old.names (M.world self.old.machine) (watchers_of self.old.notices) in
+            Performs K.written K.holds K.faults sink.old sink.new
+            (with_call before number change.now (λ call. calls_map before number call))
             self.new.names (M.world self.new.machine) (watchers_of self.new.notices) result }
     {
         match call_of(self, change) {
@@ -65,7 +67,8 @@ impl<M: Machine> Session<M> {
     pub(crate) fn begin<K: Sink>(&mut self, number: u32, sink: &mut K) -> Result<(), RunFault>
         requires { IsReady self.old.names (M.world self.old.machine) (watchers_of self.old.notices) }
         ensures { Performs K.written K.holds K.faults sink.old sink.new
-            (does (state_of self.old.names (M.world self.old.machine) (watchers_of self.old.notices)) number (configure configs.Begin))
+            (does (state_of self.old.names (M.world self.old.machine) (watchers_of self.old.notices)) number
+            (configure configs.Begin))
             self.new.names (M.world self.new.machine) (watchers_of self.new.notices) result }
     {
         let from = self.machine.journal().len();
@@ -85,7 +88,8 @@ impl<M: Machine> Session<M> {
     pub(crate) fn commit<K: Sink>(&mut self, number: u32, sink: &mut K) -> Result<(), RunFault>
         requires { IsReady self.old.names (M.world self.old.machine) (watchers_of self.old.notices) }
         ensures { Performs K.written K.holds K.faults sink.old sink.new
-            (does (state_of self.old.names (M.world self.old.machine) (watchers_of self.old.notices)) number (configure configs.Commit))
+            (does (state_of self.old.names (M.world self.old.machine) (watchers_of self.old.notices)) number
+            (configure configs.Commit))
             self.new.names (M.world self.new.machine) (watchers_of self.new.notices) result }
     {
         let from = self.machine.journal().len();
@@ -112,7 +116,8 @@ impl<M: Machine> Session<M> {
     ) -> Result<(), RunFault>
         requires { IsReady self.old.names (M.world self.old.machine) (watchers_of self.old.notices) }
         ensures { Performs K.written K.holds K.faults sink.old sink.new
-            (does (state_of self.old.names (M.world self.old.machine) (watchers_of self.old.notices)) number (load region offset bytes.now))
+            (does (state_of self.old.names (M.world self.old.machine) (watchers_of self.old.notices)) number
+            (load region offset bytes.now))
             self.new.names (M.world self.new.machine) (watchers_of self.new.notices) result }
     {
         let from = self.machine.journal().len();
@@ -138,8 +143,9 @@ impl<M: Machine> Session<M> {
         sink: &mut K,
     ) -> Result<(), RunFault>
         requires { IsReady self.old.names (M.world self.old.machine) (watchers_of self.old.notices) }
-        ensures { Performs K.written K.holds K.faults sink.old sink.new
-            (with_region (state_of self.old.names (M.world self.old.machine) (watchers_of self.old.notices)) number region.now (λ r. does (state_of self.old.names (M.world self.old.machine) (watchers_of self.old.notices)) number (load r offset bytes.now)))
+        ensures { let before : State = state_of self.old.names (M.world self.old.machine) (watchers_of self.old.notices) in
+            Performs K.written K.holds K.faults sink.old sink.new
+            (with_region before number region.now (λ r. does before number (load r offset bytes.now)))
             self.new.names (M.world self.new.machine) (watchers_of self.new.notices) result }
     {
         match self.region(region) {
@@ -151,8 +157,9 @@ impl<M: Machine> Session<M> {
     // `reap`
     pub(crate) fn reap<K: Sink>(&mut self, number: u32, sink: &mut K) -> Result<(), RunFault>
         requires { IsReady self.old.names (M.world self.old.machine) (watchers_of self.old.notices) }
-        ensures { Performs K.written K.holds K.faults sink.old sink.new
-            (ordered (state_of self.old.names (M.world self.old.machine) (watchers_of self.old.notices)) number (state_of self.old.names (M.world self.old.machine) (watchers_of self.old.notices)).names reap (released_in (state_of self.old.names (M.world self.old.machine) (watchers_of self.old.notices)).names))
+        ensures { let before : State = state_of self.old.names (M.world self.old.machine) (watchers_of self.old.notices) in
+            Performs K.written K.holds K.faults sink.old sink.new
+            (ordered before number before.names reap (released_in before.names))
             self.new.names (M.world self.new.machine) (watchers_of self.new.notices) result }
     {
         let from = self.machine.journal().len();
@@ -182,8 +189,9 @@ impl<M: Machine> Session<M> {
     ) -> Result<(), RunFault>
         requires ready { IsReady self.old.names (M.world self.old.machine) (watchers_of self.old.notices) }
         requires known { notifier < notifier_count }
-        ensures { Performs K.written K.holds K.faults sink.old sink.new
-            (ordered (state_of self.old.names (M.world self.old.machine) (watchers_of self.old.notices)) number (state_of self.old.names (M.world self.old.machine) (watchers_of self.old.notices)).names (notified notifier) (value_in notifier))
+        ensures { let before : State = state_of self.old.names (M.world self.old.machine) (watchers_of self.old.notices) in
+            Performs K.written K.holds K.faults sink.old sink.new
+            (ordered before number before.names (notified notifier) (value_in notifier))
             self.new.names (M.world self.new.machine) (watchers_of self.new.notices) result }
     {
         let from = self.machine.journal().len();
@@ -202,8 +210,9 @@ impl<M: Machine> Session<M> {
         sink: &mut K,
     ) -> Result<(), RunFault>
         requires { IsReady self.old.names (M.world self.old.machine) (watchers_of self.old.notices) }
-        ensures { Performs K.written K.holds K.faults sink.old sink.new
-            (ordered (state_of self.old.names (M.world self.old.machine) (watchers_of self.old.notices)) number (state_of self.old.names (M.world self.old.machine) (watchers_of self.old.notices)).names (harvest region client) (pages_in name.now client))
+        ensures { let before : State = state_of self.old.names (M.world self.old.machine) (watchers_of self.old.notices) in
+            Performs K.written K.holds K.faults sink.old sink.new
+            (ordered before number before.names (harvest region client) (pages_in name.now client))
             self.new.names (M.world self.new.machine) (watchers_of self.new.notices) result }
     {
         let from = self.machine.journal().len();
@@ -233,8 +242,10 @@ impl<M: Machine> Session<M> {
         sink: &mut K,
     ) -> Result<(), RunFault>
         requires { IsReady self.old.names (M.world self.old.machine) (watchers_of self.old.notices) }
-        ensures { Performs K.written K.holds K.faults sink.old sink.new
-            (with_region (state_of self.old.names (M.world self.old.machine) (watchers_of self.old.notices)) number region.now (λ r. ordered (state_of self.old.names (M.world self.old.machine) (watchers_of self.old.notices)) number (state_of self.old.names (M.world self.old.machine) (watchers_of self.old.notices)).names (harvest r client) (pages_in region.now client)))
+        ensures { let before : State = state_of self.old.names (M.world self.old.machine) (watchers_of self.old.notices) in
+            Performs K.written K.holds K.faults sink.old sink.new
+            (with_region before number region.now (λ r. ordered before number before.names (harvest r client)
+            (pages_in region.now client)))
             self.new.names (M.world self.new.machine) (watchers_of self.new.notices) result }
     {
         match self.region(region) {
@@ -253,8 +264,9 @@ impl<M: Machine> Session<M> {
     ) -> Result<(), RunFault>
         requires ready { IsReady self.old.names (M.world self.old.machine) (watchers_of self.old.notices) }
         requires change { is_quiet call.now ≡ false }
-        ensures { Performs K.written K.holds K.faults sink.old sink.new
-            (ordered (state_of self.old.names (M.world self.old.machine) (watchers_of self.old.notices)) number (state_of self.old.names (M.world self.old.machine) (watchers_of self.old.notices)).names (configure (configs.Call call.now)) (published_in pass))
+        ensures { let before : State = state_of self.old.names (M.world self.old.machine) (watchers_of self.old.notices) in
+            Performs K.written K.holds K.faults sink.old sink.new
+            (ordered before number before.names (configure (configs.Call call.now)) (published_in pass))
             self.new.names (M.world self.new.machine) (watchers_of self.new.notices) result }
     {
         let from = self.machine.journal().len();
@@ -284,8 +296,10 @@ impl<M: Machine> Session<M> {
         sink: &mut K,
     ) -> Result<(), RunFault>
         requires { IsReady self.old.names (M.world self.old.machine) (watchers_of self.old.notices) }
-        ensures { Performs K.written K.holds K.faults sink.old sink.new
-            (with_call (state_of self.old.names (M.world self.old.machine) (watchers_of self.old.notices)) number change.now (λ call. ordered (state_of self.old.names (M.world self.old.machine) (watchers_of self.old.notices)) number (state_of self.old.names (M.world self.old.machine) (watchers_of self.old.notices)).names (configure (configs.Call call)) (published_in pass)))
+        ensures { let before : State = state_of self.old.names (M.world self.old.machine) (watchers_of self.old.notices) in
+            Performs K.written K.holds K.faults sink.old sink.new
+            (with_call before number change.now (λ call. ordered before number before.names (configure (configs.Call call))
+            (published_in pass)))
             self.new.names (M.world self.new.machine) (watchers_of self.new.notices) result }
     {
         match call_of(self, change) {

@@ -16,8 +16,6 @@ mod possible;
 mod publishing;
 mod reaping;
 mod shown;
-#[cfg(test)]
-mod tests;
 mod unfilled;
 mod words;
 mod world;

@@ -15,6 +15,8 @@ mod composites;
 #[cfg(test)]
 mod draws;
 #[cfg(test)]
+mod events;
+#[cfg(test)]
 mod lines;
 #[cfg(test)]
 mod machines;

@@ -9,7 +9,8 @@ returns-in-Ok c =
     let p = c.args.part.now in
     let rises = rises_parts p.from c.args.parts.now c.requires in
     let position = c.binary_search_by.ensures.position (from_cmp p.from) (always_returns_same _ _ _ (λ a r f' k. search rules)) in
-    let place = place_of-searched (from_cmp p.from) c.args.parts.now c.binary_search_by.result rises c.binary_search_by.ensures.bound position in
+    let place = place_of-searched (from_cmp p.from) c.args.parts.now c.binary_search_by.result rises
+    c.binary_search_by.ensures.bound position in
     c.is_same_part.ensures ∙ sym (same_at p c.args.parts.now c.in-Ok.at _ rises (place ∙ c.in-Ok.is))
 
 pub returns-in-Err : goal.returns-in-Err
@@ -17,5 +18,6 @@ returns-in-Err c =
     let p = c.args.part.now in
     let rises = rises_parts p.from c.args.parts.now c.requires in
     let position = c.binary_search_by.ensures.position (from_cmp p.from) (always_returns_same _ _ _ (λ a r f' k. search rules)) in
-    let place = place_of-searched (from_cmp p.from) c.args.parts.now c.binary_search_by.result rises c.binary_search_by.ensures.bound position in
+    let place = place_of-searched (from_cmp p.from) c.args.parts.now c.binary_search_by.result rises
+    c.binary_search_by.ensures.bound position in
     sym (absent_at p c.args.parts.now c.in-Err.field-0 rises (place ∙ c.in-Err.is))

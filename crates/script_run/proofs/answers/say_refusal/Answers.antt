@@ -10,7 +10,8 @@ pub returns : goal.returns
 returns g c =
     let names = printed_names c.args.names.now in
     record {
-      told = λ text is. writes_more g.K.Sink.written g.K.Sink.holds g.K.Sink.faults _ _ _ (refused_line c.args.number (refusal_text names c.args.why)) _ text _ _
+      told = λ text is. writes_more g.K.Sink.written g.K.Sink.holds g.K.Sink.faults _ _ _
+          (refused_line c.args.number (refusal_text names c.args.why)) _ text _ _
           (is c.in_default.not-Memory) c.in_ok-say_refused.ensures.all c.in_ok-say_refused.ensures.later c.say_heard.ensures;
       goes_on = always_ok c.say_heard.result c.in_default.not-Memory;
     }
@@ -21,8 +22,10 @@ returns-in_err-say_refused g c =
     record {
       told = λ text is. record {
         all = search rules;
-        prefix = on_err c.from_residual.result _ (prefix_first g.K.Sink.written g.K.Sink.holds _ _ (refused_line c.args.number (refusal_text names c.args.why))
-            (told_lines names (drop c.args.from (g.M.Machine.world c.args.machine.now).writer.desk.listening.journal)) text (is c.in_default.not-Memory)
+        prefix = on_err c.from_residual.result _ (prefix_first g.K.Sink.written g.K.Sink.holds _ _
+            (refused_line c.args.number (refusal_text names c.args.why))
+            (told_lines names (drop c.args.from (g.M.Machine.world c.args.machine.now).writer.desk.listening.journal)) text
+            (is c.in_default.not-Memory)
             c.in_err-say_refused.ensures.prefix);
         failed = search rules;
         later = search rules;

@@ -7,4 +7,5 @@ use Rattle.script_run.proofs.lists.say_notices.Given as goal
 abbrev pub invariant-loop-notifier : goal.invariant-loop-notifier
 invariant-loop-notifier g l =
     let names = printed_names l.names in
-    Through g.K.Sink.written g.K.Sink.holds g.K.Sink.faults l.fn.sink l.sink (notice_lines names l.notices) (notice_lines names (drop l.notifier-index l.notices))
+    Through g.K.Sink.written g.K.Sink.holds g.K.Sink.faults l.fn.sink l.sink (notice_lines names l.notices)
+    (notice_lines names (drop l.notifier-index l.notices))

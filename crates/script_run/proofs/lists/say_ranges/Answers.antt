@@ -9,8 +9,10 @@ returns-in_err-say_range g c =
     let names = printed_names c.args.names.now in
     record {
       all = search rules;
-      prefix = on_err c.from_residual.result _ (list_prefix (range_lines names) (range_line names) (λ x xs. refl) c.args.ranges.now c.loop-range.range-index _
-          c.loop-range-test.true g.K.Sink.written g.K.Sink.holds g.K.Sink.faults _ _ _ _ c.loop-range.invariant c.in_err-say_range.ensures.prefix);
+      prefix = on_err c.from_residual.result _ (list_prefix (range_lines names) (range_line names) (λ x xs. refl)
+          c.args.ranges.now c.loop-range.range-index _
+          c.loop-range-test.true g.K.Sink.written g.K.Sink.holds g.K.Sink.faults _ _ _ _ c.loop-range.invariant
+          c.in_err-say_range.ensures.prefix);
       failed = search rules;
       later = search rules;
     }
@@ -18,5 +20,6 @@ returns-in_err-say_range g c =
 pub loop-range-preserved : goal.loop-range-preserved
 loop-range-preserved g c =
     let names = printed_names c.args.names.now in
-    list_next (range_lines names) (range_line names) (λ x xs. refl) c.args.ranges.now c.loop-range.range-index _ c.loop-range-test.true g.K.Sink.written g.K.Sink.holds
+    list_next (range_lines names) (range_line names) (λ x xs. refl) c.args.ranges.now c.loop-range.range-index _
+    c.loop-range-test.true g.K.Sink.written g.K.Sink.holds
     g.K.Sink.faults _ _ _ _ c.loop-range.invariant c.in_ok-say_range.ensures.all c.in_ok-say_range.ensures.later

@@ -34,7 +34,8 @@ step-requires-clause-ready g c = c.loop-number.invariant.ready
 
 pub step-requires-clause-bounded : goal.step-requires-clause-bounded
 step-requires-clause-bounded g c =
-    each_here (λ line. IsBounded line.1) c.lines-lines.result.now c.loop-number.number-index c.loop-number-item.result c.loop-number-test.true
+    each_here (λ line. IsBounded line.1) c.lines-lines.result.now c.loop-number.number-index c.loop-number-item.result
+    c.loop-number-test.true
     c.loop-number-item.is c.loop-number.invariant.bounded
 
 pub returns-in_err-step : goal.returns-in_err-step
@@ -43,8 +44,10 @@ returns-in_err-step g c =
     let state = state_of session.names (g.M.Machine.world session.machine) (watchers_of session.notices) in
     record {
       all = search rules;
-      prefix = on_err c.from_residual.result _ (script_prefix g.K.Sink.written g.K.Sink.holds g.K.Sink.faults _ _ _ _ state c.lines-lines.result.now
-          c.loop-number.number-index c.loop-number-item.result c.loop-number-test.true c.loop-number-item.is c.loop-number.invariant.through
+      prefix = on_err c.from_residual.result _ (script_prefix g.K.Sink.written g.K.Sink.holds g.K.Sink.faults _ _ _ _ state
+          c.lines-lines.result.now
+          c.loop-number.number-index c.loop-number-item.result c.loop-number-test.true c.loop-number-item.is
+          c.loop-number.invariant.through
           c.in_err-step.ensures.wrote.prefix);
       failed = search rules;
       later = search rules;
@@ -57,9 +60,11 @@ loop-number-preserved g c =
     let own = c.in_ok-step.ensures in
     record {
       through = script_next g.K.Sink.written g.K.Sink.holds g.K.Sink.faults _ _ _ _ state _ c.lines-lines.result.now
-          c.loop-number.number-index c.loop-number-item.result c.loop-number-test.true c.loop-number-item.is c.loop-number.invariant.through
+          c.loop-number.number-index c.loop-number-item.result c.loop-number-test.true c.loop-number-item.is
+          c.loop-number.invariant.through
           own.wrote.all own.wrote.later own.left.is;
       ready = own.left.ready;
-      bounded = each_later (λ line. IsBounded line.1) c.lines-lines.result.now c.loop-number.number-index c.loop-number-item.result
+      bounded = each_later (λ line. IsBounded line.1) c.lines-lines.result.now c.loop-number.number-index
+          c.loop-number-item.result
           c.loop-number-test.true c.loop-number-item.is c.loop-number.invariant.bounded;
     }

@@ -12,10 +12,12 @@ invariant_of-self-2 c =
     let old = c.self.inside.watchers.items in
     let before = c.self.inside.journal.items in
     let slice = c.as_slice.ensures.value in
-    let watchers : c.in_ok-watchers.watchers.items ≡ map (caught f) old = c.in_ok-watchers.ensures.watchers ∙ ap (map (caught f)) slice in
+    let watchers : c.in_ok-watchers.watchers.items ≡ map (caught f) old = c.in_ok-watchers.ensures.watchers
+    ∙ ap (map (caught f)) slice in
     let notices : c.all_caught_up.new.notices.items ≡ flat_map (told f) old = c.in_ok-watchers.ensures.told
     ∙ (λ i. c.new-notices.ensures.items i ++ flat_map (told f) (slice i)) in
-    let journal : c.append.new.self.items ≡ before ++ flat_map (told f) old = c.in_ok-append.ensures.items ∙ ap (λ xs. before ++ xs) notices in
+    let journal : c.append.new.self.items ≡ before ++ flat_map (told f) old = c.in_ok-append.ensures.items
+    ∙ ap (λ xs. before ++ xs) notices in
     let parts = subst (Every (λ j. AreParts j.watcher.parts)) watchers c.in_ok-watchers.ensures.parts in
     let all = all_caught f old before c.self.invariant parts in
     subst AreReplayed (λ i. notices_state (sym watchers i) (sym journal i)) all
@@ -24,7 +26,8 @@ pub returns-clause-watchers : goal.returns-clause-watchers
 returns-clause-watchers c =
     let f = c.args.generation.now.forest in
     let watchers = c.in_ok-watchers.ensures.watchers ∙ ap (map (caught f)) c.as_slice.ensures.value in
-    ap (map (λ j. j.watcher)) watchers ∙ watchers_caught f c.self.inside.watchers.items ∙ ap (λ s. caught_up f (watchers_of s)) c.self.view_is
+    ap (map (λ j. j.watcher)) watchers ∙ watchers_caught f c.self.inside.watchers.items
+    ∙ ap (λ s. caught_up f (watchers_of s)) c.self.view_is
 
 pub returns-clause-journal : goal.returns-clause-journal
 returns-clause-journal c =

@@ -11,16 +11,19 @@ invariant_of-self-2 c =
     let id = c.args.id in
     let old = c.self.inside.watchers.items in
     let before = c.self.inside.journal.items in
-    let watchers = filter_same _ (λ (j : Joined). not (is_joined id j)) _ (λ x b f k. search rules) _ _ c.retain.ensures.filtered in
+    let watchers = filter_same _ (λ (j : Joined). not (is_joined id j)) _ (λ x b f k. search rules) _ _
+    c.retain.ensures.filtered in
     let notices : c.take_back.new.notices.items ≡ leaving id old = c.in_ok-take_back.ensures
     ∙ (λ i. c.new-notices.ensures.items i ++ leaving id (c.as_slice.ensures.value i)) in
-    let journal : c.append.new.self.items ≡ before ++ leaving id old = c.in_ok-append.ensures.items ∙ ap (λ xs. before ++ xs) notices in
+    let journal : c.append.new.self.items ≡ before ++ leaving id old = c.in_ok-append.ensures.items
+    ∙ ap (λ xs. before ++ xs) notices in
     subst AreReplayed (λ i. notices_state (sym watchers i) (sym journal i)) (one_left id old before c.self.invariant)
 
 pub returns-clause-watchers : goal.returns-clause-watchers
 returns-clause-watchers c =
     let id = c.args.id in
-    let watchers = filter_same _ (λ (j : Joined). not (is_joined id j)) _ (λ x b f k. search rules) _ _ c.retain.ensures.filtered in
+    let watchers = filter_same _ (λ (j : Joined). not (is_joined id j)) _ (λ x b f k. search rules) _ _
+    c.retain.ensures.filtered in
     ap (λ js. watchers_of (notices_state js [])) watchers ∙ watchers_others id c.self.inside.watchers.items
     ∙ ap (λ s. without_number id.0 (watchers_of s)) c.self.view_is
 

@@ -4,7 +4,8 @@ use Rattle.mem_base.specs.declared.map.refusals.What.TheVariants as what
 use Rattle.mem_base.specs.declared.map.refusals.Refusal.TheVariants.{NameTaken}
 use Rattle.mem_base.specs.script.Watching.{notices_of, parts_shown, watch_refusal, with_parts}
 use Rattle.iommu_notify.specs.PartLists.{AreParts}
-use Rattle.iommu_notify.specs.Watchers.{AreReplayed, has_watcher, is_joined, join_refusal, joined, new_watcher, notices_state, watchers_of}
+use Rattle.iommu_notify.specs.Watchers.{AreReplayed, has_watcher, is_joined, join_refusal, joined, new_watcher, notices_state}
+use Rattle.iommu_notify.specs.Watchers.{watchers_of}
 use Rattle.iommu_notify.proofs.JournalLaws.{free_id, one_joined}
 use Rattle.iommu_notify.proofs.notices.Notices.watch.Goals as goal
 

@@ -10,4 +10,5 @@ returns-clause-told c =
     let new = c.deref-2.ensures.value ∙ c.in_ok-parts.ensures.value in
     c.in_ok-tell.ensures
     ∙ (λ i. c.args.notices.now.items ++ noticed c.self.inside.id (notices_between (old i) (new i)))
-    ∙ ap (λ j. c.args.notices.now.items ++ noticed j.watcher.id (notices_between j.watcher.parts (parts_shown c.args.generation.now.forest j.watcher))) c.self.view_is
+    ∙ ap (λ j. c.args.notices.now.items ++ noticed j.watcher.id
+    (notices_between j.watcher.parts (parts_shown c.args.generation.now.forest j.watcher))) c.self.view_is

@@ -12,7 +12,9 @@ pub returns : goal.returns
 returns g c =
     let w = g.M.Machine.world c.args.self.now.machine in
     let v = g.M.Machine.world c.begin-answer.new.self in
-    plain_performs g.K.Sink.written g.K.Sink.holds g.K.Sink.faults _ _ c.finish.result c.args.self.now.names w v (watchers_of c.args.self.now.notices) c.args.number _
-    (ap length c.journal-from.ensures) (configure configs.Begin) (plain_answer c.begin-answer.result) c.begin-answer.result c.requires
+    plain_performs g.K.Sink.written g.K.Sink.holds g.K.Sink.faults _ _ c.finish.result c.args.self.now.names w v
+    (watchers_of c.args.self.now.notices) c.args.number _
+    (ap length c.journal-from.ensures) (configure configs.Begin) (plain_answer c.begin-answer.result) c.begin-answer.result
+    c.requires
     (λ n. c.begin-answer.ensures) (plain_refusal c.begin-answer.result)
     (same_there _ _ (begin_keeps w)) c.finish.ensures.told c.finish.ensures.goes_on

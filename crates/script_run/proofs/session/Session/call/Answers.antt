@@ -12,7 +12,10 @@ pub returns : goal.returns
 returns g c =
     let w = g.M.Machine.world c.args.self.now.machine in
     let v = g.M.Machine.world c.call.new.self in
-    plain_performs g.K.Sink.written g.K.Sink.holds g.K.Sink.faults _ _ c.finish.result c.args.self.now.names w v (watchers_of c.args.self.now.notices) c.args.number _
-    (ap length c.journal-from.ensures) (configure (configs.Call c.args.call.now)) (call_answer c.call.result) c.plain-answer.result c.requires.ready
-    (λ n. c.call.ensures.completed (λ e. n (c.plain-answer.ensures ∙ ap finishes e))) (call_refusal c.call.result ∙ ap refusal_with (sym c.plain-answer.ensures))
+    plain_performs g.K.Sink.written g.K.Sink.holds g.K.Sink.faults _ _ c.finish.result c.args.self.now.names w v
+    (watchers_of c.args.self.now.notices) c.args.number _
+    (ap length c.journal-from.ensures) (configure (configs.Call c.args.call.now)) (call_answer c.call.result)
+    c.plain-answer.result c.requires.ready
+    (λ n. c.call.ensures.completed (λ e. n (c.plain-answer.ensures ∙ ap finishes e)))
+    (call_refusal c.call.result ∙ ap refusal_with (sym c.plain-answer.ensures))
     (change_there w c.args.call.now c.requires.change) c.finish.ensures.told c.finish.ensures.goes_on

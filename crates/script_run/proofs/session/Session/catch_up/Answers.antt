@@ -28,7 +28,8 @@ returns g c =
     ∙ ap (λ (f : Forest). notices_all f watchers) forest in
     let caught = c.in-Ok.ensures.watchers ∙ ap (λ (f : Forest). caught_up f watchers) forest in
     record {
-      wrote = subst (λ (xs : List Noticed). Writes g.K.Sink.written g.K.Sink.holds g.K.Sink.faults c.args.sink.now c.say_notices.new.sink (notice_lines (printed_names names) xs) Write c.say_notices.result)
+      wrote = subst (λ (xs : List Noticed). Writes g.K.Sink.written g.K.Sink.holds g.K.Sink.faults c.args.sink.now
+          c.say_notices.new.sink (notice_lines (printed_names names) xs) Write c.say_notices.result)
           told c.say_notices.ensures;
       left = always_ok c.say_notices.result (record {
         is = ap (λ (ws : List Watcher). state_of names w ws) caught;

@@ -12,7 +12,9 @@ pub returns : goal.returns
 returns g c =
     let w = g.M.Machine.world c.args.self.now.machine in
     let v = g.M.Machine.world c.commit.new.self in
-    plain_performs g.K.Sink.written g.K.Sink.holds g.K.Sink.faults _ _ c.finish.result c.args.self.now.names w v (watchers_of c.args.self.now.notices) c.args.number _
+    plain_performs g.K.Sink.written g.K.Sink.holds g.K.Sink.faults _ _ c.finish.result c.args.self.now.names w v
+    (watchers_of c.args.self.now.notices) c.args.number _
     (ap length c.journal-from.ensures) (configure configs.Commit) (commit_answer c.commit.result) c.plain-answer.result c.requires
-    (λ n. c.commit.ensures.completed (λ e. n (c.plain-answer.ensures ∙ ap finishes e))) (commit_refusal c.commit.result ∙ ap refusal_with (sym c.plain-answer.ensures))
+    (λ n. c.commit.ensures.completed (λ e. n (c.plain-answer.ensures ∙ ap finishes e)))
+    (commit_refusal c.commit.result ∙ ap refusal_with (sym c.plain-answer.ensures))
     (same_there _ _ (commit_keeps w)) c.finish.ensures.told c.finish.ensures.goes_on

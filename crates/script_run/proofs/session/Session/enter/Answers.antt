@@ -9,7 +9,8 @@ use Rattle.mem_base.specs.script.Output.{dma_line, enter_line, leave_line, read_
 use Rattle.mem_base.specs.script.States.{outcome}
 use Rattle.script_names.specs.Tables.{printed_names}
 use Rattle.script_run.specs.Ready.{state_of}
-use Rattle.script_run.proofs.PassLaws.{anew, copied, entered_as, in_after, keeps_self, keeps_then, may_leave, may_look, out_after, pass_performs, still_entered}
+use Rattle.script_run.proofs.PassLaws.{anew, copied, entered_as, in_after, keeps_self, keeps_then, may_leave, may_look, out_after}
+use Rattle.script_run.proofs.PassLaws.{pass_performs, still_entered}
 use Rattle.mem_base.specs.script.PassSteps.{entered_number}
 use Rattle.script_run.proofs.session.Session.enter.Goals as goal
 
@@ -28,6 +29,7 @@ returns g c =
     sym (anew w pass (is_entered w pass)) ∙ ap (λ (x : World). (run_events x (enters pass)).world) (sym k.after) ∙ sym e.after in
     let number : entered_number v pass ≡ c.enter-generation.result =
     ap (λ (x : World). entered_number x pass) e.after ∙ entered_as u pass k.outside ∙ sym e.number in
-    pass_performs g.K.Sink.written g.K.Sink.holds g.K.Sink.faults _ _ c.say_enter.result names w v watchers _ _ c.requires.ready (keeps_then w u v k.keeps e.keeps)
+    pass_performs g.K.Sink.written g.K.Sink.holds g.K.Sink.faults _ _ c.say_enter.result names w v watchers _ _ c.requires.ready
+    (keeps_then w u v k.keeps e.keeps)
     (ap (λ (x : World). outcome s (printed_names names) x (enter_line pass (entered_number x pass))) whole
     ∙ ap (λ (n : ℕ). outcome s (printed_names names) v (enter_line pass n)) number) c.say_enter.ensures

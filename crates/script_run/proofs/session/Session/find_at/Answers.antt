@@ -12,7 +12,8 @@ returns g c =
     let names = c.args.self.now.names in
     let w = g.M.Machine.world c.args.self.now.machine in
     let forest = current_shown w.writer.generations _ _ c.current.ensures.kept in
-    let found = c.found_in-found.ensures ∙ ap (λ (f : Forest). look f c.args.space c.args.addr) (ap (λ x. x.forest) c.deref.ensures ∙ sym forest) in
+    let found = c.found_in-found.ensures ∙ ap (λ (f : Forest). look f c.args.space c.args.addr)
+    (ap (λ x. x.forest) c.deref.ensures ∙ sym forest) in
     record {
       wrote = rw found at (rw c.as_bytes.ensures at c.say_at.ensures);
       left = always_ok c.say_at.result (record { is = refl; ready = c.requires });

@@ -9,7 +9,8 @@ use Rattle.mem_base.specs.script.Output.{dma_line, enter_line, leave_line, read_
 use Rattle.mem_base.specs.script.States.{outcome}
 use Rattle.script_names.specs.Tables.{printed_names}
 use Rattle.script_run.specs.Ready.{state_of}
-use Rattle.script_run.proofs.PassLaws.{anew, copied, entered_as, in_after, keeps_self, keeps_then, may_leave, may_look, out_after, pass_performs, still_entered}
+use Rattle.script_run.proofs.PassLaws.{anew, copied, entered_as, in_after, keeps_self, keeps_then, may_leave, may_look, out_after}
+use Rattle.script_run.proofs.PassLaws.{pass_performs, still_entered}
 use Rattle.script_run.proofs.session.Session.leave.Goals as goal
 
 pub returns : goal.returns
@@ -19,5 +20,6 @@ returns g c =
     let w = g.M.Machine.world c.args.self.now.machine in
     let s = state_of names w watchers in
     let k = c.leave_first.ensures in
-    pass_performs g.K.Sink.written g.K.Sink.holds g.K.Sink.faults _ _ c.say_leave.result names w (g.M.Machine.world c.leave_first.new.machine) watchers _ _ c.requires.ready k.keeps
+    pass_performs g.K.Sink.written g.K.Sink.holds g.K.Sink.faults _ _ c.say_leave.result names w
+    (g.M.Machine.world c.leave_first.new.machine) watchers _ _ c.requires.ready k.keeps
     (ap (λ (x : World). outcome s (printed_names names) x (leave_line c.args.pass)) (sym k.after)) c.say_leave.ensures

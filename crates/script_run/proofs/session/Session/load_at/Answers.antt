@@ -12,7 +12,9 @@ pub returns : goal.returns
 returns g c =
     let w = g.M.Machine.world c.args.self.now.machine in
     let v = g.M.Machine.world c.load_bytes-answer.new.self in
-    plain_performs g.K.Sink.written g.K.Sink.holds g.K.Sink.faults _ _ c.finish.result c.args.self.now.names w v (watchers_of c.args.self.now.notices) c.args.number _
-    (ap length c.journal-from.ensures) (load c.args.region c.args.offset c.args.bytes.now) (plain_answer c.load_bytes-answer.result) c.load_bytes-answer.result c.requires
+    plain_performs g.K.Sink.written g.K.Sink.holds g.K.Sink.faults _ _ c.finish.result c.args.self.now.names w v
+    (watchers_of c.args.self.now.notices) c.args.number _
+    (ap length c.journal-from.ensures) (load c.args.region c.args.offset c.args.bytes.now)
+    (plain_answer c.load_bytes-answer.result) c.load_bytes-answer.result c.requires
     (λ n. rw c.as_slice.ensures at c.load_bytes-answer.ensures) (plain_refusal c.load_bytes-answer.result)
     (same_there _ _ (load_keeps w c.args.region c.args.offset c.args.bytes.now)) c.finish.ensures.told c.finish.ensures.goes_on

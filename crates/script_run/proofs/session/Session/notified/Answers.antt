@@ -20,9 +20,11 @@ returns g c =
     let v = g.M.Machine.world c.notified-value.new.self in
     let order = notified c.args.notifier in
     let answer = notifier_answer c.notified-value.result in
-    accepted_performs g.K.Sink.written g.K.Sink.holds g.K.Sink.faults _ _ c.say_heard.result names w v watchers c.args.number _ (ap length c.journal-from.ensures)
+    accepted_performs g.K.Sink.written g.K.Sink.holds g.K.Sink.faults _ _ c.say_heard.result names w v watchers c.args.number _
+    (ap length c.journal-from.ensures)
     order answer (value_in c.args.notifier) names c.notified-value.ensures refl
-    (writes_more g.K.Sink.written g.K.Sink.holds g.K.Sink.faults _ _ _ (notified_line c.args.notifier c.notified-value.result) _ _ _ _ refl
+    (writes_more g.K.Sink.written g.K.Sink.holds g.K.Sink.faults _ _ _ (notified_line c.args.notifier c.notified-value.result) _ _
+    _ _ refl
     c.in_ok-say_notified.ensures.all c.in_ok-say_notified.ensures.later c.say_heard.ensures)
     (always_ok c.say_heard.result (ready_by names w v watchers order answer c.requires.ready c.notified-value.ensures
     (same_there _ _ (notified_keeps w c.args.notifier))))

@@ -9,7 +9,8 @@ use Rattle.mem_base.specs.script.Output.{dma_line, enter_line, leave_line, read_
 use Rattle.mem_base.specs.script.States.{outcome}
 use Rattle.script_names.specs.Tables.{printed_names}
 use Rattle.script_run.specs.Ready.{state_of}
-use Rattle.script_run.proofs.PassLaws.{anew, copied, entered_as, in_after, keeps_self, keeps_then, may_leave, may_look, out_after, pass_performs, still_entered}
+use Rattle.script_run.proofs.PassLaws.{anew, copied, entered_as, in_after, keeps_self, keeps_then, may_leave, may_look, out_after}
+use Rattle.script_run.proofs.PassLaws.{pass_performs, still_entered}
 use Rattle.script_run.proofs.session.Session.read_into.Goals as goal
 
 pub returns : goal.returns
@@ -19,5 +20,7 @@ returns g c =
     let w = g.M.Machine.world c.args.self.now.machine in
     let s = state_of names w watchers in
     let k = c.read-access.ensures in
-    pass_performs g.K.Sink.written g.K.Sink.holds g.K.Sink.faults _ _ c.say_read.result names w (g.M.Machine.world c.read-access.new.self) watchers _ _ c.requires.ready k.keeps
-    (λ i. outcome s (printed_names names) (sym k.world i) (read_line c.args.pass (sym k.answer_is i) (sym k.bytes_are i))) c.say_read.ensures
+    pass_performs g.K.Sink.written g.K.Sink.holds g.K.Sink.faults _ _ c.say_read.result names w
+    (g.M.Machine.world c.read-access.new.self) watchers _ _ c.requires.ready k.keeps
+    (λ i. outcome s (printed_names names) (sym k.world i) (read_line c.args.pass (sym k.answer_is i) (sym k.bytes_are i)))
+    c.say_read.ensures

@@ -16,7 +16,8 @@ returns-in_err-say_view g c =
     record {
       wrote = record {
         all = search rules;
-        prefix = on_err c.from_residual.result _ (prefix_first g.K.Sink.written g.K.Sink.holds _ _ (view_line c.args.name.now w.writer.generations.current) _ _ refl
+        prefix = on_err c.from_residual.result _ (prefix_first g.K.Sink.written g.K.Sink.holds _ _
+            (view_line c.args.name.now w.writer.generations.current) _ _ refl
             (rw (c.as_bytes.ensures, number) at c.in_err-say_view.ensures.prefix));
         failed = search rules;
         later = search rules;
@@ -30,9 +31,12 @@ returns g c =
     let w = g.M.Machine.world c.args.self.now.machine in
     let number = c.number.ensures.value ∙ ap (λ x. x.number) c.deref.ensures ∙ c.current-generation.ensures.number in
     let forest = current_shown w.writer.generations _ _ c.current-generation.ensures.kept in
-    let ranges = c.ranges_in.ensures ∙ ap (λ (f : Forest). view_of f c.args.space) (ap (λ x. x.forest) c.deref-2.ensures ∙ sym forest) in
+    let ranges = c.ranges_in.ensures ∙ ap (λ (f : Forest). view_of f c.args.space)
+    (ap (λ x. x.forest) c.deref-2.ensures ∙ sym forest) in
     record {
-      wrote = writes_more g.K.Sink.written g.K.Sink.holds g.K.Sink.faults _ _ _ (view_line c.args.name.now w.writer.generations.current) _ _ _ _ refl
-          (rw (c.as_bytes.ensures, number) at c.in_ok-say_view.ensures.all) c.in_ok-say_view.ensures.later (rw ranges at c.say_ranges.ensures);
+      wrote = writes_more g.K.Sink.written g.K.Sink.holds g.K.Sink.faults _ _ _
+          (view_line c.args.name.now w.writer.generations.current) _ _ _ _ refl
+          (rw (c.as_bytes.ensures, number) at c.in_ok-say_view.ensures.all) c.in_ok-say_view.ensures.later
+          (rw ranges at c.say_ranges.ensures);
       left = always_ok c.say_ranges.result (record { is = refl; ready = c.requires });
     }

@@ -1,9 +1,10 @@
-use crate::World;
+// Single events of the machine, each asked for first.
 use mem_base::{
     Applied, Call, Cell, Client, Config, Device, DeviceKind, Event, Hand, Kind, PassId, Refusal,
     RegionId, Reply, Size, SpaceId, WordStep,
 };
 use std::test::Fail;
+use world_core::World;
 
 const FIRST: PassId = PassId(0);
 
