@@ -106,8 +106,8 @@ fn write_all(runner: &mut Runner, addrs: &[u32]) -> u64 {
     sum
 }
 
-/// Reads and writes eight bytes at drawn addresses of a map's memory, entering and leaving each time, and tells how long one took:
-/// the mean of a round, the least of some rounds.
+/// Reads and writes eight bytes at drawn addresses of a map's memory, entering and leaving each time, and tells how long one
+/// took: the mean of a round, the least of some rounds.
 pub(crate) fn run_worlds(rt: HostRuntime, map: &Map, rounds: u32) -> Result<(), Failed> {
     let mut runner = runner_of(rt.alloc(), map)?;
     let addrs = of_memory(rt.alloc(), runner.current(), map.size.saturating_mul(50))?;
