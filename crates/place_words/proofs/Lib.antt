@@ -1,3 +1,4 @@
 pub mod ByteLaws
 pub mod PartLaws
+pub mod ShownLaws
 pub mod CellLaws

@@ -59,3 +59,52 @@ fn a_place_is_cleared_alone(rt: HostRuntime) -> Result<(), Fail> {
     }
     Ok(())
 }
+
+#[test]
+fn words_past_the_last_one_set_are_0(rt: HostRuntime) -> Result<(), Fail> {
+    let mut words = Words::new(rt.alloc(), 100_000)?;
+    assert!(rt; words.len() == 100_000);
+    assert_eq!(rt; words.word_at(70_000), 0);
+    for step in [WordStep::Load, WordStep::Take, replace(0, 8, 0)] {
+        assert!(rt; words.len() == 100_000);
+        assert_eq!(rt; words.step(70_000, step), 0);
+    }
+    assert!(rt; words.len() == 100_000);
+    assert_eq!(rt; words.step(70_000, replace(0, 8, 0x55)), 0);
+    for (at, want) in [
+        (0, 0),
+        (69_999, 0),
+        (70_000, 0x55),
+        (70_001, 0),
+        (99_999, 0),
+    ] {
+        assert!(rt; at < words.len());
+        assert_eq!(rt; words.word_at(at), want);
+    }
+    Ok(())
+}
+
+#[test]
+fn a_place_is_cleared_where_only_part_of_it_was_set(rt: HostRuntime) -> Result<(), Fail> {
+    let mut words = Words::new(rt.alloc(), 8)?;
+    for at in 0..4 {
+        assert!(rt; at < words.len());
+        words.step(at, WordStep::AddOne);
+    }
+    for (start, count) in [(5, 3), (2, 4)] {
+        let place = Place {
+            region: RegionId(7),
+            start,
+            words: count,
+            bytes: 16,
+            regs: 0,
+        };
+        assert!(rt; words.len() == 8);
+        words.clear(&place);
+    }
+    for (at, want) in [1, 1, 0, 0, 0, 0, 0, 0].into_iter().enumerate() {
+        assert!(rt; at < words.len());
+        assert_eq!(rt; words.word_at(at), want);
+    }
+    Ok(())
+}

@@ -1,8 +1,10 @@
 // The words, one after another.
 ghost use Rattle.std.specs.Prelude.{◌≡◌, ◌+◌, ◌<◌, ◌≤◌, ◌++◌, ◌-◌, length, take, drop, replicate, slice_index, IfOk};
+ghost use Rattle.std.specs.Vec.{vec_capacity};
 ghost use Rattle.mem_base.specs.access.Cells.{words_after};
 ghost use Rattle.mem_base.specs.access.Places.{past};
 ghost use Rattle.place_words.specs.Blocks.{cleared};
+ghost use Rattle.place_words.specs.Shown.{shown};
 
 use crate::steps::word_after;
 use mem_base::{Place, WordStep};
@@ -12,15 +14,20 @@ use std::marker::Model;
 /// Words of 8 bytes: those of a pool, and after it those of the notifiers. They are seen as a list.
 #[derive(Debug, Drop)]
 pub struct Words {
+    // the words up to the last one that was set; there is room for all, and those after it are 0
     items: Vec<u64>,
+    count: usize,
 }
 
 impl Model for Words {
-    ghost use Rattle.std.specs.Prelude.{List, ℕ};
+    ghost use Rattle.std.specs.Prelude.{List, ℕ, ◌≤◌, length, vec_capacity};
+    ghost use Rattle.place_words.specs.Shown.{shown};
 
     ghost Value = { List ℕ };
 
-    ghost view = { λ w. w.items.items };
+    ghost view = { λ w. shown w.items.items w.count };
+
+    ghost invariant = { λ w. (length w.items.items ≤ w.count) × (w.count ≤ vec_capacity w.items) };
 }
 
 // Sets the words from one index up to another to 0.
@@ -32,13 +39,25 @@ fn clear_between(words: &mut [u64], start: usize, end: usize)
     words[start..end].fill(0);
 }
 
+// Appends words of 0 until there are at least this many; it takes no memory.
+fn lengthen(words: &mut Vec<u64>, count: usize)
+    requires { count ≤ vec_capacity words.old }
+    ensures words { words.new.items ≡ shown words.old.items count }
+    ensures capacity { vec_capacity words.old ≤ vec_capacity words.new }
+{
+    while words.len() < count {
+        let _ = words.push(0);
+    }
+}
+
 impl Words {
     /// This many words, all 0. It fails only where memory runs out.
     pub fn new(alloc: Global, count: usize) -> Result<Words, AllocError>
         ensures { IfOk result (λ words. words ≡ replicate count 0) }
     {
         Ok(Words {
-            items: vec![in alloc; 0; count]?,
+            items: Vec::with_capacity(alloc, count)?,
+            count,
         })
     }
 
@@ -46,7 +65,7 @@ impl Words {
     pub fn len(&self) -> usize
         ensures { result ≡ length self.now }
     {
-        self.items.len()
+        self.count
     }
 
     /// The word at an index.
@@ -54,7 +73,11 @@ impl Words {
         requires { at < length self.now }
         ensures { result ≡ slice_index self.now at }
     {
-        self.items[at]
+        if at < self.items.len() {
+            self.items[at]
+        } else {
+            0
+        }
     }
 
     /// One step on the word at an index; the word before it is answered.
@@ -66,8 +89,12 @@ impl Words {
         ensures words { self.new ≡ words_after self.old at step }
         ensures len { length self.new ≡ length self.old }
     {
-        let old = self.items[at];
-        self.items[at] = word_after(old, step);
+        let old = self.word_at(at);
+        let new = word_after(old, step);
+        if new != old {
+            lengthen(&mut self.items, at + 1);
+            self.items[at] = new;
+        }
         old
     }
 
@@ -77,10 +104,12 @@ impl Words {
         ensures words { self.new ≡ cleared self.old place.now }
         ensures len { length self.new ≡ length self.old }
     {
+        let len = self.items.len();
+        let end = place.start + place.words;
         clear_between(
             self.items.as_mut_slice(),
-            place.start,
-            place.start + place.words,
+            place.start.min(len),
+            end.min(len),
         );
     }
 }

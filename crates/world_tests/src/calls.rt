@@ -1,7 +1,6 @@
-// Calls, what devices are, ranges that a listener is told of, and how accesses end.
+// Calls, what devices are, and how accesses end.
 use mem_base::{
-    Attrs, Call, Client, Device, DeviceKind, FlatRange, Ioevent, Kind, Live, Perm, RegionId, Size,
-    SpaceId, TxResult,
+    Call, Client, Device, DeviceKind, Ioevent, Kind, Perm, RegionId, Size, SpaceId, TxResult,
 };
 
 /// All was answered.
@@ -102,34 +101,6 @@ pub(crate) fn event(region: RegionId, offset: u64, value: u64, number: u32) -> C
             matched: true,
             value,
             number,
-        },
-    }
-}
-
-/// The same ioeventfd where a space shows it.
-pub(crate) fn live(addr: i128, value: u64, number: u32) -> Live {
-    Live {
-        addr,
-        size: 4,
-        matched: true,
-        value,
-        number,
-    }
-}
-
-/// A range from the first byte of its leaf on, with no flag and no log.
-pub(crate) fn range(start: u64, last: u64, leaf: RegionId) -> FlatRange {
-    FlatRange {
-        start,
-        last,
-        leaf,
-        offset: 0,
-        attrs: Attrs {
-            readonly: false,
-            nonvolatile: false,
-            romd: false,
-            unmergeable: false,
-            log: 0,
         },
     }
 }

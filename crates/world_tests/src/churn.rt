@@ -8,7 +8,6 @@ use crate::tallies::Tallies;
 use generation::Generation;
 use mem_base::ListenerId;
 use std::alloc::{AllocError, Global};
-use std::test::Fail;
 
 /// How many composites are drawn.
 const STEPS: u32 = 10_000;
@@ -16,14 +15,19 @@ const STEPS: u32 = 10_000;
 /// The words of the pool, which the drawn regions fill now and then.
 const WORDS: usize = 24_576;
 
-/// A machine, and what its listeners have by their calls.
+/// A machine that is asked for drawn composites, and what its listeners have by their calls.
 #[derive(Drop)]
 struct Churn {
     alloc: Global,
+    draws: Draws,
     machine: Machine,
     replays: Vec<Replay>,
     // how many calls the listeners have taken
     heard: usize,
+    tallies: Tallies,
+    // how many ranges and ioeventfds listeners had, after each composite, all together
+    ranges: u64,
+    lives: u64,
 }
 
 /// Whether a listener has what a generation shows in its space: nothing where the space is not published yet.
@@ -40,9 +44,13 @@ impl Churn {
     fn new(alloc: Global) -> Result<Churn, AllocError> {
         Ok(Churn {
             alloc,
+            draws: Draws::new(alloc, 7),
             machine: Machine::new(alloc, WORDS)?,
             replays: Vec::new(alloc),
             heard: 0,
+            tallies: Tallies::new(),
+            ranges: 0,
+            lives: 0,
         })
     }
 
@@ -83,47 +91,52 @@ impl Churn {
         empty
     }
 
-    /// The first listener that has not what the current generation shows in its space.
-    fn first_astray(&self) -> Result<Option<ListenerId>, AllocError> {
+    /// Whether each listener has what the current generation shows in its space.
+    fn all_agree(&self) -> Result<bool, AllocError> {
         let generation = self.machine.current();
         for replay in self.replays.iter() {
             if !agrees(self, generation, replay)? {
-                return Ok(Some(replay.listener));
+                return Ok(false);
+            }
+        }
+        Ok(true)
+    }
+
+    /// Counts the ranges and the ioeventfds that the listeners have.
+    fn count(&mut self) {
+        for replay in self.replays.iter() {
+            let (ranges, lives) = replay.sizes();
+            self.ranges = self.ranges.saturating_add(ranges as u64);
+            self.lives = self.lives.saturating_add(lives as u64);
+        }
+    }
+
+    /// Asks for the next composite; whether each listener has what its space shows after that.
+    fn goes_on(&mut self) -> Result<bool, AllocError> {
+        let composite = self.draws.next(self.machine.current().forest());
+        let (outcome, fits) = self.step(&composite)?;
+        self.draws.learn(&composite, outcome)?;
+        self.tallies.count(&composite, outcome);
+        self.count();
+        Ok(self.all_agree()? && fits)
+    }
+
+    /// The number of the first composite after which some listener has something else.
+    fn first_astray(&mut self) -> Result<Option<u32>, AllocError> {
+        for step in 0..STEPS {
+            if !self.goes_on()? {
+                return Ok(Some(step));
             }
         }
         Ok(None)
     }
-
-    /// How many ranges and how many ioeventfds all listeners have together.
-    fn sizes(&self) -> (u64, u64) {
-        let (mut ranges, mut lives): (u64, u64) = (0, 0);
-        for replay in self.replays.iter() {
-            let (some, few) = replay.sizes();
-            ranges = ranges.saturating_add(some as u64);
-            lives = lives.saturating_add(few as u64);
-        }
-        (ranges, lives)
-    }
 }
 
 #[test]
-fn each_listener_has_by_its_calls_what_its_space_shows(rt: HostRuntime) -> Result<(), Fail> {
+fn each_listener_has_by_its_calls_what_its_space_shows(rt: HostRuntime) -> Result<(), AllocError> {
     let mut churn = Churn::new(rt.alloc())?;
-    let mut draws = Draws::new(rt.alloc(), 7);
-    let mut tallies = Tallies::new();
-    let (mut ranges, mut lives): (u64, u64) = (0, 0);
-    for step in 0..STEPS {
-        let composite = draws.next(churn.machine.current().forest());
-        let (outcome, fits) = churn.step(&composite)?;
-        assert!(rt; fits, "step {step} {composite:?}");
-        assert_eq!(rt; churn.first_astray()?, None, "step {step} {composite:?}");
-        draws.learn(&composite, outcome)?;
-        tallies.count(&composite, outcome);
-        let (some, few) = churn.sizes();
-        ranges = ranges.saturating_add(some);
-        lives = lives.saturating_add(few);
-    }
-    assert_eq!(rt; tallies.first_idle(), None, "{tallies:?}");
-    assert!(rt; ranges > 50_000 && lives > 50_000, "{ranges} {lives}");
+    assert_eq!(rt; churn.first_astray()?, None);
+    assert_eq!(rt; churn.tallies.first_idle(), None);
+    assert!(rt; churn.ranges > 50_000 && churn.lives > 50_000);
     Ok(())
 }

@@ -12,6 +12,30 @@ const SECOND: PassId = PassId(1);
 
 const BELL: RegionId = RegionId(0);
 
+const BEGIN: Event = Event::Config(Config::Begin);
+
+const DONE: Option<Result<Reply, Refusal>> = Some(Ok(Reply::Done));
+
+const SHOWN: Event = Event::Config(Config::Call(Call::Space {
+    space: SpaceId(0),
+    root: BELL,
+}));
+
+const MARK: Event = Event::Mark {
+    pass: FIRST,
+    region: BELL,
+    client: Client::Vga,
+    page: 0,
+};
+
+const HARVEST: Event = Event::Harvest {
+    region: BELL,
+    client: Client::Vga,
+    index: 0,
+};
+
+const OR: WordStep = WordStep::Or { bits: 5 };
+
 const fn word(hand: Hand, word: usize, step: WordStep) -> Event {
     Event::Word {
         hand,
@@ -30,112 +54,148 @@ const fn call(call: Call) -> Event {
     Event::Config(Config::Call(call))
 }
 
-// Makes the event where it is possible, and tells whether this is what it answered; `None` is that it is not possible.
-fn goes(
-    world: &mut World,
-    event: Event,
-    want: Option<Result<Reply, Refusal>>,
-) -> Result<bool, Fail> {
-    let may = world.possible(&event)?;
-    if !may {
+// An event with its answer; `None` is that it is not possible.
+type Row = (Event, Option<Result<Reply, Refusal>>);
+
+// Makes the event where it is possible, and tells whether it is so, with this answer.
+fn goes(world: &mut World, row: Row) -> Result<bool, Fail> {
+    let (event, want) = row;
+    if !world.possible(&event)? {
         return Ok(want.is_none());
     }
     let answer = world.step(&event);
     Ok(want == Some(answer))
 }
 
+// Whether all rows are so, one after another.
+fn all_go(world: &mut World, rows: &[Row]) -> Result<bool, Fail> {
+    for row in rows {
+        let is_so = goes(world, *row)?;
+        if !is_so {
+            return Ok(false);
+        }
+    }
+    Ok(true)
+}
+
+// Makes a device with two registers.
+fn makes_a_bell() -> Event {
+    let Some(size) = Size::new(16) else {
+        unreachable!();
+    };
+    let mut device = Device::plain(DeviceKind::Bell);
+    device.regs = 2;
+    call(Call::Region {
+        kind: Kind::Io(device),
+        size,
+    })
+}
+
+// Nothing is possible of a region that is not there; then it is made.
+fn made(world: &mut World) -> Result<bool, Fail> {
+    let writer = Hand::Writer;
+    let rows = [
+        (Event::Announce(FIRST), None),
+        (fill(0), None),
+        (word(writer, 0, OR), None),
+        (Event::Publish, None),
+        (
+            makes_a_bell(),
+            Some(Ok(Reply::Applied(Applied::Made(BELL)))),
+        ),
+    ];
+    all_go(world, &rows)
+}
+
+// Two words are to be cleared before the next private event.
+fn cleared(world: &mut World) -> Result<bool, Fail> {
+    let writer = Hand::Writer;
+    let rows = [
+        (BEGIN, None),
+        (Event::Reap, None),
+        (fill(2), None),
+        (word(writer, 1, OR), Some(Ok(Reply::Old(0)))),
+        (fill(1), DONE),
+        (fill(1), None),
+        (word(writer, 1, WordStep::Load), Some(Ok(Reply::Old(0)))),
+        (BEGIN, None),
+        (fill(0), DONE),
+    ];
+    all_go(world, &rows)
+}
+
+// A change wants each pass swept.
+fn swept(world: &mut World) -> Result<bool, Fail> {
+    let rows = [
+        (SHOWN, None),
+        (Event::Sweep(FIRST), Some(Ok(Reply::Number(0)))),
+        (SHOWN, None),
+        (Event::Sweep(SECOND), Some(Ok(Reply::Number(0)))),
+        (SHOWN, Some(Ok(Reply::Applied(Applied::Done)))),
+    ];
+    all_go(world, &rows)
+}
+
+// It is due until each pass has its copy.
+fn published(world: &mut World) -> Result<bool, Fail> {
+    let rows = [
+        (BEGIN, None),
+        (Event::Publish, None),
+        (Event::Place(FIRST), DONE),
+        (Event::Place(FIRST), None),
+        (Event::Publish, None),
+        (Event::Place(SECOND), DONE),
+        (Event::Publish, Some(Ok(Reply::Number(1)))),
+        (Event::Publish, None),
+    ];
+    all_go(world, &rows)
+}
+
+// A pass enters it.
+fn entered(world: &mut World) -> Result<bool, Fail> {
+    let pass = Hand::Pass(FIRST);
+    let rows = [
+        (Event::Look(FIRST), Some(Ok(Reply::Number(1)))),
+        (Event::Enter(FIRST), None),
+        (Event::Announce(FIRST), DONE),
+        (word(pass, 1, OR), None),
+        (Event::Enter(FIRST), Some(Ok(Reply::Number(1)))),
+        (word(pass, 1, OR), Some(Ok(Reply::Old(0)))),
+        (word(pass, 1, WordStep::Take), Some(Ok(Reply::Old(5)))),
+        (word(pass, 2, OR), None),
+        (MARK, None),
+        (HARVEST, None),
+        (Event::Sweep(FIRST), Some(Ok(Reply::Number(2)))),
+        (Event::Leave(FIRST), DONE),
+        (Event::Leave(FIRST), None),
+    ];
+    all_go(world, &rows)
+}
+
+// What the forest refuses publishes nothing, so it wants no sweep.
+fn refused(world: &mut World) -> Result<bool, Fail> {
+    let rows = [
+        (
+            SHOWN,
+            Some(Err(Refusal::NameTaken(mem_base::What::Space(SpaceId(0))))),
+        ),
+        (BEGIN, DONE),
+        (Event::Reap, None),
+    ];
+    all_go(world, &rows)
+}
+
+// All of it, one after another.
+fn all(world: &mut World) -> Result<bool, Fail> {
+    let is_shown = made(world)? && cleared(world)? && swept(world)?;
+    let is_entered = published(world)? && entered(world)? && refused(world)?;
+    Ok(is_shown && is_entered)
+}
+
 #[test]
 fn a_region_is_made_cleared_and_published_event_by_event(rt: HostRuntime) -> Result<(), Fail> {
     let mut world = World::new(rt.alloc(), 8, 2)?;
-    let mut device = Device::plain(DeviceKind::Bell);
-    device.regs = 2;
-    let Some(size) = Size::new(16) else {
-        unreachable!()
-    };
-    let made = call(Call::Region {
-        kind: Kind::Io(device),
-        size,
-    });
-    let shown = call(Call::Space {
-        space: SpaceId(0),
-        root: BELL,
-    });
-    let begin = Event::Config(Config::Begin);
-    let writer = Hand::Writer;
-    let pass = Hand::Pass(FIRST);
-    let done = Some(Ok(Reply::Done));
-    let or = WordStep::Or { bits: 5 };
-    let steps = [
-        (Event::Announce(FIRST), None),
-        (fill(0), None),
-        (word(writer, 0, or), None),
-        (Event::Publish, None),
-        (made, Some(Ok(Reply::Applied(Applied::Made(BELL))))),
-        // two words are to be cleared before the next private event
-        (begin, None),
-        (Event::Reap, None),
-        (fill(2), None),
-        (word(writer, 1, or), Some(Ok(Reply::Old(0)))),
-        (fill(1), done),
-        (fill(1), None),
-        (word(writer, 1, WordStep::Load), Some(Ok(Reply::Old(0)))),
-        (begin, None),
-        (fill(0), done),
-        // a change wants each pass swept
-        (shown, None),
-        (Event::Sweep(FIRST), Some(Ok(Reply::Number(0)))),
-        (shown, None),
-        (Event::Sweep(SECOND), Some(Ok(Reply::Number(0)))),
-        (shown, Some(Ok(Reply::Applied(Applied::Done)))),
-        // it is due until each pass has its copy
-        (begin, None),
-        (Event::Publish, None),
-        (Event::Place(FIRST), done),
-        (Event::Place(FIRST), None),
-        (Event::Publish, None),
-        (Event::Place(SECOND), done),
-        (Event::Publish, Some(Ok(Reply::Number(1)))),
-        (Event::Publish, None),
-        // a pass enters it
-        (Event::Look(FIRST), Some(Ok(Reply::Number(1)))),
-        (Event::Enter(FIRST), None),
-        (Event::Announce(FIRST), done),
-        (word(pass, 1, or), None),
-        (Event::Enter(FIRST), Some(Ok(Reply::Number(1)))),
-        (word(pass, 1, or), Some(Ok(Reply::Old(0)))),
-        (word(pass, 1, WordStep::Take), Some(Ok(Reply::Old(5)))),
-        (word(pass, 2, or), None),
-        (
-            Event::Mark {
-                pass: FIRST,
-                region: BELL,
-                client: Client::Vga,
-                page: 0,
-            },
-            None,
-        ),
-        (
-            Event::Harvest {
-                region: BELL,
-                client: Client::Vga,
-                index: 0,
-            },
-            None,
-        ),
-        (Event::Sweep(FIRST), Some(Ok(Reply::Number(2)))),
-        (Event::Leave(FIRST), done),
-        (Event::Leave(FIRST), None),
-        // what the forest refuses publishes nothing, so it wants no sweep
-        (
-            shown,
-            Some(Err(Refusal::NameTaken(mem_base::What::Space(SpaceId(0))))),
-        ),
-        (begin, done),
-        (Event::Reap, None),
-    ];
-    for (at, (event, want)) in steps.into_iter().enumerate() {
-        let is_so = goes(&mut world, event, want)?;
-        assert_eq!(rt; (at, is_so), (at, true));
-    }
+    let is_so = all(&mut world)?;
+    assert!(rt; is_so);
     Ok(())
 }

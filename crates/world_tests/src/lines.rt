@@ -14,7 +14,7 @@ const MOST: usize = 8;
 
 /// What is asked, and what it has to answer.
 #[derive(Clone, Copy, Debug)]
-pub(crate) enum Line<'a> {
+pub(crate) enum Line {
     /// A region of this kind and of this many bytes is made, which has this id.
     Region(RegionId, Kind, u64),
     /// A call that is accepted.
@@ -26,23 +26,23 @@ pub(crate) enum Line<'a> {
     Commit(Option<u64>),
     Listen(ListenerId, SpaceId),
     /// What listeners are told by the lines after the one of this kind before.
-    Told(&'a [(ListenerId, ListenerEvent)]),
-    Load(RegionId, u64, &'a [u8]),
+    Told(&'static [(ListenerId, ListenerEvent)]),
+    Load(RegionId, u64, &'static [u8]),
     /// The pages of a region that were written since a client last asked.
-    Dirty(RegionId, Client, &'a [u64]),
+    Dirty(RegionId, Client, &'static [u64]),
     /// What a notifier was set to since it was last asked.
     Notified(u32, u64),
     /// The regions that are released.
-    Reap(&'a [RegionId]),
+    Reap(&'static [RegionId]),
     /// A virtual CPU enters the generation of this number.
     Enter(u32, u64),
     Leave(u32),
     /// A virtual CPU reads these bytes, in the generation of this number, which ends so.
-    Read(u32, SpaceId, u64, &'a [u8], u64, TxResult),
+    Read(u32, SpaceId, u64, &'static [u8], u64, TxResult),
     /// It writes them.
-    Write(u32, SpaceId, u64, &'a [u8], u64, TxResult),
+    Write(u32, SpaceId, u64, &'static [u8], u64, TxResult),
     /// The generation of this number shows these ranges in a space.
-    Shows(SpaceId, u64, &'a [FlatRange]),
+    Shows(SpaceId, u64, &'static [FlatRange]),
 }
 
 /// A machine on which an example is tried, and how much of what listeners are told was compared.
@@ -101,7 +101,7 @@ fn is_shown(machine: &Machine, space: SpaceId, number: u64, ranges: &[FlatRange]
 }
 
 /// Whether what a virtual CPU does comes out as a line says.
-fn vcpu_holds(machine: &mut Machine, line: &Line<'_>) -> bool {
+fn vcpu_holds(machine: &mut Machine, line: &Line) -> bool {
     match *line {
         Line::Enter(vcpu, number) => machine.enter(vcpu) == number,
         Line::Leave(vcpu) => {
@@ -119,7 +119,7 @@ fn vcpu_holds(machine: &mut Machine, line: &Line<'_>) -> bool {
 }
 
 /// Whether a line comes out as it says.
-fn holds(example: &mut Example, line: &Line<'_>) -> Result<bool, Refusal> {
+fn holds(example: &mut Example, line: &Line) -> Result<bool, Refusal> {
     let machine = &mut example.machine;
     match *line {
         Line::Region(id, kind, bytes) => return Ok(is_made(machine, id, kind, bytes)?),
@@ -147,7 +147,7 @@ fn holds(example: &mut Example, line: &Line<'_>) -> Result<bool, Refusal> {
 pub(crate) fn first_other(
     alloc: Global,
     words: usize,
-    lines: &[Line<'_>],
+    lines: &[Line],
 ) -> Result<Option<usize>, Refusal>
     requires { words ≤ 2 ^ 26 }
 {
