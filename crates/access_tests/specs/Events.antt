@@ -3,16 +3,9 @@ use Rattle.std.specs.Prelude.{◌≡◌, ◌≤◌, ℕ, ◌+◌, if◌then◌el
 use Rattle.std.specs.List.{fold}
 use Rattle.mem_base.specs.declared.map.ids.RegionId.{RegionId}
 use Rattle.mem_base.specs.declared.access.cells.Place.{Place}
-use Rattle.mem_base.specs.declared.access.cells.WordStep.{WordStep}
-use Rattle.mem_base.specs.declared.access.cells.WordStep.TheVariants.{Replace}
 use Rattle.mem_base.specs.declared.machine.events.Event.{Event}
 use Rattle.mem_base.specs.access.PlacesByRegion.{place_in}
 use Rattle.mem_base.specs.access.Cells.{Touch, touch, touch_of, region_of, words_after}
-
--- a step replaces bytes of one word
-abbrev pub IsInWord : WordStep → Type 0
-IsInWord (Replace first bytes value) = first + bytes ≤ 8
-IsInWord _ = Unit {0}
 
 -- a touch of a word of the place that begins there, as one of a word of the whole list
 abbrev pub from_start : ℕ → Touch → Touch

@@ -1,5 +1,5 @@
 // A hand over a plain list of words.
-ghost use Rattle.std.specs.Prelude.{◌≡◌, ◌+◌, ◌^◌, ◌≤◌, [], ◌++◌, slice_index};
+ghost use Rattle.std.specs.Prelude.{◌≡◌, ◌+◌, [], ◌++◌, slice_index};
 ghost use Rattle.std.specs.Arc.{arc_value};
 ghost use Rattle.std.specs.List.{fold};
 ghost use Rattle.std.proofs.Common.{refl, sym, ap, ◌∙◌, append_assoc};
@@ -7,8 +7,7 @@ ghost use Rattle.std.proofs.lemmas.List.{append-nil};
 ghost use Rattle.std.proofs.lemmas.List.Sums.{fold-append};
 ghost use Rattle.mem_base.specs.machine.Passes.{pass_id};
 ghost use Rattle.mem_base.specs.access.Cells.{words_after};
-ghost use Rattle.mem_base.specs.access.Words.{replaced, word_after};
-ghost use Rattle.access_tests.specs.Events.{IsInWord, AreAfter, after_event};
+ghost use Rattle.access_tests.specs.Events.{AreAfter, after_event};
 
 use access_run::{Entered, Reads, Writes};
 use dirty_log::mark_of;
@@ -102,7 +101,6 @@ impl PlainHand {
 
     /// One step on a word of a place; the word before it, or 0 where there is none.
     fn step(&mut self, place: &Place, word: usize, step: WordStep) -> u64
-        requires { IsInWord step }
         ensures words { self.new.words.items ≡ words_after self.old.words.items (place.now.start + word) step }
         ensures reply { result ≡ slice_index self.old.words.items (place.now.start + word) }
         ensures same { arc_value self.new.generation ≡ arc_value self.old.generation }
@@ -112,58 +110,8 @@ impl PlainHand {
             return 0;
         };
         let old = *slot;
-        *slot = after(old, step);
+        *slot = step.after(old);
         old
-    }
-}
-
-// The number 256 ^ n.
-fn power(n: u32) -> u128
-    requires { n ≤ 8 }
-    ensures { result ≡ 256 ^ n }
-{
-    match n {
-        0 => 1,
-        1 => 1 << 8,
-        2 => 1 << 16,
-        3 => 1 << 24,
-        4 => 1 << 32,
-        5 => 1 << 40,
-        6 => 1 << 48,
-        7 => 1 << 56,
-        _ => 1 << 64,
-    }
-}
-
-// A word with some of its bytes replaced.
-fn with_bytes(old: u64, first: u32, bytes: u32, value: u64) -> u64
-    requires { first + bytes ≤ 8 }
-    ensures { result ≡ replaced old first bytes value }
-{
-    let below = power(first);
-    let width = power(bytes);
-    let above = power(first + bytes);
-    let kept = old as u128 % below;
-    let new = value as u128 % width;
-    let rest = old as u128 / above;
-    (kept + below * new + above * rest) as u64
-}
-
-// A word after a step.
-fn after(old: u64, step: WordStep) -> u64
-    requires { IsInWord step }
-    ensures { result ≡ word_after step old }
-{
-    match step {
-        WordStep::Load => old,
-        WordStep::Replace {
-            first,
-            bytes,
-            value,
-        } => with_bytes(old, first, bytes, value),
-        WordStep::AddOne => old.wrapping_add(1),
-        WordStep::Or { bits } => old | bits,
-        WordStep::Take => 0,
     }
 }
 

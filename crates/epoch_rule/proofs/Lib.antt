@@ -5,7 +5,6 @@ pub mod ActorSteps
 pub mod SeatSteps
 pub mod WordSteps
 pub mod PassLaws
-pub mod ByteLaws
 pub mod TouchLaws
 pub mod SweepLaws
 pub mod PublishLaws

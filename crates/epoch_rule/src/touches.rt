@@ -1,6 +1,5 @@
 // The touches of the cabinet's words.
-ghost use Rattle.std.specs.Prelude.{◌≡◌, ℕ, ◌+◌, ◌*◌, ◌^◌, ◌≤◌, ◌<◌};
-ghost use Rattle.mem_base.specs.access.Words.{replaced};
+ghost use Rattle.std.specs.Prelude.{◌≡◌, ℕ, ◌+◌, ◌*◌, ◌≤◌, ◌<◌};
 ghost use Rattle.mem_base.specs.declared.machine.events.Hand.TheVariants.{Pass, Writer};
 ghost use Rattle.mem_base.specs.access.Places.{mark_word, word_of_page};
 ghost use Rattle.epoch_rule.specs.declared.touches.Touch.TheVariants.{Look, Step, Try, Fill, Mark, Harvest};
@@ -38,38 +37,6 @@ pub enum Touch {
         client: Client,
         index: usize,
     },
-}
-
-/// So many powers of 256.
-fn power(n: u32) -> u128
-    requires { n ≤ 8 }
-    ensures { result ≡ 256 ^ n }
-{
-    match n {
-        0 => 1,
-        1 => 256,
-        2 => 65536,
-        3 => 16777216,
-        4 => 4294967296,
-        5 => 1099511627776,
-        6 => 281474976710656,
-        7 => 72057594037927936,
-        _ => 18446744073709551616,
-    }
-}
-
-/// The word with some of its bytes replaced.
-fn with_bytes(old: u64, first: u32, bytes: u32, value: u64) -> u64
-    requires { first + bytes ≤ 8 }
-    ensures { result ≡ replaced old first bytes value }
-{
-    let below = power(first);
-    let width = power(bytes);
-    let above = power(first + bytes);
-    let kept = old as u128 % below;
-    let new = value as u128 % width;
-    let rest = old as u128 / above;
-    (kept + below * new + above * rest) as u64
 }
 
 fn step_word<E: Edition + Drop>(
@@ -136,7 +103,7 @@ fn try_word<E: Edition + Drop>(
         value,
     };
     let event = Event::Word { hand, cell, step };
-    let new = with_bytes(old, first, bytes, value);
+    let new = step.after(old);
     try_as::<E, Brand>(shared, seat, index, old, new, event, place)
 }
 

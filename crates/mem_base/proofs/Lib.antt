@@ -12,3 +12,4 @@ pub mod SamePaths
 pub mod SliceLaws
 pub mod NoteLaws
 pub mod NodeLaws
+pub mod WordLaws

@@ -1,4 +1,3 @@
-pub mod ByteLaws
 pub mod PartLaws
 pub mod ShownLaws
 pub mod CellLaws

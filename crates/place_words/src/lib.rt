@@ -6,7 +6,6 @@
 #![tactic(auto)]
 
 mod laws;
-mod steps;
 #[cfg(test)]
 mod tests;
 mod words;

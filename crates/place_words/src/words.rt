@@ -6,7 +6,6 @@ ghost use Rattle.mem_base.specs.access.Places.{past};
 ghost use Rattle.place_words.specs.Blocks.{cleared};
 ghost use Rattle.place_words.specs.Shown.{shown};
 
-use crate::steps::word_after;
 use mem_base::{Place, WordStep};
 use std::alloc::{AllocError, Global};
 use std::marker::Model;
@@ -90,7 +89,7 @@ impl Words {
         ensures len { length self.new ≡ length self.old }
     {
         let old = self.word_at(at);
-        let new = word_after(old, step);
+        let new = step.after(old);
         if new != old {
             lengthen(&mut self.items, at + 1);
             self.items[at] = new;

@@ -1,6 +1,9 @@
 // Words that back regions, and the atomic steps on them.
+ghost use Rattle.std.specs.Prelude.{◌≡◌, ◌≤◌, ◌<◌, ◌+◌, ◌%◌, ◌^◌};
+ghost use Rattle.mem_base.specs.access.Words.{in_word, replaced, word_after};
 
 use crate::RegionId;
+use crate::map::limits::WORD_SIZE;
 
 /// The words of the pool that back a region: `words` words of 8 bytes from `start` on.
 #[derive(Clone, Copy, Debug, PartialEq, Eq)]
@@ -32,4 +35,60 @@ pub enum WordStep {
     Or { bits: u64 },
     /// Leaves 0.
     Take,
+}
+
+// The lowest bytes of a number, this many.
+fn lowest(number: u64, bytes: u32) -> u64
+    requires { bytes ≤ 8 }
+    ensures { result ≡ number % (256 ^ bytes) }
+{
+    if bytes == 8 {
+        number
+    } else {
+        number % (1 << (8 * bytes))
+    }
+}
+
+// A word with some of its bytes replaced.
+fn with_bytes(old: u64, first: u32, bytes: u32, value: u64) -> u64
+    requires some { 0 < bytes }
+    requires within { first + bytes ≤ 8 }
+    ensures { result ≡ replaced old first bytes value }
+{
+    let below = lowest(old, first);
+    let new = lowest(value, bytes) << (8 * first);
+    let above = old - lowest(old, first + bytes);
+    below + new + above
+}
+
+// How many of the bytes from one on lie in the word.
+fn bytes_in_word(first: u32, bytes: u32) -> u32
+    ensures { result ≡ in_word first bytes }
+{
+    bytes.min((WORD_SIZE as u32).saturating_sub(first))
+}
+
+impl WordStep {
+    /// The word that this step leaves of an old one. Bytes of a `Replace` that lie past the word change nothing.
+    pub fn after(self, old: u64) -> u64
+        ensures { result ≡ word_after self old }
+    {
+        match self {
+            WordStep::Load => old,
+            WordStep::Replace {
+                first,
+                bytes,
+                value,
+            } => {
+                let inside = bytes_in_word(first, bytes);
+                if inside == 0 {
+                    return old;
+                }
+                with_bytes(old, first, inside, value)
+            }
+            WordStep::AddOne => old.wrapping_add(1),
+            WordStep::Or { bits } => old | bits,
+            WordStep::Take => 0,
+        }
+    }
 }
