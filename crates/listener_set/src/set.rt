@@ -65,7 +65,7 @@ impl Set {
     /// Lets a listener join an address space, of which `view` and `events` say what it shows: the ranges and the live
     /// ioeventfds, each in order. The listener is told Begin, one add for each range, one add for each ioeventfd, and
     /// Commit; the others are told nothing. From then on it is told what changes in the space: among several listeners,
-    /// those of lower priority first of what is added, and last of what is deleted.
+    /// those of lower priority first of what is added, and last of what is deleted; of ioeventfds the other way round.
     ///
     /// Refused with `NameTaken` where it listens already, then with `LimitReached` where 64 listen, and with `Memory`
     /// where memory runs out. A refused call changes nothing.
@@ -154,7 +154,7 @@ impl Set {
     /// first.
     ///
     /// QEMU's core, `memory_region_transaction_commit` and `MEMORY_LISTENER_CALL`; the order of ioeventfd calls and of
-    /// log calls is this project's own.
+    /// log calls is held as this project's own, whatever the core does.
     pub fn deliver(&mut self, changes: &Changes)
         requires { HasRoom self.old changes.now }
         ensures delivered { self.new.listening ≡ delivered self.old.listening changes.now }

@@ -1,4 +1,4 @@
--- What one listener gets of a publish, and what its ioeventfd calls make of what it has.
+-- What one listener gets of a publish.
 use Rattle.std.specs.Prelude.{◌≡◌, true, List, [], ◌∷◌, ◌++◌, filter, find, is_some}
 use Rattle.mem_base.specs.declared.map.forests.Forest.{Forest}
 use Rattle.mem_base.specs.declared.views.listening.Listener.{Listener}

@@ -1,6 +1,6 @@
 -- In which order two listeners of one space hear the calls of a publish.
--- QEMU's core, `MEMORY_LISTENER_CALL` with its two directions. The order of ioeventfd calls and of log calls is this
--- project's own.
+-- QEMU's core, `MEMORY_LISTENER_CALL` with its two directions. The order of ioeventfd calls and of log calls is held as
+-- this project's own, whatever the core does.
 use Rattle.std.specs.Prelude.{◌≡◌, ◌⊎◌, Bool, true, false, ◌==◌, ◌||◌, if◌then◌else◌, ◌≤ℤ◌, ◌<ℤ◌, List, [], ◌∷◌, ◌++◌, filter, find, flat_map, is_some}
 use Rattle.mem_base.specs.declared.map.ids.ListenerId.{ListenerId}
 use Rattle.mem_base.specs.declared.map.forests.Forest.{Forest}

@@ -38,8 +38,8 @@ abbrev pub part : ℕ → ℕ → Transfer → Transfer
 part skip n (reading all) = reading n
 part skip n (writing bs) = writing (take n (drop skip bs))
 
--- which bytes of a word are read: of the number that `size` bytes from byte `first` on are, the first `count` bytes
--- in the order of addresses
+-- what a read takes of a word: `size` bytes from byte `first` on are one number, and its first `count` bytes, in the
+-- order of addresses, are read
 pub record ShownPart : Type 0 where
   pub first : ℕ
   pub size : ℕ

@@ -3,7 +3,7 @@ use Rattle.std.specs.Prelude.{◌==◌, ◌-◌, ◌^◌, List, Option, find}
 use Rattle.mem_base.specs.declared.map.ids.RegionId.{RegionId}
 use Rattle.mem_base.specs.declared.access.cells.Place.{Place}
 
--- the owner of the notifiers' words: no call can name it
+-- the owner of the notifiers' words: no region ever has this id
 abbrev pub notifiers : RegionId
 notifiers = record { 0 = 2 ^ 32 - 1 }
 

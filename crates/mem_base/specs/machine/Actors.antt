@@ -1,10 +1,7 @@
 -- Who makes an event of the running machine, what an actor's own entries are, and what it has seen of the history.
 -- This project's own rule: the actors are the writer and the passes.
-use Rattle.std.specs.Prelude.{◌≡◌, ℕ, ◌+◌, ◌-◌, ◌==◌, if◌then◌else◌, List, [], ◌∷◌, ◌++◌, length, slice_index_or, Option, Some, None, option_and_then}
-use mathlib.Core.List.{IsPrefix}
+use Rattle.std.specs.Prelude.{ℕ, ◌+◌, ◌-◌, ◌==◌, if◌then◌else◌, List, [], ◌∷◌, ◌++◌, length, slice_index_or}
 use Rattle.mem_base.specs.declared.map.ids.PassId.{PassId}
-use Rattle.mem_base.specs.declared.map.ids.RegionId.{RegionId}
-use Rattle.mem_base.specs.declared.access.cells.Place.{Place}
 use Rattle.mem_base.specs.declared.machine.events.Hand.{Hand}
 use Rattle.mem_base.specs.declared.machine.events.Hand.TheVariants as hands
 use Rattle.mem_base.specs.declared.machine.events.Event.{Event}
@@ -13,12 +10,8 @@ use Rattle.mem_base.specs.declared.machine.events.Carried.{Carried}
 use Rattle.mem_base.specs.declared.machine.events.Carried.TheVariants.{Edition}
 use Rattle.mem_base.specs.declared.machine.events.HistoryEntry.{HistoryEntry}
 use Rattle.mem_base.specs.map.Calls.{empty}
-use Rattle.mem_base.specs.access.PlacesByRegion.{place_in}
-use Rattle.mem_base.specs.access.Cells.{region_of}
 use Rattle.mem_base.specs.machine.Passes.{PassState, pass_after}
-use Rattle.mem_base.specs.machine.Generations.{Generation, Generations, generation, generations_after, entered_generation}
-use Rattle.mem_base.specs.machine.Desk.{at_place}
-use Rattle.mem_base.specs.machine.SharedHistory.{Shared}
+use Rattle.mem_base.specs.machine.Generations.{Generation, Generations, generation, generations_after}
 
 -- an actor's number: the writer's is 0, and that of pass v is v + 1
 abbrev pub actor_of_hand : Hand → ℕ
@@ -39,11 +32,6 @@ actor_of _ = 0
 abbrev pub own_entries : ℕ → List HistoryEntry → List HistoryEntry
 own_entries actor [] = []
 own_entries actor (x ∷ xs) = if actor_of x.event == actor then x ∷ own_entries actor xs else own_entries actor xs
-
--- what an actor has seen of a history: a first part of it, with all of the actor's own entries
-pub record HasSeen (actor : ℕ) (seen history : List HistoryEntry) : Type 0 where
-  pub begins : IsPrefix seen history
-  pub own : own_entries actor seen ≡ own_entries actor history
 
 -- what a pass's own entries make of it
 abbrev pub pass_after_all : PassState → List HistoryEntry → PassState
@@ -79,13 +67,3 @@ generation_published xs number = slice_index_or (generations_published xs) numbe
 -- the current number, as it stands at the end of what was seen: that of the last Publish in it
 abbrev pub number_seen : List HistoryEntry → ℕ
 number_seen xs = length (generations_published xs) - 1
-
--- the place of a region in a generation, if there is one
-abbrev pub place_shown : Option Generation → RegionId → Option Place
-place_shown None region = None
-place_shown (Some x) region = place_in x.places region
-
--- what an event of a pass carries: a step on a cell the place that the generation in which the pass is entered has for
--- the cell's region
-abbrev pub carried_by_pass : Shared → PassId → Event → Carried
-carried_by_pass s pass e = at_place (option_and_then (place_shown (entered_generation s.generations s.passes pass)) (region_of e))

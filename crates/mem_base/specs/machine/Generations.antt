@@ -52,7 +52,7 @@ generation_of g number = if nat_le number g.current then slice_get g.kept (g.cur
 abbrev pub first_generations : ℕ → Generations
 first_generations passes = record { current = 0; kept = generation empty [] ∷ []; passes = replicate passes nothing_known }
 
--- what a pin word shows: 0, or the announced number plus one
+-- the word by which a pass announces: 0, or the announced number plus one
 abbrev pub pin_word : Option ℕ → ℕ
 pin_word None = 0
 pin_word (Some number) = number + 1

@@ -67,7 +67,8 @@ pub record IsInOrder (current : ℕ) (due swept : Bool) (k : PassTrack) (p : Pas
 abbrev pub is_swept : List Bool → PassId → Bool
 is_swept swept pass = slice_index_or swept pass.0 false
 
--- the same of all passes, each known and flagged; as many generations are kept as there were, up to eight
+-- the same of all passes, each of which has a track and a flag that says whether it was swept; as many generations are
+-- kept as there were, up to eight
 pub record AllInOrder (due : Bool) (swept : List Bool) (g : Generations) (ps : List PassState) : Type 0 where
   pub all_known : length g.passes ≡ length ps
   pub all_flagged : length swept ≡ length ps

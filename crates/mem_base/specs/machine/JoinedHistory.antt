@@ -46,8 +46,8 @@ pub data RowPart : Type 0 where
   after_last : PureEntry → RowPart  -- a private event directly after the writer's entry before it
   before_next : PureEntry → RowPart  -- a private event directly before the writer's next entry
 
--- a call has no Sweep, and an event after its private one, a Fill (in a machine without passes, the Publish): the private
--- event waits for the first of them
+-- a call without a Sweep that has events after its private one: the private event waits for the first of them, a Fill (in
+-- a machine without passes, the Publish)
 abbrev pub waits_for_fill : WriterCall → Bool
 waits_for_fill t = (length t.before == 0) && not (length t.after == 0)
 

@@ -52,7 +52,7 @@ sweeps g = map (λ pass. events.Sweep pass) (pass_ids g)
 abbrev pub publishes : Generations → List Event
 publishes g = map (λ pass. events.Place pass) (pass_ids g) ++ events.Publish ∷ []
 
--- the region has no bytes there
+-- the region ends before the last of these bytes
 abbrev pub ends_past : ℕ → ℕ → Node → Bool
 ends_past offset count n = nat_lt n.size (offset + count)
 

@@ -1,6 +1,6 @@
 -- A publish: which private events make one due, what holds it up, and what it tells the listeners.
--- QEMU's core, `memory_region_transaction_commit`. That a publish is refused while a pass may use the generation whose
--- slot it would take is this project's own rule.
+-- QEMU's core, `memory_region_transaction_commit`. That a publish is refused while a pass may use the generation eight
+-- before the one to be published is this project's own rule.
 use Rattle.std.specs.Prelude.{ℕ, ◌+◌, ◌-◌, Bool, true, false, ◌==◌, ◌&&◌, nat_le, if◌then◌else◌, List, [], ◌∷◌, Option, Some, None, Result, Ok, Err}
 use Rattle.mem_base.specs.declared.map.ids.PassId.{PassId}
 use Rattle.mem_base.specs.declared.map.forests.Forest.{Forest}
@@ -39,7 +39,7 @@ would_publish d (configs.Call call) = (d.depth == 0) && is_change d.forest call
 would_publish d configs.Commit = (d.depth == 1) && d.pending
 would_publish d _ = false
 
--- the pass was found at a number so old that the next generation would take its slot
+-- the pass was found at a number so old that it may use the generation eight before the next one
 abbrev pub holds_up : ℕ → Option ℕ → Bool
 holds_up current None = false
 holds_up current (Some number) = nat_le (number + (most_generations - 1)) current

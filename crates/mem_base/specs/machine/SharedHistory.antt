@@ -36,11 +36,11 @@ abbrev pub carries : Option Generation → Place → Bool
 carries None p = false
 carries (Some x) p = list_any (is_same_place p) x.places
 
--- the word is one of the place's, and the place ends within the cabinet's words
+-- the word is one of the place's, and the place ends within the shared words: the pool's, and after them the notifiers'
 abbrev pub is_within : Shared → Place → ℕ → Bool
 is_within s p word = nat_lt word p.words && nat_le (past p) (length s.words)
 
--- a step on a cell with the place that it names. The cell is named by its place's region, so the two are one. A pass
+-- a step on a cell with the place that it names, which has to be that of the cell's region. A pass
 -- does what the pure machine lets it do, and its generation carries the place; the writer needs only that the word is
 -- there
 abbrev pub may_touch : Shared → Event → Place → Bool
@@ -55,7 +55,7 @@ may_touch s (events.Harvest region client index) p = (p.region.0 == region.0) &&
 may_touch s (events.Fill c) p = (p.region.0 == c.region.0) && is_within s p c.word
 may_touch s _ p = false
 
--- the pass can't be in a generation whose slot the next one takes
+-- the pass can't be in the generation eight before the next one, whose copy the next one's copy takes the place of
 abbrev pub is_near : Shared → PassId → Bool
 is_near s pass = nat_le s.generations.current ((known_of s.generations pass).lowest + 6)
 
@@ -69,7 +69,7 @@ shared_possible s events.Publish Nothing = false
 shared_possible s (events.Place pass) Nothing = is_near s pass && may s.generations s.passes (events.Place pass)
 shared_possible s e Nothing = may s.generations s.passes e
 
--- the touch of an event, on a word of the cabinet
+-- the touch of an event, on one of the shared words
 pub record PoolTouch : Type 0 where
   pub word : ℕ
   pub touch : Touch

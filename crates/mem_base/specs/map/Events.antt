@@ -27,7 +27,7 @@ event_cmp offset size matched value e =
 abbrev pub match_order : Ioevent → Ioevent → Ordering
 match_order x y = event_cmp y.offset y.size y.matched y.value x
 
--- ioeventfds by offset, size, matched and value, no two of which are one
+-- ioeventfds by offset, size, matched and value, no two of which agree in all of these
 abbrev pub AreEvents : List Ioevent → Type 0
 AreEvents events = IsRising match_order events
 

@@ -40,9 +40,9 @@ pub record IsOrderedForest (f : Forest) : Type 0 where
   -- each placing is a call
   pub few_placings : f.placings ≤ f.calls
   pub targets_before : Every (λ n. IsTargetBefore f.made n.kind) f.nodes
-  -- no path is longer than the greatest depth
+  -- no depth is above its limit
   pub shallow : greatest_depth f.nodes ≤ most_depth
-  -- no region is wider than the greatest weight
+  -- no weight is above its limit
   pub narrow : greatest_weight f.nodes ≤ most_weight
 
 -- a region that is there and is no alias
@@ -89,7 +89,7 @@ pub record IsRegion (nodes : List Node) (n : Node) : Type 0 where
 abbrev pub ArePlacedApart : Node → Node → Type 0
 ArePlacedApart n m = IsSome n.parent → IsSome m.parent → n.placing ≢ m.placing
 
--- two spaces are not one
+-- two spaces have different ids
 abbrev pub AreOtherSpaces : SpaceId × RegionId → SpaceId × RegionId → Type 0
 AreOtherSpaces p q = p.0.0 ≢ q.0.0
 

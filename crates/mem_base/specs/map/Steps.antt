@@ -51,7 +51,8 @@ unfoldable pub reaches_by : Steps → ℕ → RegionId → RegionId → Bool
 reaches_by steps zero from to = false
 reaches_by steps (suc most) from to = (from.0 == to.0) || list_any (λ q. reaches_by steps most q to) (steps from)
 
--- no path that a refusal has to tell of has more regions than two of the deepest joined
+-- an Add joins a path down to the container and one from the child on, each of at most `most_depth` regions, so no path
+-- that it makes is longer
 abbrev pub longest : ℕ
 longest = 2 * most_depth
 

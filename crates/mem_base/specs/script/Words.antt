@@ -1,12 +1,10 @@
 -- The words of the program's command line, without its name: `run`, `race`, `make SEED` or `demo SEED`.
-use Rattle.std.specs.Prelude.{ℕ, ◌-◌, ◌^◌, ◌++◌, nat_le, if◌then◌else◌, List, [], ◌∷◌, length, Option, Some, None, option_map, Ok, Err, codes}
+use Rattle.std.specs.Prelude.{ℕ, ◌-◌, ◌^◌, ◌++◌, nat_le, if◌then◌else◌, List, [], ◌∷◌, length, Option, Some, None, option_map, codes}
 use Rattle.std.specs.Str.{bytes_eq}
 use Rattle.mem_base.specs.declared.script.tasks.Task.{Task}
 use Rattle.mem_base.specs.declared.script.tasks.Task.TheVariants.{Run, Race, Make, Demo}
 use Rattle.mem_base.specs.script.Spelling.{Text, digits}
-use Rattle.mem_base.specs.script.Scripts.{Meaning}
-use Rattle.mem_base.specs.script.RefusalLines.{bad_line, line_feed}
-use Rattle.mem_base.specs.script.Run.{text_of}
+use Rattle.mem_base.specs.script.RefusalLines.{line_feed}
 
 -- SEED: 1 to 20 decimal digits with a value below 2^64
 abbrev pub seed_of : Text → Option ℕ
@@ -29,8 +27,3 @@ task_of _ = None
 -- what is written for words without a form
 abbrev pub usage_line : Text
 usage_line = codes "usage: mtree run | race | make SEED | demo SEED" ++ line_feed
-
--- the text of a run, or the line of a text that is no script
-abbrev pub text_of_script : Meaning → Text
-text_of_script (Ok lines) = text_of lines
-text_of_script (Err bad) = bad_line bad

@@ -23,8 +23,8 @@ same_path [] [] = true
 same_path (r ∷ rs) (q ∷ qs) = (r.0 == q.0) && same_path rs qs
 same_path _ _ = false
 
--- the range goes on where the address ends: in addresses, leaf, offset and attributes and, where it is unmergeable,
--- on the path
+-- the range begins one past the address, in the same leaf, at the next offset, with the same attributes and, where these
+-- are unmergeable, on the same path
 abbrev pub goes_on : PathAt → ℕ → Spot → FlatRange → Bool
 goes_on path a s r =
     (r.start == a + 1) && (r.leaf.0 == s.leaf.0) && (r.offset == s.offset + 1) && same_attrs r.attrs s.attrs

@@ -1,8 +1,8 @@
 -- Who listens, and what they are told: when they join and leave, and when a generation is published.
 -- QEMU's core, `memory_listener_register`, `memory_listener_unregister`, `memory_region_transaction_commit` and
--- `MEMORY_LISTENER_CALL` with its two directions. This project's own are the journal, the bound on listeners, the order of
--- log calls, that a listener that leaves loses its ioeventfds before its ranges, and that one that joins or leaves is told
--- of no logging.
+-- `MEMORY_LISTENER_CALL` with its two directions. This project's own are the journal, the bound on listeners, that a
+-- listener that leaves loses its ioeventfds before its ranges, and that one that joins or leaves is told of no logging;
+-- and the order of log and ioeventfd calls is held as this project's own, whatever the core does.
 use Rattle.std.specs.Prelude.{Bool, true, false, ◌==◌, nat_le, not, if◌then◌else◌, List, [], ◌∷◌, ◌++◌, map, filter, flat_map, reverse, length, Option}
 use Rattle.std.specs.List.{list_any, fold}
 use Rattle.std.specs.declared.cmp.Ordering.{Ordering}

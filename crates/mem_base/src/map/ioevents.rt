@@ -29,7 +29,7 @@ pub struct Ioevent {
     pub number: u32,
 }
 
-/// The ioeventfds of a region: by offset, size, matched (false first) and value, no two of which are one.
+/// The ioeventfds of a region: by offset, size, matched (false first) and value, no two of which agree in all of these.
 #[derive(Debug, Drop)]
 pub struct Events {
     items: Vec<Ioevent>,
@@ -189,7 +189,7 @@ impl Live {
     }
 }
 
-/// Live ioeventfds: by addr, size, matched (false first), value and number, no two of which are one.
+/// Live ioeventfds: by addr, size, matched (false first), value and number, no two of which agree in all of these.
 #[derive(Debug, Drop)]
 pub struct Lives {
     items: Vec<Live>,

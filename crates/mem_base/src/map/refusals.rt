@@ -47,7 +47,7 @@ pub enum Refusal {
     NameTaken(What),
     /// The region is in this container.
     HasContainer(RegionId),
-    /// The region is not in the container named, or in none.
+    /// The region is in another container than the one named, or in none.
     NotChild(RegionId),
     /// An alias takes no children.
     AliasParent(RegionId),
