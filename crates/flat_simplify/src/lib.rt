@@ -1,4 +1,4 @@
-//! Simplifying: neighbouring ranges that go on where one another end become one.
+//! Simplifying: two neighbouring ranges become one where the second goes on in the same leaf at the next offset.
 //!
 //! The last step of QEMU's rendering of an address space: of all lists of ranges that show the same, the view is
 //! the one in which no two neighbours merge. The layer above may rely on it that two views show the same exactly

@@ -30,7 +30,7 @@ pub record HasItsSteps (nodes : List Node) (s : Slot) : Type 0 where
 abbrev pub alone : Extent
 alone = record { depth = 1; weight = 1 }
 
--- what a list of extents, one a slot, says of a region; of one that is not there, that it leads nowhere
+-- the extent of a region in a list with one for each slot; of a region that is not there, that of one that leads nowhere
 abbrev pub told_of : List Slot → List Extent → RegionId → Extent
 told_of [] es r = alone
 told_of (s ∷ ss) [] r = alone

@@ -38,7 +38,7 @@ pub fn widest(extents: &[Extent]) -> Extent
     Extent { depth, weight }
 }
 
-/// What is told of a region; of one that is not there, that it leads nowhere.
+/// The extent of a region, as the list has it; of a region that is not there, that of one that leads nowhere.
 pub(crate) fn told(slots: &[Slot], known: &[Extent], region: RegionId) -> Extent
     requires ascending { IsAscending (nodes_of slots.now) }
     requires all { length known.now ≡ length slots.now }

@@ -74,7 +74,7 @@ fn depth_over(slots: &Slots, most: u32, regions: &[RegionId]) -> u32
     depth
 }
 
-/// One for each path from a region, of at most `most` regions.
+/// How many paths of at most `most` regions begin at a region.
 #[cycle(widen)]
 pub fn weight_within(slots: &Slots, most: u32, region: RegionId) -> u64
     requires { weight_by (steps_of slots.now) most region < 2 ^ 63 }

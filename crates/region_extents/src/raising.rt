@@ -16,7 +16,8 @@ use mem_base::RegionId;
 use region_slots::{Slot, place_of};
 use std::alloc::AllocError;
 
-/// Gives a region what its steps give, and says whether that is another extent, or `None` where it is above a limit.
+/// Sets the extent of a region to the one that those of its children, or of its target, make; answers whether it is another
+/// than before, or `None` where it is above a limit.
 fn reset(
     slots: &[Slot],
     extra: Option<Join>,

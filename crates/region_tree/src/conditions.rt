@@ -98,7 +98,7 @@ fn is_good_device(device: &Device) -> bool
         && device.regs <= MOST_REGISTERS
 }
 
-/// A device that cannot be.
+/// A device whose access sizes or registers are out of bounds.
 pub(crate) fn bad_device(kind: Kind) -> Option<Refusal>
     ensures { result ≡ tables.bad_device (kinds.device_of kind) }
 {
@@ -150,7 +150,8 @@ pub(crate) fn no_more_calls(tree: &Tree) -> Option<Refusal>
     at_limit(Which::Calls, MOST_CALLS, tree.calls())
 }
 
-/// What stands against an Add before loops and the lengths of paths.
+/// Why an Add is refused before anything is asked of loops, depths and weights: a region is unknown, the child has a container,
+/// or the parent is an alias.
 pub(crate) fn no_place(tree: &Tree, parent: RegionId, child: RegionId) -> Option<Refusal>
     ensures { result ≡ conditions.first_refusal (conditions.unknown_region tree.now parent ∷ conditions.unknown_region tree.now child
         ∷ conditions.has_container tree.now child ∷ conditions.alias_parent tree.now parent ∷ []) }
@@ -161,7 +162,7 @@ pub(crate) fn no_place(tree: &Tree, parent: RegionId, child: RegionId) -> Option
         .or(alias_parent(tree, parent))
 }
 
-/// What stands against the lengths of paths.
+/// A depth or a weight above its limit.
 pub(crate) fn too_long(most: Extent) -> Option<Refusal>
     ensures { result ≡ conditions.first_refusal (conditions.refuse_if (nat_lt 32 most.depth) (Refusal.TooDeep most.depth)
         ∷ conditions.refuse_if (nat_lt 65536 most.weight) (Refusal.TooWide most.weight) ∷ []) }

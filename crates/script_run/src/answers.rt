@@ -16,7 +16,7 @@ use outside::Sink;
 use script_lines::Line;
 use script_names::Names;
 
-// The items after the first ones, of which there were so many.
+// The items after the first `from`.
 pub(crate) fn later<T>(items: &[T], from: usize) -> &[T]
     ensures { result.now ≡ drop from items.now }
 {
@@ -26,7 +26,7 @@ pub(crate) fn later<T>(items: &[T], from: usize) -> &[T]
     }
 }
 
-// The calls that listeners got after the first ones, of which there were so many.
+// Writes a line for each call that listeners got after the first `from`.
 pub(crate) fn say_heard<M: Machine, K: Sink>(
     machine: &M,
     names: &Names,

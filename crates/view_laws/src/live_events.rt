@@ -7,7 +7,8 @@ pub fn lives_are_live()
     ensures { LivesAreLive }
 {}
 
-/// Where ranges agree with a forest at a space, the live ioeventfds of the ranges are those of the forest.
+/// Where ranges agree with a forest at a space, and each ioeventfd has a byte, the live ioeventfds of the ranges are those of the
+/// forest.
 pub fn lives_agree()
     ensures { LivesAgree }
 {}

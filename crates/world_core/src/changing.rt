@@ -16,7 +16,7 @@ use std::alloc::AllocError;
 use std::marker::Brand;
 use std::sync::ledger::Blank;
 
-// Makes room to note the words of a region that is to be made, of which there are at most so many.
+// Makes room to note each word of a region that is to be made, which has at most `words`.
 fn room_for_made(unfilled: &mut Unfilled, config: &Config, words: usize) -> Result<(), AllocError>
     requires none { unfilled.old.cells ≡ [] }
     ensures cells { unfilled.new.cells ≡ [] }

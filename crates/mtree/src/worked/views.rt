@@ -37,6 +37,30 @@ show S
 3000-3fff B @1000 io
 4000-4fff E @0 io
 5000-5fff B @3000 io
+~from-info-mtree
+machine 129M
+region system container 0x10000000000000000
+region pc.ram ram 128M
+region ram-below-4g alias 128M pc.ram 0
+region pci container 0x10000000000000000
+region vga-lowmem io 0x20000 latch
+region pc.bios rom 256K
+region apic-msi io 0x100000 latch
+space memory system
+begin
+add system 0 ram-below-4g
+add system 0 pci prio -1
+add pci 0xa0000 vga-lowmem prio 1
+add pci 0xfffc0000 pc.bios
+add system 0xfee00000 apic-msi prio 4096
+commit
+show memory
+at memory 0xa0000
+^view memory g2
+0-7ffffff pc.ram @0 ram
+fee00000-feefffff apic-msi @0 io
+fffc0000-ffffffff pc.bios @0 rom ro
+at memory a0000 pc.ram @a0000 ram
 ~a-tie
 region A container 0x1000
 region X io 0x1000 latch
