@@ -26,8 +26,6 @@ mod orders;
 mod pieces;
 mod placing;
 mod scratch;
-#[cfg(test)]
-mod tests;
 mod windows;
 
 use canvas::Canvas;

@@ -15,8 +15,6 @@ ghost use Rattle.mem_base.specs.lists.Every.{Every};
 ghost use Rattle.mem_base.specs.views.View.{shown, IsRanges, IsOnOnePath, IsMerged, Merges, IsView};
 ghost use Rattle.mem_base.specs.views.Slices.{ranges_of, slices_of, path_told, Tells};
 
-#[cfg(test)]
-mod tests;
 
 use mem_base::{FlatRange, Paths, Pieces, View};
 

@@ -60,7 +60,7 @@ fn counted<L: Ledger>(
 }
 
 /// The ranges of a space, not counted; none where there is no such space.
-fn rendered(alloc: Global, tree: &Tree, space: SpaceId) -> Result<Pieces, AllocError> {
+pub(crate) fn rendered(alloc: Global, tree: &Tree, space: SpaceId) -> Result<Pieces, AllocError> {
     if tree.root(space).is_none() {
         let paths = Paths::new(Vec::new(alloc), Vec::new(alloc));
         return Ok(Pieces::new(Vec::new(alloc), paths));

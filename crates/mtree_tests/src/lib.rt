@@ -22,7 +22,11 @@ mod listeners;
 #[cfg(test)]
 mod maps;
 #[cfg(test)]
+mod merging;
+#[cfg(test)]
 mod paths;
+#[cfg(test)]
+mod picture;
 #[cfg(test)]
 mod plain;
 #[cfg(test)]

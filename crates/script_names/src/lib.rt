@@ -3,8 +3,6 @@
 
 mod names;
 mod tables;
-#[cfg(test)]
-mod tests;
 
 pub use names::Names;
 pub use tables::NameTable;

@@ -15,8 +15,6 @@ mod regions;
 mod scripts;
 mod spellings;
 mod stops;
-#[cfg(test)]
-mod tests;
 mod tokens;
 mod words;
 

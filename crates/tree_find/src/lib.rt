@@ -11,8 +11,6 @@ ghost use Rattle.mem_base.specs.map.Search.{look, found_at, root_of};
 ghost use Rattle.mem_base.specs.map.Paths.{Finds};
 
 mod search;
-#[cfg(test)]
-mod tests;
 
 use mem_base::{MOST_DEPTH, Path, SpaceId, Spot};
 use region_tree::Tree;

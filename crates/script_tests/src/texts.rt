@@ -1,7 +1,7 @@
 // Texts at the edges of the language, each with the commands or the fault that its rules give, worked out by hand.
 
-use crate::{MOST_TEXT, ParseFault, parse, pool_words, print};
 use mem_base::{BadScript, Cause};
+use script_text::{MOST_TEXT, ParseFault, parse, pool_words, print};
 use std::alloc::{AllocError, Global};
 use std::test::Fail;
 

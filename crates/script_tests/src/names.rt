@@ -1,7 +1,7 @@
 // A region that is dropped, and one that is made anew under its name.
 
-use crate::{NameTable, Names};
 use mem_base::{Kind, RegionId};
+use script_names::{NameTable, Names};
 use std::test::Fail;
 
 #[test]

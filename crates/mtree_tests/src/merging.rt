@@ -1,6 +1,7 @@
+// Which neighbouring ranges merge, by pages worked out by hand.
 ghost use Rattle.std.specs.Prelude.{◌≡◌, ◌+◌, ◌<◌, ◌^◌};
 
-use crate::simplify;
+use flat_simplify::simplify;
 use mem_base::{Attrs, FlatRange, Note, Paths, Pieces, RegionId};
 use std::alloc::{AllocError, Global};
 use std::test::Fail;
