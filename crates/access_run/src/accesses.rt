@@ -40,8 +40,8 @@ fn read_below<H: Reads>(
 /// Reads bytes of a space from an address on, as many as there is room for.
 ///
 /// It makes the events of the defined access to the forest of the hand's generation, in order and no others. It answers how
-/// the access ended: an error where a device answered with one, a decode error where nothing answered some byte. A byte that
-/// nothing answers reads as 0, and so do addresses above 2^64 - 1. QEMU's core, `address_space_read`. It takes no memory.
+/// the access ended: an error where a device answered with one, a decode error where nothing answered some byte. All of `out` is
+/// overwritten: a byte that nothing answers reads as 0, and so do a device's error and addresses above 2^64 - 1. QEMU's core, `address_space_read`. It takes no memory.
 pub fn read<H: Reads>(hand: &mut H, space: SpaceId, addr: u64, out: &mut [u8]) -> TxResult
     ensures result { result ≡ result_of (access (H.shows hand.old).forest space addr (reading (length out.old))) }
     ensures done { HasDone H.makes (H.pass hand.old) hand.old
@@ -90,8 +90,8 @@ fn write_below<H: Writes>(
 ///
 /// It makes the events of the defined access to the forest of the hand's generation, in order and no others. It answers how
 /// the access ended: an error where a device answered with one, a decode error where nothing took some byte, as at a
-/// read-only leaf or above 2^64 - 1. The hand takes the steps of the access. QEMU's core, `address_space_write`. It takes no
-/// memory.
+/// read-only leaf or above 2^64 - 1; the other chunks are written all the same. It asks for a hand that takes each of these steps.
+/// QEMU's core, `address_space_write`. It takes no memory.
 pub fn write<H: Writes>(hand: &mut H, space: SpaceId, addr: u64, bytes: &[u8]) -> TxResult
     requires { TakesAll (H.takes hand.old) (access (H.shows hand.old).forest space addr (writing bytes.now)) }
     ensures result { result ≡ result_of (access (H.shows hand.old).forest space addr (writing bytes.now)) }

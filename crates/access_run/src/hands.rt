@@ -41,7 +41,8 @@ pub trait Entered {
 
 /// One that makes the steps of reads.
 pub trait Reads: Entered {
-    /// One atomic step on a word of a place, a load, or a counter's or a bell's read of its register. It answers the word before it.
+    /// One atomic step on a word of a place, counted in words of 8 bytes from the place's first: a load, or a counter's or a bell's
+    /// read of its register. It answers the word before it.
     fn read_word(&mut self, place: &Place, word: usize, step: WordStep) -> u64
         requires placed { IsPlaceOf (Self.shows self.old) place.now }
         requires inside { is_data_or_register place.now word ≡ true }
@@ -54,7 +55,7 @@ pub trait Writes: Entered {
     /// Which steps it takes: one that cannot replace a part of a word takes only those of whole words.
     ghost takes: { Self → WordStep → Type 0 };
 
-    /// One atomic step on a word of a place: some of its bytes are replaced, or bits are set.
+    /// One atomic step on a word of a place, counted as in `read_word`: some of its bytes are replaced, or bits are set.
     fn write_word(&mut self, place: &Place, word: usize, step: WordStep)
         requires placed { IsPlaceOf (Self.shows self.old) place.now }
         requires inside { is_data_or_register place.now word ≡ true }
@@ -62,7 +63,7 @@ pub trait Writes: Entered {
         requires takes { takes self.old step }
         ensures { (old : ℕ) × Self.makes self.old (word_event (Self.pass self.old) place.now word step ∷ []) (old ∷ []) self.new };
 
-    /// Marks a page of a place as written, for one client.
+    /// Marks a page of a place as written, for one client. Pages are of 4,096 bytes, from 0 on.
     fn mark_page(&mut self, place: &Place, client: Client, page: u64)
         requires placed { IsPlaceOf (Self.shows self.old) place.now }
         requires inside { page < pages_in place.now }

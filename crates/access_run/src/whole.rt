@@ -58,7 +58,7 @@ impl Writes for Noting<'_> {
     ghost lasts = { λ x y es rs m step t. t };
 }
 
-/// Whether no step of a write replaces only a part of a word. It makes no step.
+/// Whether each step of a write that replaces bytes replaces all eight of its word. It makes no step. This project's own.
 pub fn is_whole(g: &Generation, space: SpaceId, addr: u64, bytes: &[u8]) -> bool
     ensures { result ≡ not (has_partial (access g.now.forest space addr (writing bytes.now))) }
 {

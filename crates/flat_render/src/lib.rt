@@ -1,7 +1,7 @@
 //! Rendering: the ranges of an address space, carved out of the tree of regions.
 //!
 //! QEMU's core renders a space by walking its tree from the root and inserting ranges where nothing is yet. Here
-//! too, where few regions stand in a container, or where their addresses ascend or descend, so that each range is put
+//! too, where at most 8 regions stand in a container, or where their addresses ascend or descend, so that each range is put
 //! at the end of the list; the other children of a wide container are rendered by halves, and the one half is laid over
 //! the other. The layer above may rely on it that the slices tell at every address what the search finds there and on
 //! which path, and that no more ranges are carved than the square of the root's weight.
@@ -40,11 +40,11 @@ use windows::Window;
 
 /// The slices of a space: at each address they tell what the search finds there and on which path.
 ///
-/// They ascend and do not meet, and one may still go on where another ends; `flat_simplify` merges such neighbours.
+/// They ascend and are disjoint (`last` is inclusive), and one may still go on where another ends; `flat_simplify` merges such neighbours.
 /// The space has to be there, which `Tree::root` tells. A step is one carve: one range that is put under others, or
 /// into the list that comes of laying a list of ranges over another; and one more where anything is shown at all.
 /// There are at most as many as the square of the root's weight, also where memory runs out. The bound is this
-/// project's own.
+/// project's own. It fails only where memory runs out. A disabled root gives no slices.
 pub fn render<L: Ledger>(
     alloc: Global,
     tree: &Tree,

@@ -1,8 +1,8 @@
 //! Simplifying: two neighbouring ranges become one where the second goes on in the same leaf at the next offset.
 //!
 //! The last step of QEMU's rendering of an address space: of all lists of ranges that show the same, the view is
-//! the one in which no two neighbours merge. The layer above may rely on it that two views show the same exactly
-//! where they are equal range by range.
+//! the one in which no two neighbours merge. The layer above may rely on it that of all lists on the same paths that show the
+//! same, just one is a view.
 #![tactic(auto)]
 
 ghost use Rattle.std.specs.Prelude.{◌≡◌, ◌+◌, ◌-◌, ◌^◌, ◌<◌, ◌≤◌, ◌↔◌, ℕ, List, Some, true, IsTrue, take, length};
@@ -14,7 +14,6 @@ ghost use Rattle.mem_base.specs.declared.map.ids.SpaceId.{SpaceId};
 ghost use Rattle.mem_base.specs.lists.Every.{Every};
 ghost use Rattle.mem_base.specs.views.View.{shown, IsRanges, IsOnOnePath, IsMerged, Merges, IsView};
 ghost use Rattle.mem_base.specs.views.Slices.{ranges_of, slices_of, path_told, Tells};
-
 
 use mem_base::{FlatRange, Paths, Pieces, View};
 

@@ -2,8 +2,9 @@
 ghost use Rattle.history_laws.specs.Published.{GenerationsAreCommitted, PublishesAreCommitted};
 ghost use Rattle.history_laws.specs.Histories.{EachEventKeepsOrder, LegalHistoriesAreInOrder, FewGenerationsAreKept};
 
-/// Each possible event keeps four facts of every pass: how its lowest number stands to the current one and to what
-/// a sweep found, which numbers it may know, and how near the lowest number is while a publish is due.
+/// Each possible event keeps four facts of every pass (`IsInOrder`): how its lowest number stands to the current one, how it
+/// stands to what a sweep found, which numbers the pass may have looked at, announced and entered, and how near the lowest number
+/// is to the current one while a publish is due.
 pub fn each_event_keeps_order()
     ensures { EachEventKeepsOrder }
 {}

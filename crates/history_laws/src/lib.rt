@@ -2,7 +2,8 @@
 //! releases, and of what listeners make of their calls, after every legal history of the pure machine; and what holds
 //! after every legal history of the running machine by its shared part alone.
 //!
-//! Each law is the contract of a function that does nothing. The definitions stand in `mem_base`.
+//! Each law is the contract of a function that does nothing. The definitions stand in `mem_base`; a layer above rests
+//! on a law by calling its function or by citing its proof.
 #![tactic(auto)]
 
 mod histories;

@@ -8,7 +8,8 @@ pub fn shared_histories_are_sound()
     ensures { SharedHistoriesAreSound }
 {}
 
-/// The writer's own entries are those that turns of the writer are made of.
+/// The entries of the writer are the same by both ways to find them: by their actor, as what a seat has seen is told, and by
+/// the kind of the event, as turns are made.
 pub fn own_entries_are_the_writers()
     ensures { OwnEntriesAreTheWriters }
 {}

@@ -13,7 +13,8 @@ pub fn listeners_replay()
     ensures { ListenersReplay }
 {}
 
-/// So do the calls that an id gets from any moment on at which no listener has it.
+/// The calls that an id gets from a moment on at which no listener has it replay to what the space of the listener that has it
+/// in the end shows, ranges and live ioeventfds, or to nothing where none has it.
 pub fn later_calls_replay()
     ensures { LaterCallsReplay }
 {}

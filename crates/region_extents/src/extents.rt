@@ -10,7 +10,8 @@ ghost use Rattle.region_extents.specs.Kept.{steps_plus};
 use mem_base::RegionId;
 use region_slots::{Slot, place_of};
 
-/// The regions on the longest path from a region, and one for each path from it.
+/// How deep a region is, by the regions on the longest path from it, and how wide: its weight is 1 plus the weights of all that
+/// one step leads to. Both limits, 32 and 65,536, are this project's own.
 #[derive(Clone, Copy, Debug, PartialEq, Eq)]
 pub struct Extent {
     pub depth: u32,
@@ -24,7 +25,7 @@ pub struct Join {
     pub child: RegionId,
 }
 
-/// The greatest depth and the greatest weight.
+/// The greatest depth and the greatest weight; 0 of no extents.
 pub fn widest(extents: &[Extent]) -> Extent
     ensures depth { result.depth ≡ greatest (map (λ e. e.depth) extents.now) }
     ensures weight { result.weight ≡ greatest (map (λ e. e.weight) extents.now) }

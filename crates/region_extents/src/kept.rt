@@ -24,8 +24,8 @@ use mem_base::{Kind, RegionId};
 use region_slots::{Slot, place_of};
 use std::alloc::{AllocError, Global};
 
-/// How deep and how wide each region is, and its aliases by ascending id, one element a region; out of date where it is
-/// not `fresh`, which may be after memory ran out.
+/// How deep and how wide each region is, and its aliases by ascending id, one element for each slot; out of date where it is
+/// not `fresh`, which may be after memory ran out. Its fields are public for contracts to speak of; only its calls change them.
 #[derive(Debug, Drop)]
 pub struct Kept {
     pub extents: Vec<Extent>,
@@ -170,8 +170,8 @@ impl Kept {
         let _ = self.extents.remove(at);
     }
 
-    /// Keeps the extents after one more step where that makes no loop and all stay within the limits, and says so; in
-    /// every other case it may say nothing, and all stays.
+    /// Keeps the extents after one more step, and answers `true`, where that makes no loop and all stay within the limits. Where it
+    /// answers `false`, what is kept is still right for the regions as they are, or known to be out of date.
     pub fn join(&mut self, alloc: Global, slots: &[Slot], join: Join) -> bool
         requires ascending { IsAscending (nodes_of slots.now) }
         requires steps { Every (HasItsSteps (nodes_of slots.now)) slots.now }
@@ -416,7 +416,7 @@ pub fn place_of_target(slots: &[Slot], target: Option<RegionId>) -> Option<usize
     }
 }
 
-/// How deep and how wide a region is, where what is kept is not out of date.
+/// How deep and how wide a region is; `None` where what is kept is out of date.
 pub fn kept_extent(slots: &[Slot], kept: &Kept, region: RegionId) -> Option<Extent>
     requires ascending { IsAscending (nodes_of slots.now) }
     requires kept { IsBeside kept.now (nodes_of slots.now) }

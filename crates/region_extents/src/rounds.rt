@@ -120,7 +120,7 @@ fn lengthen(
 }
 
 /// How deep and how wide each region is, with one more step: by paths of ever more regions, until one more round
-/// changes nothing.
+/// changes nothing. It fails only where memory runs out.
 pub fn lengthened(alloc: Global, slots: &[Slot], join: Join) -> Result<Vec<Extent>, AllocError>
     requires ascending { IsAscending (nodes_of slots.now) }
     requires parent { IsSome (node_of (nodes_of slots.now) join.parent) }
