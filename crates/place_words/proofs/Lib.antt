@@ -1,3 +1,3 @@
 pub mod PartLaws
-pub mod ShownLaws
+pub mod FrameLaws
 pub mod CellLaws

@@ -1,3 +1,3 @@
 pub mod Blocks
-pub mod Shown
+pub mod Frames
 pub mod Laws

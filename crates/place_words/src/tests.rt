@@ -61,7 +61,7 @@ fn a_place_is_cleared_alone(rt: HostRuntime) -> Result<(), Fail> {
 }
 
 #[test]
-fn words_past_the_last_one_set_are_0(rt: HostRuntime) -> Result<(), Fail> {
+fn words_that_were_not_set_are_0(rt: HostRuntime) -> Result<(), Fail> {
     let mut words = Words::new(rt.alloc(), 100_000)?;
     assert!(rt; words.len() == 100_000);
     assert_eq!(rt; words.word_at(70_000), 0);
@@ -77,6 +77,36 @@ fn words_past_the_last_one_set_are_0(rt: HostRuntime) -> Result<(), Fail> {
         (70_000, 0x55),
         (70_001, 0),
         (99_999, 0),
+    ] {
+        assert!(rt; at < words.len());
+        assert_eq!(rt; words.word_at(at), want);
+    }
+    Ok(())
+}
+
+#[test]
+fn a_place_is_cleared_over_many_frames(rt: HostRuntime) -> Result<(), Fail> {
+    let mut words = Words::new(rt.alloc(), 100_000)?;
+    for at in [70_000, 3, 512, 511, 69_999, 40_000] {
+        assert!(rt; words.len() == 100_000);
+        assert_eq!(rt; words.step(at, WordStep::Or { bits: at as u64 }), 0);
+    }
+    let place = Place {
+        region: RegionId(7),
+        start: 500,
+        words: 69_500,
+        bytes: 16,
+        regs: 0,
+    };
+    assert!(rt; words.len() == 100_000);
+    words.clear(&place);
+    for (at, want) in [
+        (3, 3),
+        (511, 0),
+        (512, 0),
+        (40_000, 0),
+        (69_999, 0),
+        (70_000, 70_000),
     ] {
         assert!(rt; at < words.len());
         assert_eq!(rt; words.word_at(at), want);

@@ -1,8 +1,10 @@
 // The text of a command, as its tokens are written.
-ghost use Rattle.std.specs.Prelude.{◌≡◌, ◌++◌, [], ◌∷◌, OnOk, codes, decimal};
+ghost use Rattle.std.specs.Prelude.{◌≡◌, ◌++◌, [], ◌∷◌, OnOk, codes, decimal, false, true};
 ghost use Rattle.mem_base.specs.script.Printing.{bytes_text, change_tokens, client_text, command_tokens, data_tokens, device_kind_text};
 ghost use Rattle.mem_base.specs.script.Printing.{device_tokens, flag_tokens, number_text, pass_text, perm_text, prio_tokens, range_text};
 ghost use Rattle.mem_base.specs.script.Printing.{range_tokens, region_tokens, regs_tokens, switch_text};
+ghost use Rattle.mem_base.specs.script.Run.{is_desk_line};
+ghost use Rattle.script_lines.specs.Groups.{is_region_line};
 ghost use Rattle.script_lines.specs.Tokens.{after_spaces};
 
 use crate::numbers::{push_bytes, push_decimal, push_hex, push_signed};
@@ -558,12 +560,12 @@ fn push_bare(text: &mut Vec<u8>, word: &[u8]) -> Result<(), AllocError>
     Ok(())
 }
 
-/// Adds the tokens of a command to a text, each after a space.
-pub fn push_tokens(text: &mut Vec<u8>, command: &Command) -> Result<(), AllocError>
+// A line that makes a region.
+fn push_region_line(text: &mut Vec<u8>, command: &Command) -> Result<(), AllocError>
+    requires { is_region_line command.now ≡ true }
     ensures { OnOk result (text.new.items ≡ text.old.items ++ after_spaces (command_tokens command.now)) }
 {
     match command {
-        Command::Machine { size } => push_machine(text, *size),
         Command::RegionContainer { name, size } => push_region(text, name, b"container", *size),
         Command::RegionRam { name, size } => push_region(text, name, b"ram", *size),
         Command::RegionRom { name, size } => push_region(text, name, b"rom", *size),
@@ -581,6 +583,51 @@ pub fn push_tokens(text: &mut Vec<u8>, command: &Command) -> Result<(), AllocErr
             offset,
         } => push_region_alias(text, name, *size, target, *offset),
         Command::RegionReserve { name, size } => push_region(text, name, b"reserve", *size),
+        _ => unreachable!(),
+    }
+}
+
+// A line of a pass, or an end of a block of such lines.
+fn push_pass_line(text: &mut Vec<u8>, command: &Command) -> Result<(), AllocError>
+    requires { is_desk_line command.now ≡ false }
+    ensures { OnOk result (text.new.items ≡ text.old.items ++ after_spaces (command_tokens command.now)) }
+{
+    match command {
+        Command::PassEnter { pass } => push_pass_word(text, *pass, b"enter"),
+        Command::PassLeave { pass } => push_pass_word(text, *pass, b"leave"),
+        Command::PassRead {
+            pass,
+            space,
+            addr,
+            len,
+        } => push_pass_read(text, *pass, space, *addr, *len),
+        Command::PassWrite {
+            pass,
+            space,
+            addr,
+            bytes,
+        } => push_pass_write(text, *pass, space, *addr, bytes),
+        Command::PassDo { pass, change } => push_pass_do(text, *pass, change),
+        Command::PassDma {
+            pass,
+            space,
+            addr,
+            len,
+            to_space,
+            to_addr,
+        } => { push_pass_dma(text, *pass, space, *addr, *len, to_space, *to_addr) }
+        Command::Par => push_bare(text, b"par"),
+        Command::End => push_bare(text, b"end"),
+        _ => unreachable!(),
+    }
+}
+
+/// Adds the tokens of a command to a text, each after a space.
+pub fn push_tokens(text: &mut Vec<u8>, command: &Command) -> Result<(), AllocError>
+    ensures { OnOk result (text.new.items ≡ text.old.items ++ after_spaces (command_tokens command.now)) }
+{
+    match command {
+        Command::Machine { size } => push_machine(text, *size),
         Command::Space { name, root } => push_two_named(text, b"space", name, root),
         Command::Change(change) => push_change(text, change),
         Command::Load {
@@ -609,30 +656,14 @@ pub fn push_tokens(text: &mut Vec<u8>, command: &Command) -> Result<(), AllocErr
         Command::At { space, addr } => push_numbered(text, b"at", space, *addr),
         Command::Notified { number } => push_notified(text, *number),
         Command::Dirty { region, client } => push_dirty(text, region, *client),
-        Command::PassEnter { pass } => push_pass_word(text, *pass, b"enter"),
-        Command::PassLeave { pass } => push_pass_word(text, *pass, b"leave"),
-        Command::PassRead {
-            pass,
-            space,
-            addr,
-            len,
-        } => push_pass_read(text, *pass, space, *addr, *len),
-        Command::PassWrite {
-            pass,
-            space,
-            addr,
-            bytes,
-        } => push_pass_write(text, *pass, space, *addr, bytes),
-        Command::PassDo { pass, change } => push_pass_do(text, *pass, change),
-        Command::PassDma {
-            pass,
-            space,
-            addr,
-            len,
-            to_space,
-            to_addr,
-        } => { push_pass_dma(text, *pass, space, *addr, *len, to_space, *to_addr) }
-        Command::Par => push_bare(text, b"par"),
-        Command::End => push_bare(text, b"end"),
+        Command::PassEnter { .. }
+        | Command::PassLeave { .. }
+        | Command::PassRead { .. }
+        | Command::PassWrite { .. }
+        | Command::PassDo { .. }
+        | Command::PassDma { .. }
+        | Command::Par
+        | Command::End => push_pass_line(text, command),
+        _ => push_region_line(text, command),
     }
 }
