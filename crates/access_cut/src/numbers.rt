@@ -2,16 +2,19 @@
 ghost use Rattle.std.specs.Prelude.{◌≡◌, ◌≤◌, ◌<◌, ◌^◌, ◌/◌, ◌%◌, length, reverse};
 ghost use Rattle.mem_base.specs.access.Words.{byte_of, little_endian, number_of_bytes};
 
-// The number whose bytes these are, the lowest first.
-fn lowest_first(bytes: &[u8]) -> u64
-    requires { length bytes.now ≤ 8 }
-    ensures value { result ≡ little_endian bytes.now }
-    ensures bound { result < 256 ^ length bytes.now }
+// The number whose bytes these are, the lowest first: from the last byte to the first.
+fn lowest_first(bytes: &[u8], count: usize) -> u64
+    requires count { count ≡ length bytes.now }
+    requires few { count ≤ 8 }
+    ensures { result ≡ little_endian bytes.now }
 {
-    match bytes {
-        [byte, rest @ ..] => u64::from(*byte) + 256 * lowest_first(rest),
-        [] => 0,
+    let mut number: u64 = 0;
+    let mut left = count;
+    while left > 0 {
+        left -= 1;
+        number = 256 * number + u64::from(bytes[left]);
     }
+    number
 }
 
 // The number whose bytes these are, the highest first.
@@ -34,8 +37,10 @@ pub fn number_of(bytes: &[u8], big: bool) -> u64
 {
     if big {
         highest_first(bytes)
+    } else if bytes.len() == 8 {
+        lowest_first(bytes, 8)
     } else {
-        lowest_first(bytes)
+        lowest_first(bytes, bytes.len())
     }
 }
 

@@ -1,5 +1,0 @@
-use Rattle.std.proofs.Common.{length}
-use Rattle.access_cut.proofs.numbers.+lowest_first.Given as goal
-
-abbrev pub decreases-lowest_first : goal.decreases-lowest_first
-decreases-lowest_first l = length l.bytes.now
