@@ -38,7 +38,9 @@ impl Slot {
     }
 }
 
-/// The same region once more.
+/// The same region once more. It is inlined, so that it is made where it is to stand: else it is written to memory field by field
+/// and read back at once in wider pieces, for which a processor waits until all of it is written.
+#[inline(always)]
 pub fn copied(node: &Node) -> Result<Node, AllocError>
     ensures { IfOk result (λ copy. copy ≡ node.now) }
 {

@@ -9,8 +9,10 @@
 
 mod calls;
 mod conditions;
+mod features;
 mod refusals;
 mod tree;
 
+pub use features::Features;
 pub use region_slots::Child;
 pub use tree::Tree;

@@ -1,7 +1,9 @@
 // The forest of regions: what it is seen as, and what it tells.
 
-ghost use Rattle.std.specs.Prelude.{◌≡◌, ◌≤◌, [], length, filter, Option, None, Some, option_copied, IsSome, IfOk, OnOk, ◌++◌, ◌∷◌, if◌then◌else◌};
+ghost use Rattle.std.specs.Prelude.{◌≡◌, ◌≤◌, [], length, filter, nat_lt, Option, None, Some, option_copied, IsSome, IfOk, OnOk, ◌++◌, ◌∷◌, if◌then◌else◌};
+ghost use Rattle.std.specs.List.{list_any};
 ghost use Rattle.mem_base.specs.map.Region.{node_of};
+ghost use Rattle.mem_base.specs.map.Kinds.{is_iommu};
 ghost use Rattle.mem_base.specs.map.Order.{children_of, ids_of};
 ghost use Rattle.mem_base.specs.map.Search.{root_of};
 ghost use Rattle.mem_base.specs.map.Forest.{IsOrderedForest, IsClosedForest};
@@ -11,6 +13,7 @@ ghost use Rattle.mem_base.specs.map.Touched.{reached};
 ghost use Rattle.region_slots.specs.Slots.{nodes_of, placed_of};
 ghost use Rattle.region_tree.specs.Reach.{picked};
 
+use crate::features::{Features, is_notable};
 use mem_base::{Forest, MOST_DEPTH, Node, Nodes, RegionId, SpaceId, Spaces};
 use region_extents::{Kept, depth_within, kept_extent, mark_within, weight_within};
 use region_slots::{Child, Slot, Slots, copied};
@@ -212,18 +215,34 @@ impl Tree {
     pub fn forest(&self) -> Result<Forest, AllocError>
         ensures { IfOk result (λ forest. forest ≡ self.now) }
     {
-        let mut nodes = Vec::new(self.alloc);
-        for slot in self.slots.as_slice() {
+        let (forest, _) = self.forest_with_features()?;
+        Ok(forest)
+    }
+
+    /// The forest that the tree is seen as, and what a generation asks of all its regions: it is seen while they are copied.
+    pub fn forest_with_features(&self) -> Result<(Forest, Features), AllocError>
+        ensures forest { IfOk result (λ both. both.0 ≡ self.now) }
+        ensures iommu { IfOk result (λ both. both.1.has_iommu ≡ list_any (λ n. is_iommu n.kind) self.now.nodes) }
+        ensures events { IfOk result (λ both. both.1.with_events.items ≡ ids_of (filter (λ n. nat_lt 0 (length n.events)) self.now.nodes)) }
+    {
+        let slots = self.slots.as_slice();
+        let mut nodes = Vec::with_capacity(self.alloc, slots.len())?;
+        let mut features = Features::none(self.alloc);
+        for slot in slots {
+            if is_notable(&slot.node) {
+                features.note(&slot.node)?;
+            }
             nodes.push(copied(&slot.node)?)?;
         }
-        Ok(Forest {
+        let forest = Forest {
             nodes: Nodes::new(nodes),
             spaces: Spaces::new(self.spaces.clone()?),
             made: self.made,
             placings: self.placings,
             calls: self.calls,
             global: self.global,
-        })
+        };
+        Ok((forest, features))
     }
 }
 
