@@ -302,6 +302,8 @@ fn a_33rd_region_is_too_deep(rt: HostRuntime) -> Result<(), Refusal> {
         last = next;
     }
     let next = made(&mut tree, Kind::Container)?;
+    assert!(rt; tree.accepts(&add(RegionId(30), next)));
+    assert!(rt; !tree.accepts(&add(last, next)));
     assert_eq!(rt; put(&mut tree, last, next), Err(Refusal::TooDeep(33)));
     assert_eq!(rt; alias(&mut tree, RegionId(0)), Err(Refusal::TooDeep(33)));
     Ok(())
@@ -330,8 +332,11 @@ fn aliases_grow_too_wide(rt: HostRuntime) -> Result<(), Refusal> {
     }
     assert!(rt; tree.node(last).is_some());
     assert_eq!(rt; tree.weight(last), 65_533);
-    let (_, second) = doubled(&mut tree, last)?;
+    let (next, second) = doubled(&mut tree, last)?;
     assert_eq!(rt; second, Err(Refusal::TooWide(131_069)));
+    let another = made(&mut tree, Kind::Container)?;
+    assert!(rt; tree.accepts(&add(another, last)));
+    assert!(rt; !tree.accepts(&add(next, last)));
     Ok(())
 }
 

@@ -8,3 +8,4 @@ pub mod BesideLaws
 pub mod LeftLaws
 pub mod ReachLaws
 pub mod DroppedLaws
+pub mod RoomLaws

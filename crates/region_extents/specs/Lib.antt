@@ -1,3 +1,4 @@
 pub mod Extents
 pub mod Kept
 pub mod Marks
+pub mod Room

@@ -1,21 +1,20 @@
 -- Laws of why an Add is refused.
-use Rattle.std.proofs.Common.{◌≡◌, ◌≢◌, ℕ, zero, suc, ◌+◌, ◌<◌, ◌≤◌, Bool, true, false, cond, ltb, leb, ◌^◌, ℤ, List, [], ◌∷◌, ◌++◌, length}
-use Rattle.std.proofs.Common.{map, Option, Some, None, refl, sym, ap, subst, ◌∙◌, arith}
-use Rattle.std.specs.Prelude.{is_some}
+use Rattle.std.proofs.Common.{◌≡◌, ◌≢◌, ℕ, ◌<◌, ◌≤◌, Bool, true, false, ltb, leb, ◌^◌, ℤ, List, [], ◌∷◌, ◌++◌, length}
+use Rattle.std.proofs.Common.{Option, Some, None, refl, sym, ap, ◌∙◌, arith}
+use Rattle.std.specs.Prelude.{is_some, is_none}
 use Rattle.std.specs.Option.{option_or}
 use Rattle.std.proofs.lemmas.Bool.Decides.{nat_tests}
 use Rattle.mem_base.specs.declared.map.ids.RegionId.{RegionId}
 use Rattle.mem_base.specs.declared.map.forests.Forest.{Forest}
 use Rattle.mem_base.specs.declared.map.refusals.Refusal.{Refusal}
-use Rattle.mem_base.specs.declared.map.refusals.Refusal.TheVariants.{TooDeep, TooWide, Unknown, Loop}
-use Rattle.mem_base.specs.declared.map.refusals.What.TheVariants as what
+use Rattle.mem_base.specs.declared.map.refusals.Refusal.TheVariants.{TooDeep, TooWide, Loop}
 use Rattle.mem_base.specs.declared.map.calls.Call.TheVariants as calls
 use Rattle.mem_base.specs.map.Region.{node_of}
 use Rattle.mem_base.specs.map.Refusals.{first_refusal, refuse_if, unknown_region, has_container, alias_parent, makes_loop, too_deep}
 use Rattle.mem_base.specs.map.Refusals.{too_wide, in_container, container_of}
 use Rattle.mem_base.specs.map.TableRefusals.{no_more_calls}
 use Rattle.mem_base.specs.map.Changes.{changed}
-use Rattle.std.specs.Prelude.{Result, Ok, Err}
+use Rattle.std.specs.Prelude.{Ok, Err}
 use Rattle.mem_base.specs.declared.map.calls.Call.{Call}
 use Rattle.mem_base.specs.map.Calls.{refusal_of, after, after_unless, counted}
 use Rattle.mem_base.specs.declared.map.forests.Node.{Node}
@@ -62,6 +61,10 @@ or_seven a b d e g h i = simp (or_assoc, or_none)
 pub stands : (a b : Option Refusal) → is_some a ≡ true → option_or a b ≡ a
 stands None b e = cc
 stands (Some x) b e = refl
+
+pub stands_not : (a b : Option Refusal) → is_some a ≡ true → is_none (option_or a b) ≡ false
+stands_not None b e = cc
+stands_not (Some x) b e = refl
 
 pub refused_not : (b : Bool) (why : Refusal) → refuse_if b why ≡ None → b ≡ false
 refused_not true why e = cc

@@ -1,12 +1,14 @@
 // Why a call is refused: for each call the conditions of the definition, in its order.
 
-ghost use Rattle.std.specs.Prelude.{◌≡◌, ◌∷◌, [], ℕ, ℤ, false, IsSome, IfOk};
+ghost use Rattle.std.specs.Prelude.{◌≡◌, ◌∷◌, [], ℕ, ℤ, false, is_none, IsSome, IfOk};
 ghost use Rattle.mem_base.specs.map.Region.{node_of};
 ghost use Rattle.mem_base.specs.map.Changes.{changed};
 ghost use Rattle.mem_base.specs.map.Calls.{refusal_of};
 ghost use Rattle.mem_base.specs.map.Refusals.{alias_parent, has_container, unknown_region, first_refusal};
 ghost use Rattle.mem_base.specs.map.TableRefusals.{no_more_calls};
 ghost use Rattle.mem_base.specs.map.Steps.{reaches, greatest_depth, greatest_weight};
+ghost use Rattle.region_extents.specs.Room.{is_within};
+ghost use Rattle.region_tree.specs.Calls.{IsAdd};
 
 use crate::conditions::{
     alias_too_long, bad_device, bad_event, bad_page, bad_size, event_taken, has_container, in_use,
@@ -17,7 +19,7 @@ use crate::conditions::{
 };
 use crate::tree::Tree;
 use mem_base::{Call, Client, Ioevent, Kind, Perm, Refusal, RegionId, Size, SpaceId};
-use region_extents::{Extent, Join, lengthened, widest};
+use region_extents::{Extent, Join, lengthened, stays_within, widest};
 use std::alloc::AllocError;
 
 impl Tree {
@@ -35,19 +37,42 @@ impl Tree {
                 child,
                 priority,
             } => self.refusal_of_add(parent, offset, child, priority),
-            Call::Region { kind, size } => Ok(self.refusal_of_region(kind, size)),
-            Call::Space { space, root } => Ok(self.refusal_of_space(space, root)),
-            Call::Del { parent, child } => Ok(self.refusal_of_del(parent, child)),
-            Call::Move { child, offset } => Ok(self.refusal_of_move(child, offset)),
-            Call::Resize { region, size } => Ok(self.refusal_of_resize(region, size)),
-            Call::Retarget { alias, offset } => Ok(self.refusal_of_retarget(alias, offset)),
-            Call::Enable { region, .. } => Ok(self.refusal_of_flag(region)),
-            Call::Readonly { region, .. } => Ok(self.refusal_of_flag(region)),
-            Call::Nonvolatile { region, .. } => Ok(self.refusal_of_flag(region)),
-            Call::Unmergeable { region, .. } => Ok(self.refusal_of_flag(region)),
-            Call::Romd { region, on } => Ok(self.refusal_of_romd(region, on)),
-            Call::Log { region, client, on } => Ok(self.refusal_of_log(region, client, on)),
-            Call::Global { on: _ } => Ok(no_more_calls(self)),
+            _ => Ok(self.refusal_of_other(call)),
+        }
+    }
+
+    /// Whether a call is accepted. It changes nothing, and takes no memory.
+    ///
+    /// For an `Add` it walks over all paths from every region, at most 65,536 steps a region; `apply` and `refusal_of` do not.
+    pub fn accepts(&self, call: &Call) -> bool
+        ensures { result ≡ is_none (refusal_of self.now call.now) }
+    {
+        match *call {
+            Call::Add { parent, child, .. } => self.accepts_add(parent, child),
+            _ => self.refusal_of_other(call).is_none(),
+        }
+    }
+
+    /// Why a call other than an `Add` is refused, where it is.
+    fn refusal_of_other(&self, call: &Call) -> Option<Refusal>
+        requires other { IsAdd call.now → ⊥ }
+        ensures { result ≡ refusal_of self.now call.now }
+    {
+        match *call {
+            Call::Add { .. } => None,
+            Call::Region { kind, size } => self.refusal_of_region(kind, size),
+            Call::Space { space, root } => self.refusal_of_space(space, root),
+            Call::Del { parent, child } => self.refusal_of_del(parent, child),
+            Call::Move { child, offset } => self.refusal_of_move(child, offset),
+            Call::Resize { region, size } => self.refusal_of_resize(region, size),
+            Call::Retarget { alias, offset } => self.refusal_of_retarget(alias, offset),
+            Call::Enable { region, .. } => self.refusal_of_flag(region),
+            Call::Readonly { region, .. } => self.refusal_of_flag(region),
+            Call::Nonvolatile { region, .. } => self.refusal_of_flag(region),
+            Call::Unmergeable { region, .. } => self.refusal_of_flag(region),
+            Call::Romd { region, on } => self.refusal_of_romd(region, on),
+            Call::Log { region, client, on } => self.refusal_of_log(region, client, on),
+            Call::Global { on: _ } => no_more_calls(self),
             Call::Map {
                 region,
                 iova,
@@ -55,17 +80,17 @@ impl Tree {
                 space,
                 translated,
                 perm,
-            } => Ok(self.refusal_of_map(region, iova, size, space, translated, perm)),
-            Call::Unmap { region, iova } => Ok(self.refusal_of_unmap(region, iova)),
-            Call::Event { region, event } => Ok(self.refusal_of_event(region, event)),
+            } => self.refusal_of_map(region, iova, size, space, translated, perm),
+            Call::Unmap { region, iova } => self.refusal_of_unmap(region, iova),
+            Call::Event { region, event } => self.refusal_of_event(region, event),
             Call::Unevent {
                 region,
                 offset,
                 size,
                 matched,
                 value,
-            } => Ok(self.refusal_of_unevent(region, offset, size, matched, value)),
-            Call::Drop { region } => Ok(self.refusal_of_drop(region)),
+            } => self.refusal_of_unevent(region, offset, size, matched, value),
+            Call::Drop { region } => self.refusal_of_drop(region),
         }
     }
 
@@ -98,6 +123,30 @@ impl Tree {
     {
         let found = lengthened(self.alloc, self.slots.as_slice(), Join { parent, child })?;
         Ok(widest(found.as_slice()))
+    }
+
+    /// Whether no path is too long after a region is placed in a container.
+    fn stays_within(&self, parent: RegionId, child: RegionId) -> bool
+        requires parent { IsSome (node_of self.now.nodes parent) }
+        requires child { IsSome (node_of self.now.nodes child) }
+        requires no_alias { alias_parent self.now parent ≡ None }
+        requires free { has_container self.now child ≡ None }
+        ensures { (offset : ℕ) (priority : ℤ) → let nodes = (changed self.now (Call.Add parent offset child priority)).nodes in
+            result ≡ is_within (greatest_depth nodes) (greatest_weight nodes) }
+    {
+        stays_within(&self.slots, Join { parent, child })
+    }
+
+    /// Whether an `Add` is accepted: at which offset and with what priority does not matter.
+    fn accepts_add(&self, parent: RegionId, child: RegionId) -> bool
+        ensures { (offset : ℕ) (priority : ℤ) → result ≡ is_none (refusal_of self.now (Call.Add parent offset child priority)) }
+    {
+        let early = no_place(self, parent, child).or(makes_loop(self, parent, child));
+        if early.is_some() {
+            return false;
+        }
+        let short = self.stays_within(parent, child);
+        short && no_more_calls(self).is_none()
     }
 
     /// Why an `Add` is refused, where it is.
