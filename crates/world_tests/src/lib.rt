@@ -13,6 +13,8 @@ mod churn;
 #[cfg(test)]
 mod composites;
 #[cfg(test)]
+mod devices;
+#[cfg(test)]
 mod draws;
 #[cfg(test)]
 mod events;
