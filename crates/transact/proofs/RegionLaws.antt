@@ -1,5 +1,5 @@
 -- Regions by ascending id, found by halves.
-use Rattle.std.proofs.Common.{◌≡◌, ◌≢◌, ◌==◌, ℕ, zero, suc, ◌<◌, ◌≤◌, Bool, true, false, eqb, List, [], ◌∷◌, map, filter, if◌then◌else◌, length, get_or, Err, refl, sym, ap, arith}
+use Rattle.std.proofs.Common.{◌≡◌, ◌≢◌, ◌==◌, ℕ, zero, suc, ◌<◌, ◌≤◌, Bool, true, false, eqb, List, [], ◌∷◌, filter, if◌then◌else◌, length, get_or, Err, refl, sym, ap, arith}
 use Rattle.std.specs.List.Sorted.{IsBinarySearchResult, IsNonDecreasingBy}
 use Rattle.std.specs.declared.cmp.Ordering.TheVariants.{Equal}
 use Rattle.std.specs.Ordering.{nat_cmp, ordering_index}
