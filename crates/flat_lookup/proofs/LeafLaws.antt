@@ -1,11 +1,10 @@
 -- A number among numbers in order, found by halves.
-use Rattle.std.proofs.Common.{◌≡◌, ◌≢◌, ◌==◌, ℕ, suc, ◌-◌, ◌<◌, ◌≤◌, Bool, true, false, eqb, List, [], ◌∷◌, length, get_or, Err, refl, sym, arith}
+use Rattle.std.proofs.Common.{◌≡◌, ◌≢◌, ◌==◌, ℕ, suc, ◌<◌, ◌≤◌, true, false, eqb, List, [], ◌∷◌, length, get_or, Err, refl, sym, arith}
 use Rattle.std.specs.List.Sorted.{IsBinarySearchResult, IsNonDecreasingBy, IsPermutation}
 use Rattle.std.specs.declared.cmp.Ordering.TheVariants.{Equal}
 use Rattle.std.specs.Ordering.{nat_cmp, ordering_index}
 use Rattle.std.proofs.lemmas.Cmp.{ranked}
 use Rattle.std.proofs.lemmas.Bool.Decides.{nat_tests}
-use Rattle.std.proofs.lemmas.List.{get_or_default}
 use Rattle.std.proofs.lemmas.List.Folds.{list_any_at}
 use Rattle.std.proofs.lemmas.List.Sorted.{list_any-IsPermutation}
 use Rattle.mem_base.specs.declared.map.ids.RegionId.{RegionId}
@@ -38,33 +37,6 @@ module _ (ns : List ℕ) (n : ℕ) where
       let a : k < i → get_or ns k d < n = λ b. ranked _ n _ (sym (parts.0 k d (omega arith) b)) in
       let b : i ≤ k → n < get_or ns k d = λ c. ranked _ n _ (sym (parts.1 k d c m)) in
       grind (arith, a, b))
-
-  -- whether the first number that is not below this one is this one
-  module _ (i : ℕ) (rise : IsNonDecreasingBy (λ (m : ℕ). m) ns) (passed : 0 < i → get_or ns (i - 1) 0 < n) where
-    below : (k d : ℕ) → k < i → k < length ns → i ≤ length ns → get_or ns k d < n
-    below k d b m l = let low = passed (omega arith) in let up = rise k (i - 1) 0 (omega arith) (omega arith) in
-        let same = get_or_default ns k d 0 m in omega arith
-
-    pub number_past : i ≡ length ns → has_number n ns ≡ false
-    number_past e = missing n ns (λ k d m same. let low = below k d (omega arith) m (omega arith) in omega arith)
-
-    pub number_other : i < length ns → n < get_or ns i 0 → has_number n ns ≡ false
-    number_other l up = missing n ns (λ k d m same.
-        let same_at = get_or_default ns k d 0 m in
-        let low : k < i → get_or ns k d < n = λ b. below k d b m (omega arith) in
-        let high : i ≤ k → get_or ns i 0 ≤ get_or ns k 0 = λ b. rise i k 0 b m in
-        grind (arith, low, high))
-
-  pub number_here : (i : ℕ) → i < length ns → get_or ns i 0 ≡ n → has_number n ns ≡ true
-  number_here i l e = list_any_at (λ m. m == n) ns i 0 l (grind (arith, nat_tests, e))
-
-  pub number_tested : (i : ℕ) → IsNonDecreasingBy (λ (m : ℕ). m) ns → (0 < i → get_or ns (i - 1) 0 < n) → i < length ns → n ≤ get_or ns i 0
-      → eqb (get_or ns i 0) n ≡ has_number n ns
-  number_tested i rise passed l reached = go (eqb (get_or ns i 0) n) refl
-    where
-      go : (b : Bool) → eqb (get_or ns i 0) n ≡ b → b ≡ has_number n ns
-      go true e = sym (number_here i l (grind (arith, nat_tests, e)))
-      go false e = sym (number_other i rise passed l (grind (arith, nat_tests, e)))
 
 -- sorting keeps what is there
 pub sorted_leaves : (rs : List FlatRange) (ns : List ℕ) → IsPermutation (leaf_numbers rs) ns → AreLeavesOf rs ns

@@ -153,15 +153,6 @@ impl Atlas {
     {
         self.leaves.has(region)
     }
-
-    /// What `has_leaf` answers, where many regions are asked for by ascending id: a guess of 0 for the first of them, and what the
-    /// answer has beside it as the guess for the next. Any guess serves; with these, all of them together take time linear in the
-    /// ranges and the regions. It takes no memory.
-    pub fn has_leaf_from(&self, guess: usize, region: RegionId) -> (bool, usize)
-        ensures { result.0 ≡ has_leaf region self.now }
-    {
-        self.leaves.has_from(guess, region)
-    }
 }
 
 // The end of the run at a place.

@@ -1,5 +1,5 @@
 // The leaves of a view, in order.
-ghost use Rattle.std.specs.Prelude.{◌≡◌, ◌-◌, ◌<◌, ◌≤◌, ℕ, IfOk, length, slice_index};
+ghost use Rattle.std.specs.Prelude.{◌≡◌, ℕ, IfOk};
 ghost use Rattle.flat_lookup.specs.Leaves.{has_number, leaf_numbers, AreLeavesOf};
 
 use mem_base::{FlatRange, RegionId};
@@ -42,35 +42,6 @@ impl Leaves {
             Err(_) => false,
         }
     }
-
-    /// The same, with a guess where the region stands, and where it stands or would: the guess for a greater region. A guess that
-    /// is past it takes as long as `has`; else it is sought from there on, one after another.
-    pub(crate) fn has_from(&self, guess: usize, region: RegionId) -> (bool, usize)
-        ensures { result.0 ≡ has_number region.0 self.now }
-    {
-        let items = self.items.as_slice();
-        let at = guess.min(items.len());
-        if at > 0 && items[at - 1] >= region.0 {
-            return (self.has(region), guess);
-        }
-        let at = first_from(items, at, region.0);
-        (at < items.len() && items[at] == region.0, at)
-    }
-}
-
-// The first place from one on at which there is no lesser number.
-fn first_from(items: &[u32], from: usize, number: u32) -> usize
-    requires from { from ≤ length items.now }
-    requires passed { 0 < from → slice_index items.now (from - 1) < number }
-    ensures inside { result ≤ length items.now }
-    ensures passed { 0 < result → slice_index items.now (result - 1) < number }
-    ensures reached { result < length items.now → number ≤ slice_index items.now result }
-{
-    let mut at = from;
-    while at < items.len() && items[at] < number {
-        at += 1;
-    }
-    at
 }
 
 // The numbers of the leaves, in the order of the ranges.

@@ -69,7 +69,9 @@ impl Generation {
         ensures forest { result.forest ≡ forest }
         ensures places { result.places ≡ places.items }
     {
-        Generation::with(number, forest, atlases, places, Guesses::none())
+        let has_iommu = has_iommu(forest.nodes.as_slice());
+        let guesses = Guesses::none();
+        Generation::with(number, forest, atlases, places, guesses, has_iommu)
     }
 
     /// The same generation, in which the place of a region is found by one look where the region's number is below the number
@@ -88,9 +90,33 @@ impl Generation {
         ensures forest { IfOk result (λ g. g.forest ≡ forest) }
         ensures places { IfOk result (λ g. g.places ≡ places.items) }
     {
+        let has_iommu = has_iommu(forest.nodes.as_slice());
+        let generation = Generation::indexed_with(
+            alloc, number, forest, atlases, places, has_iommu,
+        )?;
+        Ok(generation)
+    }
+
+    /// The same, where it is known whether some region is an IOMMU region: the regions are not looked at.
+    pub fn indexed_with(
+        alloc: Global,
+        number: u64,
+        forest: Forest,
+        atlases: Vec<(SpaceId, Arc<Atlas, Global>)>,
+        places: Vec<Place>,
+        has_iommu: bool,
+    ) -> Result<Generation, AllocError>
+        requires edition { IsEdition forest places.items }
+        requires atlases { map (λ p. (p.0, arc_value p.1)) atlases.items ≡ views_of forest }
+        requires ascending { AscendByRegion places.items }
+        requires iommu { has_iommu ≡ list_any (λ n. is_iommu n.kind) forest.nodes }
+        ensures number { IfOk result (λ g. g.number ≡ number) }
+        ensures forest { IfOk result (λ g. g.forest ≡ forest) }
+        ensures places { IfOk result (λ g. g.places ≡ places.items) }
+    {
         let regions = forest.nodes.as_slice().len();
         let guesses = Guesses::of(alloc, places.as_slice(), regions)?;
-        Ok(Generation::with(number, forest, atlases, places, guesses))
+        Ok(Generation::with(number, forest, atlases, places, guesses, has_iommu))
     }
 
     // The same, with these guesses where the places stand.
@@ -100,15 +126,16 @@ impl Generation {
         atlases: Vec<(SpaceId, Arc<Atlas, Global>)>,
         places: Vec<Place>,
         guesses: Guesses,
+        has_iommu: bool,
     ) -> Generation
         requires edition { IsEdition forest places.items }
         requires atlases { map (λ p. (p.0, arc_value p.1)) atlases.items ≡ views_of forest }
         requires ascending { AscendByRegion places.items }
+        requires iommu { has_iommu ≡ list_any (λ n. is_iommu n.kind) forest.nodes }
         ensures number { result.number ≡ number }
         ensures forest { result.forest ≡ forest }
         ensures places { result.places ≡ places.items }
     {
-        let has_iommu = has_iommu(forest.nodes.as_slice());
         Generation {
             number,
             forest,

@@ -1,7 +1,7 @@
 -- Whether a forest shows an ioeventfd, by its regions.
 use Rattle.std.proofs.Common.{◌≡◌, ◌<◌, ◌&&◌, ◌||◌, if◌then◌else◌, Bool, true, false, ltb, List, [], ◌∷◌, length, Option, Some, None, refl}
 use Rattle.std.proofs.Common.{sym, ap, subst, ◌∙◌, arith}
-use Rattle.std.specs.Prelude.{find, nat_lt, unwrap_or}
+use Rattle.std.specs.Prelude.{find, filter, nat_lt, unwrap_or}
 use Rattle.std.specs.List.{list_any}
 use Rattle.std.proofs.lemmas.Bool.Decides.{nat_tests}
 use Rattle.mem_base.specs.declared.map.ids.RegionId.{RegionId}
@@ -9,6 +9,7 @@ use Rattle.mem_base.specs.declared.map.forests.Node.{Node}
 use Rattle.mem_base.specs.declared.map.forests.Forest.{Forest}
 use Rattle.mem_base.specs.lists.Every.{Every}
 use Rattle.mem_base.specs.map.Region.{IsAscending, node_of, has_id}
+use Rattle.mem_base.specs.map.Order.{ids_of}
 use Rattle.mem_base.specs.views.LiveEvents.{events_at, events_of}
 use Rattle.mem_base.specs.views.Naming.{names, shows_events}
 use Rattle.mem_base.proofs.ForestLaws.{node_of-itself, every_node_of}
@@ -90,3 +91,13 @@ events_named f ascending = bool_same (list_any (is_shown f) f.nodes) (shows_even
 pub any_same : {A : Type 0} (p q : A → Bool) → ((x : A) → p x ≡ q x) → (xs : List A) → list_any p xs ≡ list_any q xs
 any_same p q same [] = refl
 any_same p q same (x ∷ xs) = rw (same x, any_same p q same xs) refl
+
+-- one of the ids of those that pass a test
+pub any_id : (p : Node → Bool) (q : RegionId → Bool) (nodes : List Node) → list_any q (ids_of (filter p nodes)) ≡ list_any (λ n. p n && q n.id) nodes
+any_id p q [] = refl
+any_id p q (n ∷ ns) = go (any_id p q ns) (p n)
+  where
+    go : list_any q (ids_of (filter p ns)) ≡ list_any (λ n. p n && q n.id) ns → (b : Bool)
+        → list_any q (ids_of (if b then n ∷ filter p ns else filter p ns)) ≡ ((b && q n.id) || list_any (λ n. p n && q n.id) ns)
+    go rest true = ap (λ b. q n.id || b) rest
+    go rest false = rest

@@ -9,3 +9,4 @@ pub mod SpareLaws
 pub mod NotedLaws
 pub mod StayLaws
 pub mod LiveLaws
+pub mod RegionLaws

@@ -3,3 +3,4 @@ pub mod Preparing
 pub mod Commits
 pub mod Spares
 pub mod Noted
+pub mod Marks

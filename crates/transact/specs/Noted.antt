@@ -1,13 +1,14 @@
 -- The regions that calls may have changed since the current generation, and what of a space cannot be another where none of
 -- them is near it.
 -- QEMU's core renders every space again when a transaction ends; that the changed regions are noted is this project's own.
-use Rattle.std.specs.Prelude.{◌≡◌, ◌==◌, ◌||◌, not, Bool, false, List, [], ◌∷◌, Option, Some, None, IfSome}
+use Rattle.std.specs.Prelude.{◌≡◌, ◌==◌, ◌<◌, ◌||◌, not, Bool, false, List, [], ◌∷◌, Option, Some, None, IfSome}
 use Rattle.std.specs.List.{list_any}
 use Rattle.mem_base.specs.declared.map.ids.RegionId.{RegionId}
 use Rattle.mem_base.specs.declared.map.forests.Node.{Node}
 use Rattle.mem_base.specs.declared.map.forests.Forest.{Forest}
 use Rattle.mem_base.specs.declared.map.calls.Call.{Call}
 use Rattle.mem_base.specs.declared.map.calls.Call.TheVariants as calls
+use Rattle.mem_base.specs.lists.Every.{EveryPair}
 use Rattle.mem_base.specs.map.Region.{node_of}
 use Rattle.mem_base.specs.map.Edits.{edits}
 
@@ -27,6 +28,10 @@ listed (Some r) = r ∷ []
 -- the region is among these
 abbrev pub is_among : List RegionId → RegionId → Bool
 is_among rs r = list_any (λ q. q.0 == r.0) rs
+
+-- the regions stand by ascending id
+abbrev pub Ascend : List RegionId → Type 0
+Ascend rs = EveryPair (λ q r. q.0 < r.0) rs
 
 -- each region that is not among these is the same in both forests
 abbrev pub OthersStay : Forest → Forest → List RegionId → Type 0

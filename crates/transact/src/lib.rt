@@ -8,6 +8,7 @@
 
 mod changes;
 mod desk;
+mod marks;
 mod noted;
 mod prepared;
 mod preparing;

@@ -5,7 +5,7 @@ ghost use Rattle.mem_base.specs.map.Forest.{IsMade};
 ghost use Rattle.mem_base.specs.map.Search.{root_of};
 ghost use Rattle.mem_base.specs.map.Touched.{reached, is_same_region, is_touched};
 ghost use Rattle.transact.specs.Desks.{reached_in, regions_at};
-ghost use Rattle.transact.specs.Noted.{is_among, AreNoted};
+ghost use Rattle.transact.specs.Noted.{is_among, Ascend, AreNoted};
 
 use crate::noted::Noted;
 use crate::touched::{any_differs, is_same_region};
@@ -28,12 +28,16 @@ impl Model for Regions {
     ghost Value = { List RegionId };
 
     ghost use Rattle.std.specs.Arc.{arc_value};
+    ghost use Rattle.transact.specs.Noted.{Ascend};
 
     ghost view = { λ r. (arc_value r.items).items };
+
+    ghost invariant = { λ r. Ascend (arc_value r.items).items };
 }
 
 impl Regions {
     pub(crate) fn new(alloc: Global, items: Vec<RegionId>) -> Result<Regions, AllocError>
+        requires { Ascend items.items }
         ensures { IfOk result (λ regions. regions ≡ items.items) }
     {
         Ok(Regions {
@@ -54,7 +58,11 @@ impl Regions {
     pub(crate) fn has(&self, region: RegionId) -> bool
         ensures { result ≡ is_among self.now region }
     {
-        self.as_slice().iter().any(|one| one.0 == region.0)
+        let items = self.items.as_slice();
+        match items.binary_search_by_key(&region.0, |one| one.0) {
+            Ok(_) => true,
+            Err(_) => false,
+        }
     }
 
     pub(crate) fn as_slice(&self) -> &[RegionId]

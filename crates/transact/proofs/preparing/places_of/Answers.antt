@@ -6,4 +6,4 @@ use Rattle.transact.proofs.preparing.places_of.Goals as goal
 pub returns : goal.returns
 returns c =
     c.in_ok-list.ensures
-    ∙ kept_places arc_value c.args.forest.now c.args.atlases.now c.shows_events-notifies.result c.args.places.now c.requires c.shows_events-notifies.ensures
+    ∙ kept_places arc_value c.args.forest.now c.args.atlases.now c.shows_events-notifies.result c.args.places.now c.requires.views c.shows_events-notifies.ensures
