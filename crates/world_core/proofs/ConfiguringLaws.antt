@@ -1,17 +1,19 @@
 -- What a private event leaves of the parts of a world is what the machine's own call leaves.
 use Rattle.std.proofs.Common.{◌≡◌, ℕ, ◌+◌, ◌-◌, ◌<◌, ◌≤◌, Bool, true, false, List, [], ◌∷◌, map, length, take}
 use Rattle.std.proofs.Common.{Option, Some, None, refl, sym, ap, subst, ◌∙◌, arith}
-use Rattle.std.specs.Prelude.{◌^◌, not, nat_le, if◌then◌else◌, is_some, option_map, slice_get, Result, Ok, Err, IfSome}
+use Rattle.std.specs.Prelude.{◌==◌, ◌&&◌, ◌^◌, not, nat_le, if◌then◌else◌, is_some, is_ok, option_map, slice_get, Result, Ok, Err, IfSome}
 use Rattle.std.proofs.lemmas.List.{take-map}
 use Rattle.std.proofs.lemmas.Bool.{le-leb}
+use Rattle.std.proofs.lemmas.Bool.Decides.{nat_tests}
 use Rattle.mem_base.specs.declared.map.ids.RegionId.{RegionId}
 use Rattle.mem_base.specs.declared.map.forests.Forest.{Forest}
 use Rattle.mem_base.specs.declared.map.calls.Applied.{Applied}
+use Rattle.mem_base.specs.declared.map.calls.Applied.TheVariants.{Done}
 use Rattle.mem_base.specs.declared.map.calls.Call.{Call}
 use Rattle.mem_base.specs.declared.map.calls.Config.{Config}
 use Rattle.mem_base.specs.declared.map.calls.Config.TheVariants as configs
 use Rattle.mem_base.specs.declared.map.refusals.Refusal.{Refusal}
-use Rattle.mem_base.specs.declared.map.refusals.Refusal.TheVariants.{Memory}
+use Rattle.mem_base.specs.declared.map.refusals.Refusal.TheVariants.{Memory, NoTransaction}
 use Rattle.mem_base.specs.declared.access.cells.Cell.{Cell}
 use Rattle.mem_base.specs.declared.machine.events.Event.TheVariants as events
 use Rattle.mem_base.specs.lists.Every.{Every}
@@ -23,8 +25,10 @@ use Rattle.mem_base.specs.machine.Passes.{pass_id}
 use Rattle.mem_base.specs.machine.Generations.{Generations, generation, PassTrack, with_placed}
 use Rattle.mem_base.specs.machine.Desk as desks
 use Rattle.mem_base.specs.machine.Desk.{Desk, places_of, shown_places}
-use Rattle.mem_base.specs.machine.Publishing.{Settled, would_publish, held_up, held_from, held_at, holds_up, forest_in, current_forest}
-use Rattle.mem_base.specs.machine.Configs.{configured}
+use Rattle.mem_base.specs.machine.Publishing.{Settled, settled, refused_desk, unless_refused, readied, publishing, would_publish, held_up, held_from}
+use Rattle.mem_base.specs.machine.Publishing.{held_at, holds_up, forest_in, current_forest}
+use Rattle.mem_base.specs.machine.Configs.{configured, kept_back}
+use Rattle.mem_base.specs.map.Calls.{after, answer_of, is_quiet}
 use Rattle.mem_base.specs.machine.Reaps.{writer}
 use Rattle.mem_base.specs.machine.World.{World, world, world_after, is_at_rest, block_for}
 use Rattle.mem_base.specs.machine.History.{run_events}
@@ -103,6 +107,40 @@ would_commit d (configs.Call call) = refl
 would_commit d configs.Commit = refl
 would_commit d (configs.Listen listener space priority) = refl
 would_commit d (configs.Unlisten listener) = refl
+
+-- what a call leaves, by whether a transaction is open, whether it is quiet, and whether the forest accepts it
+abbrev call_after : Generations → Desk → Call → Bool → Bool → Result Forest Refusal → Settled
+call_after g d call outside quiet (Err why) = refused_desk d why
+call_after g d call outside quiet (Ok f) = if outside && not quiet then publishing g d f (answer_of d.forest call) else kept_back d call f
+
+-- an event that would publish is accepted, where nothing holds that up
+published_anyway : (g : Generations) (d : Desk) (f : Forest) (a : Applied) (why : Refusal) → held_up g ≡ None → (publishing g d f a).answer ≡ Err why → ⊥
+published_anyway g d f a why none e =
+    let accepted : (publishing g d f a).answer ≡ Ok a = ap (λ (o : Option Refusal). (unless_refused o d (settled (readied g d f) a)).answer) none in
+    cc
+
+free_refused : (g : Generations) (d : Desk) (c : Config) (why : Refusal) → held_up g ≡ None → (configured g d c).answer ≡ Err why
+    → would_publish d c ≡ false
+free_refused g d configs.Begin why none e = refl
+free_refused g d (configs.Call call) why none e = go (d.depth == 0) (is_quiet call) (after d.forest call) e
+  where
+    go : (b q : Bool) (r : Result Forest Refusal)
+        → (call_after g d call b q r).answer ≡ Err why → (b && (not q && is_ok r)) ≡ false
+    go false q r h = refl
+    go true true r h = refl
+    go true false (Err other) h = refl
+    go true false (Ok f) h = absurd (published_anyway g d f (answer_of d.forest call) why none h)
+free_refused g d configs.Commit why none e = go (d.depth == 0) (d.depth == 1) d.pending refl refl e
+  where
+    go : (z o p : Bool) → (d.depth == 0) ≡ z → (d.depth == 1) ≡ o
+        → (if z then refused_desk d NoTransaction else if o && p then publishing g d d.forest Done else settled (record d { depth = d.depth - 1 }) Done).answer
+        ≡ Err why → (o && p) ≡ false
+    go z false p a b h = refl
+    go z true false a b h = refl
+    go true true true a b h = grind (arith, nat_tests)
+    go false true true a b h = absurd (published_anyway g d d.forest Done why none h)
+free_refused g d (configs.Listen listener space priority) why none e = refl
+free_refused g d (configs.Unlisten listener) why none e = refl
 
 -- what others keep after an accepted event
 pub kept_beside : (d : WriterState) (b : Beside) (c : Config) → b.unfilled ≡ [] → beside_by d.backed b c
@@ -281,6 +319,13 @@ module _ (d : WriterState) (k : KeptState) (ws : List ℕ) (dropped : List Regio
       → would_publish (started b) c ≡ true → held_up (generations_of (swept_if b k)) ≡ held
   free held told true t u = sym told
   free held told false t u = true_is_not_false _ u (would_still false c ∙ t)
+
+  -- where nothing holds a publish up, an event that is refused would have published nothing
+  pub refused_unpublished : (e : WriterState) (held : Option Refusal) (why : Refusal) → IsConfigured d c held e (Err why)
+      → held ≡ held_up (generations_of (all_swept k)) → held ≡ None → (b : Beside) → would_publish (desk_of d b) c ≡ false
+  refused_unpublished e held why is told none b =
+      let g = generations_of (all_swept k) in
+      free_refused g (desk_of d b) c why (sym told ∙ none) (ap (λ (s : Settled). s.answer) (is g b (here true) (λ publishes. sym told)))
 
   few : d.backed.desk.state.forest.made ≤ most_made
   few = subst (λ (f : Forest). f.made ≤ most_made) same_forest (sound_of w h.reached).holds.sound.few

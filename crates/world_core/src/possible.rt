@@ -1,11 +1,10 @@
 // Which events are possible.
-ghost use Rattle.std.specs.Prelude.{◌≡◌, ◌&&◌, Some, OnErr, IfOk};
+ghost use Rattle.std.specs.Prelude.{◌≡◌, ◌&&◌, Some};
 ghost use Rattle.mem_base.specs.declared.machine.events.Event.TheVariants as events;
 ghost use Rattle.mem_base.specs.access.Places.{is_data_or_register, mark_words, pages_in};
 ghost use Rattle.mem_base.specs.machine.Generations.{generation};
 ghost use Rattle.mem_base.specs.machine.Guards.{is_notifier, may_mark, may_reach};
 ghost use Rattle.mem_base.specs.machine.World.{is_at_rest, possible};
-ghost use Rattle.world_core.specs.Events.{IsConfig};
 
 use crate::harvesting::mark_words;
 use crate::world::World;
@@ -15,7 +14,6 @@ use mem_base::{
     Cell, Client, Config, Event, Hand, NOTIFIER_COUNT, PAGE_SIZE, PassId, Place, RegionId,
     WORD_SIZE, WordStep,
 };
-use std::alloc::AllocError;
 
 // Whether a word is one of the data or registers of a place.
 fn is_data_or_register(place: &Place, word: usize) -> bool
@@ -50,23 +48,12 @@ fn may_mark(shown: &Generation, place: &Place, region: RegionId, page: u64) -> b
 }
 
 impl World {
-    /// Whether an event may happen where the machine stands, by this project's own rules.
+    /// Whether an event may happen where the machine stands, by this project's own rules. It takes no memory.
     ///
-    /// A `Config` that would publish wants each pass swept, so it matters whether the forest accepts its call. To find that out of
-    /// a region that is to be placed in a container takes memory: the test fails only of a `Config`, where memory runs out.
-    pub fn possible(&self, event: &Event) -> Result<bool, AllocError>
-        ensures value { IfOk result (λ may. may ≡ possible self.now event.now) }
-        ensures spared { OnErr result (IsConfig event.now) }
-    {
-        match *event {
-            Event::Config(config) => Ok(self.may_change(&config)?),
-            _ => Ok(self.may_happen(event)),
-        }
-    }
-
-    // Whether an event other than one that changes the map may happen.
-    fn may_happen(&self, event: &Event) -> bool
-        requires other { IsConfig event.now → ⊥ }
+    /// A `Config` that would publish wants each pass swept, so it matters whether the forest accepts its call. Where a region is to be
+    /// placed in a container, that takes a walk over all paths of the forest; the calls that change the map make no such walk, unless
+    /// a pass holds a publish up.
+    pub fn possible(&self, event: &Event) -> bool
         ensures { result ≡ possible self.now event.now }
     {
         match *event {
@@ -87,7 +74,7 @@ impl World {
                 index,
             } => self.may_take(region, client, index),
             Event::Fill { cell } => self.unfilled.has(&cell),
-            Event::Config(_) => false,
+            Event::Config(config) => self.may_change(&config),
             Event::Reap => {
                 let rests = self.is_at_rest();
                 rests && self.kept.is_all_swept()
@@ -151,16 +138,16 @@ impl World {
     }
 
     // Whether a private event of the writer may happen.
-    fn may_change(&self, config: &Config) -> Result<bool, AllocError>
-        ensures { IfOk result (λ may. may ≡ possible self.now (events.Config config.now)) }
+    fn may_change(&self, config: &Config) -> bool
+        ensures { result ≡ possible self.now (events.Config config.now) }
     {
         if !self.is_at_rest() {
-            return Ok(false);
+            return false;
         }
         if self.kept.is_all_swept() {
-            return Ok(true);
+            return true;
         }
-        let publishes = self.desk.would_publish(config)?;
-        Ok(!publishes)
+        let publishes = self.desk.would_publish(config);
+        !publishes
     }
 }

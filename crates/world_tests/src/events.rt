@@ -21,6 +21,13 @@ const SHOWN: Event = Event::Config(Config::Call(Call::Space {
     root: BELL,
 }));
 
+const INSIDE_ITSELF: Event = Event::Config(Config::Call(Call::Add {
+    parent: BELL,
+    offset: 0,
+    child: BELL,
+    priority: 0,
+}));
+
 const MARK: Event = Event::Mark {
     pass: FIRST,
     region: BELL,
@@ -58,24 +65,23 @@ const fn call(call: Call) -> Event {
 type Row = (Event, Option<Result<Reply, Refusal>>);
 
 // Makes the event where it is possible, and tells whether it is so, with this answer.
-fn goes(world: &mut World, row: Row) -> Result<bool, Fail> {
+fn goes(world: &mut World, row: Row) -> bool {
     let (event, want) = row;
-    if !world.possible(&event)? {
-        return Ok(want.is_none());
+    if !world.possible(&event) {
+        return want.is_none();
     }
     let answer = world.step(&event);
-    Ok(want == Some(answer))
+    want == Some(answer)
 }
 
 // Whether all rows are so, one after another.
-fn all_go(world: &mut World, rows: &[Row]) -> Result<bool, Fail> {
+fn all_go(world: &mut World, rows: &[Row]) -> bool {
     for row in rows {
-        let is_so = goes(world, *row)?;
-        if !is_so {
-            return Ok(false);
+        if !goes(world, *row) {
+            return false;
         }
     }
-    Ok(true)
+    true
 }
 
 // Makes a device with two registers.
@@ -92,7 +98,7 @@ fn makes_a_bell() -> Event {
 }
 
 // Nothing is possible of a region that is not there; then it is made.
-fn made(world: &mut World) -> Result<bool, Fail> {
+fn made(world: &mut World) -> bool {
     let writer = Hand::Writer;
     let rows = [
         (Event::Announce(FIRST), None),
@@ -108,7 +114,7 @@ fn made(world: &mut World) -> Result<bool, Fail> {
 }
 
 // Two words are to be cleared before the next private event.
-fn cleared(world: &mut World) -> Result<bool, Fail> {
+fn cleared(world: &mut World) -> bool {
     let writer = Hand::Writer;
     let rows = [
         (BEGIN, None),
@@ -125,7 +131,7 @@ fn cleared(world: &mut World) -> Result<bool, Fail> {
 }
 
 // A change wants each pass swept.
-fn swept(world: &mut World) -> Result<bool, Fail> {
+fn swept(world: &mut World) -> bool {
     let rows = [
         (SHOWN, None),
         (Event::Sweep(FIRST), Some(Ok(Reply::Number(0)))),
@@ -137,7 +143,7 @@ fn swept(world: &mut World) -> Result<bool, Fail> {
 }
 
 // It is due until each pass has its copy.
-fn published(world: &mut World) -> Result<bool, Fail> {
+fn published(world: &mut World) -> bool {
     let rows = [
         (BEGIN, None),
         (Event::Publish, None),
@@ -152,7 +158,7 @@ fn published(world: &mut World) -> Result<bool, Fail> {
 }
 
 // A pass enters it.
-fn entered(world: &mut World) -> Result<bool, Fail> {
+fn entered(world: &mut World) -> bool {
     let pass = Hand::Pass(FIRST);
     let rows = [
         (Event::Look(FIRST), Some(Ok(Reply::Number(1)))),
@@ -173,12 +179,13 @@ fn entered(world: &mut World) -> Result<bool, Fail> {
 }
 
 // What the forest refuses publishes nothing, so it wants no sweep.
-fn refused(world: &mut World) -> Result<bool, Fail> {
+fn refused(world: &mut World) -> bool {
     let rows = [
         (
             SHOWN,
             Some(Err(Refusal::NameTaken(mem_base::What::Space(SpaceId(0))))),
         ),
+        (INSIDE_ITSELF, Some(Err(Refusal::Loop(BELL)))),
         (BEGIN, DONE),
         (Event::Reap, None),
     ];
@@ -186,16 +193,16 @@ fn refused(world: &mut World) -> Result<bool, Fail> {
 }
 
 // All of it, one after another.
-fn all(world: &mut World) -> Result<bool, Fail> {
-    let is_shown = made(world)? && cleared(world)? && swept(world)?;
-    let is_entered = published(world)? && entered(world)? && refused(world)?;
-    Ok(is_shown && is_entered)
+fn all(world: &mut World) -> bool {
+    let is_shown = made(world) && cleared(world) && swept(world);
+    let is_entered = published(world) && entered(world) && refused(world);
+    is_shown && is_entered
 }
 
 #[test]
 fn a_region_is_made_cleared_and_published_event_by_event(rt: HostRuntime) -> Result<(), Fail> {
     let mut world = World::new(rt.alloc(), 8, 2)?;
-    let is_so = all(&mut world)?;
+    let is_so = all(&mut world);
     assert!(rt; is_so);
     Ok(())
 }

@@ -167,21 +167,21 @@ impl WriterDesk {
     /// Whether a private event would be a publish, were it not held up: an accepted change outside all transactions, or an
     /// outermost commit of pending changes. Nothing is due.
     ///
-    /// It fails only where memory runs out.
-    pub fn would_publish(&self, config: &Config) -> Result<bool, AllocError>
+    /// It takes no memory.
+    pub fn would_publish(&self, config: &Config) -> bool
         requires rest { self.now.due ≡ None }
-        ensures { IfOk result (λ publishes. (b : Beside) → publishes ≡ would_publish (desk_of self.now b) config.now) }
+        ensures { (b : Beside) → result ≡ would_publish (desk_of self.now b) config.now }
     {
         let desk = self.backed.desk();
         match *config {
             Config::Call(call) => {
                 if desk.depth() > 0 || call.is_quiet() {
-                    return Ok(false);
+                    return false;
                 }
-                Ok(desk.tree().refusal_of(&call)?.is_none())
+                desk.tree().accepts(&call)
             }
-            Config::Commit => Ok(desk.depth() == 1 && desk.pending()),
-            _ => Ok(false),
+            Config::Commit => desk.depth() == 1 && desk.pending(),
+            _ => false,
         }
     }
 

@@ -14,6 +14,6 @@ returns c =
     let rests : is_at_rest w.writer.desk ≡ true = search rules in
     let swept : is_all_swept w.writer.desk ≡ false =
     ap (λ (v : World). is_all_swept v.writer.desk) (sym c.self.view_is) ∙ sym c.is_all_swept.ensures ∙ c.if-is_all_swept.false in
-    let told : c.in_ok-publishes.publishes ≡ would_publish w.writer.desk c.args.config.now =
-    c.in_ok-publishes.ensures (beside x s.kept.swept) ∙ ap (λ (v : World). would_publish v.writer.desk c.args.config.now) c.self.view_is in
-    by_sweeps (is_at_rest w.writer.desk) (is_all_swept w.writer.desk) c.in_ok-publishes.publishes (would_publish w.writer.desk c.args.config.now) rests swept told
+    let told : c.would_publish-publishes.result ≡ would_publish w.writer.desk c.args.config.now =
+    c.would_publish-publishes.ensures (beside x s.kept.swept) ∙ ap (λ (v : World). would_publish v.writer.desk c.args.config.now) c.self.view_is in
+    by_sweeps (is_at_rest w.writer.desk) (is_all_swept w.writer.desk) c.would_publish-publishes.result (would_publish w.writer.desk c.args.config.now) rests swept told
