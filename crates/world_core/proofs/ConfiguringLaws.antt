@@ -52,7 +52,8 @@ use Rattle.backed_desk.specs.Backed.{all_places}
 use Rattle.writer_desk.specs.Writers.{WriterState, writer_state, Beside, desk_of, beside_by, settled_as, standing, IsConfigured, IsReady}
 use Rattle.writer_desk.specs.Writers.{IsAccepted, backing_by, published_with}
 use Rattle.world_core.specs.Worlds.{filled_beside, filled_world, IsReached, IsFilledWorld}
-use Rattle.world_core.specs.Configuring.{answer_by, dropped_with, made_place, cleared_at, swept_if, unswept, followed}
+use Rattle.world_core.specs.Configuring.{answer_by, dropped_with, is_held, made_place, cleared_at, swept_if, unswept, followed}
+use Rattle.world_core.proofs.HeldLaws.{held_where_refused}
 use Rattle.world_core.proofs.ComposedLaws.{publishes_leave, fills_leave_rest}
 use Rattle.world_core.proofs.MadeCellLaws.{unfilled_with}
 use Rattle.world_core.proofs.MadeCellLaws as made
@@ -107,40 +108,6 @@ would_commit d (configs.Call call) = refl
 would_commit d configs.Commit = refl
 would_commit d (configs.Listen listener space priority) = refl
 would_commit d (configs.Unlisten listener) = refl
-
--- what a call leaves, by whether a transaction is open, whether it is quiet, and whether the forest accepts it
-abbrev call_after : Generations → Desk → Call → Bool → Bool → Result Forest Refusal → Settled
-call_after g d call outside quiet (Err why) = refused_desk d why
-call_after g d call outside quiet (Ok f) = if outside && not quiet then publishing g d f (answer_of d.forest call) else kept_back d call f
-
--- an event that would publish is accepted, where nothing holds that up
-published_anyway : (g : Generations) (d : Desk) (f : Forest) (a : Applied) (why : Refusal) → held_up g ≡ None → (publishing g d f a).answer ≡ Err why → ⊥
-published_anyway g d f a why none e =
-    let accepted : (publishing g d f a).answer ≡ Ok a = ap (λ (o : Option Refusal). (unless_refused o d (settled (readied g d f) a)).answer) none in
-    cc
-
-free_refused : (g : Generations) (d : Desk) (c : Config) (why : Refusal) → held_up g ≡ None → (configured g d c).answer ≡ Err why
-    → would_publish d c ≡ false
-free_refused g d configs.Begin why none e = refl
-free_refused g d (configs.Call call) why none e = go (d.depth == 0) (is_quiet call) (after d.forest call) e
-  where
-    go : (b q : Bool) (r : Result Forest Refusal)
-        → (call_after g d call b q r).answer ≡ Err why → (b && (not q && is_ok r)) ≡ false
-    go false q r h = refl
-    go true true r h = refl
-    go true false (Err other) h = refl
-    go true false (Ok f) h = absurd (published_anyway g d f (answer_of d.forest call) why none h)
-free_refused g d configs.Commit why none e = go (d.depth == 0) (d.depth == 1) d.pending refl refl e
-  where
-    go : (z o p : Bool) → (d.depth == 0) ≡ z → (d.depth == 1) ≡ o
-        → (if z then refused_desk d NoTransaction else if o && p then publishing g d d.forest Done else settled (record d { depth = d.depth - 1 }) Done).answer
-        ≡ Err why → (o && p) ≡ false
-    go z false p a b h = refl
-    go z true false a b h = refl
-    go true true true a b h = grind (arith, nat_tests)
-    go false true true a b h = absurd (published_anyway g d d.forest Done why none h)
-free_refused g d (configs.Listen listener space priority) why none e = refl
-free_refused g d (configs.Unlisten listener) why none e = refl
 
 -- what others keep after an accepted event
 pub kept_beside : (d : WriterState) (b : Beside) (c : Config) → b.unfilled ≡ [] → beside_by d.backed b c
@@ -320,12 +287,13 @@ module _ (d : WriterState) (k : KeptState) (ws : List ℕ) (dropped : List Regio
   free held told true t u = sym told
   free held told false t u = true_is_not_false _ u (would_still false c ∙ t)
 
-  -- where nothing holds a publish up, an event that is refused would have published nothing
-  pub refused_unpublished : (e : WriterState) (held : Option Refusal) (why : Refusal) → IsConfigured d c held e (Err why)
-      → held ≡ held_up (generations_of (all_swept k)) → held ≡ None → (b : Beside) → would_publish (desk_of d b) c ≡ false
-  refused_unpublished e held why is told none b =
+  -- an event that is refused says that a publish is held up just where it would have been one
+  pub refused_as_held : (e : WriterState) → e ≡ d → (held : Option Refusal) (why : Refusal) → IsConfigured d c held e (Err why)
+      → held ≡ held_up (generations_of (all_swept k)) → (b : Beside) → is_held why ≡ would_publish (desk_of e b) c
+  refused_as_held e same held why is told b =
       let g = generations_of (all_swept k) in
-      free_refused g (desk_of d b) c why (sym told ∙ none) (ap (λ (s : Settled). s.answer) (is g b (here true) (λ publishes. sym told)))
+      held_where_refused g (desk_of d b) c why (ap (λ (s : Settled). s.answer) (is g b (here true) (λ publishes. sym told)))
+      ∙ ap (λ (x : WriterState). would_publish (desk_of x b) c) (sym same)
 
   few : d.backed.desk.state.forest.made ≤ most_made
   few = subst (λ (f : Forest). f.made ≤ most_made) same_forest (sound_of w h.reached).holds.sound.few

@@ -1,18 +1,17 @@
 // The writer's calls that change the map, and the listeners that join and leave: private events, with what goes before and after.
-ghost use Rattle.std.specs.Prelude.{◌≡◌, ◌≢◌, ◌+◌, ◌^◌, ◌<◌, ◌≤◌, true, false, length, option_map, vec_capacity, vec_len};
-ghost use Rattle.std.specs.Prelude.{Option, Some, None, Ok, Err, IfSome, OnErr, OnOk, IfOk};
+ghost use Rattle.std.specs.Prelude.{◌≡◌, ◌≢◌, ◌+◌, ◌^◌, ◌<◌, ◌≤◌, true, length, option_map, vec_capacity, vec_len};
+ghost use Rattle.std.specs.Prelude.{Option, Some, Ok, Err, IfSome, OnErr, OnOk, IfOk};
 ghost use Rattle.std.specs.Arc.{arc_value};
 ghost use Rattle.mem_base.specs.declared.map.calls.Config.TheVariants as configs;
 ghost use Rattle.mem_base.specs.lists.Sorting.{put_by};
 ghost use Rattle.mem_base.specs.access.Places.{past};
 ghost use Rattle.mem_base.specs.machine.Desk.{region_order};
-ghost use Rattle.mem_base.specs.machine.Publishing.{would_publish};
 ghost use Rattle.mem_base.specs.machine.World.{is_at_rest};
 ghost use Rattle.mem_base.specs.machine.Orders.{configure};
 ghost use Rattle.mem_base.specs.machine.Answers.{call_answer, commit_answer, plain_answer};
 ghost use Rattle.mem_base.specs.machine.Completions.{IsCompleted};
-ghost use Rattle.writer_desk.specs.Writers.{Beside, desk_of, IsAccepted, IsConfigured};
-ghost use Rattle.world_core.specs.Configuring.{answer_by, cleared_at, dropped_with, followed, made_place, swept_if, unswept};
+ghost use Rattle.writer_desk.specs.Writers.{IsAccepted, IsConfigured};
+ghost use Rattle.world_core.specs.Configuring.{answer_by, cleared_at, dropped_with, followed, is_held, made_place, swept_if, unswept};
 
 use crate::world::World;
 use backed_desk::BackedDesk;
@@ -82,17 +81,11 @@ pub(crate) fn clear_made(words: &mut Words, desk: &BackedDesk, applied: Applied)
     }
 }
 
-// Whether an event that was refused would have been a publish. It would not, where nothing holds a publish up, so most often the
-// desk is not asked.
-fn was_publish(desk: &WriterDesk, config: &Config, held: Option<Refusal>) -> bool
-    requires rest { desk.now.due ≡ None }
-    requires free { held ≡ None → (b : Beside) → would_publish (desk_of desk.now b) config.now ≡ false }
-    ensures { (b : Beside) → result ≡ would_publish (desk_of desk.now b) config.now }
+// Whether a refusal says that a pass holds a publish up. Just an event that is refused so would have been a publish.
+fn is_held(why: Refusal) -> bool
+    ensures { result ≡ is_held why }
 {
-    if held.is_none() {
-        return false;
-    }
-    desk.would_publish(config)
+    matches!(why, Refusal::Held(..))
 }
 
 // After an event that was refused no pass is swept; each was, where it would have been a publish.
@@ -227,8 +220,7 @@ impl World {
             Err(why) => match why {
                 Refusal::Memory => Err(Refusal::Memory),
                 _ => {
-                    let publishes = was_publish(&self.desk, config, held);
-                    refuse(&mut self.kept, publishes);
+                    refuse(&mut self.kept, is_held(why));
                     Err(why)
                 }
             },

@@ -15,7 +15,7 @@ use Rattle.backed_desk.specs.Backed.{BackedState}
 use Rattle.writer_desk.specs.Writers.{WriterState, desk_of, IsConfigured, IsAccepted}
 use Rattle.world_core.specs.Worlds.{filled_beside}
 use Rattle.world_core.specs.Configuring.{dropped_with, made_place, cleared_at}
-use Rattle.world_core.proofs.ConfiguringLaws.{held_is_told, has_room, next_number, next_fits, accepted, refused, refused_unpublished}
+use Rattle.world_core.proofs.ConfiguringLaws.{held_is_told, has_room, next_number, next_fits, accepted, refused, refused_as_held}
 use Rattle.world_core.proofs.FilledLaws.{Filled, filled_as, LeavesAll, leaves}
 use Rattle.world_core.proofs.world.World.configure.Goals as goal
 
@@ -112,18 +112,6 @@ returns-in-Ok-clause-completed c =
     c.follow-number.result c.follow-number.ensures.number) in
     λ other. all.completed
 
-pub was_publish-publishes-requires-clause-free : goal.was_publish-publishes-requires-clause-free
-was_publish-publishes-requires-clause-free c none b =
-    let s = c.self.inside in
-    let e : WriterState = c.configured.new.desk in
-    let f : Filled s.desk s.kept s.words s.dropped.items s.unfilled.cells c.args.self.now =
-    filled_as s.desk s.kept s.words s.dropped.items s.unfilled.cells c.args.self.now c.self.invariant c.self.view_is c.requires.rest in
-    let told : c.held_up_if_swept-held.result ≡ held_up (generations_of (all_swept s.kept)) = c.held_up_if_swept-held.ensures in
-    let is : IsConfigured s.desk c.args.config.now c.held_up_if_swept-held.result e (Err c.in-Err.why) =
-    c.in-Err.ensures.configured (λ q. let memory : c.in-Err.why ≡ Memory = cc in c.in_default.not-Memory memory) in
-    ap (λ (x : WriterState). would_publish (desk_of x b) c.args.config.now) c.in-Err.ensures.unchanged
-    ∙ refused_unpublished s.desk s.kept s.words s.dropped.items f.world f.rest c.args.config.now e c.held_up_if_swept-held.result c.in-Err.why is told none b
-
 pub invariant_of-self-in_default : goal.invariant_of-self-in_default
 invariant_of-self-in_default c =
     let s = c.self.inside in
@@ -133,13 +121,14 @@ invariant_of-self-in_default c =
     let told : c.held_up_if_swept-held.result ≡ held_up (generations_of (all_swept s.kept)) = c.held_up_if_swept-held.ensures in
     let is : IsConfigured s.desk c.args.config.now c.held_up_if_swept-held.result e (Err c.in-Err.why) =
     c.in-Err.ensures.configured (λ q. let memory : c.in-Err.why ≡ Memory = cc in c.in_default.not-Memory memory) in
-    let would : c.was_publish-publishes.result ≡ would_publish (desk_of e (filled_beside s.dropped.items s.kept.swept)) c.args.config.now =
-    c.was_publish-publishes.ensures (filled_beside s.dropped.items s.kept.swept) in
+    let would : c.is_held.result ≡ would_publish (desk_of e (filled_beside s.dropped.items s.kept.swept)) c.args.config.now =
+    c.is_held.ensures ∙ refused_as_held s.desk s.kept s.words s.dropped.items f.world f.rest c.args.config.now e c.in-Err.ensures.unchanged
+    c.held_up_if_swept-held.result c.in-Err.why is told (filled_beside s.dropped.items s.kept.swept) in
     let all : LeavesAll c.args.self.now c.args.config.now (answer_of_config c.args.config.now (Err c.in-Err.why) None)
     e c.refuse.new.kept s.words c.reserve.new.self.items s.unfilled.cells =
     leaves s.desk s.kept s.words s.dropped.items s.unfilled.cells c.args.self.now f c.args.config.now _ _ _ _ _
     (refused s.desk s.kept s.words s.dropped.items f.world f.rest c.args.config.now e c.in-Err.ensures.unchanged c.held_up_if_swept-held.result
-    c.in-Err.why is told c.was_publish-publishes.result would c.refuse.new.kept c.refuse.ensures c.reserve.new.self.items c.reserve.ensures.items) in
+    c.in-Err.why is told c.is_held.result would c.refuse.new.kept c.refuse.ensures c.reserve.new.self.items c.reserve.ensures.items) in
     all.world
 
 pub returns-in_default : goal.returns-in_default
@@ -151,13 +140,14 @@ returns-in_default c =
     let told : c.held_up_if_swept-held.result ≡ held_up (generations_of (all_swept s.kept)) = c.held_up_if_swept-held.ensures in
     let is : IsConfigured s.desk c.args.config.now c.held_up_if_swept-held.result e (Err c.in-Err.why) =
     c.in-Err.ensures.configured (λ q. let memory : c.in-Err.why ≡ Memory = cc in c.in_default.not-Memory memory) in
-    let would : c.was_publish-publishes.result ≡ would_publish (desk_of e (filled_beside s.dropped.items s.kept.swept)) c.args.config.now =
-    c.was_publish-publishes.ensures (filled_beside s.dropped.items s.kept.swept) in
+    let would : c.is_held.result ≡ would_publish (desk_of e (filled_beside s.dropped.items s.kept.swept)) c.args.config.now =
+    c.is_held.ensures ∙ refused_as_held s.desk s.kept s.words s.dropped.items f.world f.rest c.args.config.now e c.in-Err.ensures.unchanged
+    c.held_up_if_swept-held.result c.in-Err.why is told (filled_beside s.dropped.items s.kept.swept) in
     let all : LeavesAll c.args.self.now c.args.config.now (answer_of_config c.args.config.now (Err c.in-Err.why) None)
     e c.refuse.new.kept s.words c.reserve.new.self.items s.unfilled.cells =
     leaves s.desk s.kept s.words s.dropped.items s.unfilled.cells c.args.self.now f c.args.config.now _ _ _ _ _
     (refused s.desk s.kept s.words s.dropped.items f.world f.rest c.args.config.now e c.in-Err.ensures.unchanged c.held_up_if_swept-held.result
-    c.in-Err.why is told c.was_publish-publishes.result would c.refuse.new.kept c.refuse.ensures c.reserve.new.self.items c.reserve.ensures.items) in
+    c.in-Err.why is told c.is_held.result would c.refuse.new.kept c.refuse.ensures c.reserve.new.self.items c.reserve.ensures.items) in
     record {
       completed = λ other. all.completed;
       unchanged = λ q. let memory : c.in-Err.why ≡ Memory = cc in absurd (c.in_default.not-Memory memory);
