@@ -20,7 +20,7 @@ use Rattle.script_names.specs.Tables.{AllNames, printed_names}
 use Rattle.script_run.specs.declared.faults.RunFault.{RunFault}
 use Rattle.script_run.specs.declared.faults.RunFault.TheVariants.{Memory, Write}
 use Rattle.script_run.specs.Answers.{plain_lines}
-use Rattle.script_run.specs.Performs.{IsLeft, Performs}
+use Rattle.script_run.specs.Performs.{IsKept, IsLeft, Performs}
 use Rattle.script_run.specs.Ready.{state_of, IsReady}
 use Rattle.script_run.proofs.ReadyLaws.{SameThere, ready_by}
 
@@ -140,6 +140,16 @@ module _ {K : Type 0} (written : K → Option (List ℕ)) (holds : K → List �
           ≡ outcome (state_of names w watchers) (printed_names names) v
           (refused_line number (refusal_text (printed_names names) why))
       is n = ordered_as (state_of names w watchers) number others k text ans v (Some why) (completes n) refuses
+
+-- what was performed, where the parts are the same after it
+pub performs_kept : {K : Type 0} (written : K → Option (List ℕ)) (holds : K → List ℕ → Type 0) (faults : K → ℕ) (a b : K)
+    (x : Outcome) (names names' : AllNames) (w w' : World) (watchers watchers' : List Watcher) (result : Result (Unit {0}) RunFault)
+    → IsKept names names' w w' watchers watchers' → Performs written holds faults a b x names w watchers result
+    → Performs written holds faults a b x names' w' watchers' result
+performs_kept written holds faults a b x names names' w w' watchers watchers' result kept p =
+    subst (λ (ns : AllNames). Performs written holds faults a b x ns w' watchers' result) (sym kept.same_names)
+    (subst (λ (v : World). Performs written holds faults a b x names v watchers' result) (sym kept.same_world)
+    (subst (λ (ws : List Watcher). Performs written holds faults a b x names w ws result) (sym kept.same_watchers) p))
 
 -- a run that ends for want of memory before anything was written
 pub memory_performs : {K : Type 0} (written : K → Option (List ℕ)) (holds : K → List ℕ → Type 0) (faults : K → ℕ) (a : K)

@@ -14,6 +14,12 @@ pub record IsLeft (state : State) (names : AllNames) (w : World) (watchers : Lis
   pub is : state_of names w watchers ≡ state
   pub ready : IsReady names w watchers
 
+-- nothing that a command changes is changed, as by lines that are written
+pub record IsKept (names names' : AllNames) (w w' : World) (watchers watchers' : List Watcher) : Type 0 where
+  pub same_names : names' ≡ names
+  pub same_world : w' ≡ w
+  pub same_watchers : watchers' ≡ watchers
+
 -- the text of an outcome was written, a prefix of it where the call failed; and after Ok its state is left
 pub record Performs {K : Type 0} (written : K → Option (List ℕ)) (holds : K → List ℕ → Type 0) (faults : K → ℕ) (old new : K)
     (x : Outcome)

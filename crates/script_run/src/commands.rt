@@ -6,7 +6,7 @@ ghost use Rattle.mem_base.specs.script.States.{State, writes};
 ghost use Rattle.mem_base.specs.script.WriterSteps.{make_region};
 ghost use Rattle.iommu_notify.specs.Watchers.{watchers_of};
 ghost use Rattle.script_run.specs.Bounds.{IsBounded};
-ghost use Rattle.script_run.specs.Groups.{makes_region};
+ghost use Rattle.script_run.specs.Groups.{changes_names, makes_region};
 ghost use Rattle.script_run.specs.Performs.{Performs};
 ghost use Rattle.script_run.specs.Ready.{state_of, IsReady};
 
@@ -99,6 +99,45 @@ impl<M: Machine> Session<M> {
         }
     }
 
+    // What a command does that gives a name or lets one go, unless it makes a region that is no alias.
+    fn name_step<K: Sink>(
+        &mut self,
+        number: u32,
+        command: &Command,
+        sink: &mut K,
+    ) -> Result<(), RunFault>
+        requires ready { IsReady self.old.names (M.world self.old.machine) (watchers_of self.old.notices) }
+        requires names { changes_names command.now ≡ true }
+        ensures { Performs K.written K.holds K.faults sink.old sink.new
+            (own_step (state_of self.old.names (M.world self.old.machine) (watchers_of self.old.notices)) number command.now)
+            self.new.names (M.world self.new.machine) (watchers_of self.new.notices) result }
+    {
+        match command {
+            Command::RegionAlias {
+                name,
+                size,
+                target,
+                offset,
+            } => self.alias_of(number, name, *size, target, *offset, sink),
+            Command::Space { name, root } => self.space_of(number, name, root, sink),
+            Command::Drop { region } => self.drop_region(number, region, sink),
+            Command::Listen {
+                name,
+                space,
+                priority,
+            } => self.listen(number, name, space, *priority, sink),
+            Command::Unlisten { name } => self.unlisten(number, name, sink),
+            Command::Watch {
+                name,
+                region,
+                first,
+                last,
+            } => self.watch(number, name, region, *first, *last, sink),
+            Command::Unwatch { name } => self.unwatch(number, name, sink),
+            _ => unreachable!(),
+        }
+    }
+
     // What a command of the desk does itself, where it makes no region or an alias.
     fn other_step<K: Sink>(
         &mut self,
@@ -116,40 +155,26 @@ impl<M: Machine> Session<M> {
     {
         match command {
             Command::Machine { size: _ } => Ok(()),
-            Command::RegionAlias {
-                name,
-                size,
-                target,
-                offset,
-            } => self.alias_of(number, name, *size, target, *offset, sink),
-            Command::Space { name, root } => self.space_of(number, name, root, sink),
             Command::Change(change) => self.change(number, change, sink),
             Command::Load {
                 region,
                 offset,
                 bytes,
             } => self.load(number, region, *offset, bytes, sink),
-            Command::Drop { region } => self.drop_region(number, region, sink),
             Command::Begin => self.begin(number, sink),
             Command::Commit => self.commit(number, sink),
             Command::Reap => self.reap(number, sink),
-            Command::Listen {
-                name,
-                space,
-                priority,
-            } => self.listen(number, name, space, *priority, sink),
-            Command::Unlisten { name } => self.unlisten(number, name, sink),
-            Command::Watch {
-                name,
-                region,
-                first,
-                last,
-            } => self.watch(number, name, region, *first, *last, sink),
-            Command::Unwatch { name } => self.unwatch(number, name, sink),
             Command::Show { space } => self.show(number, space, sink),
             Command::At { space, addr } => self.find(number, space, *addr, sink),
             Command::Notified { number: notifier } => self.notified(number, *notifier, sink),
             Command::Dirty { region, client } => self.dirty(number, region, *client, sink),
+            Command::RegionAlias { .. }
+            | Command::Space { .. }
+            | Command::Drop { .. }
+            | Command::Listen { .. }
+            | Command::Unlisten { .. }
+            | Command::Watch { .. }
+            | Command::Unwatch { .. } => self.name_step(number, command, sink),
             _ => unreachable!(),
         }
     }

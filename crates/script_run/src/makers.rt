@@ -11,7 +11,6 @@ ghost use Rattle.iommu_notify.specs.Watchers.{watchers_of};
 ghost use Rattle.script_run.specs.Performs.{Performs};
 ghost use Rattle.script_run.specs.Ready.{state_of, IsReady};
 
-use crate::answers::{say_heard, say_refusal};
 use crate::faults::RunFault;
 use crate::machine::Machine;
 use crate::session::Session;
@@ -59,17 +58,9 @@ impl<M: Machine> Session<M> {
                 let Ok(_) = self.names.add_region(self.alloc, name.as_bytes(), kind) else {
                     return Err(RunFault::Memory);
                 };
-                say_heard(&self.machine, &self.names, from, &mut self.line, sink)
+                self.heard(from, sink)
             }
-            Err(why) => say_refusal(
-                number,
-                why,
-                &self.machine,
-                &self.names,
-                from,
-                &mut self.line,
-                sink,
-            ),
+            Err(why) => self.refused(number, why, from, sink),
         }
     }
 
@@ -148,17 +139,9 @@ impl<M: Machine> Session<M> {
                 let Ok(_) = self.names.add_space(self.alloc, name.as_bytes()) else {
                     return Err(RunFault::Memory);
                 };
-                say_heard(&self.machine, &self.names, from, &mut self.line, sink)
+                self.heard(from, sink)
             }
-            Err(why) => say_refusal(
-                number,
-                why,
-                &self.machine,
-                &self.names,
-                from,
-                &mut self.line,
-                sink,
-            ),
+            Err(why) => self.refused(number, why, from, sink),
         }
     }
 
@@ -228,17 +211,9 @@ impl<M: Machine> Session<M> {
                 let Ok(_) = self.names.add_listener(self.alloc, name.as_bytes()) else {
                     return Err(RunFault::Memory);
                 };
-                say_heard(&self.machine, &self.names, from, &mut self.line, sink)
+                self.heard(from, sink)
             }
-            Err(why) => say_refusal(
-                number,
-                why,
-                &self.machine,
-                &self.names,
-                from,
-                &mut self.line,
-                sink,
-            ),
+            Err(why) => self.refused(number, why, from, sink),
         }
     }
 
@@ -303,17 +278,9 @@ impl<M: Machine> Session<M> {
         match self.machine.call(&Call::Drop { region }) {
             Ok(_) => {
                 self.names.drop_region(name.as_bytes());
-                say_heard(&self.machine, &self.names, from, &mut self.line, sink)
+                self.heard(from, sink)
             }
-            Err(why) => say_refusal(
-                number,
-                why,
-                &self.machine,
-                &self.names,
-                from,
-                &mut self.line,
-                sink,
-            ),
+            Err(why) => self.refused(number, why, from, sink),
         }
     }
 
@@ -355,17 +322,9 @@ impl<M: Machine> Session<M> {
         match self.machine.unlisten(listener) {
             Ok(()) => {
                 self.names.drop_listener(name.as_bytes());
-                say_heard(&self.machine, &self.names, from, &mut self.line, sink)
+                self.heard(from, sink)
             }
-            Err(why) => say_refusal(
-                number,
-                why,
-                &self.machine,
-                &self.names,
-                from,
-                &mut self.line,
-                sink,
-            ),
+            Err(why) => self.refused(number, why, from, sink),
         }
     }
 

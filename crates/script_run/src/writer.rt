@@ -12,7 +12,7 @@ ghost use Rattle.iommu_notify.specs.Watchers.{watchers_of};
 ghost use Rattle.script_run.specs.Performs.{Performs};
 ghost use Rattle.script_run.specs.Ready.{state_of, IsReady};
 
-use crate::answers::{finish, plain, say_heard, say_refusal};
+use crate::answers::plain;
 use crate::calls::call_of;
 use crate::faults::RunFault;
 use crate::lists::say_all_released;
@@ -33,15 +33,7 @@ impl<M: Machine> Session<M> {
     {
         let from = self.machine.journal().len();
         let answer = plain(self.machine.call(call));
-        finish(
-            number,
-            answer,
-            &self.machine,
-            &self.names,
-            from,
-            &mut self.line,
-            sink,
-        )
+        self.finish(number, answer, from, sink)
     }
 
     // A line that changes the map.
@@ -73,15 +65,7 @@ impl<M: Machine> Session<M> {
     {
         let from = self.machine.journal().len();
         let answer = self.machine.begin();
-        finish(
-            number,
-            answer,
-            &self.machine,
-            &self.names,
-            from,
-            &mut self.line,
-            sink,
-        )
+        self.finish(number, answer, from, sink)
     }
 
     // `commit`
@@ -94,15 +78,7 @@ impl<M: Machine> Session<M> {
     {
         let from = self.machine.journal().len();
         let answer = plain(self.machine.commit());
-        finish(
-            number,
-            answer,
-            &self.machine,
-            &self.names,
-            from,
-            &mut self.line,
-            sink,
-        )
+        self.finish(number, answer, from, sink)
     }
 
     // Bytes into a region.
@@ -122,15 +98,7 @@ impl<M: Machine> Session<M> {
     {
         let from = self.machine.journal().len();
         let answer = self.machine.load_bytes(region, offset, bytes.as_slice());
-        finish(
-            number,
-            answer,
-            &self.machine,
-            &self.names,
-            from,
-            &mut self.line,
-            sink,
-        )
+        self.finish(number, answer, from, sink)
     }
 
     // `load REGION OFFSET BYTES`
@@ -166,17 +134,9 @@ impl<M: Machine> Session<M> {
         match self.machine.reap() {
             Ok(released) => {
                 say_all_released(&mut self.line, &self.names, &released, sink)?;
-                say_heard(&self.machine, &self.names, from, &mut self.line, sink)
+                self.heard(from, sink)
             }
-            Err(why) => say_refusal(
-                number,
-                why,
-                &self.machine,
-                &self.names,
-                from,
-                &mut self.line,
-                sink,
-            ),
+            Err(why) => self.refused(number, why, from, sink),
         }
     }
 
@@ -197,7 +157,7 @@ impl<M: Machine> Session<M> {
         let from = self.machine.journal().len();
         let value = self.machine.notified(notifier);
         say_notified(&mut self.line, notifier, value, sink)?;
-        say_heard(&self.machine, &self.names, from, &mut self.line, sink)
+        self.heard(from, sink)
     }
 
     // The marks of a region.
@@ -219,17 +179,9 @@ impl<M: Machine> Session<M> {
         match self.machine.harvest(region, client) {
             Ok(pages) => {
                 say_dirty(&mut self.line, name.as_bytes(), client, &pages, sink)?;
-                say_heard(&self.machine, &self.names, from, &mut self.line, sink)
+                self.heard(from, sink)
             }
-            Err(why) => say_refusal(
-                number,
-                why,
-                &self.machine,
-                &self.names,
-                from,
-                &mut self.line,
-                sink,
-            ),
+            Err(why) => self.refused(number, why, from, sink),
         }
     }
 
@@ -273,17 +225,9 @@ impl<M: Machine> Session<M> {
         match self.machine.call(call) {
             Ok((_, published)) => {
                 say_do(&mut self.line, pass, published, sink)?;
-                say_heard(&self.machine, &self.names, from, &mut self.line, sink)
+                self.heard(from, sink)
             }
-            Err(why) => say_refusal(
-                number,
-                why,
-                &self.machine,
-                &self.names,
-                from,
-                &mut self.line,
-                sink,
-            ),
+            Err(why) => self.refused(number, why, from, sink),
         }
     }
 

@@ -5,16 +5,17 @@ use Rattle.mem_base.specs.machine.Orders.{configure, load}
 use Rattle.mem_base.specs.machine.Answers.{call_answer, commit_answer, plain_answer, finishes}
 use Rattle.script_run.proofs.WorldLaws.{begin_keeps, commit_keeps, load_keeps}
 use Rattle.script_run.proofs.ReadyLaws.{change_there, same_there}
-use Rattle.script_run.proofs.OrderLaws.{call_refusal, commit_refusal, plain_performs, plain_refusal, refusal_with}
+use Rattle.script_run.proofs.OrderLaws.{call_refusal, commit_refusal, performs_kept, plain_performs, plain_refusal, refusal_with}
 use Rattle.script_run.proofs.session.Session.begin.Goals as goal
 
 pub returns : goal.returns
 returns g c =
     let w = g.M.Machine.world c.args.self.now.machine in
     let v = g.M.Machine.world c.begin-answer.new.self in
-    plain_performs g.K.Sink.written g.K.Sink.holds g.K.Sink.faults _ _ c.finish.result c.args.self.now.names w v
+    performs_kept g.K.Sink.written g.K.Sink.holds g.K.Sink.faults _ _ _ _ _ _ _ _ _ _ c.finish.ensures.kept
+    (plain_performs g.K.Sink.written g.K.Sink.holds g.K.Sink.faults _ _ c.finish.result c.args.self.now.names w v
     (watchers_of c.args.self.now.notices) c.args.number _
     (ap length c.journal-from.ensures) (configure configs.Begin) (plain_answer c.begin-answer.result) c.begin-answer.result
     c.requires
     (λ n. c.begin-answer.ensures) (plain_refusal c.begin-answer.result)
-    (same_there _ _ (begin_keeps w)) c.finish.ensures.told c.finish.ensures.goes_on
+    (same_there _ _ (begin_keeps w)) c.finish.ensures.told c.finish.ensures.goes_on)

@@ -9,7 +9,7 @@ use Rattle.script_names.specs.Tables.{printed_names}
 use Rattle.script_run.proofs.Writing.{writes_more}
 use Rattle.script_run.proofs.WorldLaws.{harvest_keeps, notified_keeps, reap_keeps}
 use Rattle.script_run.proofs.ReadyLaws.{change_there, ready_by, same_there}
-use Rattle.script_run.proofs.OrderLaws.{accepted_performs, always_ok, not_err, refused_performs, same_err}
+use Rattle.script_run.proofs.OrderLaws.{accepted_performs, always_ok, not_err, performs_kept, refused_performs, same_err}
 use Rattle.script_run.proofs.session.Session.dirty_at.Goals as goal
 
 pub returns-in_ok-say_dirty-in-Ok : goal.returns-in_ok-say_dirty-in-Ok
@@ -22,7 +22,8 @@ returns-in_ok-say_dirty-in-Ok g c =
     let text = pages_in c.args.name.now c.args.client in
     let completed = c.harvest.ensures.completed (not_err _ _ _ c.in-Ok.is) in
     let told = told_lines (printed_names names) (drop (length c.journal-from.result.now) v.writer.desk.listening.journal) in
-    accepted_performs g.K.Sink.written g.K.Sink.holds g.K.Sink.faults _ _ c.say_heard.result names w v watchers c.args.number _
+    performs_kept g.K.Sink.written g.K.Sink.holds g.K.Sink.faults _ _ _ _ _ _ _ _ _ _ c.heard.ensures.kept
+    (accepted_performs g.K.Sink.written g.K.Sink.holds g.K.Sink.faults _ _ c.heard.result names w v watchers c.args.number _
     (ap length c.journal-from.ensures)
     order (harvest_answer (answer_with (λ v. v.items) c.harvest.result)) text names completed
     (ap (λ r. refusal_in (harvest_answer (answer_with (λ v. v.items) r))) c.in-Ok.is)
@@ -30,17 +31,18 @@ returns-in_ok-say_dirty-in-Ok g c =
     (dirty_line c.args.name.now c.args.client c.in-Ok.pages.items) _ _ _ _
     (ap (λ r. text (harvest_answer (answer_with (λ v. v.items) r)) ++ told) c.in-Ok.is)
     (rw (c.as_bytes.ensures, c.deref.ensures.value) at c.in_ok-say_dirty-in-Ok.ensures.all) c.in_ok-say_dirty-in-Ok.ensures.later
-    c.say_heard.ensures)
-    (always_ok c.say_heard.result (ready_by names w v watchers order
+    c.heard.ensures.wrote)
+    (always_ok c.heard.result (ready_by names w v watchers order
     (harvest_answer (answer_with (λ v. v.items) c.harvest.result)) c.requires completed
-    (same_there _ _ (harvest_keeps w c.args.region c.args.client))))
+    (same_there _ _ (harvest_keeps w c.args.region c.args.client)))))
 
 pub returns-in-Err : goal.returns-in-Err
 returns-in-Err g c =
     let names = c.args.self.now.names in
     let w = g.M.Machine.world c.args.self.now.machine in
     let v = g.M.Machine.world c.harvest.new.self in
-    refused_performs g.K.Sink.written g.K.Sink.holds g.K.Sink.faults _ _ c.say_refusal.result names w v
+    performs_kept g.K.Sink.written g.K.Sink.holds g.K.Sink.faults _ _ _ _ _ _ _ _ _ _ c.refused.ensures.kept
+    (refused_performs g.K.Sink.written g.K.Sink.holds g.K.Sink.faults _ _ c.refused.result names w v
     (watchers_of c.args.self.now.notices) c.args.number _
     (ap length c.journal-from.ensures) (harvest c.args.region c.args.client)
     (harvest_answer (answer_with (λ v. v.items) c.harvest.result)) (pages_in c.args.name.now c.args.client)
@@ -48,4 +50,4 @@ returns-in-Err g c =
     (λ n. c.harvest.ensures.completed (λ e. n (same_err _ _ _ c.in-Err.is e)))
     (ap (λ r. refusal_in (harvest_answer (answer_with (λ v. v.items) r))) c.in-Err.is)
     (λ n. same_there _ _ (harvest_keeps w c.args.region c.args.client))
-    c.say_refusal.ensures.told c.say_refusal.ensures.goes_on
+    c.refused.ensures.told c.refused.ensures.goes_on)

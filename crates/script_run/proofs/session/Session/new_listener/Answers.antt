@@ -12,7 +12,7 @@ use Rattle.mem_base.specs.script.WriterSteps.{refusal_in, silent}
 use Rattle.script_names.specs.Tables.{AllNames, Rebinds, Table, printed_names, table}
 use Rattle.script_run.proofs.ReadyLaws.{change_there, listen_refused, listener_left, listener_made, ready_by, refused_there}
 use Rattle.script_run.proofs.ReadyLaws.{region_dropped, region_made, space_made, unlisten_refused}
-use Rattle.script_run.proofs.OrderLaws.{memory_performs, names_performs, not_err, refused_in, refused_performs, same_err}
+use Rattle.script_run.proofs.OrderLaws.{memory_performs, names_performs, not_err, performs_kept, refused_in, refused_performs, same_err}
 use Rattle.script_run.proofs.session.Session.new_listener.Goals as goal
 
 pub returns-in_default : goal.returns-in_default
@@ -42,13 +42,14 @@ returns-in-Ok-add_listener g c =
     (names.listeners.made ++ c.args.name.now ∷ []) =
     made.listeners ∙ (λ i. table (names.listeners.bound ++ (c.as_bytes.ensures i, made.id i) ∷ [])
     (names.listeners.made ++ c.as_bytes.ensures i ∷ [])) in
-    names_performs g.K.Sink.written g.K.Sink.holds g.K.Sink.faults _ _ c.say_heard.result names w v watchers c.args.number _
+    performs_kept g.K.Sink.written g.K.Sink.holds g.K.Sink.faults _ _ _ _ _ _ _ _ _ _ c.heard.ensures.kept
+    (names_performs g.K.Sink.written g.K.Sink.holds g.K.Sink.faults _ _ c.heard.result names w v watchers c.args.number _
     (ap length c.journal-from.ensures)
     order answer after (record (printed_names names) { listeners = names.listeners.made ++ c.args.name.now ∷ [] })
     (ap printed_names made.others ∙ (λ i. record (printed_names names) { listeners = (listeners i).made })) completed accepted
-    c.say_heard.ensures
+    c.heard.ensures.wrote
     (listener_made names after w v watchers answer c.requires.ready c.args.space c.args.priority c.args.name.now completed
-    accepted c.requires.free listeners made.others)
+    accepted c.requires.free listeners made.others))
 
 pub returns-in-Err : goal.returns-in-Err
 returns-in-Err g c =
@@ -61,7 +62,8 @@ returns-in-Err g c =
     let order = configure (configs.Listen (record { 0 = length names.listeners.made }) c.args.space c.args.priority) in
     let answer = plain_answer c.listen.result in
     let refused = ap (λ r. refusal_in (plain_answer r)) c.in-Err.is in
-    refused_performs g.K.Sink.written g.K.Sink.holds g.K.Sink.faults _ _ c.say_refusal.result names w v watchers c.args.number _
+    performs_kept g.K.Sink.written g.K.Sink.holds g.K.Sink.faults _ _ _ _ _ _ _ _ _ _ c.refused.ensures.kept
+    (refused_performs g.K.Sink.written g.K.Sink.holds g.K.Sink.faults _ _ c.refused.result names w v watchers c.args.number _
     (ap length c.journal-from.ensures) order answer silent
     (record (printed_names names) { listeners = names.listeners.made ++ c.args.name.now ∷ [] }) c.in-Err.why c.requires.ready
     (λ n. subst (λ (n : ℕ). IsCompleted w (configure (configs.Listen (record { 0 = n }) c.args.space c.args.priority))
@@ -72,4 +74,4 @@ returns-in-Err g c =
     (plain_answer c.listen.result) v) is (rw (to_z-of_z w32 c.args.priority c.ranges.priority)
     at (c.listen.ensures.completed (λ e. n (same_err _ _ _ c.in-Err.is e)))) in listen_refused w
     (record { listener = record { 0 = length names.listeners.made }; space = c.args.space; priority = c.args.priority })
-    c.in-Err.why (refused_in w v order answer _ completed refused)) c.say_refusal.ensures.told c.say_refusal.ensures.goes_on
+    c.in-Err.why (refused_in w v order answer _ completed refused)) c.refused.ensures.told c.refused.ensures.goes_on)

@@ -10,7 +10,7 @@ use Rattle.mem_base.specs.script.WriterSteps.{refusal_in, silent}
 use Rattle.script_names.specs.Tables.{AllNames, Rebinds, Table, printed_names, table}
 use Rattle.script_run.proofs.ReadyLaws.{change_there, listen_refused, listener_left, listener_made, ready_by, refused_there}
 use Rattle.script_run.proofs.ReadyLaws.{region_dropped, region_made, space_made, unlisten_refused}
-use Rattle.script_run.proofs.OrderLaws.{memory_performs, names_performs, not_err, refused_in, refused_performs, same_err}
+use Rattle.script_run.proofs.OrderLaws.{memory_performs, names_performs, not_err, performs_kept, refused_in, refused_performs, same_err}
 use Rattle.script_run.proofs.session.Session.new_region.Goals as goal
 
 pub returns-in_default : goal.returns-in_default
@@ -35,14 +35,15 @@ returns-in-Ok-add_region g c =
     (names.regions.made ++ c.args.name.now ∷ []) =
     made.regions ∙ (λ i. table (names.regions.bound ++ (c.as_bytes.ensures i, made.id i) ∷ [])
     (names.regions.made ++ c.as_bytes.ensures i ∷ [])) in
-    names_performs g.K.Sink.written g.K.Sink.holds g.K.Sink.faults _ _ c.say_heard.result names w v watchers c.args.number _
+    performs_kept g.K.Sink.written g.K.Sink.holds g.K.Sink.faults _ _ _ _ _ _ _ _ _ _ c.heard.ensures.kept
+    (names_performs g.K.Sink.written g.K.Sink.holds g.K.Sink.faults _ _ c.heard.result names w v watchers c.args.number _
     (ap length c.journal-from.ensures)
     order answer after (record (printed_names names)
     { regions = names.regions.made ++ c.args.name.now ∷ []; kinds = names.kinds ++ c.args.kind ∷ [] })
     (ap printed_names made.others ∙ (λ i. record (printed_names names) { regions = (regions i).made; kinds = made.kinds i }))
-    completed accepted c.say_heard.ensures
+    completed accepted c.heard.ensures.wrote
     (region_made names after w v watchers answer c.requires.ready c.args.kind c.args.size c.args.name.now completed accepted
-    c.requires.free regions made.others)
+    c.requires.free regions made.others))
 
 pub returns-in-Err : goal.returns-in-Err
 returns-in-Err g c =
@@ -53,7 +54,8 @@ returns-in-Err g c =
     let order = configure (configs.Call (calls.Region c.args.kind c.args.size)) in
     let answer = call_answer c.call.result in
     let refused = ap (λ r. refusal_in (call_answer r)) c.in-Err.is in
-    refused_performs g.K.Sink.written g.K.Sink.holds g.K.Sink.faults _ _ c.say_refusal.result names w v watchers c.args.number _
+    performs_kept g.K.Sink.written g.K.Sink.holds g.K.Sink.faults _ _ _ _ _ _ _ _ _ _ c.refused.ensures.kept
+    (refused_performs g.K.Sink.written g.K.Sink.holds g.K.Sink.faults _ _ c.refused.result names w v watchers c.args.number _
     (ap length c.journal-from.ensures) order answer silent
     (record (printed_names names) {
       regions = names.regions.made ++ c.args.name.now ∷ [];
@@ -63,4 +65,4 @@ returns-in-Err g c =
     (λ n. (c.call.ensures.completed (λ e. n (same_err _ _ _ c.in-Err.is e)))) refused
     (λ n. let completed : IsCompleted w order answer v = (c.call.ensures.completed (λ e. n (same_err _ _ _ c.in-Err.is e))) in
     refused_there w (calls.Region c.args.kind c.args.size) c.in-Err.why (refused_in w v order answer _ completed refused))
-    c.say_refusal.ensures.told c.say_refusal.ensures.goes_on
+    c.refused.ensures.told c.refused.ensures.goes_on)

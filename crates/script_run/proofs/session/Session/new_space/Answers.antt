@@ -10,7 +10,7 @@ use Rattle.mem_base.specs.script.WriterSteps.{refusal_in, silent}
 use Rattle.script_names.specs.Tables.{AllNames, Rebinds, Table, printed_names, table}
 use Rattle.script_run.proofs.ReadyLaws.{change_there, listen_refused, listener_left, listener_made, ready_by, refused_there}
 use Rattle.script_run.proofs.ReadyLaws.{region_dropped, region_made, space_made, unlisten_refused}
-use Rattle.script_run.proofs.OrderLaws.{memory_performs, names_performs, not_err, refused_in, refused_performs, same_err}
+use Rattle.script_run.proofs.OrderLaws.{memory_performs, names_performs, not_err, performs_kept, refused_in, refused_performs, same_err}
 use Rattle.script_run.proofs.session.Session.new_space.Goals as goal
 
 pub returns-in_default : goal.returns-in_default
@@ -39,13 +39,14 @@ returns-in-Ok-add_space g c =
     (names.spaces.made ++ c.args.name.now ∷ []) =
     made.spaces ∙ (λ i. table (names.spaces.bound ++ (c.as_bytes.ensures i, made.id i) ∷ [])
     (names.spaces.made ++ c.as_bytes.ensures i ∷ [])) in
-    names_performs g.K.Sink.written g.K.Sink.holds g.K.Sink.faults _ _ c.say_heard.result names w v watchers c.args.number _
+    performs_kept g.K.Sink.written g.K.Sink.holds g.K.Sink.faults _ _ _ _ _ _ _ _ _ _ c.heard.ensures.kept
+    (names_performs g.K.Sink.written g.K.Sink.holds g.K.Sink.faults _ _ c.heard.result names w v watchers c.args.number _
     (ap length c.journal-from.ensures)
     order answer after (record (printed_names names) { spaces = names.spaces.made ++ c.args.name.now ∷ [] })
     (ap printed_names made.others ∙ (λ i. record (printed_names names) { spaces = (spaces i).made })) completed accepted
-    c.say_heard.ensures
+    c.heard.ensures.wrote
     (space_made names after w v watchers answer c.requires.ready (record { 0 = length names.spaces.made }) c.args.root
-    c.args.name.now completed c.requires.free spaces made.others)
+    c.args.name.now completed c.requires.free spaces made.others))
 
 pub returns-in-Err : goal.returns-in-Err
 returns-in-Err g c =
@@ -58,7 +59,8 @@ returns-in-Err g c =
     let order = configure (configs.Call (calls.Space (record { 0 = length names.spaces.made }) c.args.root)) in
     let answer = call_answer c.call.result in
     let refused = ap (λ r. refusal_in (call_answer r)) c.in-Err.is in
-    refused_performs g.K.Sink.written g.K.Sink.holds g.K.Sink.faults _ _ c.say_refusal.result names w v watchers c.args.number _
+    performs_kept g.K.Sink.written g.K.Sink.holds g.K.Sink.faults _ _ _ _ _ _ _ _ _ _ c.refused.ensures.kept
+    (refused_performs g.K.Sink.written g.K.Sink.holds g.K.Sink.faults _ _ c.refused.result names w v watchers c.args.number _
     (ap length c.journal-from.ensures) order answer silent
     (record (printed_names names) { spaces = names.spaces.made ++ c.args.name.now ∷ [] }) c.in-Err.why c.requires.ready
     (λ n. subst (λ (n : ℕ). IsCompleted w (configure (configs.Call (calls.Space (record { 0 = n }) c.args.root)))
@@ -66,5 +68,5 @@ returns-in-Err g c =
     (λ n. let completed : IsCompleted w order answer v =
     subst (λ (n : ℕ). IsCompleted w (configure (configs.Call (calls.Space (record { 0 = n }) c.args.root)))
     (call_answer c.call.result) v) is (c.call.ensures.completed (λ e. n (same_err _ _ _ c.in-Err.is e))) in change_there w
-    (calls.Space (record { 0 = length names.spaces.made }) c.args.root) refl) c.say_refusal.ensures.told
-    c.say_refusal.ensures.goes_on
+    (calls.Space (record { 0 = length names.spaces.made }) c.args.root) refl) c.refused.ensures.told
+    c.refused.ensures.goes_on)

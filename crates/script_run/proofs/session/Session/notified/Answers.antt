@@ -9,7 +9,7 @@ use Rattle.script_names.specs.Tables.{printed_names}
 use Rattle.script_run.proofs.Writing.{writes_more}
 use Rattle.script_run.proofs.WorldLaws.{harvest_keeps, notified_keeps, reap_keeps}
 use Rattle.script_run.proofs.ReadyLaws.{change_there, ready_by, same_there}
-use Rattle.script_run.proofs.OrderLaws.{accepted_performs, always_ok, not_err, refused_performs, same_err}
+use Rattle.script_run.proofs.OrderLaws.{accepted_performs, always_ok, not_err, performs_kept, refused_performs, same_err}
 use Rattle.script_run.proofs.session.Session.notified.Goals as goal
 
 pub returns : goal.returns
@@ -20,11 +20,12 @@ returns g c =
     let v = g.M.Machine.world c.notified-value.new.self in
     let order = notified c.args.notifier in
     let answer = notifier_answer c.notified-value.result in
-    accepted_performs g.K.Sink.written g.K.Sink.holds g.K.Sink.faults _ _ c.say_heard.result names w v watchers c.args.number _
+    performs_kept g.K.Sink.written g.K.Sink.holds g.K.Sink.faults _ _ _ _ _ _ _ _ _ _ c.heard.ensures.kept
+    (accepted_performs g.K.Sink.written g.K.Sink.holds g.K.Sink.faults _ _ c.heard.result names w v watchers c.args.number _
     (ap length c.journal-from.ensures)
     order answer (value_in c.args.notifier) names c.notified-value.ensures refl
     (writes_more g.K.Sink.written g.K.Sink.holds g.K.Sink.faults _ _ _ (notified_line c.args.notifier c.notified-value.result) _ _
     _ _ refl
-    c.in_ok-say_notified.ensures.all c.in_ok-say_notified.ensures.later c.say_heard.ensures)
-    (always_ok c.say_heard.result (ready_by names w v watchers order answer c.requires.ready c.notified-value.ensures
-    (same_there _ _ (notified_keeps w c.args.notifier))))
+    c.in_ok-say_notified.ensures.all c.in_ok-say_notified.ensures.later c.heard.ensures.wrote)
+    (always_ok c.heard.result (ready_by names w v watchers order answer c.requires.ready c.notified-value.ensures
+    (same_there _ _ (notified_keeps w c.args.notifier)))))

@@ -9,7 +9,7 @@ use Rattle.script_names.specs.Tables.{printed_names}
 use Rattle.script_run.proofs.Writing.{writes_more}
 use Rattle.script_run.proofs.WorldLaws.{harvest_keeps, notified_keeps, reap_keeps}
 use Rattle.script_run.proofs.ReadyLaws.{change_there, ready_by, same_there}
-use Rattle.script_run.proofs.OrderLaws.{accepted_performs, always_ok, not_err, refused_performs, same_err}
+use Rattle.script_run.proofs.OrderLaws.{accepted_performs, always_ok, not_err, performs_kept, refused_performs, same_err}
 use Rattle.script_run.proofs.session.Session.reap.Goals as goal
 
 pub returns-in_ok-say_all_released-in-Ok : goal.returns-in_ok-say_all_released-in-Ok
@@ -22,7 +22,8 @@ returns-in_ok-say_all_released-in-Ok g c =
     let text = released_in (printed_names names) in
     let completed = c.reap.ensures.completed (not_err _ _ _ c.in-Ok.is) in
     let told = told_lines (printed_names names) (drop (length c.journal-from.result.now) v.writer.desk.listening.journal) in
-    accepted_performs g.K.Sink.written g.K.Sink.holds g.K.Sink.faults _ _ c.say_heard.result names w v watchers c.args.number _
+    performs_kept g.K.Sink.written g.K.Sink.holds g.K.Sink.faults _ _ _ _ _ _ _ _ _ _ c.heard.ensures.kept
+    (accepted_performs g.K.Sink.written g.K.Sink.holds g.K.Sink.faults _ _ c.heard.result names w v watchers c.args.number _
     (ap length c.journal-from.ensures)
     order (reap_answer (answer_with (λ v. v.items) c.reap.result)) text names completed
     (ap (λ r. refusal_in (reap_answer (answer_with (λ v. v.items) r))) c.in-Ok.is)
@@ -30,19 +31,20 @@ returns-in_ok-say_all_released-in-Ok g c =
     (released_lines (printed_names names) c.in-Ok.released.items) _ _ _ _
     (ap (λ r. text (reap_answer (answer_with (λ v. v.items) r)) ++ told) c.in-Ok.is)
     (rw c.deref.ensures.value at c.in_ok-say_all_released-in-Ok.ensures.all) c.in_ok-say_all_released-in-Ok.ensures.later
-    c.say_heard.ensures)
-    (always_ok c.say_heard.result (ready_by names w v watchers order (reap_answer (answer_with (λ v. v.items) c.reap.result))
-    c.requires completed (same_there _ _ (reap_keeps w))))
+    c.heard.ensures.wrote)
+    (always_ok c.heard.result (ready_by names w v watchers order (reap_answer (answer_with (λ v. v.items) c.reap.result))
+    c.requires completed (same_there _ _ (reap_keeps w)))))
 
 pub returns-in-Err : goal.returns-in-Err
 returns-in-Err g c =
     let names = c.args.self.now.names in
     let w = g.M.Machine.world c.args.self.now.machine in
     let v = g.M.Machine.world c.reap.new.self in
-    refused_performs g.K.Sink.written g.K.Sink.holds g.K.Sink.faults _ _ c.say_refusal.result names w v
+    performs_kept g.K.Sink.written g.K.Sink.holds g.K.Sink.faults _ _ _ _ _ _ _ _ _ _ c.refused.ensures.kept
+    (refused_performs g.K.Sink.written g.K.Sink.holds g.K.Sink.faults _ _ c.refused.result names w v
     (watchers_of c.args.self.now.notices) c.args.number _
     (ap length c.journal-from.ensures) (reap) (reap_answer (answer_with (λ v. v.items) c.reap.result))
     (released_in (printed_names names)) (printed_names names) c.in-Err.why c.requires
     (λ n. c.reap.ensures.completed (λ e. n (same_err _ _ _ c.in-Err.is e)))
     (ap (λ r. refusal_in (reap_answer (answer_with (λ v. v.items) r))) c.in-Err.is) (λ n. same_there _ _ (reap_keeps w))
-    c.say_refusal.ensures.told c.say_refusal.ensures.goes_on
+    c.refused.ensures.told c.refused.ensures.goes_on)

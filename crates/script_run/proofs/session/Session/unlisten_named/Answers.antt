@@ -10,7 +10,7 @@ use Rattle.mem_base.specs.script.WriterSteps.{refusal_in, silent}
 use Rattle.script_names.specs.Tables.{AllNames, Rebinds, Table, printed_names, table}
 use Rattle.script_run.proofs.ReadyLaws.{change_there, listen_refused, listener_left, listener_made, ready_by, refused_there}
 use Rattle.script_run.proofs.ReadyLaws.{region_dropped, region_made, space_made, unlisten_refused}
-use Rattle.script_run.proofs.OrderLaws.{memory_performs, names_performs, not_err, refused_in, refused_performs, same_err}
+use Rattle.script_run.proofs.OrderLaws.{memory_performs, names_performs, not_err, performs_kept, refused_in, refused_performs, same_err}
 use Rattle.script_run.proofs.session.Session.unlisten_named.Goals as goal
 
 pub returns-in-Ok : goal.returns-in-Ok
@@ -26,11 +26,12 @@ returns-in-Ok g c =
     let gone = c.drop_listener.ensures in
     let after = c.drop_listener.new.self in
     let binds = subst (λ (t : List ℕ). Rebinds names.listeners.bound after.listeners.bound t _) c.as_bytes.ensures gone.bound in
-    names_performs g.K.Sink.written g.K.Sink.holds g.K.Sink.faults _ _ c.say_heard.result names w v watchers c.args.number _
+    performs_kept g.K.Sink.written g.K.Sink.holds g.K.Sink.faults _ _ _ _ _ _ _ _ _ _ c.heard.ensures.kept
+    (names_performs g.K.Sink.written g.K.Sink.holds g.K.Sink.faults _ _ c.heard.result names w v watchers c.args.number _
     (ap length c.journal-from.ensures)
-    order answer after (printed_names names) (gone.same) completed accepted c.say_heard.ensures
+    order answer after (printed_names names) (gone.same) completed accepted c.heard.ensures.wrote
     (listener_left names after w v watchers answer c.requires.ready c.args.listener c.args.name.now completed accepted
-    c.requires.named binds gone.same gone.others)
+    c.requires.named binds gone.same gone.others))
 
 pub returns-in-Err : goal.returns-in-Err
 returns-in-Err g c =
@@ -41,9 +42,10 @@ returns-in-Err g c =
     let order = configure (configs.Unlisten c.args.listener) in
     let answer = plain_answer c.unlisten.result in
     let refused = ap (λ r. refusal_in (plain_answer r)) c.in-Err.is in
-    refused_performs g.K.Sink.written g.K.Sink.holds g.K.Sink.faults _ _ c.say_refusal.result names w v watchers c.args.number _
+    performs_kept g.K.Sink.written g.K.Sink.holds g.K.Sink.faults _ _ _ _ _ _ _ _ _ _ c.refused.ensures.kept
+    (refused_performs g.K.Sink.written g.K.Sink.holds g.K.Sink.faults _ _ c.refused.result names w v watchers c.args.number _
     (ap length c.journal-from.ensures) order answer silent (printed_names names) c.in-Err.why c.requires.ready
     (λ n. (c.unlisten.ensures.completed (λ e. n (same_err _ _ _ c.in-Err.is e)))) refused
     (λ n. let completed : IsCompleted w order answer v = (c.unlisten.ensures.completed (λ e. n (same_err _ _ _ c.in-Err.is e))) in
     unlisten_refused w c.args.listener c.in-Err.why (refused_in w v order answer _ completed refused))
-    c.say_refusal.ensures.told c.say_refusal.ensures.goes_on
+    c.refused.ensures.told c.refused.ensures.goes_on)
