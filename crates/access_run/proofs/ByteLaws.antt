@@ -1,13 +1,13 @@
 -- Laws of the bytes of words and numbers.
 use Rattle.std.proofs.Common.{◌≡◌, ℕ, zero, suc, ◌+◌, ◌-◌, ◌*◌, ◌/◌, ◌%◌, ◌^◌, ◌<◌, ◌≤◌, true, false, List, [], ◌∷◌, ◌++◌, length, get_or}
-use Rattle.std.proofs.Common.{take, map, set, refl, sym, ap, subst, ◌∙◌, arith, append_assoc, ◌⊎◌, inl, inr}
+use Rattle.std.proofs.Common.{take, drop, map, set, refl, sym, ap, subst, ◌∙◌, arith, append_assoc, ◌⊎◌, inl, inr}
 use Rattle.std.specs.Prelude.{replicate, reverse, Bool}
 use Rattle.std.specs.List.{range_with_len}
 use Rattle.std.proofs.lemmas.Bool.{cases_lt}
 use Rattle.std.proofs.lemmas.Nat.{pow-add}
 use Rattle.std.proofs.lemmas.List.{length-reverse, reverse-append, get_or-reverse, get_or_past, take_more_set}
 use Rattle.std.proofs.lemmas.List.FromFn.{map-range_with_len_more, take-map-range_with_len}
-use Rattle.std.proofs.Math.Nat.{mod-eq_of_lt, mul_assoc, mul_comm, mul-lt-mul_of_pos_left}
+use Rattle.std.proofs.Math.Nat.{add-mul-mod_self_left, div-div-eq-div-mul, mod-add-div, mod-eq_of_lt, mod-lt, mul_assoc, mul_comm, mul-lt-mul_of_pos_left, zero-div}
 use Rattle.std.proofs.Math.Pow.{pow_mono}
 use Rattle.std.proofs.Math.Seq.{take-length}
 use Rattle.mem_base.specs.access.Words.{little_endian, number_of_bytes, bytes_from, byte_of, bytes_of}
@@ -39,6 +39,43 @@ little_endian_below (b ∷ bs) h =
     let rest : little_endian bs < 256 ^ length bs = little_endian_below bs (λ i. h (suc i)) in
     let power : 256 ^ suc (length bs) ≡ 256 * 256 ^ length bs = power_more (length bs) in
     omega (arith, first, rest, power)
+
+some_power : (n : ℕ) → 0 < 256 ^ n
+some_power zero = omega arith
+some_power (suc n) = let e = power_more n in let h = some_power n in omega (arith, e, h)
+
+-- of a number whose lowest byte is b, the lowest bytes, one more than p counts
+lowest_more : (b n p : ℕ) → b < 256 → 0 < p → (b + 256 * n) % (256 * p) ≡ b + 256 * (n % p)
+lowest_more b n p byte some =
+    let low : ℕ = n % p in
+    let high : ℕ = n / p in
+    let whole : low + p * high ≡ n = mod-add-div n p in
+    let less : low < p = mod-lt n some in
+    let swap : 256 * p * high ≡ 256 * (p * high) = mul_assoc 256 p high in
+    let apart : b + 256 * n ≡ b + 256 * low + 256 * p * high = omega (arith, whole, swap) in
+    ap (λ m. m % (256 * p)) apart ∙ add-mul-mod_self_left (b + 256 * low) (256 * p) high ∙ mod-eq_of_lt (omega (arith, byte, less))
+
+lowest_bytes : (count : ℕ) (bs : List ℕ) → ((i : ℕ) → get_or bs i 0 < 256) → little_endian bs % 256 ^ count ≡ little_endian (take count bs)
+lowest_bytes zero bs h = omega arith
+lowest_bytes (suc count) [] h = mod-eq_of_lt (some_power (suc count))
+lowest_bytes (suc count) (b ∷ bs) h =
+    ap (λ p. (b + 256 * little_endian bs) % p) (power_more count)
+    ∙ lowest_more b (little_endian bs) (256 ^ count) (h 0) (some_power count)
+    ∙ ap (λ n. b + 256 * n) (lowest_bytes count bs (λ i. h (suc i)))
+
+-- some of the bytes of a number
+pub part_number : (from count : ℕ) (bs : List ℕ) → ((i : ℕ) → get_or bs i 0 < 256)
+    → bytes_from (little_endian bs) from count ≡ little_endian (take count (drop from bs))
+part_number zero count bs h = let all : little_endian bs / 1 ≡ little_endian bs = omega arith in
+    ap (λ n. n % 256 ^ count) all ∙ lowest_bytes count bs h
+part_number (suc from) count [] h = ap (λ n. n % 256 ^ count) (zero-div (256 ^ suc from)) ∙ lowest_bytes count [] h
+part_number (suc from) count (b ∷ bs) h =
+    let n : ℕ = b + 256 * little_endian bs in
+    let byte : b < 256 = h 0 in
+    let above : n / 256 ≡ little_endian bs = omega (arith, byte) in
+    ap (λ p. n / p % 256 ^ count) (power_more from)
+    ∙ ap (λ m. m % 256 ^ count) (sym (div-div-eq-div-mul n 256 (256 ^ from)) ∙ ap (λ m. m / 256 ^ from) above)
+    ∙ part_number from count bs (λ i. h (suc i))
 
 zeros : (k : ℕ) → little_endian (replicate k 0) ≡ 0
 zeros zero = refl
@@ -76,17 +113,13 @@ padded_big bs size k number shift bytes all few same is =
     let below : little_endian (reverse bs) < 256 ^ length (reverse bs) = little_endian_below (reverse bs) (get_or_below bs bytes) in
     let count : length (reverse bs) ≡ length bs = length-reverse bs in
     let below : number < 256 ^ length bs = subst (λ n. n < 256 ^ length bs) (sym is) (subst (λ n. little_endian (reverse bs) < 256 ^ n) count below) in
-    let some : 0 < 256 ^ k = pow_some k in
+    let some : 0 < 256 ^ k = some_power k in
     let most : number * 256 ^ k < 256 ^ length bs * 256 ^ k = times_below number (256 ^ length bs) (256 ^ k) below some in
     let whole : 256 ^ length bs * 256 ^ k ≡ 256 ^ size = sym (pow-add 256 (length bs) k) ∙ ap (λ n. 256 ^ n) all in
     let top : 256 ^ size ≤ 2 ^ 64 = subst (λ n. n ≤ 2 ^ 64) (bytes_power size) (pow_mono {i = 8 * size} {j = 64} (omega (arith, few))) in
     ap (λ p. number * p % (2 ^ 64)) power ∙ mod-eq_of_lt {n = number * 256 ^ k} {m = 2 ^ 64} (omega (arith, most, whole, top))
     ∙ ap (λ n. n * 256 ^ k) is ∙ sym (zeros_reversed k (reverse bs)) ∙ ap little_endian (sym (reverse-append bs (replicate k 0)))
   where
-    pow_some : (n : ℕ) → 0 < 256 ^ n
-    pow_some zero = omega arith
-    pow_some (suc n) = let e = power_more n in let h = pow_some n in omega (arith, e, h)
-
     times_below : (a b c : ℕ) → a < b → 0 < c → a * c < b * c
     times_below a b c h some = subst (λ x. x < b * c) (mul_comm c a) (subst (λ x. c * a < x) (mul_comm c b) (mul-lt-mul_of_pos_left h some))
 

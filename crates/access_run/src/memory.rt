@@ -1,7 +1,8 @@
 // Accesses to RAM, to ROM, and to a ROM device that is read directly.
-ghost use Rattle.std.specs.Prelude.{◌≡◌, ◌≤◌, ◌<◌, ◌+◌, ◌%◌, ◌^◌, [], ◌∷◌, length};
+ghost use Rattle.std.specs.Prelude.{◌≡◌, ◌≤◌, ◌<◌, ◌+◌, ◌%◌, ◌^◌, [], ◌∷◌, length, take, drop};
 ghost use Rattle.mem_base.specs.access.AccessSteps.{reading, writing};
 ghost use Rattle.mem_base.specs.access.MemoryAccess.{marked, on_word, on_words};
+ghost use Rattle.mem_base.specs.access.Words.{little_endian};
 ghost use Rattle.mem_base.specs.lists.Runs.{run};
 ghost use Rattle.access_run.specs.Hands.{IsPlaceOf};
 ghost use Rattle.access_run.specs.Runs.{HasDone, TakesAll, TakesStep};
@@ -45,13 +46,14 @@ pub(crate) fn read<H: Reads>(hand: &mut H, place: &Place, offset: u64, out: &mut
     }
 }
 
-// Writes bytes of one word, from an offset on.
-fn write_word<H: Writes>(hand: &mut H, place: &Place, offset: u64, bytes: &[u8])
+// Writes bytes of one word, from an offset on, and what number they are.
+fn write_word<H: Writes>(hand: &mut H, place: &Place, offset: u64, bytes: &[u8], value: u64)
     requires placed { IsPlaceOf (H.shows hand.old) place.now }
     requires within { offset + length bytes.now ≤ place.now.bytes }
     requires words { place.now.bytes % 8 ≡ 0 }
     requires some { 0 < length bytes.now }
     requires one { offset % 8 + length bytes.now ≤ 8 }
+    requires value { value ≡ little_endian bytes.now }
     requires takes { TakesStep (H.takes hand.old) (on_word place.now.region offset (writing bytes.now) (run offset (length bytes.now))) }
     ensures { HasDone H.makes (H.pass hand.old) hand.old
         (on_word place.now.region offset (writing bytes.now) (run offset (length bytes.now)) ∷ []) [] hand.new }
@@ -59,9 +61,24 @@ fn write_word<H: Writes>(hand: &mut H, place: &Place, offset: u64, bytes: &[u8])
     let step = WordStep::Replace {
         first: (offset % WORD_SIZE) as u32,
         bytes: bytes.len() as u32,
-        value: number_of(bytes, false),
+        value,
     };
     hand.write_word(place, (offset / WORD_SIZE) as usize, step);
+}
+
+// The number that `count` of some bytes are, from one on. Eight bytes are read at once, since a loop over a drawn number of bytes
+// takes longer than the write.
+fn part_of(bytes: &[u8], from: usize, count: usize) -> u64
+    requires some { 0 < count }
+    requires few { count ≤ 8 }
+    requires inside { from + count ≤ length bytes.now }
+    ensures { result ≡ little_endian (take count (drop from bytes.now)) }
+{
+    if bytes.len() == 8 {
+        bytes_from(number_of(bytes, false), from as u8, count as u8)
+    } else {
+        number_of(&bytes[from..from + count], false)
+    }
 }
 
 /// Writes bytes of a place's data, from an offset on: one step for each word that they touch, ascending.
@@ -77,7 +94,8 @@ pub(crate) fn write<H: Writes>(hand: &mut H, place: &Place, offset: u64, bytes: 
     while done < bytes.len() {
         let at = offset + done as u64;
         let count = (bytes.len() - done).min((WORD_SIZE - at % WORD_SIZE) as usize);
-        write_word(hand, place, at, &bytes[done..done + count]);
+        let value = part_of(bytes, done, count);
+        write_word(hand, place, at, &bytes[done..done + count], value);
         done += count;
     }
 }

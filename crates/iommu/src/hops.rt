@@ -63,8 +63,9 @@ fn shut_for(entries: &[Entry], offset: u64, run: u64, write: bool) -> u64
     }
 }
 
-// The hop at an offset of an IOMMU region, for `run` offsets from there on.
-#[inline(never)]
+// The hop at an offset of an IOMMU region, for `run` offsets from there on. Inlined, so that the answer of a hop need not be
+// written to memory and read back.
+#[inline(always)]
 fn through(entries: &[Entry], offset: u64, run: u64, write: bool) -> Hop
     requires sorted { AreEntries entries.now }
     requires pages { ArePages entries.now }

@@ -1,12 +1,10 @@
 -- Laws of the steps of an entered pass: what it may touch in its generation, and what a step adds.
-use Rattle.std.proofs.Common.{◌≡◌, ℕ, zero, suc, ◌+◌, ◌*◌, ◌/◌, ◌%◌, ◌^◌, ◌<◌, ◌≤◌, ◌==◌, ◌||◌, Bool, true, false, if◌then◌else◌, List, [], ◌∷◌, length}
-use Rattle.std.proofs.Common.{take, refl, sym, ap, subst, ◌∙◌, arith, eq-eqb, Option, Some, None}
+use Rattle.std.proofs.Common.{◌≡◌, ℕ, zero, suc, ◌+◌, ◌/◌, ◌%◌, ◌^◌, ◌≤◌, ◌==◌, ◌||◌, Bool, true, false, if◌then◌else◌, List, [], ◌∷◌}
+use Rattle.std.proofs.Common.{refl, sym, ap, subst, ◌∙◌, arith, eq-eqb, Option, Some, None}
 use Rattle.std.specs.Prelude.{is_some, nat_lt, not}
 use Rattle.std.proofs.lemmas.Bool.Decides.{nat_tests}
 use Rattle.std.specs.List.{list_any}
 use Rattle.std.specs.Int.{bytes_low_first, byte_at}
-use Rattle.std.proofs.lemmas.Nat.{pow-add}
-use Rattle.std.proofs.Math.Nat.{mod-add-div, div-div-eq-div-mul}
 use Rattle.mem_base.specs.declared.map.kinds.Client.{Client}
 use Rattle.mem_base.specs.declared.access.cells.Place.{Place}
 use Rattle.mem_base.specs.declared.access.cells.WordStep.{WordStep}
@@ -18,7 +16,7 @@ use Rattle.mem_base.specs.access.Access.{access}
 use Rattle.mem_base.specs.declared.machine.events.Event.TheVariants as events
 use Rattle.mem_base.specs.declared.machine.events.Carried.TheVariants.{At}
 use Rattle.mem_base.specs.declared.machine.events.Hand.TheVariants as hands
-use Rattle.mem_base.specs.access.Words.{little_endian, bytes_of}
+use Rattle.mem_base.specs.access.Words.{bytes_of}
 use Rattle.mem_base.specs.access.PlacesByRegion.{place_in}
 use Rattle.mem_base.specs.machine.Desk.{at_place}
 use Rattle.mem_base.specs.machine.Passes.{pass_id}
@@ -109,40 +107,9 @@ byte_is : (i v : ℕ) → byte_at i v ≡ v / 256 ^ i % 256
 byte_is zero v = omega arith
 byte_is (suc i) v = refl
 
-power_more : (n : ℕ) → 256 ^ n * 256 ≡ 256 ^ suc n
-power_more n = let one : suc n ≡ n + 1 = omega arith in sym (ap (λ k. 256 ^ k) one ∙ pow-add 256 n 1)
-
-low : (n k i v a : ℕ) → n ≤ k → a ≡ v / 256 ^ i → a < 256 ^ n → little_endian (take n (bytes_low_first i k v)) ≡ a
-low zero k i v a l e h = omega (arith, h)
-low (suc n) zero i v a l e h = absurd (omega (arith, l))
-low (suc n) (suc k) i v a l e h =
-    let byte : byte_at i v ≡ a % 256 = byte_is i v ∙ ap (λ x. x % 256) (sym e) in
-    let next : a / 256 ≡ v / 256 ^ suc i = ap (λ x. x / 256) e ∙ div-div-eq-div-mul v (256 ^ i) 256 ∙ ap (λ p. v / p) (power_more i) in
-    let more : 256 ^ n * 256 ≡ 256 ^ suc n = power_more n in
-    let less : a / 256 < 256 ^ n = omega (arith, h, more) in
-    let rest : little_endian (take n (bytes_low_first (suc i) k v)) ≡ a / 256 = low n k (suc i) v (a / 256) (omega (arith, l)) next less in
-    (λ j. byte j + 256 * rest j) ∙ mod-add-div a 256
-
--- the lowest bytes of a number that has no others
-pub lowest : (n v : ℕ) → n ≤ 8 → v < 256 ^ n → little_endian (take n (bytes_low_first 0 8 v)) ≡ v
-lowest n v l h = low n 8 0 v v l (omega arith) h
-
 -- the eight bytes of a word, in either form
 pub eight : (v : ℕ) → bytes_low_first 0 8 v ≡ bytes_of v 8 false
 eight v = ap (λ b. b ∷ bytes_low_first 1 7 v) (byte_is 0 v)
-
-length_take : (n : ℕ) (xs : List ℕ) → n ≤ length xs → length (take n xs) ≡ n
-length_take zero xs l = refl
-length_take (suc n) [] l = absurd (omega (arith, l))
-length_take (suc n) (x ∷ xs) l = let h : length (take n xs) ≡ n = length_take n xs (omega (arith, l)) in omega (arith, h)
-
--- a step with the lowest bytes of a number is the step with the number
-pub part_is : (first n v : ℕ) (all : List ℕ) → n ≤ 8 → v < 256 ^ n → all ≡ bytes_low_first 0 8 v
-    → Replace first (length (take n all)) (little_endian (take n all)) ≡ Replace first n v
-part_is first n v all l h e =
-    let count : length (take n all) ≡ n = ap (λ bs. length (take n bs)) e ∙ length_take n (bytes_low_first 0 8 v) l in
-    let value : little_endian (take n all) ≡ v = ap (λ bs. little_endian (take n bs)) e ∙ lowest n v l h in
-    (λ i. Replace first (count i) (value i))
 
 -- steps that replace no part of a word
 

@@ -48,6 +48,7 @@ impl Reads for EnteredPass<'_> {
 impl Writes for EnteredPass<'_> {
     ghost takes = { λ p step. IsNotPart step };
 
+    #[inline(always)]
     fn write_word(&mut self, place: &Place, word: usize, step: WordStep) {
         write_whole(self.cabinet, self.pass, place, word, step);
     }
@@ -90,6 +91,7 @@ impl<R: Wait> Entered for WaitingPass<'_, R> {
 impl<R: Wait> Writes for WaitingPass<'_, R> {
     ghost takes = { λ p step. Unit {0} };
 
+    #[inline(always)]
     fn write_word(&mut self, place: &Place, word: usize, step: WordStep) {
         match step {
             WordStep::Replace {

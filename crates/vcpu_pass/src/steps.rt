@@ -10,7 +10,7 @@ ghost use Rattle.vcpu_pass.specs.Steps.{HasMade, IsPart, IsWhole, generation_in}
 use epoch_rule::{Cabinet, Pass};
 use generation::Generation;
 use mem_base::{Client, Place, WordStep};
-use shared_words::{add, load, mark, or, store_part, store8, take};
+use shared_words::{add, load, mark, or, replace, store8, take};
 use std::sync::Wait;
 
 /// A step of a read: it answers the word before it.
@@ -82,9 +82,7 @@ pub(crate) fn write_part<R: Wait>(
     ensures { (old : ℕ) × HasMade pass.old (word_event (pass_id pass.old.number) place.now word (Replace first bytes value) ∷ []) (old ∷ [])
         pass.new }
 {
-    let all = value.to_le_bytes();
-    let part = &all[..bytes as usize];
-    store_part(rt, cabinet, pass, place, word, first, part);
+    replace(rt, cabinet, pass, place, word, first, bytes, value);
 }
 
 /// Marks a page for a client.

@@ -1,7 +1,8 @@
-use Rattle.std.proofs.Common.{◌≡◌, ◌+◌, ◌-◌, ◌≤◌, length, take, drop, map, false, refl, sym, subst, List, ℕ, [], ◌∷◌, arith}
+use Rattle.std.proofs.Common.{◌≡◌, ◌+◌, ◌-◌, ◌≤◌, length, take, drop, map, false, refl, sym, ap, subst, List, ℕ, [], ◌∷◌, ◌∙◌, arith}
 use Rattle.mem_base.specs.lists.Runs.{run, touched}
 use Rattle.mem_base.specs.access.AccessSteps.{AccessStep, writing, tx}
 use Rattle.mem_base.specs.access.MemoryAccess.{on_word, on_words}
+use Rattle.mem_base.specs.access.Words.{little_endian}
 use Rattle.access_run.specs.Runs.{HasDone, TakesStep, TakesAll}
 use Rattle.access_run.proofs.HandLaws.{AreHandLaws, underway_then, takes_lasts}
 use Rattle.access_run.proofs.MemoryLaws.{words_then, part_length, word_written}
@@ -9,6 +10,11 @@ use Rattle.access_run.proofs.memory.write.Goals as goal
 
 pub overflow_add-at : goal.overflow_add-at
 overflow_add-at g c = record { fits = omega (arith, c.requires.within, c.requires.fits, c.loop-done-test.true) }
+
+pub write_word-requires-clause-value : goal.write_word-requires-clause-value
+write_word-requires-clause-value g c =
+    let same : c.min-count.result ≡ c.loop-done.done + c.min-count.result - c.loop-done.done = omega arith in
+    c.part_of-value.ensures ∙ ap (λ n. little_endian (take n (drop c.loop-done.done c.args.bytes.now))) same
 
 pub write_word-requires-clause-takes : goal.write_word-requires-clause-takes
 write_word-requires-clause-takes g c =
