@@ -3,3 +3,4 @@ pub mod AddLaws
 pub mod RegionLaws
 pub mod EditLaws
 pub mod PickedLaws
+pub mod NearLaws

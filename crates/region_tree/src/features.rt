@@ -1,6 +1,8 @@
 // What a generation asks of all regions of a forest.
-ghost use Rattle.std.specs.Prelude.{◌≡◌, ◌++◌, ◌||◌, ◌∷◌, [], false, if◌then◌else◌, nat_lt, length, OnOk};
+ghost use Rattle.std.specs.Prelude.{◌≡◌, ◌++◌, ◌||◌, ◌∷◌, [], false, if◌then◌else◌, nat_lt, length, filter, OnOk, IfOk};
+ghost use Rattle.std.specs.List.{list_any};
 ghost use Rattle.mem_base.specs.map.Kinds.{is_iommu};
+ghost use Rattle.mem_base.specs.map.Order.{ids_of};
 
 use mem_base::{Node, RegionId};
 use std::alloc::{AllocError, Global};
@@ -38,6 +40,20 @@ impl Features {
             has_iommu: false,
             with_events: Vec::new(alloc),
         }
+    }
+
+    /// Those of these regions.
+    pub(crate) fn of(alloc: Global, nodes: &[Node]) -> Result<Features, AllocError>
+        ensures iommu { IfOk result (λ features. features.has_iommu ≡ list_any (λ n. is_iommu n.kind) nodes.now) }
+        ensures events { IfOk result (λ features. features.with_events.items ≡ ids_of (filter (λ n. nat_lt 0 (length n.events)) nodes.now)) }
+    {
+        let mut features = Features::none(alloc);
+        for node in nodes {
+            if is_notable(node) {
+                features.note(node)?;
+            }
+        }
+        Ok(features)
     }
 
     /// Those of one more region. Not inlined, since few regions are such: the loop over all of them is the faster for it.

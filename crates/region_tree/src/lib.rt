@@ -10,6 +10,7 @@
 mod calls;
 mod conditions;
 mod features;
+mod near;
 mod refusals;
 mod tree;
 

@@ -2,6 +2,7 @@
 ghost use Rattle.std.specs.Prelude.{◌≡◌, ◌+◌, ◌<◌, ◌≤◌, ◌&&◌, ◌^◌, if◌then◌else◌, None, IfOk, map, filter, length, nat_lt};
 ghost use Rattle.std.specs.List.{list_any};
 ghost use Rattle.std.specs.Arc.{arc_value};
+ghost use Rattle.mem_base.specs.map.Kinds.{is_iommu};
 ghost use Rattle.mem_base.specs.map.Order.{ids_of};
 ghost use Rattle.mem_base.specs.map.Forest.{IsMade};
 ghost use Rattle.mem_base.specs.views.Naming.{has_leaf, names, shows_events};
@@ -21,7 +22,7 @@ use crate::shown::{Shown, show_spaces};
 use flat_lookup::Atlas;
 use generation::{Generation, is_leaf_among};
 use mem_base::{Edition, Forest, Place, RegionId, SpaceId};
-use region_tree::Tree;
+use region_tree::{Features, Tree};
 use std::alloc::{AllocError, Global};
 use std::sync::Arc;
 use std::sync::ledger::Ledger;
@@ -113,6 +114,25 @@ fn places_of(
     Ok(list)
 }
 
+// The forest of a tree, and what a generation asks of all its regions: from a forest that differs from it in the noted regions alone,
+// where they are noted.
+fn copy_of(
+    old: &Forest,
+    noted: &Option<Noted>,
+    tree: &Tree,
+) -> Result<(Forest, Features), AllocError>
+    requires noted { AreNoted old.now tree.now noted.now }
+    ensures forest { IfOk result (λ both. both.0 ≡ tree.now) }
+    ensures iommu { IfOk result (λ both. both.1.has_iommu ≡ list_any (λ n. is_iommu n.kind) tree.now.nodes) }
+    ensures events { IfOk result (λ both. both.1.with_events.items ≡ ids_of (filter (λ n. nat_lt 0 (length n.events)) tree.now.nodes)) }
+{
+    let both = match noted {
+        Some(noted) => tree.forest_after(old, noted.as_slice())?,
+        None => tree.forest_with_features()?,
+    };
+    Ok(both)
+}
+
 /// The generation that publishes the forest of a tree after the current one, and what listeners are told of it.
 ///
 /// `known` has the regions that are reached in each space of the current generation, `noted` those that may have changed since;
@@ -134,7 +154,7 @@ pub(crate) fn prepare<L: Ledger>(
     ensures prepared { IfOk result (λ p. p ≡ readied current.now tree.now places.now None) }
     ensures carves { steps.new ≤ steps.old + most_carves current.now.forest tree.now }
 {
-    let (forest, features) = tree.forest_with_features()?;
+    let (forest, features) = copy_of(current.forest(), noted, tree)?;
     let Shown {
         atlases,
         reached,
