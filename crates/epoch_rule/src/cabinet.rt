@@ -121,6 +121,7 @@ impl<E: Edition + Drop> Cabinet<E> {
     /// One atomic step on word `word` of a place, by a pass or the writer: the value that the word had, or 0 where the
     /// step is a store. A pass may step on the data, registers and notifiers of the places that its generation
     /// carries, and the writer on all words of a place that ends within the cabinet's words.
+    #[inline(always)]
     pub fn touch<H: Hand<E>>(&self, hand: &mut H, place: &Place, word: usize, touch: Touch) -> u64
         requires own { H.made_by hand.old ≡ self.now.id }
         requires kind { IsTouch (H.actor hand.old) place.now word touch }

@@ -78,6 +78,7 @@ impl<E: Edition + Drop> Hand<E> for Pass<E> {
 
     ghost tries = { λ x p word old first bytes value m. m };
 
+    #[inline(always)]
     fn touch_in(&mut self, cabinet: &Cabinet<E>, place: &Place, word: usize, touch: Touch) -> u64 {
         let Some(edition) = &self.edition else {
             unreachable!()
@@ -116,6 +117,7 @@ impl<E: Edition + Drop> Hand<E> for WriterSeat<E> {
 
     ghost tries = { λ x p word old first bytes value m. m };
 
+    #[inline(always)]
     fn touch_in(&mut self, cabinet: &Cabinet<E>, place: &Place, word: usize, touch: Touch) -> u64 {
         touch_word(
             &cabinet.table.shared,

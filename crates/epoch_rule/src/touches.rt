@@ -1,4 +1,5 @@
-// The touches of the cabinet's words.
+// The touches of the cabinet's words. What a pass does is inlined where it is called: the touch is known there, so that one step
+// is left of it, and the touch need not be written to memory and read back.
 ghost use Rattle.std.specs.Prelude.{◌≡◌, ℕ, ◌+◌, ◌*◌, ◌^◌, ◌≤◌, ◌<◌};
 ghost use Rattle.mem_base.specs.declared.machine.events.Hand.TheVariants.{Pass, Writer};
 ghost use Rattle.mem_base.specs.access.Places.{mark_word, word_of_page};
@@ -39,6 +40,7 @@ pub enum Touch {
     },
 }
 
+#[inline(always)]
 fn step_word<E: Edition + Drop>(
     shared: &SharedTable<E>,
     seat: &mut TableSeat<E>,
@@ -73,6 +75,7 @@ fn step_word<E: Edition + Drop>(
     }
 }
 
+#[inline(always)]
 fn try_word<E: Edition + Drop>(
     shared: &SharedTable<E>,
     seat: &mut TableSeat<E>,
@@ -107,6 +110,7 @@ fn try_word<E: Edition + Drop>(
     try_as::<E, Brand>(shared, seat, index, old, new, event, place)
 }
 
+#[inline(always)]
 fn mark_page<E: Edition + Drop>(
     shared: &SharedTable<E>,
     seat: &mut TableSeat<E>,
@@ -183,6 +187,7 @@ fn fill_word<E: Edition + Drop>(
 }
 
 /// A load that shows no event.
+#[inline(always)]
 fn look<E: Edition + Drop>(
     shared: &SharedTable<E>,
     seat: &mut TableSeat<E>,
@@ -211,6 +216,7 @@ fn look<E: Edition + Drop>(
 }
 
 /// One touch of a word of the cabinet.
+#[inline(always)]
 pub(crate) fn touch_word<E: Edition + Drop>(
     shared: &SharedTable<E>,
     seat: &mut TableSeat<E>,

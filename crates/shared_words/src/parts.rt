@@ -39,14 +39,35 @@ pub fn store_part<E: Edition + Drop, H: Hand<E>, R: Wait>(
         (steps.Replace first (length bytes.now) (little_endian bytes.now)) old (H.seen hand.old) (H.seen hand.new) }
     ensures stays { H.stays hand.old hand.new }
 {
-    let value = number(bytes);
     let count = bytes.len() as u32;
+    replace(rt, cabinet, hand, place, word, first, count, number(bytes));
+}
+
+/// The same, where the bytes are those of a number, the lowest first.
+pub fn replace<E: Edition + Drop, H: Hand<E>, R: Wait>(
+    rt: &R,
+    cabinet: &Cabinet<E>,
+    hand: &mut H,
+    place: &Place,
+    word: usize,
+    first: u32,
+    bytes: u32,
+    value: u64,
+)
+    requires own { H.made_by hand.old ≡ cabinet.now.id }
+    requires part { (0 < bytes) × (first + bytes ≤ 8) }
+    requires value { value < 256 ^ bytes }
+    requires may { H.may hand.old place.now word Look }
+    ensures wrote { (old : ℕ) × WroteStep (H.actor hand.old) (H.sizes hand.old) place.now word (steps.Replace first bytes value) old
+        (H.seen hand.old) (H.seen hand.new) }
+    ensures stays { H.stays hand.old hand.new }
+{
     let mut old = cabinet.touch(hand, place, word, Touch::Look);
     for _ in rt.forever() {
         let touch = Touch::Try {
             old,
             first,
-            bytes: count,
+            bytes,
             value,
         };
         let found = cabinet.touch(hand, place, word, touch);
