@@ -145,20 +145,32 @@ calls_too f = (free (no_more_calls f) (limit _ _ _), tt)
 each : (f : Forest) (call : Call) → Every Other (refusals f call ++ no_more_calls f ∷ [])
 each f (calls.Region kind size) = (
   free (unknown_target f kind) (target f kind),
-  (free (bad_size kind size) (refused_if _ BadSize refl),
-  (free (bad_device (device_of kind)) (device (device_of kind)),
-  (free (alias_too_long f kind size) (long f kind size),
-  (free (no_more_regions f) (first_of _ _ (limit _ _ _) (limit _ _ _)), calls_too f)))),
+  (
+    free (bad_size kind size) (refused_if _ BadSize refl),
+    (
+      free (bad_device (device_of kind)) (device (device_of kind)),
+      (
+        free (alias_too_long f kind size) (long f kind size),
+        (free (no_more_regions f) (first_of _ _ (limit _ _ _) (limit _ _ _)), calls_too f),
+      ),
+    ),
+  ),
 )
 each f (calls.Space space root) =
     (unknown f root, (free _ (refused_if _ (NameTaken (what.Space space)) refl), (free _ (limit _ _ _), calls_too f)))
 each f (calls.Add parent offset child priority) =
     let nodes = (changed f (calls.Add parent offset child priority)).nodes in (
       unknown f parent,
-      (unknown f child,
-      (free _ (in_one (container_of (node_of f.nodes child))),
-      (free _ (refused_where _ (AliasParent parent) (node_of f.nodes parent) refl),
-      (free _ (refused_if _ (Loop parent) refl), (free (too_deep nodes) (deep nodes), (free (too_wide nodes) (wide nodes), calls_too f)))))),
+      (
+        unknown f child,
+        (
+          free _ (in_one (container_of (node_of f.nodes child))),
+          (
+            free _ (refused_where _ (AliasParent parent) (node_of f.nodes parent) refl),
+            (free _ (refused_if _ (Loop parent) refl), (free (too_deep nodes) (deep nodes), (free (too_wide nodes) (wide nodes), calls_too f))),
+          ),
+        ),
+      ),
     )
 each f (calls.Del parent child) =
     (unknown f parent, (unknown f child, (free _ (refused_where _ (NotChild child) (node_of f.nodes child) refl), calls_too f)))
@@ -177,17 +189,25 @@ each f (calls.Log region client on) = (unknown f region, (free _ (refused_where 
 each f (calls.Global on) = calls_too f
 each f (calls.Map region iova size space translated perm) = (
   unknown f region,
-  (free _ (refused_if _ (Unknown (what.Space space)) refl),
-  (free _ (refused_where _ (WrongKind region) (node_of f.nodes region) refl),
-  (free _ (refused_if _ BadPage refl), (free (page_overlap f region iova size) (overlap_at f region iova size), (free _ (limit _ _ _), calls_too f))))),
+  (
+    free _ (refused_if _ (Unknown (what.Space space)) refl),
+    (
+      free _ (refused_where _ (WrongKind region) (node_of f.nodes region) refl),
+      (free _ (refused_if _ BadPage refl), (free (page_overlap f region iova size) (overlap_at f region iova size), (free _ (limit _ _ _), calls_too f))),
+    ),
+  ),
 )
 each f (calls.Unmap region iova) =
     (unknown f region, (free _ (refused_where _ (Unknown (what.Entry iova)) (node_of f.nodes region) refl), calls_too f))
 each f (calls.Event region event) = (
   unknown f region,
-  (free _ (refused_where _ (WrongKind region) (node_of f.nodes region) refl),
-  (free _ (refused_if _ BadOps refl),
-  (free _ (refused_where _ EventTaken (node_of f.nodes region) refl), (free _ (limit _ _ _), calls_too f)))),
+  (
+    free _ (refused_where _ (WrongKind region) (node_of f.nodes region) refl),
+    (
+      free _ (refused_if _ BadOps refl),
+      (free _ (refused_where _ EventTaken (node_of f.nodes region) refl), (free _ (limit _ _ _), calls_too f)),
+    ),
+  ),
 )
 each f (calls.Unevent region offset size matched value) =
     (unknown f region, (free _ (refused_where _ (Unknown (what.Event offset)) (node_of f.nodes region) refl), calls_too f))
