@@ -51,8 +51,7 @@ impl World {
     /// Whether an event may happen where the machine stands, by this project's own rules. It takes no memory.
     ///
     /// A `Config` that would publish wants each pass swept, so it matters whether the forest accepts its call. Where a region is to be
-    /// placed in a container, that takes a walk over all paths of the forest; the calls that change the map make no such walk, unless
-    /// a pass holds a publish up.
+    /// placed in a container, that takes a walk over all paths of the forest; the calls that change the map make no such walk.
     pub fn possible(&self, event: &Event) -> bool
         ensures { result ≡ possible self.now event.now }
     {
