@@ -74,31 +74,11 @@ impl Generation {
         Generation::with(number, forest, atlases, places, guesses, has_iommu)
     }
 
-    /// The same generation, in which the place of a region is found by one look where the region's number is below the number
-    /// of regions, and else by halving. It takes four bytes of memory for each region, and fails only where memory runs out.
+    /// The same generation, where it is known whether some region is an IOMMU region, and in which the place of a region is found by
+    /// one look where the region's number is below the number of regions, and else by halving.
+    ///
+    /// It takes four bytes of memory for each region, and fails only where memory runs out.
     pub fn indexed(
-        alloc: Global,
-        number: u64,
-        forest: Forest,
-        atlases: Vec<(SpaceId, Arc<Atlas, Global>)>,
-        places: Vec<Place>,
-    ) -> Result<Generation, AllocError>
-        requires edition { IsEdition forest places.items }
-        requires atlases { map (λ p. (p.0, arc_value p.1)) atlases.items ≡ views_of forest }
-        requires ascending { AscendByRegion places.items }
-        ensures number { IfOk result (λ g. g.number ≡ number) }
-        ensures forest { IfOk result (λ g. g.forest ≡ forest) }
-        ensures places { IfOk result (λ g. g.places ≡ places.items) }
-    {
-        let has_iommu = has_iommu(forest.nodes.as_slice());
-        let generation = Generation::indexed_with(
-            alloc, number, forest, atlases, places, has_iommu,
-        )?;
-        Ok(generation)
-    }
-
-    /// The same, where it is known whether some region is an IOMMU region: the regions are not looked at.
-    pub fn indexed_with(
         alloc: Global,
         number: u64,
         forest: Forest,

@@ -28,7 +28,7 @@ use std::sync::Arc;
 use std::sync::ledger::Ledger;
 use step_counter::Steps;
 
-// The owner of the notifiers' words, which no call can name.
+// The owner of the notifiers' words: no region ever has this id.
 const NOTIFIERS: RegionId = RegionId(u32::MAX);
 
 // Whether one of these regions is a leaf in one of the views.
@@ -163,7 +163,7 @@ pub(crate) fn prepare<L: Ledger>(
     let with_events = features.with_events.as_slice();
     let places = places_of(alloc, &forest, with_events, atlases.as_slice(), places)?;
     let number = current.number() + 1;
-    let generation = Generation::indexed_with(
+    let generation = Generation::indexed(
         alloc,
         number,
         forest,

@@ -11,15 +11,15 @@ places_of-requires-clause-views g c =
     ap (λ atlases. map (λ p. (p.0, arc_value p.1)) atlases) c.as_slice.ensures.value ∙ c.in_ok-atlases.ensures.atlases ∙ ap views_of
     (sym c.in_ok-forest.ensures.forest)
 
-pub indexed_with-requires-clause-edition : goal.indexed_with-requires-clause-edition
-indexed_with-requires-clause-edition g c =
+pub indexed-requires-clause-edition : goal.indexed-requires-clause-edition
+indexed-requires-clause-edition g c =
     let list : c.in_ok-places.places.items ≡ shown_places c.args.tree.now c.args.places.now = c.in_ok-places.ensures
     ∙ ap (λ f. shown_places f c.args.places.now) c.in_ok-forest.ensures.forest in
     subst (λ f. IsEdition f c.in_ok-places.places.items) (sym c.in_ok-forest.ensures.forest)
     (edition_of c.args.tree.now c.args.places.now c.in_ok-places.places.items c.requires.made c.requires.places list)
 
-pub indexed_with-requires-clause-ascending : goal.indexed_with-requires-clause-ascending
-indexed_with-requires-clause-ascending g c =
+pub indexed-requires-clause-ascending : goal.indexed-requires-clause-ascending
+indexed-requires-clause-ascending g c =
     let list : c.in_ok-places.places.items ≡ shown_places c.args.tree.now c.args.places.now = c.in_ok-places.ensures
     ∙ ap (λ f. shown_places f c.args.places.now) c.in_ok-forest.ensures.forest in
     ascending_of c.args.tree.now c.args.places.now c.in_ok-places.places.items c.requires.places list
