@@ -1,10 +1,11 @@
 -- An event is refused because a pass holds a publish up exactly where it would have been a publish.
 use Rattle.std.proofs.Common.{◌≡◌, ℕ, ◌+◌, ◌-◌, Bool, true, false, List, [], ◌∷◌, Option, Some, None, refl, sym, ap, ◌∙◌, arith}
-use Rattle.std.specs.Prelude.{◌==◌, ◌&&◌, not, nat_le, if◌then◌else◌, is_none, is_some, is_ok, option_and_then, option_map, ◌++◌, Result, Ok, Err}
+use Rattle.std.specs.Prelude.{◌==◌, ◌&&◌, not, nat_le, if◌then◌else◌, is_none, is_some, is_ok, option_and_then, option_map, filter, length, ◌++◌, Result, Ok, Err}
 use Rattle.std.specs.Option.{option_or}
 use Rattle.std.proofs.lemmas.Bool.Decides.{nat_tests}
 use Rattle.mem_base.specs.declared.map.ids.RegionId.{RegionId}
 use Rattle.mem_base.specs.declared.map.ids.SpaceId.{SpaceId}
+use Rattle.mem_base.specs.declared.map.ids.ListenerId.{ListenerId}
 use Rattle.mem_base.specs.declared.map.forests.Node.{Node}
 use Rattle.mem_base.specs.declared.map.forests.Forest.{Forest}
 use Rattle.mem_base.specs.declared.map.kinds.Device.{Device}
@@ -24,12 +25,17 @@ use Rattle.mem_base.specs.declared.map.refusals.What.TheVariants as what
 use Rattle.mem_base.specs.declared.map.refusals.Which.{Which}
 use Rattle.mem_base.specs.declared.map.refusals.Which.TheVariants as which
 use Rattle.mem_base.specs.lists.Every.{Every}
-use Rattle.mem_base.specs.map.Limits.{most_listeners, most_nested}
+use Rattle.mem_base.specs.map.Limits.{most_calls, most_listeners, most_made, most_nested, most_regions}
 use Rattle.mem_base.specs.map.Entries.{least_met}
-use Rattle.mem_base.specs.map.Region.{node_of}
+use Rattle.mem_base.specs.map.Region.{node_of, is_child_of}
+use Rattle.mem_base.specs.map.Search.{root_of}
 use Rattle.mem_base.specs.map.Kinds.{device_of, is_alias}
 use Rattle.mem_base.specs.map.Refusals.{first_refusal, refuse_if, refuse_where, unknown_region, unknown_target, wrong_kind, bad_size, in_container}
-use Rattle.mem_base.specs.map.Refusals.{container_of, has_container, in_use, in_use_by_region, in_use_by_space, too_deep, too_wide}
+use Rattle.mem_base.specs.map.Refusals.{container_of, first_id, has_container, has_root, in_use, in_use_by_region, in_use_by_space, least_space}
+use Rattle.mem_base.specs.map.Refusals.{targets, too_deep, too_wide, unknown_space}
+use Rattle.mem_base.specs.views.Flattened.{view_of}
+use Rattle.mem_base.specs.views.LiveEvents.{lives_of}
+use Rattle.mem_base.specs.views.Listening.{Listening, joined, join_refusal, leave_refusal, listens}
 use Rattle.mem_base.specs.map.TableRefusals.{bad_device, page_overlap, at_limit, no_more_calls, no_more_regions}
 use Rattle.mem_base.specs.map.Calls.{after, after_unless, alias_too_long, answer_of, counted, is_quiet, refusal_of, refusals}
 use Rattle.mem_base.specs.map.Changes.{changed}
@@ -37,8 +43,8 @@ use Rattle.mem_base.specs.access.Places.{Extent, extent_of, first_fit, words_of}
 use Rattle.mem_base.specs.machine.Generations.{Generations, PassTrack}
 use Rattle.mem_base.specs.machine.Desk.{Desk}
 use Rattle.mem_base.specs.machine.Publishing.{Settled, settled, refused_desk, unless_refused, readied, publishing, would_publish, held_up, held_from}
-use Rattle.mem_base.specs.machine.Publishing.{held_at, holds_up}
-use Rattle.mem_base.specs.machine.Configs.{backed, configured, kept_back, made}
+use Rattle.mem_base.specs.machine.Publishing.{current_forest, held_at, holds_up}
+use Rattle.mem_base.specs.machine.Configs.{backed, configured, kept_back, made, without_listener}
 use Rattle.world_core.specs.Configuring.{is_held}
 
 -- what may be refused is no publish that is held up
@@ -131,16 +137,38 @@ long f kind size =
     where_tested (is_alias kind) (first_refusal (too_deep nodes ∷ too_wide nodes ∷ []))
     (first_of (too_deep nodes) (option_or (too_wide nodes) None) (deep nodes) (first_of (too_wide nodes) None (wide nodes) refl))
 
-used : (f : Forest) (r : RegionId) → held_in (in_use f r) ≡ false
-used f r = first_of _ _ (used_by_region _) (first_of _ _ (used_by_region _) (first_of _ None (used_by_space _) refl))
-
--- so with every call
-
 abbrev free : (o : Option Refusal) → held_in o ≡ false → Other o
 free o h = record { other = h }
 
+used : (f : Forest) (r : RegionId) → Other (in_use f r)
+used f r =
+    let child = first_id (is_child_of r) f in
+    let alias = first_id (λ n. targets r n.kind) f in
+    let space = least_space (filter (has_root r) f.spaces) in
+    first_other (in_use_by_region child ∷ in_use_by_region alias ∷ in_use_by_space space ∷ []) (
+      free (in_use_by_region child) (used_by_region child),
+      (free (in_use_by_region alias) (used_by_region alias), (free (in_use_by_space space) (used_by_space space), tt)),
+    )
+
+joins : (x : Listening) (id : ListenerId) → Other (join_refusal x id)
+joins x id =
+    let there = refuse_if (listens x id) (NameTaken (what.Listener id)) in
+    let full = refuse_if (nat_le most_listeners (length x.listeners)) (LimitReached which.Listeners most_listeners) in
+    first_other (there ∷ full ∷ []) (
+      free there (refused_if (listens x id) (NameTaken (what.Listener id)) refl),
+      (free full (refused_if (nat_le most_listeners (length x.listeners)) (LimitReached which.Listeners most_listeners) refl), tt),
+    )
+
+many : (f : Forest) → held_in (no_more_regions f) ≡ false
+many f =
+    let made = at_limit which.Made most_made f.made in
+    let there = at_limit which.Regions most_regions (length f.nodes) in
+    first_of made there (limit which.Made most_made f.made) (limit which.Regions most_regions (length f.nodes))
+
+-- so with every call
+
 calls_too : (f : Forest) → Every Other (no_more_calls f ∷ [])
-calls_too f = (free (no_more_calls f) (limit _ _ _), tt)
+calls_too f = (free (no_more_calls f) (limit which.Calls most_calls f.calls), tt)
 
 each : (f : Forest) (call : Call) → Every Other (refusals f call ++ no_more_calls f ∷ [])
 each f (calls.Region kind size) = (
@@ -151,7 +179,7 @@ each f (calls.Region kind size) = (
       free (bad_device (device_of kind)) (device (device_of kind)),
       (
         free (alias_too_long f kind size) (long f kind size),
-        (free (no_more_regions f) (first_of _ _ (limit _ _ _) (limit _ _ _)), calls_too f),
+        (free (no_more_regions f) (many f), calls_too f),
       ),
     ),
   ),
@@ -212,7 +240,7 @@ each f (calls.Event region event) = (
 each f (calls.Unevent region offset size matched value) =
     (unknown f region, (free _ (refused_where _ (Unknown (what.Event offset)) (node_of f.nodes region) refl), calls_too f))
 each f (calls.Drop region) =
-    (unknown f region, (free _ (in_one (container_of (node_of f.nodes region))), (free (in_use f region) (used f region), calls_too f)))
+    (unknown f region, (free _ (in_one (container_of (node_of f.nodes region))), (used f region, calls_too f)))
 
 refused_by_forest : (f : Forest) (call : Call) → held_in (refusal_of f call) ≡ false
 refused_by_forest f call = (first_other (refusals f call ++ no_more_calls f ∷ []) (each f call)).other
@@ -251,7 +279,7 @@ made_or_not d f r x true = refl
 made_or_not d f r x false = placed d f r x (first_fit d.pool_words d.places (words_of x))
 
 kept : (d : Desk) (call : Call) (f : Forest) → held_or false (kept_back d call f).answer ≡ false
-kept d (calls.Region kind size) f = made_or_not d f _ (extent_of kind size) (words_of (extent_of kind size) == 0)
+kept d (calls.Region kind size) f = made_or_not d f (record { 0 = d.forest.made }) (extent_of kind size) (words_of (extent_of kind size) == 0)
 kept d (calls.Space space root) f = refl
 kept d (calls.Add parent offset child priority) f = refl
 kept d (calls.Del parent child) f = refl
@@ -278,9 +306,9 @@ call_after g d call outside quiet (Ok f) = if outside && not quiet then publishi
 called : (g : Generations) (d : Desk) (call : Call) (outside quiet : Bool) (o : Option Refusal) → held_in o ≡ false
     → held_or (outside && (not quiet && is_ok (after_unless o d.forest call))) (call_after g d call outside quiet (after_unless o d.forest call)).answer
     ≡ (outside && (not quiet && is_ok (after_unless o d.forest call)))
-called g d call false quiet None h = kept d call _
-called g d call true true None h = kept d call _
-called g d call true false None h = published g d _ _
+called g d call false quiet None h = kept d call (counted (changed d.forest call))
+called g d call true true None h = kept d call (counted (changed d.forest call))
+called g d call true false None h = published g d (counted (changed d.forest call)) (answer_of d.forest call)
 called g d call false quiet (Some why) h = h
 called g d call true true (Some why) h = h
 called g d call true false (Some why) h = h
@@ -306,10 +334,17 @@ held_where_published g d configs.Commit = go (d.depth == 0) (d.depth == 1) d.pen
     go false true false a b = refl
     go false true true a b = published g d d.forest Done
 held_where_published g d (configs.Listen listener space priority) =
-    unless_other _ d _ Done refl
-    (first_of _ _ (refused_if _ (Unknown (what.Space space)) refl) (first_of _ None (first_of _ _ (refused_if _ (NameTaken (what.Listener listener)) refl)
-    (first_of _ None (refused_if _ (LimitReached which.Listeners most_listeners) refl) refl)) refl))
-held_where_published g d (configs.Unlisten listener) = unless_other _ d _ Done refl (refused_if _ (Unknown (what.Listener listener)) refl)
+    let asked = unknown_space d.forest space ∷ join_refusal d.listening listener ∷ [] in
+    let joins_with = joined d.listening (record { listener = listener; space = space; priority = priority })
+    (view_of (current_forest g) space) (lives_of (current_forest g) space) in
+    unless_other (first_refusal asked) d (settled (record d { listening = joins_with }) Done) Done refl
+    (first_other asked (
+      free (unknown_space d.forest space) (refused_if (is_none (root_of d.forest space)) (Unknown (what.Space space)) refl),
+      (joins d.listening listener, tt),
+    )).other
+held_where_published g d (configs.Unlisten listener) =
+    unless_other (leave_refusal d.listening listener) d (settled (without_listener d.listening.listeners listener g d) Done) Done refl
+    (refused_if (not (listens d.listening listener)) (Unknown (what.Listener listener)) refl)
 
 -- an event that is refused says that a publish is held up just where it would have been one
 pub held_where_refused : (g : Generations) (d : Desk) (c : Config) (why : Refusal) → (configured g d c).answer ≡ Err why → is_held why ≡ would_publish d c
