@@ -1,2 +1,3 @@
 pub mod BoardLaws
 pub mod FitLaws
+pub mod ReadyLaws

@@ -1,7 +1,7 @@
 //! How long the memory map takes: all calls that build a map, moves, look-ups of one address, a view, its atlas, and a
 //! walk to the next view; how long places in a pool take, routes of accesses, accesses to registers, and changes that are
-//! published; how long a cabinet takes, and what a pass does in it; how long reads and writes of virtual CPUs take; and how long
-//! the text of a script takes to be read and printed (`scripts`).
+//! published; how long a cabinet takes, and what a pass does in it; how long reads and writes of virtual CPUs take, and those of the
+//! pure machine; and how long the text of a script takes to be read and printed (`scripts`).
 //!
 //! Standard output has a line for each map, which is the same in every run: how many calls it takes, how many of them
 //! were refused, how many ranges its view has, and a sum over what the look-ups found; and one for each text: its bytes,
@@ -23,6 +23,7 @@ mod routes;
 mod scripts;
 mod vcpus;
 mod views;
+mod worlds;
 
 use crate::cabinets::run_cabinet;
 use crate::changes::run_changes;
@@ -32,6 +33,7 @@ use crate::rounds::{Failed, run};
 use crate::routes::run_routes;
 use crate::vcpus::run_vcpus;
 use crate::views::run_views;
+use crate::worlds::run_worlds;
 use std::alloc::AllocError;
 use std::process::ExitCode;
 use std::sync::Wait;
@@ -145,6 +147,7 @@ fn all<R: Threads + Wait + Clock + Sync>(
     run_routes(rt, &third, sizes.rounds)?;
     run_changes(rt, &third, sizes.rounds)?;
     run_vcpus(rt, threads, &third, sizes.rounds)?;
+    run_worlds(rt, &third, sizes.rounds)?;
     run_cabinet(rt, sizes.cabinet, sizes.visits, sizes.rounds)?;
     scripts::all(rt, sizes.text, sizes.rounds)?;
     Ok(())

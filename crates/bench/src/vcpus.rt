@@ -19,7 +19,7 @@ use std::sync::ledger::{Blank, Ledger};
 use std::sync::{Arc, Wait};
 use std::thread;
 use std::thread::Threads;
-use std::time::{Clock, Instant};
+use std::time::{Clock, Duration, Instant};
 use step_counter::Steps;
 use transact::{Prepared, Step};
 use vcpu_pass::Vcpu;
@@ -167,8 +167,10 @@ fn change_now<L: Ledger>(
     Ok(true)
 }
 
-/// Moves regions of the map, as often as there are calls that place one, until `most` moves were published; how many were.
-fn move_many(
+/// Moves regions of the map, as often as there are calls that place one, until `most` moves were published; how many were. It rests for
+/// a millisecond before each.
+fn move_many<R: Clock>(
+    rt: &R,
     alloc: Global,
     cabinet: &Cabinet<Generation>,
     mut writer: WriterSeat<Generation>,
@@ -185,6 +187,7 @@ fn move_many(
         }
         if let Call::Add { offset, child, .. } = *call {
             let there = Call::Move { child, offset };
+            thread::sleep(rt, Duration::from_millis(1));
             if change(alloc, cabinet, &mut writer, &mut desk, &there)? {
                 moved = moved.saturating_add(1);
             }
@@ -284,19 +287,24 @@ fn alone<R: Clock + Wait>(
     (reads, writes)
 }
 
-/// Reads by all virtual CPUs beside one another; the longest time of one.
+/// Reads by all virtual CPUs beside one another, in some rounds: of the longest time of one in a round, the least.
 fn read_beside<R: Threads + Clock + Sync>(
     rt: &R,
     mut readers: Vec<Reader<'_>>,
     addrs: &[u32],
+    rounds: u32,
 ) -> u64 {
-    thread::for_each_mut(
-        rt,
-        readers.as_mut_slice(),
-        4,
-        &|_, reader| { time_reads(rt, reader, addrs) },
-    );
-    longest(readers.as_slice())
+    let mut least = u64::MAX;
+    for _ in 0..rounds {
+        thread::for_each_mut(
+            rt,
+            readers.as_mut_slice(),
+            4,
+            &|_, reader| { time_reads(rt, reader, addrs) },
+        );
+        least = least.min(longest(readers.as_slice()));
+    }
+    least
 }
 
 /// The same, while the writer moves regions; and how many moves there were.
@@ -309,6 +317,7 @@ fn together<R: Threads + Clock + Sync>(
     writer: WriterSeat<Generation>,
     desk: BackedDesk,
     map: &Map,
+    rounds: u32,
 ) -> Result<(u64, u32), Failed>
     requires { (writer.cabinet ≡ cabinet.now.id) × (writer.sizes.passes ≡ 16) × (writer.sizes.words ≡ 2097216) }
 {
@@ -316,8 +325,8 @@ fn together<R: Threads + Clock + Sync>(
     let most = map.size / 4;
     let (time, moved) = thread::join(
         rt,
-        move || read_beside(rt, readers, addrs),
-        move || move_many(alloc, cabinet, writer, desk, calls, most),
+        move || read_beside(rt, readers, addrs, rounds),
+        move || move_many(rt, alloc, cabinet, writer, desk, calls, most),
     );
     Ok((time, moved?))
 }
@@ -350,7 +359,10 @@ fn time_all<R: Threads + Wait + Clock + Sync>(
     let addrs = addrs.as_slice();
     let mut readers = crew(alloc, cabinet, &mut writer)?;
     let (reads, writes) = alone(threads, readers.as_mut_slice(), addrs, rounds);
-    let (time, moved) = together(threads, alloc, cabinet, readers, addrs, writer, desk, map)?;
+    let rounds = rounds.saturating_mul(6);
+    let (time, moved) = together(
+        threads, alloc, cabinet, readers, addrs, writer, desk, map, rounds,
+    )?;
     Ok(Times {
         accesses: addrs.len() as u64,
         reads,
