@@ -110,7 +110,7 @@ impl Atlas {
 
     /// The last address of the range that holds an address, or else of the hole that does.
     ///
-    /// It takes no memory, and at most as many probes as `at`.
+    /// It takes no memory, and keeps within the same bound on probes as `at`.
     pub fn run_to<L: Ledger>(&self, addr: u64, steps: &mut Steps<L>) -> u64
         ensures value { result ≡ run_end self.now addr }
         ensures probes { AreProbes (steps.new - steps.old) (length self.now) }
@@ -129,7 +129,7 @@ impl Atlas {
     /// What `at` and `run_to` answer together, by one search: what the view shows at an address, and the last address of the
     /// range or hole that holds it.
     ///
-    /// It takes no memory, and at most as many probes as `at`.
+    /// It takes no memory, and keeps within the same bound on probes as `at`.
     pub fn run_at<L: Ledger>(&self, addr: u64, steps: &mut Steps<L>) -> (Option<Spot>, u64)
         ensures spot { result.0 ≡ shown self.now addr }
         ensures last { result.1 ≡ run_end self.now addr }

@@ -76,7 +76,7 @@ fn run_cases(alloc: Global, tables: &[&str]) -> Result<(u32, Vec<u8>), Fail> {
 fn worked_scripts_write_what_was_worked_out(rt: HostRuntime) -> Result<(), Fail> {
     let (count, others) = run_cases(rt.alloc(), &WORKED)?;
     assert_eq!(rt; others.as_slice(), b"".as_slice());
-    assert_eq!(rt; count, 33);
+    assert_eq!(rt; count, 34);
     Ok(())
 }
 
