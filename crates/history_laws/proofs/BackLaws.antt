@@ -10,7 +10,7 @@ use Rattle.mem_base.specs.declared.map.ids.ListenerId.{ListenerId}
 use Rattle.mem_base.specs.declared.map.forests.Node.{Node}
 use Rattle.mem_base.specs.declared.map.forests.Forest.{Forest}
 use Rattle.mem_base.specs.declared.map.kinds.Kind.{Kind}
-use Rattle.mem_base.specs.declared.map.kinds.Kind.TheVariants.{Container, Ram, Rom, RomDevice, Io, Iommu, Alias, Reserve}
+use Rattle.mem_base.specs.declared.map.kinds.Kind.TheVariants.{Container, Ram, Rom, RomDevice, Io, Iommu, Alias, Reserve, Host}
 use Rattle.mem_base.specs.declared.map.calls.Applied.{Applied}
 use Rattle.mem_base.specs.declared.map.calls.Applied.TheVariants.{Done, Made}
 use Rattle.mem_base.specs.declared.map.calls.Call.{Call}
@@ -21,7 +21,7 @@ use Rattle.mem_base.specs.declared.access.cells.Place.{Place}
 use Rattle.mem_base.specs.lists.Every.{Every, EveryPair}
 use Rattle.mem_base.specs.map.Limits.{most_made}
 use Rattle.mem_base.specs.map.Region.{has_id, node_of}
-use Rattle.mem_base.specs.map.Kinds.{has_bytes}
+use Rattle.mem_base.specs.map.Kinds.{is_memory}
 use Rattle.mem_base.specs.map.Refusals.{wrong_kind, refuse_where}
 use Rattle.mem_base.specs.map.TableRefusals.{no_more_calls}
 use Rattle.mem_base.specs.map.Edits.{retargeted, edited}
@@ -107,9 +107,10 @@ retargeted_extent offset (RomDevice d) size = refl
 retargeted_extent offset (Io d) size = refl
 retargeted_extent offset Iommu size = refl
 retargeted_extent offset Reserve size = refl
+retargeted_extent offset Host size = refl
 
--- only regions without bytes are resized
-resized_extent : (k : Kind) (old new : ℕ) → has_bytes k ≡ false → extent_of k new ≡ extent_of k old
+-- only regions that are no memory are resized
+resized_extent : (k : Kind) (old new : ℕ) → is_memory k ≡ false → extent_of k new ≡ extent_of k old
 resized_extent Ram old new h = absurd (grind arith)
 resized_extent Rom old new h = absurd (grind arith)
 resized_extent (RomDevice d) old new h = absurd (grind arith)
@@ -118,13 +119,14 @@ resized_extent (Io d) old new h = refl
 resized_extent Iommu old new h = refl
 resized_extent (Alias target offset) old new h = refl
 resized_extent Reserve old new h = refl
+resized_extent Host old new h = refl
 
-no_bytes : (f : Forest) (region : RegionId) (n : Node) → wrong_kind (λ k. not (has_bytes k)) f region ≡ None → node_of f.nodes region ≡ Some n
-    → has_bytes n.kind ≡ false
-no_bytes f region n h e =
-    let k : refuse_where (λ n. not (not (has_bytes n.kind))) (WrongKind region) (Some n) ≡ None =
-    subst (λ (o : Option Node). refuse_where (λ n. not (not (has_bytes n.kind))) (WrongKind region) o ≡ None) e h in
-    go (has_bytes n.kind) (refuse_if-none (not (not (has_bytes n.kind))) (WrongKind region) k)
+no_memory : (f : Forest) (region : RegionId) (n : Node) → wrong_kind (λ k. not (is_memory k)) f region ≡ None → node_of f.nodes region ≡ Some n
+    → is_memory n.kind ≡ false
+no_memory f region n h e =
+    let k : refuse_where (λ n. not (not (is_memory n.kind))) (WrongKind region) (Some n) ≡ None =
+    subst (λ (o : Option Node). refuse_where (λ n. not (not (is_memory n.kind))) (WrongKind region) o ≡ None) e h in
+    go (is_memory n.kind) (refuse_if-none (not (not (is_memory n.kind))) (WrongKind region) k)
   where
     go : (b : Bool) → not (not b) ≡ false → b ≡ false
     go true h = absurd (grind arith)
@@ -143,7 +145,7 @@ call_keeps f g call e plain = let ok = after-accepted f g call e in
     go (calls.Move child offset) h each =
         changed_keeps f.nodes child (moved offset f.placings) (moved_id offset f.placings) (λ n e. moved_extent offset f.placings n)
     go (calls.Resize region size) h each = changed_keeps f.nodes region (edited (calls.Resize region size)) (λ n. refl)
-        (λ n e. resized_extent n.kind n.size size (no_bytes f region n each.1.0 e))
+        (λ n e. resized_extent n.kind n.size size (no_memory f region n each.1.0 e))
     go (calls.Retarget alias offset) h each = changed_keeps f.nodes alias (edited (calls.Retarget alias offset)) (λ n. refl)
         (λ n e. retargeted_extent offset n.kind n.size)
     go (calls.Enable region on) h each = changed_keeps f.nodes region _ (λ n. refl) (λ n e. refl)

@@ -10,5 +10,7 @@ pub mod ReplayedLaws
 pub mod DroppedLaws
 pub mod NumberLaws
 pub mod OwnLaws
+pub mod AppendLaws
+pub mod PureAppends
 pub mod BackLaws
 pub mod ShownLaws

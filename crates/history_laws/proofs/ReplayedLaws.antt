@@ -37,9 +37,8 @@ use Rattle.mem_base.specs.views.LiveEvents.{lives_of}
 use Rattle.mem_base.specs.access.Places.{Extent, extent_of, words_of, first_fit}
 use Rattle.mem_base.specs.views.Replay.{ListenerState, nothing_heard, listener_after_all, replay}
 use Rattle.mem_base.specs.machine.Generations.{Generations}
-use Rattle.mem_base.specs.views.Listening.{Listening, Delivery, is_listener, listens, deliveries_to, ascending, deliveries_of_changes}
-use Rattle.mem_base.specs.views.Listening.{changes_between, delivered, joined, joining, join_refusal, left, leaving, leave_refusal}
-use Rattle.mem_base.specs.views.Listening.{calls_to}
+use Rattle.mem_base.specs.views.Listening.{Listening, Delivery, is_listener, listens, deliveries_to, ascending, deliveries_of_changes, changes_between}
+use Rattle.mem_base.specs.views.Listening.{delivered, joined, joining, join_refusal, left, leaving, leave_refusal, calls_to}
 use Rattle.mem_base.specs.machine.Desk.{Desk}
 use Rattle.mem_base.specs.machine.Publishing.{Settled, settled, refused_desk, unless_refused, held_up, readied, publishing, current_forest}
 use Rattle.mem_base.specs.machine.Configs.{configured, answers, made, backed, kept_back, after_call, begun, committed, listened, unlistened, without_listener}
@@ -54,6 +53,7 @@ use Rattle.view_laws.proofs.SwitchLaws.{heard_both, joining_replays, leaving_rep
 use Rattle.view_laws.proofs.ViewRanges.{view_apart}
 use Rattle.view_laws.proofs.LiveMembers.{lists_live}
 use Rattle.view_laws.proofs.Projections.{calls_both, calls_mine, calls_others, one, AtMost, told_change, IsKnownTo, publish_tells}
+use Rattle.history_laws.proofs.PureAppends.{after_both, legal_parts}
 
 -- the spaces of a forest after a call: the old ones, and one that is new
 
@@ -626,14 +626,6 @@ listeners_replay pool_words passes xs legal id l there =
 
 -- from any moment on at which no listener has the id
 
-legal_both : (w : World) (xs ys : List PureEntry) → IsLegalFrom w (xs ++ ys) → IsLegalFrom w xs × IsLegalFrom (after_entries w xs) ys
-legal_both w [] ys l = (tt, l)
-legal_both w (x ∷ xs) ys l = let t = legal_both (after_entry w x) xs ys l.2 in ((l.0, l.1, t.0), t.1)
-
-after_both : (w : World) (xs ys : List PureEntry) → after_entries w (xs ++ ys) ≡ after_entries (after_entries w xs) ys
-after_both w [] ys = refl
-after_both w (x ∷ xs) ys = after_both (after_entry w x) xs ys
-
 record Longer (old new : List Delivery) : Type 0 where
   more : List Delivery
   grown : new ≡ old ++ more
@@ -655,7 +647,7 @@ pub later_calls_replay : (pool_words passes : ℕ) (xs ys : List PureEntry) → 
     replay (calls_to id (drop (length before.journal) h.desk.listening.journal)) ≡ Some (heard_of (told_forest h) (listener_of h.desk.listening.listeners id))
 later_calls_replay pool_words passes xs ys legal id none =
     let w = after_entries (opening pool_words passes) xs in
-    let both = legal_both (opening pool_words passes) xs ys legal in
+    let both = legal_parts (opening pool_words passes) xs ys legal in
     let k = so_far pool_words passes xs id both.0 in
     let j = journal_goes_on w ys k.told both.1 in
     let h = (after_entries (opening pool_words passes) (xs ++ ys)).writer in

@@ -4,3 +4,4 @@ pub mod WorldRows
 pub mod HistoryRows
 pub mod TurnRows
 pub mod PartRows
+pub mod HostRows

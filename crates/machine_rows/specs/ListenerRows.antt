@@ -17,7 +17,7 @@ use Rattle.mem_base.specs.map.Search.{look, path_at}
 use Rattle.mem_base.specs.map.Changes.{made_region, placed}
 use Rattle.mem_base.specs.map.Calls.{empty, after_all}
 use Rattle.mem_base.specs.views.Flattened.{ranges_from}
-use Rattle.mem_base.specs.views.LiveEvents.{lives_in, lives_below, lost, gained}
+use Rattle.mem_base.specs.views.LiveEvents.{lives_in, lives_below, without}
 use Rattle.mem_base.specs.views.Walk.{walk}
 use Rattle.mem_base.specs.views.Replay.{replay, ranges_after_all}
 use Rattle.mem_base.specs.machine.Committed.{committed_forests}
@@ -71,8 +71,8 @@ abbrev pub moving : Change
 moving = record {
   space = space 0;
   walk = walk (range 0x1000 0x10ff 1 0 0 ∷ []) (range 0x2000 0x20ff 1 0 0 ∷ []);
-  lost = lost (live 0x1010 ∷ []) (live 0x2010 ∷ []);
-  gained = gained (live 0x1010 ∷ []) (live 0x2010 ∷ []);
+  lost = without (live 0x1010 ∷ []) (live 0x2010 ∷ []);
+  gained = without (live 0x2010 ∷ []) (live 0x1010 ∷ []);
 }
 
 -- live ioeventfds: a latch of 8 bytes at 4 in a container, with an ioeventfd at its last two bytes and one that ends

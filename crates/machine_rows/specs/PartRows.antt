@@ -1,6 +1,6 @@
--- Worked parts of an IOMMU region's table, and notices of a notifier.
+-- Worked parts of an IOMMU region's table, and notices of a watcher.
 use Rattle.std.specs.Prelude.{◌≡◌, ℕ, List, [], ◌∷◌, Some, None}
-use Rattle.mem_base.specs.declared.map.ids.NotifierId.{NotifierId}
+use Rattle.mem_base.specs.declared.map.ids.WatcherId.{WatcherId}
 use Rattle.mem_base.specs.declared.map.forests.Forest.{Forest}
 use Rattle.mem_base.specs.declared.map.kinds.Kind.TheVariants.{Ram, Iommu}
 use Rattle.mem_base.specs.declared.map.translations.Entry.{Entry}
@@ -15,8 +15,8 @@ use Rattle.machine_rows.specs.Values.{region, space, forest_of, entry}
 abbrev pub part : ℕ → ℕ → ℕ → ℕ → Perm → Part
 part from to s addr perm = record { from = from; to = to; space = space s; addr = addr; perm = perm }
 
-abbrev pub notifier : ℕ → NotifierId
-notifier n = record { 0 = n }
+abbrev pub watcher : ℕ → WatcherId
+watcher n = record { 0 = n }
 
 -- a page at 0 that goes to 0x4000 and may be read, and one at 0x2000 that goes to 0
 abbrev pub table : List Entry
@@ -61,4 +61,4 @@ pub record PartRows : Type 0 where
   pub meets-at-the-start : replay_notices (Map high ∷ Map (part 0x1000 0x2000 0 0 perms.Both) ∷ []) ≡ None
   pub mapped-twice : replay_notices (Map low ∷ Map low ∷ []) ≡ None
   pub not-there : replay_notices (Map low ∷ Unmap high ∷ []) ≡ None
-  pub its-own : notices_to (notifier 1) ((notifier 1, Map low) ∷ (notifier 2, Map high) ∷ (notifier 1, Unmap low) ∷ []) ≡ Map low ∷ Unmap low ∷ []
+  pub its-own : notices_to (watcher 1) ((watcher 1, Map low) ∷ (watcher 2, Map high) ∷ (watcher 1, Unmap low) ∷ []) ≡ Map low ∷ Unmap low ∷ []

@@ -7,5 +7,6 @@
 mod rows;
 
 pub use rows::{
-    accesses_compute, histories_compute, listeners_compute, turns_compute, worlds_compute,
+    accesses_compute, histories_compute, host_memory_computes, listeners_compute, parts_compute,
+    turns_compute, worlds_compute,
 };

@@ -5,6 +5,7 @@ ghost use Rattle.machine_rows.specs.PartRows.{PartRows};
 ghost use Rattle.machine_rows.specs.TurnRows.{TurnRows};
 ghost use Rattle.machine_rows.specs.WorldRows.{WorldRows};
 ghost use Rattle.machine_rows.specs.HistoryRows.{HistoryRows};
+ghost use Rattle.machine_rows.specs.HostRows.{HostRows};
 
 /// Accesses to RAM, ROM and devices, through translations, with marks and ioeventfds.
 pub fn accesses_compute()
@@ -31,7 +32,12 @@ pub fn turns_compute()
     ensures { TurnRows }
 {}
 
-/// The parts of an IOMMU region's table in a range, and a notifier's notices with their replay.
+/// The parts of an IOMMU region's table in a range, and a watcher's notices with their replay.
 pub fn parts_compute()
     ensures { PartRows }
+{}
+
+/// Host memory: which calls take it, where it is found, and that an access which ends there is answered by nobody.
+pub fn host_memory_computes()
+    ensures { HostRows }
 {}

@@ -9,12 +9,12 @@ use Rattle.mem_base.specs.declared.map.calls.Call.{Call}
 use Rattle.mem_base.specs.declared.map.calls.Call.TheVariants as calls
 use Rattle.mem_base.specs.map.Kinds.{is_alias}
 use Rattle.mem_base.specs.map.Forest.{IsOrderedForest}
-use Rattle.mem_base.specs.map.Refusals.{first_refusal, unknown_region, unknown_target, too_deep, too_wide}
+use Rattle.mem_base.specs.map.Refusals.{first_refusal, unknown_region, unknown_target, too_deep, too_wide, or_refused}
 use Rattle.mem_base.specs.map.TableRefusals.{no_more_calls}
 use Rattle.mem_base.specs.map.Steps.{greatest_depth, greatest_weight}
 use Rattle.mem_base.specs.map.Edits.{edited}
 use Rattle.mem_base.specs.map.Changes.{changed, made_region, at_region}
-use Rattle.mem_base.specs.map.Calls.{alias_too_long, refusals, refusal_of, counted, after_unless, after, left_by, after_all, empty}
+use Rattle.mem_base.specs.map.Calls.{alias_too_long, refusals, refusal_of, counted, after, left_by, after_all, empty}
 use Rattle.mem_base.proofs.ForestLaws.{known_below, added_forest, pushed_forest}
 use Rattle.map_laws.proofs.MadeLaws.{shallow_made, narrow_made}
 use Rattle.map_laws.proofs.FieldLaws.{IsField}
@@ -120,7 +120,7 @@ IsOrderedForest-accepted f (calls.Drop region) h e =
     let node = known_node f region each.0 in
     drop_forest f region node.0 h node.1 (has_container-none f region node.0 node.1 each.1.0)
 
-accepted : (o : Option Refusal) (f g : Forest) (call : Call) → after_unless o f call ≡ Ok g → (o ≡ None) × (g ≡ counted (changed f call))
+accepted : (o : Option Refusal) (f g : Forest) (call : Call) → or_refused o (counted (changed f call)) ≡ Ok g → (o ≡ None) × (g ≡ counted (changed f call))
 accepted None f g call e = (refl, cc)
 accepted (Some why) f g call e = cc
 

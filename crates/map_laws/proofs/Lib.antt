@@ -12,8 +12,10 @@ pub mod SoundCallLaws
 pub mod KeptLaws
 pub mod MoveLaws
 pub mod RefusalLaws
+pub mod SizeLaws
 pub mod DropLaws
 pub mod CallLaws
 pub mod DepthLaws
 pub mod FlattenedLaws
 pub mod OffsetLaws
+pub mod MadeForests

@@ -1,6 +1,6 @@
 -- Laws of refusals: what is known where none stands.
 use Rattle.std.proofs.Common.{◌≡◌, ◌≤◌, Bool, true, false, cond, List, [], ◌∷◌, Option, Some, None, refl, ap, ◌∙◌, arith}
-use Rattle.std.specs.Prelude.{is_some, option_map, find, filter, nat_lt}
+use Rattle.std.specs.Prelude.{is_some, option_map, find, filter, nat_lt, option_and_then}
 use Rattle.std.specs.Option.{option_or}
 use Rattle.std.proofs.lemmas.Bool.Decides.{nat_tests}
 use Rattle.mem_base.specs.declared.map.ids.RegionId.{RegionId}
@@ -10,13 +10,14 @@ use Rattle.mem_base.specs.declared.map.forests.Forest.{Forest}
 use Rattle.mem_base.specs.declared.map.kinds.Kind.{Kind}
 use Rattle.mem_base.specs.declared.map.kinds.Kind.TheVariants.{Alias}
 use Rattle.mem_base.specs.declared.map.refusals.Refusal.{Refusal}
-use Rattle.mem_base.specs.declared.map.refusals.Refusal.TheVariants.{Unknown, TooDeep, TooWide}
+use Rattle.mem_base.specs.declared.map.refusals.Refusal.TheVariants.{Unknown, TooDeep, TooWide, HasContainer, InUse}
 use Rattle.mem_base.specs.declared.map.refusals.What.TheVariants as what
 use Rattle.mem_base.specs.lists.Every.{Every}
 use Rattle.mem_base.specs.map.Region.{node_of, is_child_of}
 use Rattle.mem_base.specs.map.Forest.{IsOrderedForest, IsTargetBefore}
-use Rattle.mem_base.specs.map.Refusals.{first_refusal, refuse_if, refuse_where, unknown_region, unknown_target, has_container, container_of}
-use Rattle.mem_base.specs.map.Refusals.{in_container, in_use, in_use_by_region, in_use_by_space, first_id, targets, has_root, least_space}
+use Rattle.mem_base.specs.declared.map.refusals.User.TheVariants as user
+use Rattle.mem_base.specs.map.Refusals.{first_refusal, refuse_if, refuse_where, unknown_region, unknown_target, has_container}
+use Rattle.mem_base.specs.map.Refusals.{in_use, first_id, targets, has_root, least_space}
 use Rattle.mem_base.specs.map.Refusals.{too_deep, too_wide}
 use Rattle.mem_base.specs.map.Steps.{greatest_depth, greatest_weight}
 use Rattle.mem_base.proofs.ForestLaws.{known_below}
@@ -56,13 +57,15 @@ pub target_made : (f : Forest) (k : Kind) → IsOrderedForest f → unknown_targ
 target_made f (Alias target offset) h e = known_below f target h (is_known f target e)
 target_made f _ h e = tt
 
-free_of : (p : Option RegionId) → in_container p ≡ None → p ≡ None
-free_of None e = refl
-free_of (Some q) e = cc
+-- what nothing is made of is not there
+pub unmapped : {A B : Type 0} (make : A → B) (o : Option A) → option_map make o ≡ None → o ≡ None
+unmapped make None e = refl
+unmapped make (Some x) e = cc
 
 -- the region is in no container
 pub has_container-none : (f : Forest) (r : RegionId) (n : Node) → node_of f.nodes r ≡ Some n → has_container f r ≡ None → n.parent ≡ None
-has_container-none f r n e h = free_of n.parent (ap (λ o. in_container (container_of o)) (let back : Some n ≡ node_of f.nodes r = cc in back) ∙ h)
+has_container-none f r n e h = unmapped (λ p. HasContainer p) n.parent
+    (ap (option_and_then (λ (m : Node). option_map (λ p. HasContainer p) m.parent)) (let back : Some n ≡ node_of f.nodes r = cc in back) ∙ h)
 
 pub too_deep-none : (nodes : List Node) → too_deep nodes ≡ None → greatest_depth nodes ≤ 32
 too_deep-none nodes e = let t = refuse_if-none (nat_lt 32 (greatest_depth nodes)) (TooDeep (greatest_depth nodes)) e in grind (arith, nat_tests)
@@ -70,20 +73,12 @@ too_deep-none nodes e = let t = refuse_if-none (nat_lt 32 (greatest_depth nodes)
 pub too_wide-none : (nodes : List Node) → too_wide nodes ≡ None → greatest_weight nodes ≤ 65536
 too_wide-none nodes e = let t = refuse_if-none (nat_lt 65536 (greatest_weight nodes)) (TooWide (greatest_weight nodes)) e in grind (arith, nat_tests)
 
-no_region : (o : Option Node) → in_use_by_region (option_map (λ n. n.id) o) ≡ None → o ≡ None
-no_region None e = refl
-no_region (Some n) e = cc
-
 -- what is not found passes no test
 pub find-none : {A : Type 0} (p : A → Bool) (xs : List A) → find p xs ≡ None → Every (λ x. p x ≡ false) xs
 find-none p [] e = tt
 find-none p (x ∷ xs) e =
     elim (p x) as (λ b. p x ≡ b → cond b (Some x) (find p xs) ≡ None → (p x ≡ false) × Every (λ y. p y ≡ false) xs)
     [ true ↦ λ t w. cc | false ↦ λ t w. (t, find-none p xs w) ] refl e
-
-no_space : (o : Option SpaceId) → in_use_by_space o ≡ None → o ≡ None
-no_space None e = refl
-no_space (Some s) e = cc
 
 no_least : (ps : List (SpaceId × RegionId)) → least_space ps ≡ None → ps ≡ []
 no_least [] e = refl
@@ -103,11 +98,15 @@ pub record IsUnused (f : Forest) (r : RegionId) : Type 0 where
 
 pub in_use-none : (f : Forest) (r : RegionId) → in_use f r ≡ None → IsUnused f r
 in_use-none f r e =
-    let each = each_none (in_use_by_region (first_id (is_child_of r) f) ∷ in_use_by_region (first_id (λ n. targets r n.kind) f) ∷ in_use_by_space
-    (least_space (filter (has_root r) f.spaces)) ∷ []) e in
+    let region : RegionId → Refusal = λ q. InUse (user.Region q) in
+    let child = first_id (is_child_of r) f in
+    let alias = first_id (λ n. targets r n.kind) f in
+    let space = least_space (filter (has_root r) f.spaces) in
+    let each = each_none (option_map region child ∷ option_map region alias ∷ option_map (λ s. InUse (user.Space s)) space ∷ []) e in
     record {
-      no_children = find-none (is_child_of r) f.nodes (no_region (find (is_child_of r) f.nodes) each.0);
-      no_aliases = find-none (λ (n : Node). targets r n.kind) f.nodes (no_region (find (λ (n : Node). targets r n.kind) f.nodes) each.1.0);
+      no_children = find-none (is_child_of r) f.nodes (unmapped (λ n. n.id) (find (is_child_of r) f.nodes) (unmapped region child each.0));
+      no_aliases = find-none (λ (n : Node). targets r n.kind) f.nodes
+          (unmapped (λ n. n.id) (find (λ (n : Node). targets r n.kind) f.nodes) (unmapped region alias each.1.0));
       no_spaces = filter-empty (has_root r) f.spaces
-          (no_least (filter (has_root r) f.spaces) (no_space (least_space (filter (has_root r) f.spaces)) each.1.1.0));
+          (no_least (filter (has_root r) f.spaces) (unmapped (λ s. InUse (user.Space s)) space each.1.1.0));
     }

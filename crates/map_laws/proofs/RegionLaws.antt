@@ -15,7 +15,7 @@ use Rattle.mem_base.specs.declared.map.translations.Entry.{Entry}
 use Rattle.mem_base.specs.declared.map.ioevents.Ioevent.{Ioevent}
 use Rattle.mem_base.specs.declared.map.refusals.Refusal.TheVariants.{BadSize}
 use Rattle.mem_base.specs.map.Limits.{page_size, most_bytes, most_entries, most_events}
-use Rattle.mem_base.specs.map.Kinds.{is_alias, has_bytes, is_rom_device, is_iommu, takes_events, device_of, target_of}
+use Rattle.mem_base.specs.map.Kinds.{is_alias, has_bytes, is_memory, is_rom_device, is_iommu, takes_events, device_of, target_of}
 use Rattle.mem_base.specs.map.Region.{has_id, node_of, is_in, is_child_of}
 use Rattle.mem_base.specs.lists.Sorting.{put_by}
 use Rattle.mem_base.specs.map.Forest.{IsPlainRegion, HasPlainContainer, HasTarget, IsRegion}
@@ -208,8 +208,8 @@ module _ (nodes : List Node) (n : Node) (h : IsRegion nodes n) where
     unlogged = h.unlogged;
   }
 
-  pub region_logged : (client : Client) (on : Bool) → has_bytes n.kind ≡ true → IsRegion nodes (record n { log = logged client on n.log })
-  region_logged client on bytes = record {
+  pub region_logged : (client : Client) (on : Bool) → is_memory n.kind ≡ true → IsRegion nodes (record n { log = logged client on n.log })
+  region_logged client on memory = record {
     container = h.container;
     target = h.target;
     size = h.size;
@@ -246,7 +246,7 @@ module _ (nodes : List Node) (n : Node) (h : IsRegion nodes n) where
         target = subst (HasTarget nodes) (sym same.0) h.target;
         size = h.size;
         sized =
-            ap (λ b. refuse_if ((eqb n.size 0) || b && (not (eqb (n.size % page_size) 0) || nat_lt most_bytes n.size)) BadSize) same.1
+            (λ i. refuse_if ((eqb n.size 0) || same.6 i && not (eqb (n.size % page_size) 0) || same.1 i && nat_lt most_bytes n.size) BadSize)
             ∙ h.sized;
         device = ap bad_device same.2
             ∙ h.device;
@@ -261,14 +261,15 @@ module _ (nodes : List Node) (n : Node) (h : IsRegion nodes n) where
         untranslated = λ e. h.untranslated (sym same.4 ∙ e);
         uneventful =
             λ e. h.uneventful (sym same.5 ∙ e);
-        unlogged = λ e. h.unlogged (sym same.1 ∙ e);
+        unlogged = λ e. h.unlogged (sym same.6 ∙ e);
       }
     where
       retargeted_same : (offset : ℕ) (k : Kind) → (target_of (retargeted offset k) ≡ target_of k) × (has_bytes (retargeted offset k) ≡ has_bytes k)
           × (device_of (retargeted offset k) ≡ device_of k) × (is_rom_device (retargeted offset k) ≡ is_rom_device k)
           × (is_iommu (retargeted offset k) ≡ is_iommu k) × (takes_events (retargeted offset k) ≡ takes_events k)
-      retargeted_same offset (Alias target old) = (refl, refl, refl, refl, refl, refl)
-      retargeted_same offset _ = (refl, refl, refl, refl, refl, refl)
+          × (is_memory (retargeted offset k) ≡ is_memory k)
+      retargeted_same offset (Alias target old) = (refl, refl, refl, refl, refl, refl, refl)
+      retargeted_same offset _ = (refl, refl, refl, refl, refl, refl, refl)
 
   pub region_mapped : (e : Entry) → is_iommu n.kind ≡ true → e.iova + e.mask < 2 ^ 64 → bad_page e.iova (e.mask + 1) ≡ None →
       least_met e.iova (e.mask + 1) n.entries ≡ None → length n.entries < most_entries →

@@ -23,7 +23,7 @@ use Rattle.mem_base.specs.declared.map.kinds.Client.{Client}
 use Rattle.mem_base.specs.declared.map.translations.Perm.{Perm}
 use Rattle.mem_base.specs.lists.Sorting.{put_by}
 use Rattle.mem_base.specs.map.Limits.{most_made, most_regions, most_spaces, most_entries, most_events, most_bytes, page_size}
-use Rattle.mem_base.specs.map.Kinds.{is_alias, has_bytes, is_rom_device, is_iommu, takes_events, target_of}
+use Rattle.mem_base.specs.map.Kinds.{is_alias, is_memory, is_rom_device, is_iommu, takes_events, target_of}
 use Rattle.mem_base.specs.map.Region.{has_id, node_of, is_child_of}
 use Rattle.mem_base.specs.map.Search.{is_space, root_of}
 use Rattle.mem_base.specs.map.Forest.{HasSpaces, IsOrderedForest, IsClosedForest, IsRegion, IsPlainRegion, HasTarget, ArePlacedApart, AreOtherSpaces, FitsTypes}
@@ -39,6 +39,7 @@ use Rattle.mem_base.proofs.EveryLaws.{weaker, both, every_push, every_filter}
 use Rattle.mem_base.proofs.DelLaws.{every_put_by}
 use Rattle.map_laws.proofs.MoveLaws.{moved_keeps, moved_kind, unmoved}
 use Rattle.map_laws.proofs.DropLaws.{without, every_without}
+use Rattle.map_laws.proofs.SizeLaws.{plain_bytes}
 use Rattle.map_laws.proofs.RefusalLaws.{each_none, refuse_if-none, refuse_where-none, is_known, known_node, find-none, in_use-none}
 use Rattle.map_laws.proofs.PageLaws.{bad_page-none}
 use Rattle.map_laws.proofs.PairLaws.{pairs_push, pairs_filter, length-push, length-filter}
@@ -117,12 +118,13 @@ target_there : (f : Forest) (k : Kind) → unknown_target f k ≡ None → HasTa
 target_there f (Alias target offset) e = is_known f target e
 target_there f _ e = tt
 
--- a size for a region that is no RAM, ROM or ROM device
-resized : (k : Kind) (size : ℕ) → has_bytes k ≡ false → zero_size size ≡ None → bad_size k size ≡ None
+-- a size for a region that is no memory
+resized : (k : Kind) (size : ℕ) → is_memory k ≡ false → zero_size size ≡ None → bad_size k size ≡ None
 resized k size plain e =
     let some = refuse_if-none (eqb size 0) BadSize e in
-    ap (λ b. refuse_if (eqb size 0 || b && (not (eqb (size % page_size) 0) || nat_lt most_bytes size)) BadSize) plain
-    ∙ ap (λ b. refuse_if (b || false) BadSize) some
+    let bytes = plain_bytes k plain in
+    (λ i. refuse_if (eqb size 0 || plain i && not (eqb (size % page_size) 0) || bytes i && nat_lt most_bytes size) BadSize)
+    ∙ ap (λ b. refuse_if (b || false || false) BadSize) some
 
 abbrev no_calls : Forest → Call → List (Option Refusal)
 no_calls f call = refusals f call ++ no_more_calls f ∷ []
@@ -256,10 +258,10 @@ module _ (f : Forest) (h : IsOrderedForest f) (s : IsClosedForest f) where
   resize_sound region size small e =
       let each = each_none (no_calls f (calls.Resize region size)) e in
       let m = known_node f region each.0 in
-      let wrong = refuse_where-none (λ n. not (not (has_bytes n.kind))) (WrongKind region) (node_of f.nodes region) m.0 m.1 each.1.0 in
+      let wrong = refuse_where-none (λ n. not (not (is_memory n.kind))) (WrongKind region) (node_of f.nodes region) m.0 m.1 each.1.0 in
       field_sound region m.0 m.1 (calls.Resize region size) e (λ n. record n { size = size }) (λ n. refl) (λ n. refl) (λ n. (refl, refl))
       (λ w. region_resized (changed_at region (λ n. record n { size = size }) f.nodes) m.0 w size small
-      (resized m.0.kind size (not_not (has_bytes m.0.kind) wrong) each.1.1.0)) (λ w. w)
+      (resized m.0.kind size (not_not (is_memory m.0.kind) wrong) each.1.1.0)) (λ w. w)
     where
       not_not : (b : Bool) → not (not b) ≡ false → b ≡ false
       not_not true e = cc
@@ -304,10 +306,10 @@ module _ (f : Forest) (h : IsOrderedForest f) (s : IsClosedForest f) where
   log_sound region client on e =
       let each = each_none (no_calls f (calls.Log region client on)) e in
       let m = known_node f region each.0 in
-      let wrong = refuse_where-none (λ n. not (has_bytes n.kind)) (WrongKind region) (node_of f.nodes region) m.0 m.1 each.1.0 in
+      let wrong = refuse_where-none (λ n. not (is_memory n.kind)) (WrongKind region) (node_of f.nodes region) m.0 m.1 each.1.0 in
       field_sound region m.0 m.1 (calls.Log region client on) e (λ n. record n { log = logged client on n.log }) (λ n. refl) (λ n. refl) (λ n. (refl, refl))
       (λ w. region_logged (changed_at region (λ n. record n { log = logged client on n.log }) f.nodes) m.0 w client on
-      (not_false (has_bytes m.0.kind) wrong)) (λ w. w)
+      (not_false (is_memory m.0.kind) wrong)) (λ w. w)
 
   map_sound : (region : RegionId) (iova size : ℕ) (space : SpaceId) (translated : ℕ) (perm : Perm) → iova < 2 ^ 64 → size ≤ 2 ^ 64 →
       refusal_of f (calls.Map region iova size space translated perm) ≡ None →

@@ -1,6 +1,6 @@
 -- Every accepted call keeps what holds of a forest's regions and spaces.
 use Rattle.std.proofs.Common.{◌≡◌, ℕ, ◌+◌, ◌<◌, ◌≤◌, List, [], ◌∷◌, ◌++◌, length, Option, Some, None, IsSome, ap, ◌∙◌, arith}
-use Rattle.std.specs.Prelude.{nat_le}
+use Rattle.std.specs.Prelude.{nat_le, option_and_then}
 use Rattle.std.proofs.lemmas.Bool.Decides.{nat_tests}
 use Rattle.mem_base.specs.declared.map.ids.RegionId.{RegionId}
 use Rattle.mem_base.specs.declared.map.forests.Node.{Node}
@@ -16,7 +16,7 @@ use Rattle.mem_base.specs.map.Kinds.{is_alias}
 use Rattle.mem_base.specs.map.Region.{node_of}
 use Rattle.mem_base.specs.map.Forest.{HasSpaces, IsOrderedForest, IsClosedForest, IsRegion, ArePlacedApart, IsPlacedBefore}
 use Rattle.mem_base.specs.map.Refusals.{first_refusal}
-use Rattle.mem_base.specs.map.TableRefusals.{at_limit, no_more_calls, count_of}
+use Rattle.mem_base.specs.map.TableRefusals.{at_limit, no_more_calls}
 use Rattle.mem_base.specs.map.Changes.{changed_at, at_region}
 use Rattle.mem_base.specs.map.Calls.{refusals, refusal_of, counted}
 use Rattle.mem_base.proofs.EveryLaws.{weaker}
@@ -40,8 +40,9 @@ pub few_calls_yet : (f : Forest) (call : Call) → refusal_of f call ≡ None �
 few_calls_yet f call e = at_limit-none which.Calls most_calls f.calls (last_none (refusals f call) (no_more_calls f) e)
 
 pub count-none : {A : Type 0} (list : Node → List A) (w : Which) (most : ℕ) (o : Option Node) (n : Node) → o ≡ Some n →
-    at_limit w most (count_of list o) ≡ None → length (list n) < most
-count-none list w most o n e h = at_limit-none w most (length (list n)) (ap (λ x. at_limit w most (count_of list x)) (let back : Some n ≡ o = cc in back) ∙ h)
+    option_and_then (λ (m : Node). at_limit w most (length (list m))) o ≡ None → length (list n) < most
+count-none list w most o n e h = at_limit-none w most (length (list n))
+    (ap (option_and_then (λ (m : Node). at_limit w most (length (list m)))) (let back : Some n ≡ o = cc in back) ∙ h)
 
 -- the regions of a forest changed
 

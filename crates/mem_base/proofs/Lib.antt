@@ -13,3 +13,4 @@ pub mod SliceLaws
 pub mod NoteLaws
 pub mod NodeLaws
 pub mod WordLaws
+pub mod PassTurnLaws

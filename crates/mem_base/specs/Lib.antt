@@ -4,3 +4,4 @@ pub mod views
 pub mod access
 pub mod machine
 pub mod script
+pub mod Texts

@@ -4,6 +4,7 @@ pub mod PlacesByRegion
 pub mod Places
 pub mod EditionPlaces
 pub mod Cells
+pub mod PlaceCells
 pub mod Pieces
 pub mod Translations
 pub mod Parts
@@ -13,3 +14,7 @@ pub mod Marks
 pub mod MemoryAccess
 pub mod DeviceAccess
 pub mod Access
+pub mod Plans
+pub mod PlanSteps
+pub mod CorePlans
+pub mod Windows

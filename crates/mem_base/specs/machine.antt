@@ -19,3 +19,7 @@ pub mod SharedHistory
 pub mod Actors
 pub mod Turns
 pub mod JoinedHistory
+pub mod Records
+pub mod PassTurns
+pub mod ShownWorlds
+pub mod CellHistories

@@ -19,3 +19,4 @@ pub mod Changes
 pub mod Calls
 pub mod Touched
 pub mod Forest
+pub mod CallsShown

@@ -7,19 +7,21 @@
 #![tactic(auto)]
 
 mod access;
+mod display;
 mod machine;
 mod map;
 mod script;
 mod views;
 
-pub use access::accesses::{Access, DeviceStep, Piece, Target, TxResult};
+pub use access::accesses::{Access, DeviceStep, Piece, Target, TxResult, WindowStart};
 pub use access::cells::{Cell, Place, WordStep};
 pub use access::notices::{Notice, Part};
 pub use machine::editions::Edition;
 pub use machine::events::{Carried, Event, Hand, HistoryEntry, Reply};
+pub use machine::records::{DeskAnswer, DeskEntry, DeskOrder, Differs, Ids, Pages};
 pub use map::calls::{Applied, Call, Config};
 pub use map::forests::{Forest, Node, Nodes, Spaces};
-pub use map::ids::{ListenerId, NotifierId, PassId, RegionId, SpaceId};
+pub use map::ids::{ListenerId, PassId, RegionId, SpaceId, WatcherId};
 pub use map::ioevents::{Events, Ioevent, Live, Lives};
 pub use map::kinds::{Client, Device, DeviceKind, Kind, Ops};
 pub use map::limits::{

@@ -264,7 +264,7 @@ change_line t f y again (Ok c) is e =
 pass_line_again : (word : Text) (n : ℕ) (t : List Text) (y : Command) → pass_of word ≡ Some n → pass_line n t ≡ Ok y → Reads y
 pass_line_again word n t y is e = took_form Again (pass_forms (pass n)) t y (pass_table n (pass_law word n is)) e λ f again t e. again t y e
 
-either : {X P : Type 0} (a b : Option X) (x : X) → option_or a b ≡ Some x → (a ≡ Some x → P) → (b ≡ Some x → P) → P
+pub either : {X P : Type 0} (a b : Option X) (x : X) → option_or a b ≡ Some x → (a ≡ Some x → P) → (b ≡ Some x → P) → P
 either None b x e f g = g e
 either (Some z) b x e f g = f e
 

@@ -16,3 +16,4 @@ pub mod Turning
 pub mod Placing
 pub mod TurnPlaces
 pub mod TurnsLaw
+pub mod TurnLists

@@ -16,7 +16,7 @@ use Rattle.mem_base.specs.machine.Turns.{WriterCall, entries_of_turn, is_writers
 use Rattle.mem_base.specs.machine.JoinedHistory.{RowPart, next_entry, after_last, before_next, read, waits_for_fill, private_part, row_of}
 use Rattle.mem_base.specs.machine.JoinedHistory.{before_entry, at_once, past_at_once, past_entry, put_in, joined_history, is_private}
 use Rattle.mem_base.specs.machine.JoinedHistory.{shared_entries, private_entries_in, IsWritersOrNone, StandsBeside, IsPlaced}
-use Rattle.mem_base.proofs.EveryLaws.{every_filter}
+use Rattle.mem_base.proofs.EveryLaws.{every_filter, every_first}
 use Rattle.turn_laws.proofs.Placing.{ArePrivate, privates_in, Fits, row_entries, left_over, private_at, Starts, Placement, placed_all}
 
 -- lists
@@ -336,10 +336,6 @@ pub all_shared : (xs : List HistoryEntry) (s : Shared) → running.IsSharedLegal
 all_shared [] s l = tt
 all_shared (x ∷ xs) s l = (shared_event s x.event x.carried l.0, all_shared xs (running.after_shared_entry s x) l.2)
 
-every_left : {A : Type 0} (P : A → Type 0) (xs ys : List A) → Every P (xs ++ ys) → Every P xs
-every_left P [] ys h = tt
-every_left P (x ∷ xs) ys h = (h.0, every_left P xs ys h.1)
-
 -- what a test lets through last passes it
 last_writer_of : (ys : List PureEntry) → IsWritersOrNone (last_of (filter (λ y. is_writers y.event) ys))
 last_writer_of ys = go (filter (λ y. is_writers y.event) ys) (passes ys)
@@ -423,7 +419,7 @@ entries_cut done rest t =
     ∙ sym (append_assoc (flat_map entries_of_turn done) t.before (t.after ++ flat_map entries_of_turn rest))
 
 every_left_calls : (done rest : List WriterCall) → Every PrivateCall (done ++ rest) → Every PrivateCall done
-every_left_calls done rest h = every_left PrivateCall done rest h
+every_left_calls done rest h = every_first PrivateCall done rest h
 
 -- the private entry of each turn stands at its place
 pub turn_placed : (ts : List WriterCall) (xs : List HistoryEntry) → Every PrivateCall ts → AreShared xs → writers_of xs ≡ flat_map entries_of_turn ts
@@ -449,7 +445,7 @@ turn_placed ts xs private shared same done rest t y cut one =
     (at_once (ps ++ private_at late y ∷ bs) ++ put_in (past_at_once (ps ++ private_at late y ∷ bs)) xs)) entries k in
     let is_row : IsRowOf ps us = rows_both (flat_map row_of done) (nexts t.before) (flat_map entries_of_turn done) t.before (turns_row done)
     (nexts_row t.before) in
-    let are_shared : AreShared us = every_left (λ x. is_private x.event ≡ false) us ws
+    let are_shared : AreShared us = every_first (λ x. is_private x.event ≡ false) us ws
     (subst AreShared entries (every_filter (λ x. is_private x.event ≡ false) (λ x. is_writers x.event) xs shared)) in record {
       before = m.before;
       after = m.after;

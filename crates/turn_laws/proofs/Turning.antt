@@ -44,7 +44,7 @@ use Rattle.turn_laws.proofs.Rows.{published_desk, published_passes, publish_fore
 use Rattle.turn_laws.proofs.Rows.{fill_forests, fills_ready, IsSteady, steady_after, steady_forests, steady_ready}
 
 -- nothing is due or unfilled in an idle desk
-at_rest : (d : Desk) → d.due ≡ false → d.unfilled ≡ [] → is_at_rest d ≡ true
+pub at_rest : (d : Desk) → d.due ≡ false → d.unfilled ≡ [] → is_at_rest d ≡ true
 at_rest d due filled = rw (due, filled) refl
 
 -- a desk of which only flags, what is due and what is unfilled are others

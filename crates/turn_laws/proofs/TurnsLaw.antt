@@ -19,12 +19,12 @@ use Rattle.mem_base.specs.machine.SharedHistory.{Shared}
 use Rattle.mem_base.specs.machine.SharedHistory as running
 use Rattle.mem_base.specs.lists.Every.{Every}
 use Rattle.mem_base.specs.machine.Orders.{Order, configure, reap, events_before, private_of}
-use Rattle.mem_base.specs.machine.Turns.{Answered, played, private_entries, turn, turns, entries_of_turn, last_writer, is_writers, writers_of}
+use Rattle.mem_base.specs.machine.Turns.{Answered, WriterCall, played, private_entries, turn, turns, entries_of_turn, last_writer, is_writers, writers_of}
 use Rattle.mem_base.specs.machine.JoinedHistory.{row_of, joined_history, accepted, accepted_one, accepted_in, forest_carried}
 use Rattle.mem_base.specs.machine.JoinedHistory.{published_forests, is_private, IsJoined}
 use Rattle.history_laws.proofs.Idles.{opens_idle, Idle}
 use Rattle.turn_laws.proofs.Openings.{opens}
-use Rattle.turn_laws.proofs.Joining.{Goes, Reaches, reaches_legal, joins_all}
+use Rattle.turn_laws.proofs.Joining.{Anything, Goes, Reaches, reaches_end, reaches_legal, joins_all}
 use Rattle.turn_laws.proofs.Readies.{Ready, Due, steps_keep, privates_keep}
 use Rattle.turn_laws.proofs.TurnGoes.{AllTurns, turns_go}
 use Rattle.history_laws.proofs.Outcomes.{stands}
@@ -32,9 +32,14 @@ use Rattle.turn_laws.proofs.Rows.{forests_both}
 use Rattle.turn_laws.proofs.Turning.{turn_facts}
 use Rattle.turn_laws.proofs.TurnPlaces.{PrivateCall, all_shared, turn_placed, turns_keep_shared, turns_keep_private}
 
-all_turns : (end : Writer) (os : List Answered) (h : Writer) → Idle h → AllTurns Ready Due end h os
+pub all_turns : (end : Writer) (os : List Answered) (h : Writer) → Idle h → AllTurns Ready Due end h os
 all_turns end [] h i = tt
 all_turns end (o ∷ os) h i = let f = turn_facts end h o.0 o.1 i in (f.ready, all_turns end os (turn h o.0 o.1).writer f.idle)
+
+-- turns leave the writer at rest
+pub idle_last : (end : Writer) (os : List Answered) (h : Writer) → Idle h → Idle (last_writer h (turns h os))
+idle_last end [] h i = i
+idle_last end (o ∷ os) h i = idle_last end os (turn h o.0 o.1).writer (turn_facts end h o.0 o.1 i).idle
 
 accepted_both : (xs ys : List PureEntry) → accepted (xs ++ ys) ≡ accepted xs ++ accepted ys
 accepted_both [] ys = refl
@@ -84,28 +89,42 @@ turns_are_private (o ∷ os) h = (go (played h (events_before h o.0) o.1).writer
     go h reap = (refl, tt)
     go h k = tt
 
-pub turns_join : (pool_words passes : ℕ) (os : List Answered) (xs : List HistoryEntry) → running.IsSharedLegal (pool_words + notifier_count) passes xs
-    → writers_of xs ≡ flat_map entries_of_turn (turns (first_writer pool_words passes) os) → IsJoined pool_words passes
-    (turns (first_writer pool_words passes) os) xs
-turns_join pool_words passes os xs legal same =
-    let h = first_writer pool_words passes in let ts = turns h os in let end = last_writer h ts in
-    let idle = opens_idle pool_words passes in
-    let goes : Goes Ready Due end h (flat_map row_of ts) (writers_of xs) =
-    subst (λ (ys : List HistoryEntry). Goes Ready Due end h (flat_map row_of ts) ys) (sym same) (turns_go Ready Due end os h refl (all_turns end os h idle)) in
-    let reached : Reaches end (opening pool_words passes) (joined_history ts xs) =
-    joins_all Ready Due end steps_keep privates_keep xs (flat_map row_of ts) (opening pool_words passes) (replicate (pool_words + notifier_count) 0)
-    (opens pool_words passes) goes legal in
-    let both = reaches_legal end (opening pool_words passes) (joined_history ts xs) reached in
-    let private = turns_are_private os h in
-    let shared = all_shared xs (running.shared_opening (pool_words + notifier_count) passes) legal in record {
-      shared = turns_keep_shared ts xs private shared;
-      private = turns_keep_private ts xs private shared same;
-      placed = turn_placed ts xs private shared same;
-      legal = both.0;
-      ends = both.1;
-      forests = ap (λ (fs : List Forest). empty ∷ fs) (published_by_writer xs (running.shared_opening (pool_words + notifier_count) passes) legal
-          ∙ ap published_forests same ∙ turns_publish end os h idle);
-    }
+module _ (pool_words passes : ℕ) (os : List Answered) (xs : List HistoryEntry) (legal : running.IsSharedLegal (pool_words + notifier_count) passes xs)
+    (same : writers_of xs ≡ flat_map entries_of_turn (turns (first_writer pool_words passes) os)) where
+  abbrev h : Writer
+  h = first_writer pool_words passes
+
+  abbrev ts : List WriterCall
+  ts = turns h os
+
+  abbrev end : Writer
+  end = last_writer h ts
+
+  abbrev final : Shared
+  final = running.after_shared_entries (running.shared_opening (pool_words + notifier_count) passes) xs
+
+  goes : Goes Ready Due end h (flat_map row_of ts) (writers_of xs)
+  goes = subst (λ (ys : List HistoryEntry). Goes Ready Due end h (flat_map row_of ts) ys) (sym same)
+      (turns_go Ready Due end os h refl (all_turns end os h (opens_idle pool_words passes)))
+
+  -- the joined history is legal, and leads to a world with the last writer's part and the shared state
+  pub turns_reach : Reaches Anything end final (opening pool_words passes) (joined_history ts xs)
+  turns_reach =
+      joins_all Ready Due Anything end final steps_keep privates_keep (λ w words k y r may. tt) (λ w words k x due. tt) (λ w words k y e may. tt)
+      xs (flat_map row_of ts) (opening pool_words passes) (replicate (pool_words + notifier_count) 0) (opens pool_words passes) goes legal refl
+
+  pub turns_join : IsJoined pool_words passes ts xs
+  turns_join =
+      let private = turns_are_private os h in
+      let shared = all_shared xs (running.shared_opening (pool_words + notifier_count) passes) legal in record {
+        shared = turns_keep_shared ts xs private shared;
+        private = turns_keep_private ts xs private shared same;
+        placed = turn_placed ts xs private shared same;
+        legal = reaches_legal Anything end final (opening pool_words passes) (joined_history ts xs) turns_reach;
+        ends = (reaches_end Anything end final (opening pool_words passes) (joined_history ts xs) turns_reach).writer;
+        forests = ap (λ (fs : List Forest). empty ∷ fs) (published_by_writer xs (running.shared_opening (pool_words + notifier_count) passes) legal
+            ∙ ap published_forests same ∙ turns_publish end os h (opens_idle pool_words passes));
+      }
 
 -- what holds of the writer's part after every legal history of the pure machine holds of it after turns
 pub turns_inherit : (P : Writer → Type 0) (pool_words passes : ℕ)

@@ -5,7 +5,7 @@ use Rattle.std.proofs.lemmas.List.{append-nil}
 use Rattle.std.proofs.lemmas.Int.{ints}
 use Rattle.std.proofs.lemmas.List.Concat.{flat_map-append}
 use Rattle.std.proofs.lemmas.List.Elements.{filter-append}
-use Rattle.std.specs.Prelude.{filter, find, flat_map, is_some, ◌==◌}
+use Rattle.std.specs.Prelude.{filter, find, flat_map, is_some, ◌==◌, reverse}
 use Rattle.std.specs.Ordering.{is_lt}
 use Rattle.std.proofs.lemmas.Bool.{eqb-true, eqb-false}
 use Rattle.mem_base.specs.declared.map.ids.RegionId.{RegionId}
@@ -20,7 +20,7 @@ use Rattle.mem_base.specs.declared.views.listening.ListenerEvent.TheVariants.{Be
 use Rattle.mem_base.specs.lists.Every.{Every, EveryPair}
 use Rattle.mem_base.specs.map.Forest.{AreOtherSpaces}
 use Rattle.mem_base.specs.map.Search.{is_space}
-use Rattle.mem_base.specs.views.Listening.{Delivery, ascending, goes_down, in_direction, deliver_each, calls_of, hears, deliveries_of}
+use Rattle.mem_base.specs.views.Listening.{Delivery, ascending, goes_down, deliver_each, calls_of, hears, deliveries_of}
 use Rattle.mem_base.specs.views.Listening.{deliveries_of_changes, change_of, changes_between}
 use Rattle.mem_base.proofs.EveryLaws.{weaker}
 use Rattle.view_laws.specs.Priorities.{is_either, those_two, StandsBelow, told_in_turn, CallsGoByPriority}
@@ -56,9 +56,9 @@ module _ (p : ListenerId → Bool) where
       go false rest = rest
 
   theirs_each : (ls : List Listener) (e : ListenerEvent) → theirs (deliver_each ls e) ≡ deliver_each (chosen ls) e
-  theirs_each ls e = theirs_map e (in_direction (goes_down e) ls) ∙ ap (map (λ (l : Listener). (l.listener, e))) (go (goes_down e))
+  theirs_each ls e = theirs_map e (if goes_down e then reverse ls else ls) ∙ ap (map (λ (l : Listener). (l.listener, e))) (go (goes_down e))
     where
-      go : (b : Bool) → chosen (in_direction b ls) ≡ in_direction b (chosen ls)
+      go : (b : Bool) → chosen (if b then reverse ls else ls) ≡ (if b then reverse (chosen ls) else chosen ls)
       go true = reverse_filter (λ l. p l.listener) ls
       go false = refl
 
@@ -105,7 +105,7 @@ nobody : (es : List ListenerEvent) → flat_map (deliver_each []) es ≡ []
 nobody [] = refl
 nobody (e ∷ es) = go (goes_down e) (nobody es)
   where
-    go : (b : Bool) → flat_map (deliver_each []) es ≡ [] → map (λ (l : Listener). (l.listener, e)) (in_direction b []) ++ flat_map (deliver_each []) es ≡ []
+    go : (b : Bool) → flat_map (deliver_each []) es ≡ [] → map (λ (l : Listener). (l.listener, e)) (if b then reverse [] else []) ++ flat_map (deliver_each []) es ≡ []
     go true rest = rest
     go false rest = rest
 

@@ -21,7 +21,7 @@ use Rattle.mem_base.specs.lists.Every.{Every, EveryPair}
 use Rattle.mem_base.specs.map.Forest.{AreOtherSpaces}
 use Rattle.mem_base.specs.map.Search.{is_space}
 use Rattle.mem_base.specs.lists.Sorting.{put_by}
-use Rattle.mem_base.specs.views.Listening.{Delivery, is_listener, deliveries_to, priority_order, ascending, goes_down, in_direction}
+use Rattle.mem_base.specs.views.Listening.{Delivery, is_listener, deliveries_to, priority_order, ascending, goes_down}
 use Rattle.mem_base.specs.views.Listening.{deliver_each, calls_of, hears, deliveries_of, deliveries_of_changes, change_of, changes_between}
 use Rattle.mem_base.specs.views.Listening.{calls_to}
 use Rattle.mem_base.proofs.EveryLaws.{weaker}
@@ -155,9 +155,9 @@ calls_map id e (l ∷ ls) = go (l.listener.0 == id.0) (calls_map id e ls)
 
 each_one : (id : ListenerId) (ls : List Listener) (o : Option Listener) (e : ListenerEvent) → AtMost (is_listener id) ls o
     → calls_to id (deliver_each ls e) ≡ if_there o (e ∷ [])
-each_one id ls o e h = calls_map id e (in_direction (goes_down e) ls) ∙ ap (map (λ (l : Listener). e)) (go (goes_down e)) ∙ at o
+each_one id ls o e h = calls_map id e (if goes_down e then reverse ls else ls) ∙ ap (map (λ (l : Listener). e)) (go (goes_down e)) ∙ at o
   where
-    go : (b : Bool) → filter (is_listener id) (in_direction b ls) ≡ one o
+    go : (b : Bool) → filter (is_listener id) (if b then reverse ls else ls) ≡ one o
     go true = at_most_reversed (is_listener id) ls o h
     go false = h
 

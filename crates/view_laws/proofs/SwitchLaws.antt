@@ -14,7 +14,7 @@ use Rattle.mem_base.specs.declared.views.listening.ListenerEvent.{ListenerEvent}
 use Rattle.mem_base.specs.declared.views.listening.ListenerEvent.TheVariants.{Begin, Range, EventAdd, EventDel, Commit}
 use Rattle.mem_base.specs.lists.Every.{Every, EveryPair}
 use Rattle.mem_base.specs.lists.Sorting.{put_by, sorted_by, IsRising}
-use Rattle.mem_base.specs.views.LiveEvents.{live_order, is_same_live, put_live, lost, gained, lives_of}
+use Rattle.mem_base.specs.views.LiveEvents.{live_order, is_same_live, put_live, lives_of, without}
 use Rattle.mem_base.specs.views.Walk.{walk}
 use Rattle.mem_base.specs.views.Replay.{ListenerState, nothing_heard, ranges_after, ranges_after_all, listener_after, listener_after_all, if_fits}
 use Rattle.mem_base.specs.declared.map.forests.Forest.{Forest}
@@ -228,51 +228,51 @@ pairs_append (x ∷ xs) ys h k c = (
 
 -- lost and gained ioeventfds in one row make the old list the new one
 pub switches_replay : (rs : List FlatRange) (b : Bool) (old new : List Live) → IsRising live_order old → IsRising live_order new
-    → listener_after_all (Some (heard rs old b)) (map switched (switches (lost old new) (gained old new))) ≡ Some (heard rs new b)
+    → listener_after_all (Some (heard rs old b)) (map switched (switches (without old new) (without new old))) ≡ Some (heard rs new b)
 switches_replay rs b old new p q =
-    let row = map (switch false) (lost old new) ++ map (switch true) (gained old new) in
+    let row = map (switch false) (without old new) ++ map (switch true) (without new old) in
     let by : Switch → Switch → Ordering = switch_order in
     let lost_test : Live → Bool = λ x. not (list_any (is_same_live x) new) in
     let gained_test : Live → Bool = λ x. not (list_any (is_same_live x) old) in
-    let lost_out : (x : Live) → In x old → (In x new → ⊥) → In x (lost old new) = λ x m ne. filter_out lost_test x old m
+    let lost_out : (x : Live) → In x old → (In x new → ⊥) → In x (without old new) = λ x m ne. filter_out lost_test x old m
     (not_of_false _ (not_among x new ne)) in
-    let gained_out : (x : Live) → In x new → (In x old → ⊥) → In x (gained old new) = λ x m ne. filter_out gained_test x new m
+    let gained_out : (x : Live) → In x new → (In x old → ⊥) → In x (without new old) = λ x m ne. filter_out gained_test x new m
     (not_of_false _ (not_among x old ne)) in
-    let lost_in : (x : Live) → In x (lost old new) → In x old × (In x new → ⊥) = λ x m. let t = filter_in lost_test x old m in
+    let lost_in : (x : Live) → In x (without old new) → In x old × (In x new → ⊥) = λ x m. let t = filter_in lost_test x old m in
     (t.0, λ n. true_is_not_false (list_any (is_same_live x) new) (among x new n) (not_true _ t.1)) in
-    let gained_in : (x : Live) → In x (gained old new) → In x new × (In x old → ⊥) = λ x m. let t = filter_in gained_test x new m in
+    let gained_in : (x : Live) → In x (without new old) → In x new × (In x old → ⊥) = λ x m. let t = filter_in gained_test x new m in
     (t.0, λ n. true_is_not_false (list_any (is_same_live x) old) (among x old n) (not_true _ t.1)) in
-    let off_in : (z : Switch) → In z (map (switch false) (lost old new)) → (z.on ≡ false) × In z.live (lost old new) = λ z m. let t =
-    map_in (switch false) z (lost old new) m in (ap (λ (z : Switch). z.on) t.is, subst (λ (z : Switch). In z.live (lost old new)) (sym t.is) t.there) in
-    let on_in : (z : Switch) → In z (map (switch true) (gained old new)) → (z.on ≡ true) × In z.live (gained old new) = λ z m. let t =
-    map_in (switch true) z (gained old new) m in
-    (ap (λ (z : Switch). z.on) t.is, subst (λ (z : Switch). In z.live (gained old new)) (sym t.is) t.there) in
-    let pairs : EveryPair Differ row = pairs_append (map (switch false) (lost old new)) (map (switch true) (gained old new))
-    (rising_differ false (lost old new) (rising-filter live_order lost_test old p))
-    (rising_differ true (gained old new) (rising-filter live_order gained_test new q))
+    let off_in : (z : Switch) → In z (map (switch false) (without old new)) → (z.on ≡ false) × In z.live (without old new) = λ z m. let t =
+    map_in (switch false) z (without old new) m in (ap (λ (z : Switch). z.on) t.is, subst (λ (z : Switch). In z.live (without old new)) (sym t.is) t.there) in
+    let on_in : (z : Switch) → In z (map (switch true) (without new old)) → (z.on ≡ true) × In z.live (without new old) = λ z m. let t =
+    map_in (switch true) z (without new old) m in
+    (ap (λ (z : Switch). z.on) t.is, subst (λ (z : Switch). In z.live (without new old)) (sym t.is) t.there) in
+    let pairs : EveryPair Differ row = pairs_append (map (switch false) (without old new)) (map (switch true) (without new old))
+    (rising_differ false (without old new) (rising-filter live_order lost_test old p))
+    (rising_differ true (without new old) (rising-filter live_order gained_test new q))
     (λ x y l m e. (gained_in y.live (on_in y m).1).1 (subst (λ (z : Live). In z old) e (lost_in x.live (off_in x l).1).0)) in
     let fits : Every (Fits old) row =
-    each_in (Fits old) row (λ z m. elim (append_in z (map (switch false) (lost old new)) (map (switch true) (gained old new)) m) as (λ o. Fits old z) [
+    each_in (Fits old) row (λ z m. elim (append_in z (map (switch false) (without old new)) (map (switch true) (without new old)) m) as (λ o. Fits old z) [
       | inl l ↦ let t = off_in z l in (λ on. true_is_not_false z.on on t.0, λ off. (lost_in z.live t.1).0)
       | inr l ↦ let t = on_in z l in (λ on. (gained_in z.live t.1).1, λ off. true_is_not_false z.on t.0 off)
     ]) in
     let t = switch_all rs b (sorted_by by row) old p (pairs_sorted by row pairs) (every_sorted (Fits old) by row fits) in
-    let on_row : (x : Live) → On x (sorted_by by row) → In x (gained old new) =
-    λ x m. elim (append_in (switch true x) (map (switch false) (lost old new)) (map (switch true) (gained old new))
-    (sorted_in by (switch true x) row m)) as (λ o. In x (gained old new)) [
+    let on_row : (x : Live) → On x (sorted_by by row) → In x (without new old) =
+    λ x m. elim (append_in (switch true x) (map (switch false) (without old new)) (map (switch true) (without new old))
+    (sorted_in by (switch true x) row m)) as (λ o. In x (without new old)) [
       | inl l ↦ true_is_not_false true refl (off_in (switch true x) l).0
       | inr l ↦ (on_in (switch true x) l).1
     ] in
-    let off_row : (x : Live) → Off x (sorted_by by row) → In x (lost old new) =
-    λ x m. elim (append_in (switch false x) (map (switch false) (lost old new)) (map (switch true) (gained old new))
-    (sorted_in by (switch false x) row m)) as (λ o. In x (lost old new)) [
+    let off_row : (x : Live) → Off x (sorted_by by row) → In x (without old new) =
+    λ x m. elim (append_in (switch false x) (map (switch false) (without old new)) (map (switch true) (without new old))
+    (sorted_in by (switch false x) row m)) as (λ o. In x (without old new)) [
       | inl l ↦ (off_in (switch false x) l).1
       | inr l ↦ true_is_not_false false (on_in (switch false x) l).0 refl
     ] in
-    let to_on : (x : Live) → In x (gained old new) → On x (sorted_by by row) = λ x m. sorted_out by (switch true x) row
-    (append_right (switch true x) (map (switch false) (lost old new)) _ (map_out (switch true) x (gained old new) m)) in
-    let to_off : (x : Live) → In x (lost old new) → Off x (sorted_by by row) = λ x m. sorted_out by (switch false x) row
-    (append_left (switch false x) _ (map (switch true) (gained old new)) (map_out (switch false) x (lost old new) m)) in
+    let to_on : (x : Live) → In x (without new old) → On x (sorted_by by row) = λ x m. sorted_out by (switch true x) row
+    (append_right (switch true x) (map (switch false) (without old new)) _ (map_out (switch true) x (without new old) m)) in
+    let to_off : (x : Live) → In x (without old new) → Off x (sorted_by by row) = λ x m. sorted_out by (switch false x) row
+    (append_left (switch false x) _ (map (switch true) (without new old)) (map_out (switch false) x (without old new) m)) in
     let same : t.lives ≡ new = unique t.lives new t.rising q
     (λ z m. elim (t.within z m) as (λ o. In z new) [
       | inl k ↦ decide z new (λ l. l) (λ ne. absurd (k.1 (to_off z (lost_out z k.0 ne))))

@@ -13,7 +13,7 @@ use Rattle.mem_base.specs.declared.map.ids.SpaceId.{SpaceId}
 use Rattle.mem_base.specs.declared.map.forests.Node.{Node}
 use Rattle.mem_base.specs.declared.map.forests.Forest.{Forest}
 use Rattle.mem_base.specs.declared.map.kinds.Kind.{Kind}
-use Rattle.mem_base.specs.declared.map.kinds.Kind.TheVariants.{Container, Ram, Rom, RomDevice, Io, Iommu, Alias, Reserve}
+use Rattle.mem_base.specs.declared.map.kinds.Kind.TheVariants.{Container, Ram, Rom, RomDevice, Io, Iommu, Alias, Reserve, Host}
 use Rattle.mem_base.specs.declared.map.kinds.Device.{Device}
 use Rattle.mem_base.specs.declared.map.kinds.DeviceKind.{DeviceKind}
 use Rattle.mem_base.specs.declared.map.kinds.DeviceKind.TheVariants.{Latch, Count, Bell, Fault}
@@ -83,6 +83,7 @@ kind_same Iommu Iommu h = refl
 kind_same (Alias r x) (Alias q y) h =
     let p = both_of _ _ h in let target = same_region r q (eqb-true r.0 q.0 p.0) in let offset = eqb-true x y p.1 in λ i. Alias (target i) (offset i)
 kind_same Reserve Reserve h = refl
+kind_same Host Host h = refl
 kind_same x y h = absurd (grind arith)
 
 region_same : (x y : Option RegionId) → is_same_region x y ≡ true → x ≡ y
@@ -152,6 +153,7 @@ itself_shape global (Io d) n a = refl
 itself_shape global Iommu n a = refl
 itself_shape global (Alias target offset) n a = refl
 itself_shape global Reserve n a = refl
+itself_shape global Host n a = refl
 
 step_is : (f : Forest) (below : Search) (n : Node) (a : ℕ) → at_node f below n a ≡ step f.global (map shape (children_of f.nodes n.id)) below (shape n) a
 step_is f below n a = ap (λ (x : Option Found). if n.enabled && nat_lt a n.size then option_map (passed n) x else None) (go n.kind)

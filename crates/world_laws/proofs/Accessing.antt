@@ -1,7 +1,7 @@
 -- Each step of an access is one on a place of the generation, so the events of the access are possible one after another.
 use Rattle.std.proofs.Common.{◌≡◌, ℕ, zero, suc, ◌+◌, ◌-◌, ◌<◌, ◌≤◌, Bool, true, false, ◌&&◌, List, [], ◌∷◌, ◌++◌, length, take, drop}
 use Rattle.std.proofs.Common.{sym, refl, ap, ◌∙◌, subst, arith, if◌then◌else◌, Option, Some, None}
-use Rattle.std.specs.Prelude.{not, ◌/◌, ◌%◌, IfSome}
+use Rattle.std.specs.Prelude.{not, ◌/◌, ◌%◌, IfSome, unwrap_or, option_map}
 use Rattle.std.proofs.lemmas.Bool.{lt-ltb}
 use Rattle.std.proofs.lemmas.Nat.{mod_below}
 use Rattle.mem_base.specs.declared.map.ids.RegionId.{RegionId}
@@ -10,7 +10,7 @@ use Rattle.mem_base.specs.declared.map.ids.PassId.{PassId}
 use Rattle.mem_base.specs.declared.map.kinds.Client.{Client}
 use Rattle.mem_base.specs.declared.map.kinds.Device.{Device}
 use Rattle.mem_base.specs.declared.map.kinds.Kind.{Kind}
-use Rattle.mem_base.specs.declared.map.kinds.Kind.TheVariants.{Container, Ram, Rom, RomDevice, Io, Iommu, Alias, Reserve}
+use Rattle.mem_base.specs.declared.map.kinds.Kind.TheVariants.{Container, Ram, Rom, RomDevice, Io, Iommu, Alias, Reserve, Host}
 use Rattle.mem_base.specs.declared.map.forests.Node.{Node}
 use Rattle.mem_base.specs.declared.map.forests.Forest.{Forest}
 use Rattle.mem_base.specs.declared.map.spots.Spot.{Spot}
@@ -24,7 +24,7 @@ use Rattle.mem_base.specs.declared.machine.events.Hand.TheVariants as hands
 use Rattle.mem_base.specs.lists.Every.{Every}
 use Rattle.mem_base.specs.lists.Runs.{Run, run, put_before, is_in_unit, touched}
 use Rattle.mem_base.specs.map.Limits.{word_size, notifier_count}
-use Rattle.mem_base.specs.map.Region.{node_of}
+use Rattle.mem_base.specs.map.Region.{node_of, of_region}
 use Rattle.mem_base.specs.map.Devices.{is_good_device}
 use Rattle.mem_base.specs.map.Kinds.{has_bytes, device_of}
 use Rattle.mem_base.specs.map.TableRefusals.{bad_device}
@@ -40,16 +40,18 @@ use Rattle.mem_base.specs.access.Trails.{trail_of, chunks, shares_next, first_le
 use Rattle.mem_base.specs.access.AccessSteps.{Transfer, reading, writing, is_write, length_of, part, AccessStep, blank, steps, marks, events_of_steps}
 use Rattle.mem_base.specs.access.AccessSteps.{ShownPart, unanswered}
 use Rattle.mem_base.specs.access.MemoryAccess.{on_word, on_words, marked, in_memory}
-use Rattle.mem_base.specs.access.DeviceAccess.{register_of, on_register, on_device, by_callbacks}
+use Rattle.mem_base.specs.access.DeviceAccess.{register_of, on_device, by_callbacks}
 use Rattle.mem_base.specs.access.Words.{number_of_bytes}
 use Rattle.mem_base.specs.access.DeviceAccess.{notifier_of, notifier_for, unless_notified, in_piece, in_device}
-use Rattle.mem_base.specs.access.Access.{at_leaf, in_region, at_target, in_chunk, access}
+use Rattle.mem_base.specs.access.Access.{at_leaf, at_target, in_chunk, access}
 use Rattle.mem_base.specs.machine.Generations.{Generation, held_generations}
 use Rattle.mem_base.specs.machine.World.{World, opening, world_after}
 use Rattle.mem_base.specs.machine.History.{PureEntry, after_entries, IsLegal, run_events}
-use Rattle.mem_base.proofs.EveryLaws.{weaker, every_map}
+use Rattle.mem_base.proofs.EveryLaws.{weaker, every_map, every_element, every_taken, every_append, every_flat, every_one}
 use Rattle.mem_base.proofs.ForestLaws.{id_of}
+use Rattle.mem_base.specs.declared.access.accesses.DeviceStep.TheVariants.{Step, Error}
 use Rattle.map_laws.proofs.RefusalLaws.{refuse_if-none}
+use Rattle.map_laws.proofs.SizeLaws.{size_whole}
 use Rattle.view_laws.proofs.Tests.{same_region}
 use Rattle.history_laws.proofs.ShownLaws.{generations_show_places}
 use Rattle.history_laws.proofs.PlaceLaws.{some_is}
@@ -64,10 +66,11 @@ use Rattle.access_run.proofs.MemoryLaws.{marks_inside}
 use Rattle.access_run.proofs.TrailLaws.{chunk_inside}
 use Rattle.world_laws.specs.Entered.{IsEnteredIn, MayDo, MayStep}
 use Rattle.world_laws.specs.Accessing.{AreLegalSteps}
-use Rattle.world_laws.proofs.Lists.{every_element, every_taken, every_both, every_flat, every_one, starts_below, found_has}
+use Rattle.world_laws.proofs.Lists.{starts_below, found_has}
 use Rattle.world_laws.proofs.Keeping.{Holds, holds, holds_after}
 use Rattle.world_laws.proofs.Entering.{enters_held, steps_possible}
-use Rattle.world_laws.proofs.Running.{AllMay, legal_run, run_ends}
+use Rattle.history_laws.proofs.PureAppends.{run_ends}
+use Rattle.world_laws.proofs.Running.{AllMay, legal_run}
 
 -- the step is on a word of data or a register of the place of its region, or marks a page of it
 abbrev Reached : List Place → AccessStep → Type 0
@@ -167,7 +170,7 @@ module _ (g : Published) (k : IsEdition g.forest g.places) where
     memory_reached (writing bs) l = go spot.attrs.readonly
       where
         all : AllReached (on_words spot.leaf spot.offset (writing bs) ++ marked spot.leaf spot.attrs.log spot.offset (length bs))
-        all = every_both (Reached g.places) (on_words spot.leaf spot.offset (writing bs)) _ (words_reached (writing bs) l)
+        all = every_append (Reached g.places) (on_words spot.leaf spot.offset (writing bs)) _ (words_reached (writing bs) l)
             (every_map (Reached g.places) (λ m. marks spot.leaf m.1 m.0) (marks_of spot.attrs.log spot.offset (length bs))
             (weaker {A = ℕ × Client} (λ m. m.0 < p.bytes / 4096) (λ m. Reached g.places (marks spot.leaf m.1 m.0)) (λ m less. (p, here, less))
             (marks_of spot.attrs.log spot.offset (length bs)) (marks_inside spot.attrs.log spot.offset (length bs) p.bytes l pages)))
@@ -201,7 +204,7 @@ module _ (g : Published) (k : IsEdition g.forest g.places) where
     module _ (p : Place) (here : place_in g.places r ≡ Some p) (device : Device) (good : IsGood device) (regs : p.regs ≡ device.regs)
         (base : ℕ) (after_data : base ≡ data_words p.bytes) where
       register_reached : (offset : ℕ) (o : Option WordStep) (s : ShownPart) (t : Transfer)
-          → Reached g.places (on_device n.id base (on_register (register_of device offset) o) s t)
+          → Reached g.places (on_device n.id base (unwrap_or (option_map (λ s. Step (register_of device offset) s) o) Error) s t)
       register_reached offset None s t = tt
       register_reached offset (Some step) s t =
           let some = some_registers device good in
@@ -246,7 +249,7 @@ module _ (g : Published) (k : IsEdition g.forest g.places) where
 
     in_bytes : has_bytes n.kind ≡ true → p.bytes ≡ n.size → AllReached (in_memory spot t)
     in_bytes memory same =
-        let whole = (leaves.size_whole n.kind n.size (leaves.region g k spot.leaf n named is).sized memory).1 in
+        let whole = (size_whole n.kind n.size (leaves.region g k spot.leaf n named is).sized memory).1 in
         memory_reached spot p here (ap (λ m. m % 4096) same ∙ whole) t (subst (λ m. spot.offset + length_of t ≤ m) (sym same) ends)
 
     kind_reached : (kind : Kind) → n.kind ≡ kind → AllReached (at_leaf kind n spot t)
@@ -268,6 +271,7 @@ module _ (g : Published) (k : IsEdition g.forest g.places) where
     kind_reached Iommu e = (tt, tt)
     kind_reached (Alias target offset) e = (tt, tt)
     kind_reached Reserve e = (tt, tt)
+    kind_reached Host e = (tt, tt)
 
   target_reached : (target : Target) (c : ℕ) → IsTargetRun g.forest target c → (t : Transfer) → length_of t ≤ c
       → AllReached (at_target g.forest target t)
@@ -275,15 +279,15 @@ module _ (g : Published) (k : IsEdition g.forest g.places) where
   target_reached (Leaf spot) c inside t l = go (node_of nodes spot.leaf) refl
     where
       at : (n : Node) → node_of nodes spot.leaf ≡ Some n → (o : Option Place) → place_in g.places spot.leaf ≡ o
-          → AllReached (in_region (node_of nodes spot.leaf) spot t)
+          → AllReached (of_region nodes spot.leaf (unanswered t) (λ n. at_leaf n.kind n spot t))
       at n is None here = subst AllReached (sym (leaves.unplaced g k spot.leaf n inside.named is spot t here)) (tt, tt)
       at n is (Some p) here =
           let ends : spot.offset + c ≤ n.size = subst (λ (o : Option Node). IfSome o (λ m. spot.offset + c ≤ m.size)) is inside.within in
-          subst (λ (o : Option Node). AllReached (in_region o spot t)) (sym is)
+          subst (λ (o : Option Node). AllReached (unwrap_or (option_map (λ (m : Node). at_leaf m.kind m spot t) o) (unanswered t))) (sym is)
           (kind_reached spot n inside.named is t (omega (arith, ends, l)) p here n.kind refl)
 
-      go : (o : Option Node) → node_of nodes spot.leaf ≡ o → AllReached (in_region (node_of nodes spot.leaf) spot t)
-      go None is = subst (λ (o : Option Node). AllReached (in_region o spot t)) (sym is) (tt, tt)
+      go : (o : Option Node) → node_of nodes spot.leaf ≡ o → AllReached (of_region nodes spot.leaf (unanswered t) (λ n. at_leaf n.kind n spot t))
+      go None is = subst (λ (o : Option Node). AllReached (unwrap_or (option_map (λ (m : Node). at_leaf m.kind m spot t) o) (unanswered t))) (sym is) (tt, tt)
       go (Some n) is = at n is (place_in g.places spot.leaf) refl
 
   pub access_reached : (s : SpaceId) (a : ℕ) (t : Transfer) → Every (Reached g.places) (access g.forest s a t)

@@ -20,7 +20,7 @@ use Rattle.mem_base.specs.machine.Guards.{is_notifier, may_reach, may_mark}
 use Rattle.mem_base.specs.machine.Desk.{Desk, places_of}
 use Rattle.mem_base.specs.machine.World.{World, opening, if_placed}
 use Rattle.mem_base.specs.machine.History.{PureEntry, after_entries, IsLegal, IsOrderly}
-use Rattle.mem_base.proofs.EveryLaws.{weaker}
+use Rattle.mem_base.proofs.EveryLaws.{weaker, every_element}
 use Rattle.view_laws.proofs.Tests.{both, or_left, or_right, same_some, none_is_not_some}
 use Rattle.history_laws.proofs.HeldLaws.{keeps_held}
 use Rattle.history_laws.proofs.Idles.{IsSoundDesk}
@@ -28,7 +28,6 @@ use Rattle.history_laws.proofs.OrderLaws.{order}
 use Rattle.history_laws.proofs.PlaceLaws.{some_is}
 use Rattle.turn_laws.proofs.Coupled.{Stands, AllStand}
 use Rattle.world_laws.specs.Entered.{IsEnteredIn, IsHeldAt, EntersHeld, MayStep}
-use Rattle.world_laws.proofs.Lists.{every_element}
 use Rattle.world_laws.proofs.Keeping.{Holds, holds}
 
 -- lists

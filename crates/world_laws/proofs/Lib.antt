@@ -1,5 +1,6 @@
 pub mod Lists
 pub mod Keeping
+pub mod PassKeeping
 pub mod Entering
 pub mod Running
 pub mod OrderRows

@@ -1,45 +1,13 @@
 -- Laws of lists that several of these proofs use.
-use Rattle.std.proofs.Common.{◌≡◌, ℕ, zero, suc, ◌+◌, ◌<◌, Bool, true, false, List, [], ◌∷◌, ◌++◌, take, get_or, set, subst, inl, inr}
+use Rattle.std.proofs.Common.{◌≡◌, ℕ, zero, suc, ◌+◌, ◌<◌, Bool, true, false, List, [], ◌∷◌, subst}
 use Rattle.std.proofs.Common.{if◌then◌else◌, Some, arith}
-use Rattle.std.specs.Prelude.{flat_map, ◌==◌}
+use Rattle.std.specs.Prelude.{◌==◌}
 use Rattle.mem_base.specs.declared.map.ids.RegionId.{RegionId}
 use Rattle.mem_base.specs.declared.access.cells.Place.{Place}
-use Rattle.mem_base.specs.lists.Every.{Every, HasElement}
+use Rattle.mem_base.specs.lists.Every.{Every}
 use Rattle.mem_base.specs.lists.Runs.{Run, runs, put_before}
 use Rattle.mem_base.specs.access.PlacesByRegion.{place_in}
 use Rattle.view_laws.proofs.Tests.{same_some, none_is_not_some}
-
-pub every_element : {A : Type 0} (P : A → Type 0) (xs : List A) (x : A) → Every P xs → HasElement xs x → P x
-every_element P [] x k h = absurd h
-every_element P (y ∷ ys) x k (inl e) = subst P e k.0
-every_element P (y ∷ ys) x k (inr h) = every_element P ys x k.1 h
-
-pub every_get : {A : Type 0} (P : A → Type 0) (xs : List A) (i : ℕ) (d : A) → P d → Every P xs → P (get_or xs i d)
-every_get P [] i d p k = p
-every_get P (x ∷ xs) zero d p k = k.0
-every_get P (x ∷ xs) (suc i) d p k = every_get P xs i d p k.1
-
-pub every_set : {A : Type 0} (P : A → Type 0) (xs : List A) (i : ℕ) (y : A) → P y → Every P xs → Every P (set xs i y)
-every_set P [] i y p k = tt
-every_set P (x ∷ xs) zero y p k = (p, k.1)
-every_set P (x ∷ xs) (suc i) y p k = (k.0, every_set P xs i y p k.1)
-
-pub every_taken : {A : Type 0} (P : A → Type 0) (n : ℕ) (xs : List A) → Every P xs → Every P (take n xs)
-every_taken P zero xs h = tt
-every_taken P (suc n) [] h = tt
-every_taken P (suc n) (x ∷ xs) h = (h.0, every_taken P n xs h.1)
-
-pub every_both : {A : Type 0} (P : A → Type 0) (xs ys : List A) → Every P xs → Every P ys → Every P (xs ++ ys)
-every_both P [] ys h k = k
-every_both P (x ∷ xs) ys h k = (h.0, every_both P xs ys h.1 k)
-
-pub every_flat : {A B : Type 0} (P : B → Type 0) (f : A → List B) (xs : List A) → Every (λ x. Every P (f x)) xs → Every P (flat_map f xs)
-every_flat P f [] h = tt
-every_flat P f (x ∷ xs) h = every_both P (f x) (flat_map f xs) h.0 (every_flat P f xs h.1)
-
-pub every_one : {A : Type 0} (P : A → Type 0) (xs : List A) → ((x : A) → P x) → Every P xs
-every_one P [] h = tt
-every_one P (x ∷ xs) h = (h x, every_one P xs h)
 
 -- each run starts among the numbers
 pub starts_below : (with_next : ℕ → Bool) (a n : ℕ) → Every (λ r. r.start < a + n) (runs with_next a n)

@@ -1,14 +1,14 @@
 -- Each call of the writer is legal where nothing is due or unfilled, and leaves nothing due or unfilled.
-use Rattle.std.proofs.Common.{◌≡◌, ℕ, ◌+◌, ◌<◌, ◌≤◌, ne_eqb, Bool, true, false, ◌&&◌, ◌||◌, List, [], ◌∷◌, ◌++◌, length, map}
+use Rattle.std.proofs.Common.{◌≡◌, ℕ, ◌+◌, ◌<◌, ◌≤◌, ne_eqb, Bool, true, false, ◌||◌, List, [], ◌∷◌, ◌++◌, length, map}
 use Rattle.std.proofs.Common.{sym, refl, ap, ◌∙◌, subst, arith, if◌then◌else◌, Option, Some, None}
 use Rattle.std.specs.Prelude.{not, nat_lt, ◌==◌, ◌/◌, ◌%◌, ◌^◌, ◌-◌}
 use Rattle.std.specs.List.{range_with_len}
-use Rattle.std.proofs.lemmas.Bool.{eqb-true, eqb-false, lt-ltb}
+use Rattle.std.proofs.lemmas.Bool.{eqb-true, lt-ltb}
 use Rattle.std.proofs.lemmas.Bool.Decides.{nat_tests}
 use Rattle.mem_base.specs.declared.map.ids.RegionId.{RegionId}
 use Rattle.mem_base.specs.declared.map.kinds.Client.{Client}
 use Rattle.mem_base.specs.declared.map.kinds.Kind.{Kind}
-use Rattle.mem_base.specs.declared.map.kinds.Kind.TheVariants.{Container, Ram, Rom, RomDevice, Io, Iommu, Alias, Reserve}
+use Rattle.mem_base.specs.declared.map.kinds.Kind.TheVariants.{Container, Ram, Rom, RomDevice, Io, Iommu, Alias, Reserve, Host}
 use Rattle.mem_base.specs.declared.map.forests.Node.{Node}
 use Rattle.mem_base.specs.declared.map.forests.Forest.{Forest}
 use Rattle.mem_base.specs.declared.map.calls.Config.{Config}
@@ -20,10 +20,10 @@ use Rattle.mem_base.specs.declared.machine.events.Event.{Event}
 use Rattle.mem_base.specs.declared.machine.events.Event.TheVariants as events
 use Rattle.mem_base.specs.lists.Every.{Every}
 use Rattle.mem_base.specs.lists.Runs.{is_in_unit, touched}
-use Rattle.mem_base.specs.map.Limits.{word_size, page_size, most_bytes, notifier_count}
+use Rattle.mem_base.specs.map.Limits.{word_size, notifier_count}
 use Rattle.mem_base.specs.map.Kinds.{has_bytes}
 use Rattle.mem_base.specs.map.Region.{node_of}
-use Rattle.mem_base.specs.map.Refusals.{bad_size, refuse_where, unknown_region, wrong_kind}
+use Rattle.mem_base.specs.map.Refusals.{refuse_where, unknown_region, wrong_kind}
 use Rattle.mem_base.specs.map.Forest.{IsMade, IsRegion, IsClosedForest}
 use Rattle.mem_base.specs.access.PlacesByRegion.{notifiers, place_in}
 use Rattle.mem_base.specs.access.Places.{extent_of, words_of, place_from, notifiers_place, mark_words}
@@ -35,9 +35,10 @@ use Rattle.mem_base.specs.machine.World.{World, opening, world_after, is_at_rest
 use Rattle.mem_base.specs.machine.History.{PureEntry, after_entries, IsLegal, run_events}
 use Rattle.mem_base.specs.machine.Orders.{Order, configure, reap, load, harvest, notified, journal, current, sweeps, publishes, events_before, private_of}
 use Rattle.mem_base.specs.machine.Orders.{events_after, unless, loads, harvests, mark_words_at, ends_past, load_refusal, harvest_refusal}
-use Rattle.mem_base.proofs.EveryLaws.{weaker}
+use Rattle.mem_base.proofs.EveryLaws.{weaker, every_get}
 use Rattle.mem_base.proofs.ForestLaws.{every_node_of}
-use Rattle.map_laws.proofs.RefusalLaws.{each_none, known_node, refuse_where-none, refuse_if-none}
+use Rattle.map_laws.proofs.RefusalLaws.{each_none, known_node, refuse_where-none}
+use Rattle.map_laws.proofs.SizeLaws.{size_whole}
 use Rattle.map_laws.proofs.SoundCallLaws.{IsClosedForest-made}
 use Rattle.view_laws.proofs.Tests.{both, both_of, or_right, not_true, none_is_not_some}
 use Rattle.history_laws.specs.BackedForests.{BacksForest}
@@ -47,8 +48,9 @@ use Rattle.history_laws.proofs.ReleasedLaws.{ids}
 use Rattle.history_laws.proofs.ShownLaws.{generations_show_places}
 use Rattle.turn_laws.proofs.Rows.{flags_after, all_swept}
 use Rattle.world_laws.specs.Legal.{IsFitting, IsLegalCall}
-use Rattle.world_laws.proofs.Lists.{every_get, starts_below, found_has}
-use Rattle.world_laws.proofs.Running.{AllMay, Sound, sound, sound_run, legal_run, legal_then, run_ends, ends_then}
+use Rattle.world_laws.proofs.Lists.{starts_below, found_has}
+use Rattle.history_laws.proofs.PureAppends.{run_ends, ends_then}
+use Rattle.world_laws.proofs.Running.{AllMay, Sound, sound, sound_run, legal_run, legal_then}
 use Rattle.world_laws.proofs.OrderRows.{sweeps_may, swept_desk, publishes_may, published_desk, fills_may, filled_desk}
 use Rattle.world_laws.proofs.OrderRows.{loads_may, loads_rest, harvests_may, harvests_rest}
 
@@ -190,19 +192,6 @@ module _ (w : World) (k : Sound w) (rest : is_at_rest w.writer.desk ≡ true) wh
     abbrev f : Forest
     f = w.writer.desk.forest
 
-    -- whole pages
-    whole : (kind : Kind) (size : ℕ) → bad_size kind size ≡ None → has_bytes kind ≡ true → (0 < size) × (size % 4096 ≡ 0)
-    whole kind size none bytes =
-        let test : ((size == 0) || has_bytes kind && (not (size % page_size == 0) || nat_lt most_bytes size)) ≡ false = refuse_if-none _ _ none in
-        go (size == 0) (size % page_size == 0) (nat_lt most_bytes size) refl refl
-        (sym (ap (λ b. (size == 0) || b && (not (size % page_size == 0) || nat_lt most_bytes size)) bytes) ∙ test)
-      where
-        go : (zero whole more : Bool) → (size == 0) ≡ zero → (size % page_size == 0) ≡ whole → (zero || true && (not whole || more)) ≡ false
-            → (0 < size) × (size % 4096 ≡ 0)
-        go true whole more z m e = absurd (grind arith)
-        go false false more z m e = absurd (grind arith)
-        go false true more z m e = let some : size ≡ 0 → ⊥ = eqb-false size 0 z in (omega (arith, some), eqb-true (size % 4096) 0 m)
-
     held_data : (kind : Kind) (size : ℕ) → has_bytes kind ≡ true → size / 8 ≤ words_of (extent_of kind size)
     held_data Ram size e = omega arith
     held_data Rom size e = omega arith
@@ -212,6 +201,7 @@ module _ (w : World) (k : Sound w) (rest : is_at_rest w.writer.desk ≡ true) wh
     held_data Iommu size e = absurd (grind arith)
     held_data (Alias target offset) size e = absurd (grind arith)
     held_data Reserve size e = absurd (grind arith)
+    held_data Host size e = absurd (grind arith)
 
     place_first : (ps : List Place) (np p : Place) (r : RegionId) → place_in ps r ≡ Some p → place_in (ps ++ np ∷ []) r ≡ Some p
     place_first [] np p r e = none_is_not_some p e
@@ -231,7 +221,7 @@ module _ (w : World) (k : Sound w) (rest : is_at_rest w.writer.desk ≡ true) wh
 
     holds_bytes : (region : RegionId) (n : Node) → node_of f.nodes region ≡ Some n → IsRegion f.nodes n → has_bytes n.kind ≡ true → HoldsBytes region n
     holds_bytes region n is sized memory =
-        let size = whole n.kind n.size sized.sized memory in
+        let size = size_whole n.kind n.size sized.sized memory in
         let least = held_data n.kind n.size memory in
         let some : 0 < words_of (extent_of n.kind n.size) = above n.size (words_of (extent_of n.kind n.size)) size.0 size.1 least in
         let p = some_is (place_in w.writer.desk.places region) (backs.regions region n is some) in

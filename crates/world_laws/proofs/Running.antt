@@ -1,6 +1,5 @@
 -- Events that are possible one after another, and what holds after them.
-use Rattle.std.proofs.Common.{◌≡◌, ℕ, true, false, List, [], ◌∷◌, ◌++◌, map, replicate, refl, sym, subst}
-use Rattle.std.proofs.Common.{zero, suc}
+use Rattle.std.proofs.Common.{◌≡◌, ℕ, true, false, List, [], ◌∷◌, ◌++◌, map, replicate, refl, sym, subst, zero, suc}
 use Rattle.mem_base.specs.declared.machine.events.Event.{Event}
 use Rattle.mem_base.specs.declared.machine.events.Event.TheVariants as events
 use Rattle.mem_base.specs.lists.Every.{Every}
@@ -8,7 +7,7 @@ use Rattle.mem_base.specs.machine.Generations.{PassTrack, nothing_known, with_pl
 use Rattle.mem_base.specs.machine.World.{World, opening, possible, number_in, world_after, after_telling}
 use Rattle.mem_base.specs.machine.History.{PureEntry, after_entry, after_entries, IsLegalFrom, IsLegal, run_events}
 use Rattle.view_laws.proofs.Tests.{both_of, not_true, true_is_not_false}
-use Rattle.world_laws.proofs.Lists.{every_get, every_set}
+use Rattle.mem_base.proofs.EveryLaws.{every_get, every_set}
 use Rattle.world_laws.proofs.Keeping.{Holds, holds_after, holds_at_first}
 
 -- each event is possible where it stands
@@ -29,16 +28,6 @@ pub legal_then : (es : List Event) (w : World) (ys : List PureEntry) → AllMay 
     → IsLegalFrom w ((run_events w es).entries ++ ys)
 legal_then [] w ys a l = l
 legal_then (e ∷ es) w ys a l = (a.0, refl, legal_then es (world_after w e) ys a.1 l)
-
--- and lead to the world that they run to
-pub run_ends : (es : List Event) (w : World) → after_entries w (run_events w es).entries ≡ (run_events w es).world
-run_ends [] w = refl
-run_ends (e ∷ es) w = run_ends es (world_after w e)
-
-pub ends_then : (es : List Event) (w : World) (ys : List PureEntry) → after_entries w ((run_events w es).entries ++ ys)
-    ≡ after_entries (run_events w es).world ys
-ends_then [] w ys = refl
-ends_then (e ∷ es) w ys = ends_then es (world_after w e) ys
 
 -- no pass has its copy of the next generation
 abbrev pub AreUnplaced : List PassTrack → Type 0

@@ -20,10 +20,12 @@ pub data Transfer : Type 0 where
   reading : ℕ → Transfer
   writing : List ℕ → Transfer
 
+-- it is to write
 abbrev pub is_write : Transfer → Bool
 is_write (reading n) = false
 is_write (writing bs) = true
 
+-- how many bytes it is about
 abbrev pub length_of : Transfer → ℕ
 length_of (reading n) = n
 length_of (writing bs) = length bs
@@ -46,6 +48,7 @@ pub record ShownPart : Type 0 where
   pub big : Bool
   pub count : ℕ
 
+-- such a part, by its four numbers
 abbrev pub shown_part : ℕ → ℕ → Bool → ℕ → ShownPart
 shown_part first size big count = record { first = first; size = size; big = big; count = count }
 
@@ -53,14 +56,17 @@ shown_part first size big count = record { first = first; size = size; big = big
 abbrev pub nothing_shown : ShownPart
 nothing_shown = shown_part 0 0 false 0
 
+-- the bytes that are read, by the word that the step replied
 abbrev pub shown_bytes : ShownPart → ℕ → List ℕ
 shown_bytes x word = take x.count (bytes_of (bytes_from word x.first x.size) x.size x.big)
 
+-- one thing that an access does
 pub data AccessStep : Type 0 where
   blank : ℕ → TxResult → AccessStep  -- a number of bytes that read as 0, with this result
   steps : Cell → WordStep → ShownPart → AccessStep  -- an atomic step, and what is read of its reply
   marks : RegionId → Client → ℕ → AccessStep  -- a page is marked for a client
 
+-- a result, by whether there was an error and whether there was a decode error
 abbrev pub tx : Bool → Bool → TxResult
 tx error decode = record { error = error; decode = decode }
 
@@ -74,6 +80,7 @@ event_of pass (blank n result) = None
 event_of pass (steps cell step x) = Some (events.Word (hands.Pass pass) cell step)
 event_of pass (marks region client page) = Some (events.Mark pass region client page)
 
+-- the events of all that is done, in order
 abbrev pub events_of_steps : PassId → List AccessStep → List Event
 events_of_steps pass ds = filter_map (event_of pass) ds
 
@@ -83,9 +90,11 @@ result_at (blank n result) = result
 result_at (steps cell step x) = tx false false
 result_at (marks region client page) = tx false false
 
+-- the result of two parts together
 abbrev pub either : TxResult → TxResult → TxResult
 either x y = tx (x.error || y.error) (x.decode || y.decode)
 
+-- the result of all parts; of none it is neither an error nor a decode error
 abbrev pub result_of : List AccessStep → TxResult
 result_of [] = tx false false
 result_of (d ∷ ds) = either (result_at d) (result_of ds)

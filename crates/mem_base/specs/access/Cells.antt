@@ -13,6 +13,7 @@ use Rattle.mem_base.specs.access.PlacesByRegion.{notifiers}
 use Rattle.mem_base.specs.access.Words.{word_after}
 use Rattle.mem_base.specs.access.Places.{mark_word, word_of_page, bit_of_page}
 
+-- the cell of a region with a number
 abbrev pub cell : RegionId → ℕ → Cell
 cell region word = record { region = region; word = word }
 
@@ -20,6 +21,7 @@ cell region word = record { region = region; word = word }
 abbrev pub notifier_cell : ℕ → Cell
 notifier_cell number = cell notifiers number
 
+-- one and the same cell
 abbrev pub is_same_cell : Cell → Cell → Bool
 is_same_cell x y = (x.region.0 == y.region.0) && (x.word == y.word)
 
@@ -29,6 +31,7 @@ pub record Touch : Type 0 where
   pub step : WordStep
   pub tells : Bool
 
+-- such a step, by its word, the step itself, and whether the word before it is told
 abbrev pub touch : ℕ → WordStep → Bool → Touch
 touch word step tells = record { word = word; step = step; tells = tells }
 

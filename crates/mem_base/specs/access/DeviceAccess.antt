@@ -2,7 +2,7 @@
 -- QEMU's core, `access_with_adjusted_size` and `memory_region_dispatch_write_eventfds`. The four devices, what a
 -- callback that is wider than its piece reads and writes, and that each piece of a write sets a notifier by itself are this
 -- project's own rules.
-use Rattle.std.specs.Prelude.{◌≡◌, ℕ, ◌+◌, ◌-◌, ◌*◌, ◌/◌, ◌%◌, ◌^◌, Bool, true, false, ◌==◌, ◌&&◌, ◌||◌, not, if◌then◌else◌, List, [], ◌∷◌}
+use Rattle.std.specs.Prelude.{◌≡◌, ℕ, ◌+◌, ◌-◌, ◌*◌, ◌/◌, ◌%◌, ◌^◌, Bool, true, false, ◌==◌, ◌&&◌, ◌||◌, not, if◌then◌else◌, List, [], ◌∷◌, unwrap_or}
 use Rattle.std.specs.Prelude.{◌++◌, map, take, length, replicate, flat_map, Option, Some, None, option_map, find}
 use Rattle.mem_base.specs.declared.map.ids.RegionId.{RegionId}
 use Rattle.mem_base.specs.declared.map.forests.Node.{Node}
@@ -45,13 +45,9 @@ word_step Fault offset size write = None
 abbrev pub register_of : Device → ℕ → ℕ
 register_of device offset = offset / word_size % device.regs
 
-abbrev pub on_register : ℕ → Option WordStep → DeviceStep
-on_register reg None = Error
-on_register reg (Some step) = Step reg step
-
--- what a callback does
+-- what a callback does: its word step on the register of its offset, or an error
 abbrev pub step_of : Device → ℕ → ℕ → Option ℕ → DeviceStep
-step_of device offset size write = on_register (register_of device offset) (word_step device.kind offset size write)
+step_of device offset size write = unwrap_or (option_map (λ step. Step (register_of device offset) step) (word_step device.kind offset size write)) Error
 
 -- the number that a callback of `size` bytes reads, by the register's value before it
 abbrev pub reply_of : ℕ → ℕ → ℕ → ℕ
@@ -98,8 +94,7 @@ notifier_for n device p (writing bs) = notifier_of n.events p.offset p.size (num
 
 -- a notifier that is set takes the write in place of the device
 abbrev pub unless_notified : Option ℕ → List AccessStep → List AccessStep
-unless_notified None otherwise = otherwise
-unless_notified (Some number) otherwise = steps (notifier_cell number) (Or 1) nothing_shown ∷ []
+unless_notified number otherwise = unwrap_or (option_map (λ n. steps (notifier_cell n) (Or 1) nothing_shown ∷ []) number) otherwise
 
 -- all callbacks of a piece, each with its part of the piece's transfer
 abbrev pub by_callbacks : Node → Device → ℕ → Piece → Transfer → List AccessStep

@@ -7,17 +7,17 @@ use Rattle.std.specs.List.{list_any}
 use Rattle.std.specs.Ordering.{nat_cmp}
 use Rattle.std.specs.declared.cmp.Ordering.{Ordering}
 use Rattle.mem_base.specs.declared.map.ids.RegionId.{RegionId}
-use Rattle.mem_base.specs.declared.map.ids.NotifierId.{NotifierId}
+use Rattle.mem_base.specs.declared.map.ids.WatcherId.{WatcherId}
 use Rattle.mem_base.specs.declared.map.forests.Forest.{Forest}
 use Rattle.mem_base.specs.declared.map.translations.Entry.{Entry}
 use Rattle.mem_base.specs.declared.map.translations.Perm.{Perm}
-use Rattle.mem_base.specs.declared.map.translations.Perm.TheVariants.{Nothing, Read, Write, Both}
 use Rattle.mem_base.specs.declared.access.notices.Part.{Part}
 use Rattle.mem_base.specs.declared.access.notices.Notice.{Notice}
 use Rattle.mem_base.specs.declared.access.notices.Notice.TheVariants.{Map, Unmap}
 use Rattle.mem_base.specs.lists.Sorting.{put_by}
 use Rattle.mem_base.specs.views.Replay.{if_fits}
-use Rattle.mem_base.specs.access.Translations.{translates, entries_of, translated_address}
+use Rattle.mem_base.specs.access.Translations.{translates, entries_of, translated_address, permits}
+use Rattle.mem_base.specs.lists.Booleans.{bool_eq}
 
 -- the parts of a table
 
@@ -49,13 +49,11 @@ parts_in f region first last = parts_of (table_of f region) first last
 
 -- what a watcher is told
 
+-- both let the same accesses through
 abbrev pub is_same_perm : Perm → Perm → Bool
-is_same_perm Nothing Nothing = true
-is_same_perm Read Read = true
-is_same_perm Write Write = true
-is_same_perm Both Both = true
-is_same_perm _ _ = false
+is_same_perm p q = bool_eq (permits false p) (permits false q) && bool_eq (permits true p) (permits true q)
 
+-- the same addresses go to the same place with the same permission
 abbrev pub is_same_part : Part → Part → Bool
 is_same_part p q =
     (p.from == q.from) && (p.to == q.to) && (p.space.0 == q.space.0) && (p.addr == q.addr) && is_same_perm p.perm q.perm
@@ -92,6 +90,6 @@ abbrev pub replay_notices : List Notice → Option (List Part)
 replay_notices xs = parts_after_all (Some []) xs
 
 -- the notices of one watcher in a list of those of all
-abbrev pub notices_to : NotifierId → List (NotifierId × Notice) → List Notice
+abbrev pub notices_to : WatcherId → List (WatcherId × Notice) → List Notice
 notices_to id [] = []
 notices_to id (x ∷ xs) = if x.0.0 == id.0 then x.1 ∷ notices_to id xs else notices_to id xs

@@ -6,6 +6,7 @@ use Rattle.std.specs.List.{range_with_len}
 use Rattle.mem_base.specs.declared.map.kinds.Ops.{Ops}
 use Rattle.mem_base.specs.declared.access.accesses.Piece.{Piece}
 
+-- a piece, by its offset, its size and whether the device takes it
 abbrev pub piece : ℕ → ℕ → Bool → Piece
 piece offset size valid = record { offset = offset; size = size; valid = valid }
 
@@ -31,6 +32,7 @@ abbrev pub is_valid : Ops → ℕ → ℕ → Bool
 is_valid ops offset size =
     nat_le ops.valid_min size && nat_le size ops.valid_max && (ops.valid_unaligned || (offset % size == 0))
 
+-- the next piece, where `left` bytes are left
 abbrev pub piece_at : Ops → ℕ → ℕ → Piece
 piece_at ops offset left = piece offset (size_at ops offset left) (is_valid ops offset (size_at ops offset left))
 

@@ -20,6 +20,7 @@ pub record Extent : Type 0 where
   pub bytes : ℕ
   pub regs : ℕ
 
+-- such an extent, by its bytes and its registers
 abbrev pub extent : ℕ → ℕ → Extent
 extent bytes regs = record { bytes = bytes; regs = regs }
 
@@ -50,6 +51,7 @@ place_from region start x = record { region = region; start = start; words = wor
 abbrev pub notifiers_place : ℕ → Place
 notifiers_place pool_words = record { region = notifiers; start = pool_words; words = notifier_count; bytes = 0; regs = notifier_count }
 
+-- it is the region that stands for the notifiers
 abbrev pub is_notifiers : RegionId → Bool
 is_notifiers region = region.0 == notifiers.0
 
@@ -65,6 +67,7 @@ pages_in p = p.bytes / page_size
 abbrev pub is_data_or_register : Place → ℕ → Bool
 is_data_or_register p word = nat_lt word (data_words p.bytes + p.regs)
 
+-- the row of a client among the mark words
 abbrev pub number_of_client : Client → ℕ
 number_of_client Vga = 0
 number_of_client Code = 1
@@ -78,6 +81,7 @@ mark_word p client index = data_words p.bytes + p.regs + mark_words p.bytes * nu
 abbrev pub word_of_page : Place → Client → ℕ → ℕ
 word_of_page p client page = mark_word p client (page / pages_per_word)
 
+-- the bit of a page in its mark word
 abbrev pub bit_of_page : ℕ → ℕ
 bit_of_page page = 2 ^ (page % pages_per_word)
 

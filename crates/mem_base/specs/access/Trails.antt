@@ -23,6 +23,7 @@ pub record Hop : Type 0 where
   pub path : List RegionId
   pub used : Option Entry
 
+-- one search of a trail, by what it found and the translation used
 abbrev pub hop : Found → Option Entry → Hop
 hop found used = record { spot = found.0; path = found.1; used = used }
 
@@ -31,6 +32,7 @@ pub record Trail : Type 0 where
   pub hops : List Hop
   pub target : Target
 
+-- a trail, by its searches and its end
 abbrev pub trail : List Hop → Target → Trail
 trail hops target = record { hops = hops; target = target }
 
@@ -38,6 +40,7 @@ trail hops target = record { hops = hops; target = target }
 abbrev pub Onward : Type 0
 Onward = SpaceId → ℕ → Trail
 
+-- the trail with one search more before it
 abbrev pub begins_with : Hop → Trail → Trail
 begins_with h t = trail (h ∷ t.hops) t.target
 
@@ -80,11 +83,13 @@ abbrev pub is_next_hop : Hop → Hop → Bool
 is_next_hop x y =
     is_next_spot x.spot y.spot && is_same_entry x.used y.used && (not x.spot.attrs.unmergeable || same_path x.path y.path)
 
+-- each search of one finds the byte after what the same search of the other finds
 abbrev pub are_next_hops : List Hop → List Hop → Bool
 are_next_hops [] [] = true
 are_next_hops (x ∷ xs) (y ∷ ys) = is_next_hop x y && are_next_hops xs ys
 are_next_hops _ _ = false
 
+-- the address ends in a leaf
 abbrev pub is_leaf : Target → Bool
 is_leaf (Leaf spot) = true
 is_leaf Unassigned = false

@@ -3,29 +3,20 @@
 -- QEMU's manual, "The memory API", IOMMU regions, and `IOMMUTLBEntry` of QEMU's core.
 use Rattle.std.specs.Prelude.{ℕ, ◌-◌, Bool, true, false, ◌==◌, not, if◌then◌else◌, bit_and, bit_or, List, [], Option, Some, None, find}
 use Rattle.mem_base.specs.declared.map.ids.RegionId.{RegionId}
-use Rattle.mem_base.specs.declared.map.forests.Node.{Node}
 use Rattle.mem_base.specs.declared.map.forests.Forest.{Forest}
 use Rattle.mem_base.specs.declared.map.translations.Entry.{Entry}
 use Rattle.mem_base.specs.declared.map.translations.Perm.{Perm}
 use Rattle.mem_base.specs.declared.map.translations.Perm.TheVariants.{Nothing, Read, Write, Both}
-use Rattle.mem_base.specs.map.Region.{node_of}
 use Rattle.mem_base.specs.map.Kinds.{is_iommu}
-
-abbrev pub entries_at : Option Node → List Entry
-entries_at None = []
-entries_at (Some n) = n.entries
+use Rattle.mem_base.specs.map.Region.{of_region}
 
 -- the table of a region
 abbrev pub entries_of : Forest → RegionId → List Entry
-entries_of f r = entries_at (node_of f.nodes r)
-
-abbrev pub translates_at : Option Node → Bool
-translates_at None = false
-translates_at (Some n) = is_iommu n.kind
+entries_of f r = of_region f.nodes r [] (λ n. n.entries)
 
 -- the region is an IOMMU region
 abbrev pub translates : Forest → RegionId → Bool
-translates f r = translates_at (node_of f.nodes r)
+translates f r = of_region f.nodes r false (λ n. is_iommu n.kind)
 
 -- a number without the bits of a mask
 abbrev pub without_mask : ℕ → ℕ → ℕ
@@ -46,6 +37,7 @@ permits write Read = not write
 permits write Write = write
 permits write Both = true
 
+-- the translation, where it lets the access through
 abbrev pub if_permitted : Bool → Option Entry → Option Entry
 if_permitted write None = None
 if_permitted write (Some e) = if permits write e.perm then Some e else None

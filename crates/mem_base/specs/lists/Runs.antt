@@ -7,6 +7,7 @@ pub record Run : Type 0 where
   pub start : ℕ
   pub length : ℕ
 
+-- such a run, by its start and its length
 abbrev pub run : ℕ → ℕ → Run
 run start length = record { start = start; length = length }
 

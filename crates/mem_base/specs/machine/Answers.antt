@@ -11,7 +11,9 @@ use Rattle.mem_base.specs.machine.Generations.{Generation, generation_of}
 use Rattle.mem_base.specs.machine.Reaps.{Writer, released}
 use Rattle.mem_base.specs.machine.Configs.{configured}
 use Rattle.mem_base.specs.machine.Orders.{Order, configure, reap, load, harvest, notified, journal, current, load_refusal, harvest_refusal}
+use Rattle.mem_base.specs.map.Refusals.{or_refused}
 
+-- an answer, by the sort of call
 pub data Answer : Type 0 where
   call_answer : Result (Applied × Option ℕ) Refusal → Answer  -- of a call, with the number that it published, if any
   commit_answer : Result (Option ℕ) Refusal → Answer  -- of a commit, likewise
@@ -26,23 +28,22 @@ pub data Answer : Type 0 where
 abbrev pub number_due : Writer → Option ℕ
 number_due w = if w.desk.due then Some (w.generations.current + 1) else None
 
-abbrev pub finishes : {A : Type 0} → Result A Refusal → Result (Unit {0}) Refusal
-finishes (Ok x) = Ok tt
-finishes (Err why) = Err why
-
+-- the answer with something else made of what was accepted
 abbrev pub answer_with : {A B : Type 0} → (A → B) → Result A Refusal → Result B Refusal
 answer_with f (Ok x) = Ok (f x)
 answer_with f (Err why) = Err why
 
+-- what a call without a result answers: that it is done, or its refusal
+abbrev pub finishes : {A : Type 0} → Result A Refusal → Result (Unit {0}) Refusal
+finishes answer = answer_with (λ x. tt) answer
+
+-- the answer of a call, a begin, a commit, or a listener that joins or leaves, with the number that was published
 abbrev pub answer_of_config : Config → Result Applied Refusal → Option ℕ → Answer
 answer_of_config (configs.Call call) answer number = call_answer (answer_with (λ applied. (applied, number)) answer)
 answer_of_config configs.Commit answer number = commit_answer (answer_with (λ applied. number) answer)
 answer_of_config _ answer number = plain_answer (finishes answer)
 
-abbrev pub or_refused : {A : Type 0} → Option Refusal → A → Result A Refusal
-or_refused None x = Ok x
-or_refused (Some why) x = Err why
-
+-- the first of some numbers, 0 of none
 abbrev pub first_or_zero : List ℕ → ℕ
 first_or_zero [] = 0
 first_or_zero (n ∷ ns) = n

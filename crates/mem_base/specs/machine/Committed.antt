@@ -18,6 +18,7 @@ pub record TransactionState : Type 0 where
   pub depth : ℕ
   pub pending : Bool
 
+-- such a state, by its three parts
 abbrev pub transaction : Forest → ℕ → Bool → TransactionState
 transaction forest depth pending = record { forest = forest; depth = depth; pending = pending }
 

@@ -28,6 +28,7 @@ pub record Completed : Type 0 where
   pub entries : List PureEntry
   pub answer : Answer
 
+-- a call of the writer: its events in order, each with the world's own reply
 abbrev pub completed : World → Order → Completed
 completed w k =
     let before = run_events w (events_before w.writer k) in
@@ -42,6 +43,7 @@ completed w k =
 abbrev pub enters : PassId → List Event
 enters pass = Look pass ∷ Announce pass ∷ Enter pass ∷ []
 
+-- a pass leaves the generation in which it is entered
 abbrev pub leaves : PassId → List Event
 leaves pass = Leave pass ∷ []
 
@@ -53,6 +55,7 @@ enters_anew entered pass = if entered then leaves pass ++ enters pass else enter
 abbrev pub enters_unless : Bool → PassId → List Event
 enters_unless entered pass = if entered then [] else enters pass
 
+-- a pass that was entered before an access stays so; any other leaves after it
 abbrev pub leaves_unless : Bool → PassId → List Event
 leaves_unless entered pass = if entered then [] else leaves pass
 
@@ -75,10 +78,12 @@ word_write_events entered pass f s a value =
     if is_not_whole f s a value then enters_unless entered pass ++ leaves_unless entered pass
     else access_events entered pass f s a (word_write value)
 
+-- the forest of a generation; the empty one where there is none
 abbrev pub forest_at : Option Generation → Forest
 forest_at None = empty
 forest_at (Some x) = x.forest
 
+-- the pass is entered in some generation
 abbrev pub is_entered : World → PassId → Bool
 is_entered w pass = is_some (pass_of w.passes pass).entered
 
@@ -93,6 +98,7 @@ pub record Accessed : Type 0 where
   pub answer : Access
   pub bytes : List ℕ
 
+-- an access of a pass, which enters before it and leaves after it where it was not entered
 abbrev pub accessed : World → PassId → SpaceId → ℕ → Transfer → Accessed
 accessed w pass s a transfer =
     let before = run_events w (enters_unless (is_entered w pass) pass) in

@@ -40,6 +40,7 @@ backed d f region x None = refused_desk d (NoBacking (words_of x))
 backed d f region x (Some start) = let p = place_from region start x in
     settled (record d { forest = f; places = d.places ++ p ∷ []; unfilled = d.unfilled ++ cells_of p }) (Made region)
 
+-- a region that is made; one without words needs no place
 abbrev pub made : Desk → Forest → RegionId → Extent → Settled
 made d f region x =
     if words_of x == 0 then settled (record d { forest = f }) (Made region)
@@ -51,14 +52,17 @@ kept_back d (calls.Region kind size) f = made d f (record { 0 = d.forest.made })
 kept_back d (calls.Drop region) f = settled (record d { forest = f; dropped = put_by region_order region d.dropped }) Done
 kept_back d call f = settled (record d { forest = f; pending = true }) (answer_of d.forest call)
 
+-- the desk after a call, by the forest that the call makes: a change outside all transactions publishes
 abbrev pub after_call : Generations → Desk → Call → Result Forest Refusal → Settled
 after_call g d call (Err why) = refused_desk d why
 after_call g d call (Ok f) =
     if (d.depth == 0) && not (is_quiet call) then publishing g d f (answer_of d.forest call) else kept_back d call f
 
+-- a transaction is opened, one inside the other up to the limit
 abbrev pub begun : Desk → Settled
 begun d = if d.depth == most_nested then refused_desk d TooNested else settled (record d { depth = d.depth + 1 }) Done
 
+-- a transaction is closed: the outermost one with a change pending publishes
 abbrev pub committed : Generations → Desk → Settled
 committed g d =
     if d.depth == 0 then refused_desk d NoTransaction
@@ -67,6 +71,7 @@ committed g d =
 
 -- a listener joins or leaves with what the current generation shows
 
+-- a listener joins, unless its space is unknown or it may not join
 abbrev pub listened : Generations → Desk → Listener → Settled
 listened g d l = unless_refused (first_refusal (unknown_space d.forest l.space ∷ join_refusal d.listening l.listener ∷ [])) d
     (settled (record d { listening = joined d.listening l (view_of (current_forest g) l.space) (lives_of (current_forest g) l.space) }) Done)
@@ -78,6 +83,7 @@ without_listener (l ∷ ls) id g d =
     if l.listener.0 == id.0 then record d { listening = left d.listening id (view_of (current_forest g) l.space) (lives_of (current_forest g) l.space) }
     else without_listener ls id g d
 
+-- the listener with this id leaves, unless there is none
 abbrev pub unlistened : Generations → Desk → ListenerId → Settled
 unlistened g d id = unless_refused (leave_refusal d.listening id) d (settled (without_listener d.listening.listeners id g d) Done)
 

@@ -19,6 +19,7 @@ use Rattle.mem_base.specs.access.Cells.{cell, is_same_cell, region_of}
 use Rattle.mem_base.specs.views.Naming.{names, shows_events}
 use Rattle.mem_base.specs.views.Listening.{Listening, no_listeners}
 
+-- what the writer keeps
 pub record Desk : Type 0 where
   pub forest : Forest
   pub depth : ℕ  -- the transactions that are open
@@ -31,6 +32,7 @@ pub record Desk : Type 0 where
   pub due : Bool  -- a publish is due
   pub swept : List Bool  -- of each pass: it was swept since the last private event
 
+-- the desk before anything was done, by the words of its pool and the number of passes
 abbrev pub first_desk : ℕ → ℕ → Desk
 first_desk pool_words passes = record {
   forest = empty;
@@ -49,18 +51,23 @@ first_desk pool_words passes = record {
 abbrev pub places_of : Desk → List Place
 places_of d = d.places ++ notifiers_place d.pool_words ∷ []
 
+-- the cells of a place, ascending
 abbrev pub cells_of : Place → List Cell
 cells_of p = map (cell p.region) (range_with_len 0 p.words)
 
+-- the cell is not cleared yet
 abbrev pub is_unfilled : Desk → Cell → Bool
 is_unfilled d c = list_any (is_same_cell c) d.unfilled
 
+-- every cell of every region is cleared
 abbrev pub is_all_filled : Desk → Bool
 is_all_filled d = length d.unfilled == 0
 
+-- each pass was swept since the last private event
 abbrev pub is_all_swept : Desk → Bool
 is_all_swept d = list_all (λ swept. swept) d.swept
 
+-- regions stand by ascending id
 abbrev pub region_order : RegionId → RegionId → Ordering
 region_order x y = nat_cmp x.0 y.0
 
@@ -73,9 +80,11 @@ unswept d = record d { swept = map (λ swept. false) d.swept }
 abbrev pub is_shown_place : Forest → Place → Bool
 is_shown_place f p = if is_notifiers p.region then shows_events f else names f p.region
 
+-- of these places, those that a generation of the forest has
 abbrev pub shown_places : Forest → List Place → List Place
 shown_places f places = filter (is_shown_place f) places
 
+-- what a step on a cell carries: the place of the cell's region, if there is one
 abbrev pub at_place : Option Place → Carried
 at_place None = carries.Nothing
 at_place (Some p) = carries.At p

@@ -22,6 +22,7 @@ pub record Generation : Type 0 where
   pub forest : Forest
   pub places : List Place
 
+-- a generation, by its forest and its places
 abbrev pub generation : Forest → List Place → Generation
 generation forest places = record { forest = forest; places = places }
 
@@ -32,6 +33,7 @@ pub record PassTrack : Type 0 where
   pub lowest : ℕ
   pub placed : Bool
 
+-- what is known of a pass at first
 abbrev pub nothing_known : PassTrack
 nothing_known = record { found = None; lowest = 0; placed = false }
 
@@ -41,6 +43,7 @@ pub record Generations : Type 0 where
   pub kept : List Generation
   pub passes : List PassTrack
 
+-- what is known of one pass
 abbrev pub known_of : Generations → PassId → PassTrack
 known_of g pass = slice_index_or g.passes pass.0 nothing_known
 
@@ -57,6 +60,7 @@ abbrev pub pin_word : Option ℕ → ℕ
 pin_word None = 0
 pin_word (Some number) = number + 1
 
+-- the number that a word announces, if any
 abbrev pub number_pinned : ℕ → Option ℕ
 number_pinned word = if word == 0 then None else Some (word - 1)
 
@@ -65,9 +69,11 @@ abbrev pub lowest_after : ℕ → ℕ → Option ℕ → ℕ
 lowest_after current lowest None = current
 lowest_after current lowest (Some number) = max lowest number
 
+-- what is known of a pass after a Sweep found this word
 abbrev pub known_after_sweep : ℕ → PassTrack → ℕ → PassTrack
 known_after_sweep current k word = record k { found = number_pinned word; lowest = lowest_after current k.lowest (number_pinned word) }
 
+-- the same of a pass, but for whether it has its copy
 abbrev pub with_placed : Bool → PassTrack → PassTrack
 with_placed placed k = record k { placed = placed }
 
@@ -80,6 +86,7 @@ published g (Edition forest places) = record {
 }
 published g _ = g
 
+-- the generations with something else known of one pass
 abbrev pub with_known : Generations → PassId → PassTrack → Generations
 with_known g pass k = record g { passes = slice_set g.passes pass.0 k }
 
@@ -113,6 +120,7 @@ number_told g ps (Sweep pass) = pin_word (pass_of ps pass).announced
 number_told g ps Publish = g.current + 1
 number_told g ps _ = 0
 
+-- the generation of a number, if there is a number and it is kept
 abbrev pub generation_at : Generations → Option ℕ → Option Generation
 generation_at g None = None
 generation_at g (Some number) = generation_of g number

@@ -1,5 +1,5 @@
 -- Histories of the pure machine: which are legal, and four facts of each pass that hold in every legal one.
-use Rattle.std.specs.Prelude.{◌≡◌, ℕ, ◌+◌, ◌<◌, ◌≤◌, min, Bool, true, false, List, [], ◌∷◌, length, slice_index_or, Some, None, Result}
+use Rattle.std.specs.Prelude.{◌≡◌, ℕ, ◌+◌, ◌<◌, ◌≤◌, min, Bool, true, false, List, [], ◌∷◌, length, slice_index_or, Some, None, Result, ◌-◌}
 use Rattle.mem_base.specs.declared.map.ids.PassId.{PassId}
 use Rattle.mem_base.specs.declared.map.refusals.Refusal.{Refusal}
 use Rattle.mem_base.specs.declared.machine.events.Event.{Event}
@@ -15,6 +15,7 @@ pub record PureEntry : Type 0 where
   pub event : Event
   pub reply : Result Reply Refusal
 
+-- an entry, by its event and its reply
 abbrev pub pure_entry : Event → Result Reply Refusal → PureEntry
 pure_entry event reply = record { event = event; reply = reply }
 
@@ -22,6 +23,7 @@ pure_entry event reply = record { event = event; reply = reply }
 abbrev pub after_entry : World → PureEntry → World
 after_entry w x = after_telling w x.event (number_in x.reply)
 
+-- the world after some entries
 abbrev pub after_entries : World → List PureEntry → World
 after_entries w xs = after_each after_entry w xs
 
@@ -29,6 +31,7 @@ after_entries w xs = after_each after_entry w xs
 abbrev pub IsLegalFrom : World → List PureEntry → Type 0
 IsLegalFrom w xs = IsLegalBy (λ v x. possible v x.event) (λ v x. x.reply ≡ reply v x.event) after_entry w xs
 
+-- a legal history from the opening on, by the words of the pool and the number of passes
 abbrev pub IsLegal : ℕ → ℕ → List PureEntry → Type 0
 IsLegal pool_words passes xs = IsLegalFrom (opening pool_words passes) xs
 
@@ -37,6 +40,7 @@ pub record Ran : Type 0 where
   pub world : World
   pub entries : List PureEntry
 
+-- such a pair
 abbrev pub ran : World → List PureEntry → Ran
 ran world entries = record { world = world; entries = entries }
 
@@ -48,8 +52,8 @@ run_events w (e ∷ es) = let rest = run_events (world_after w e) es in ran rest
 -- what holds of one pass: where the current number is `current`, a publish is due or not, and the pass was swept or
 -- not since the last private event
 pub record IsInOrder (current : ℕ) (due swept : Bool) (k : PassTrack) (p : PassState) : Type 0 where
-  -- its lowest number is at most seven below the current one
-  pub near : current ≤ k.lowest + 7
+  -- its lowest number is one of the eight that may be kept
+  pub near : current ≤ k.lowest + (most_generations - 1)
   pub low : k.lowest ≤ current
   -- where it was swept, the lowest number is no less than what was found, and near the current one where nothing was
   pub found_low : swept ≡ true → (number : ℕ) → k.found ≡ Some number → number ≤ k.lowest
@@ -61,8 +65,8 @@ pub record IsInOrder (current : ℕ) (due swept : Bool) (k : PassTrack) (p : Pas
   pub announced : (number : ℕ) → p.announced ≡ Some number → number ≤ current
   pub entered : (number : ℕ) → p.entered ≡ Some number → (before : ℕ) × (p.announced ≡ Some before) × (before ≤ number) × (k.lowest ≤ number) ×
       (number ≤ current)
-  -- while a publish is due, the lowest number is at most six below the current one
-  pub due_near : due ≡ true → current ≤ k.lowest + 6
+  -- while a publish is due, it is one of those that are kept after it too
+  pub due_near : due ≡ true → current ≤ k.lowest + (most_generations - 2)
 
 abbrev pub is_swept : List Bool → PassId → Bool
 is_swept swept pass = slice_index_or swept pass.0 false

@@ -96,6 +96,7 @@ abbrev pub accepted_one : Event → Result Reply Refusal → List Config
 accepted_one (events.Config k) (Ok reply) = k ∷ []
 accepted_one e reply = []
 
+-- those of a history, in order
 abbrev pub accepted : List PureEntry → List Config
 accepted xs = flat_map (λ x. accepted_one x.event x.reply) xs
 

@@ -32,6 +32,7 @@ use Rattle.mem_base.specs.machine.Desk.{Desk, places_of}
 use Rattle.mem_base.specs.machine.Reaps.{Writer}
 use Rattle.mem_base.specs.machine.Publishing.{would_publish}
 
+-- what the writer may be asked for
 pub data Order : Type 0 where
   configure : Config → Order  -- a call, a begin, a commit, a listener that joins or leaves
   reap : Order
@@ -45,6 +46,7 @@ pub data Order : Type 0 where
 abbrev pub pass_ids : Generations → List PassId
 pass_ids g = map pass_id (range_with_len 0 (length g.passes))
 
+-- a sweep of each pass
 abbrev pub sweeps : Generations → List Event
 sweeps g = map (λ pass. events.Sweep pass) (pass_ids g)
 
@@ -56,15 +58,16 @@ publishes g = map (λ pass. events.Place pass) (pass_ids g) ++ events.Publish �
 abbrev pub ends_past : ℕ → ℕ → Node → Bool
 ends_past offset count n = nat_lt n.size (offset + count)
 
--- why bytes are not loaded: the region is unknown, has no memory, or ends before them
+-- why bytes are not loaded: the region is unknown, has no bytes that the machine keeps, or ends before them
 abbrev pub load_refusal : Forest → RegionId → ℕ → ℕ → Option Refusal
 load_refusal f region offset count =
     first_refusal (unknown_region f region ∷ wrong_kind has_bytes f region ∷ refuse_where (ends_past offset count) BadSize (node_of f.nodes region) ∷ [])
 
--- why marks are not harvested: the region is unknown or has no memory
+-- why marks are not harvested: the region is unknown, or has no bytes that the machine keeps
 abbrev pub harvest_refusal : Forest → RegionId → Option Refusal
 harvest_refusal f region = first_refusal (unknown_region f region ∷ wrong_kind has_bytes f region ∷ [])
 
+-- these events, or none where there is a refusal
 abbrev pub unless : Option Refusal → List Event → List Event
 unless None otherwise = otherwise
 unless (Some why) otherwise = []
@@ -74,6 +77,7 @@ abbrev pub loads : RegionId → ℕ → List ℕ → List Event
 loads region offset bytes =
     map (λ w. events.Word hands.Writer (cell region (w.start / word_size)) (replaces offset bytes w)) (touched word_size offset (length bytes))
 
+-- how many mark words a client has at a place; none where there is no place
 abbrev pub mark_words_at : Option Place → ℕ
 mark_words_at None = 0
 mark_words_at (Some p) = mark_words p.bytes
@@ -98,9 +102,7 @@ private_of _ = []
 -- the events after it, in the writer's part that it left
 abbrev pub events_after : Writer → Order → List Event
 events_after w (configure k) = if w.desk.due then publishes w.generations else map (λ c. events.Fill c) w.desk.unfilled
-events_after w reap = []
 events_after w (load region offset bytes) = unless (load_refusal w.desk.forest region offset (length bytes)) (loads region offset bytes)
 events_after w (harvest region client) = unless (harvest_refusal w.desk.forest region) (harvests w.desk region client)
 events_after w (notified number) = events.Word hands.Writer (notifier_cell number) Take ∷ []
-events_after w journal = []
-events_after w current = []
+events_after w _ = []

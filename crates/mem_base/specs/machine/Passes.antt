@@ -6,11 +6,13 @@ use Rattle.mem_base.specs.declared.map.ids.PassId.{PassId}
 use Rattle.mem_base.specs.declared.machine.events.Event.{Event}
 use Rattle.mem_base.specs.declared.machine.events.Event.TheVariants.{Look, Announce, Enter, Leave}
 
+-- the number that it looked at, the one that it announced, and the generation in which it is entered, each if there is one
 pub record PassState : Type 0 where
   pub looked : Option ℕ
   pub announced : Option ℕ
   pub entered : Option ℕ
 
+-- a pass that has done nothing since it left last
 abbrev pub idle : PassState
 idle = record { looked = None; announced = None; entered = None }
 
@@ -30,9 +32,11 @@ pass_id number = record { 0 = number }
 abbrev pub is_pass : List PassState → PassId → Bool
 is_pass ps pass = nat_lt pass.0 (length ps)
 
+-- the state of one pass
 abbrev pub pass_of : List PassState → PassId → PassState
 pass_of ps pass = slice_index_or ps pass.0 idle
 
+-- the passes with another state of one
 abbrev pub with_pass : List PassState → PassId → PassState → List PassState
 with_pass ps pass p = slice_set ps pass.0 p
 

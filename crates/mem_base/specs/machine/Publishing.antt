@@ -21,6 +21,7 @@ pub record Settled : Type 0 where
   pub desk : Desk
   pub answer : Result Applied Refusal
 
+-- an event that is accepted leaves this desk and answers this
 abbrev pub settled : Desk → Applied → Settled
 settled d answer = record { desk = d; answer = Ok answer }
 
@@ -28,6 +29,7 @@ settled d answer = record { desk = d; answer = Ok answer }
 abbrev pub refused_desk : Desk → Refusal → Settled
 refused_desk d why = record { desk = d; answer = Err why }
 
+-- what an event leaves, unless it is refused
 abbrev pub unless_refused : Option Refusal → Desk → Settled → Settled
 unless_refused None d otherwise = otherwise
 unless_refused (Some why) d otherwise = refused_desk d why
@@ -44,6 +46,7 @@ abbrev pub holds_up : ℕ → Option ℕ → Bool
 holds_up current None = false
 holds_up current (Some number) = nat_le (number + (most_generations - 1)) current
 
+-- the refusal of a publish that this pass holds up, with the number that it was found at
 abbrev pub held_at : PassId → Option ℕ → Option Refusal
 held_at pass None = None
 held_at pass (Some number) = Some (Held pass number)
@@ -54,9 +57,11 @@ held_from current first [] = None
 held_from current first (k ∷ ks) =
     if holds_up current k.found then held_at (record { 0 = first }) k.found else held_from current (first + 1) ks
 
+-- why a publish is held up, if it is
 abbrev pub held_up : Generations → Option Refusal
 held_up g = held_from g.current 0 g.passes
 
+-- the forest of the first of these generations
 abbrev pub forest_in : List Generation → Forest
 forest_in [] = empty
 forest_in (x ∷ xs) = x.forest

@@ -13,9 +13,11 @@ pub record Writer : Type 0 where
   pub desk : Desk
   pub generations : Generations
 
+-- the writer's part, by its desk and its generations
 abbrev pub writer : Desk → Generations → Writer
 writer desk generations = record { desk = desk; generations = generations }
 
+-- the writer's part before anything was done, by the words of the pool and the number of passes
 abbrev pub first_writer : ℕ → ℕ → Writer
 first_writer pool_words passes = writer (first_desk pool_words passes) (first_generations passes)
 
@@ -27,6 +29,7 @@ is_named g region = list_any (λ x. names x.forest region) (held_generations g)
 abbrev pub released : Writer → List RegionId
 released w = filter (λ r. not (is_named w.generations r)) w.desk.dropped
 
+-- the region is one of these
 abbrev pub is_among : List RegionId → RegionId → Bool
 is_among rs region = list_any (λ r. r.0 == region.0) rs
 

@@ -2,7 +2,7 @@
 -- what changes in the pure machine, with words of the pool in place of cells; what differs is when a copy is placed,
 -- a generation is published, and a step is made on a cell.
 -- This project's own rule: every entry is one atomic step on one word, so the history is one list.
-use Rattle.std.specs.Prelude.{◌≡◌, ℕ, ◌+◌, Bool, false, ◌==◌, ◌&&◌, nat_lt, nat_le, if◌then◌else◌, List, length, replicate}
+use Rattle.std.specs.Prelude.{◌≡◌, ℕ, ◌+◌, Bool, false, ◌==◌, ◌&&◌, nat_lt, nat_le, if◌then◌else◌, List, length, replicate, ◌-◌}
 use Rattle.std.specs.Prelude.{slice_index, Option, Some, None, option_map}
 use Rattle.std.specs.List.{list_any}
 use Rattle.mem_base.specs.declared.map.ids.PassId.{PassId}
@@ -19,6 +19,7 @@ use Rattle.mem_base.specs.machine.Passes.{PassState, idle, passes_after}
 use Rattle.mem_base.specs.machine.Generations.{Generation, Generations, first_generations, known_of, may, number_told, generations_after, entered_generation}
 use Rattle.mem_base.specs.machine.Guards.{may_reach, may_mark}
 use Rattle.mem_base.specs.machine.Histories.{after_each, IsLegalBy}
+use Rattle.mem_base.specs.map.Limits.{most_generations}
 
 pub record Shared : Type 0 where
   pub generations : Generations
@@ -57,7 +58,7 @@ may_touch s _ p = false
 
 -- the pass can't be in the generation eight before the next one, whose copy the next one's copy takes the place of
 abbrev pub is_near : Shared → PassId → Bool
-is_near s pass = nat_le s.generations.current ((known_of s.generations pass).lowest + 6)
+is_near s pass = nat_le s.generations.current ((known_of s.generations pass).lowest + (most_generations - 2))
 
 -- the event is possible where it stands, with what it carries: a Publish carries an edition, a step on a cell its
 -- place, and any other event nothing. Private events are not shared

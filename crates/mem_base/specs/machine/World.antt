@@ -22,11 +22,13 @@ use Rattle.mem_base.specs.machine.Publishing.{would_publish}
 use Rattle.mem_base.specs.machine.Configs.{private_reply, writer_after}
 use Rattle.mem_base.specs.machine.Guards.{may_reach, may_mark}
 
+-- the writer's part, the passes, and the cells of each place
 pub record World : Type 0 where
   pub writer : Writer
   pub passes : List PassState
   pub blocks : List Block
 
+-- a world, by its three parts
 abbrev pub world : Writer → List PassState → List Block → World
 world writer passes blocks = record { writer = writer; passes = passes; blocks = blocks }
 
@@ -64,6 +66,7 @@ abbrev pub touch_at : World → Event → Option RegionId → Option Touch
 touch_at w e None = None
 touch_at w e (Some region) = option_and_then (λ p. touch_of p e) (place_in_world w region)
 
+-- the word that a touch finds in the cells of a region
 abbrev pub old_at : World → Option RegionId → Option Touch → ℕ
 old_at w (Some region) (Some t) = slice_index (cells_in w.blocks region) t.word
 old_at w _ _ = 0
@@ -93,9 +96,11 @@ number_in _ = 0
 abbrev pub block_for : List Block → Place → Block
 block_for blocks p = record { region = p.region; words = if has_block blocks p.region then cells_in blocks p.region else replicate p.words 0 }
 
+-- the cells of all places of a desk
 abbrev pub blocks_for : List Block → Desk → List Block
 blocks_for blocks d = map (block_for blocks) (places_of d)
 
+-- all cells after a touch, if there is one
 abbrev pub touched_blocks : List Block → Option RegionId → Option Touch → List Block
 touched_blocks blocks (Some region) (Some t) = blocks_after blocks region t.word t.step
 touched_blocks blocks _ _ = blocks

@@ -2,7 +2,7 @@
 -- The calls are those of QEMU's manual, "The memory API": making and destroying regions, adding and removing
 -- subregions, aliases, enabling, flags, logging, translations and ioeventfds. The order of the refusals is this
 -- project's own.
-use Rattle.std.specs.Prelude.{ℕ, ◌+◌, Bool, true, false, not, if◌then◌else◌, List, [], ◌∷◌, ◌++◌, Option, Some, None, Result, Ok, Err}
+use Rattle.std.specs.Prelude.{ℕ, ◌+◌, Bool, true, false, not, if◌then◌else◌, List, [], ◌∷◌, ◌++◌, Option, None, Result, Ok, Err}
 use Rattle.mem_base.specs.declared.map.forests.Forest.{Forest}
 use Rattle.mem_base.specs.declared.map.kinds.Kind.{Kind}
 use Rattle.mem_base.specs.declared.map.calls.Call.{Call}
@@ -10,8 +10,8 @@ use Rattle.mem_base.specs.declared.map.calls.Call.TheVariants as calls
 use Rattle.mem_base.specs.declared.map.calls.Applied.{Applied}
 use Rattle.mem_base.specs.declared.map.calls.Applied.TheVariants.{Made, Done}
 use Rattle.mem_base.specs.declared.map.refusals.Refusal.{Refusal}
-use Rattle.mem_base.specs.map.Kinds.{is_alias, has_bytes, is_rom_device, is_iommu, takes_events, device_of}
-use Rattle.mem_base.specs.map.Refusals.{first_refusal, unknown_region, unknown_space, unknown_target, taken_space, wrong_kind, zero_size}
+use Rattle.mem_base.specs.map.Kinds.{is_alias, is_memory, is_rom_device, is_iommu, takes_events, device_of}
+use Rattle.mem_base.specs.map.Refusals.{first_refusal, unknown_region, unknown_space, unknown_target, taken_space, wrong_kind, zero_size, or_refused}
 use Rattle.mem_base.specs.map.Refusals.{bad_size, has_container, not_child_of, not_in_container, alias_parent, in_use, makes_loop, too_deep}
 use Rattle.mem_base.specs.map.Refusals.{too_wide}
 use Rattle.mem_base.specs.map.TableRefusals.{unknown_entry, unknown_event, bad_device, bad_event, bad_page, page_overlap, event_taken}
@@ -40,14 +40,14 @@ refusals f (calls.Add parent offset child priority) =
 refusals f (calls.Del parent child) = unknown_region f parent ∷ unknown_region f child ∷ not_child_of f parent child ∷ []
 refusals f (calls.Move child offset) = unknown_region f child ∷ not_in_container f child ∷ []
 refusals f (calls.Resize region size) =
-    unknown_region f region ∷ wrong_kind (λ k. not (has_bytes k)) f region ∷ zero_size size ∷ []
+    unknown_region f region ∷ wrong_kind (λ k. not (is_memory k)) f region ∷ zero_size size ∷ []
 refusals f (calls.Retarget alias offset) = unknown_region f alias ∷ wrong_kind is_alias f alias ∷ []
 refusals f (calls.Enable region on) = unknown_region f region ∷ []
 refusals f (calls.Readonly region on) = unknown_region f region ∷ []
 refusals f (calls.Nonvolatile region on) = unknown_region f region ∷ []
 refusals f (calls.Unmergeable region on) = unknown_region f region ∷ []
 refusals f (calls.Romd region on) = unknown_region f region ∷ wrong_kind is_rom_device f region ∷ []
-refusals f (calls.Log region client on) = unknown_region f region ∷ wrong_kind has_bytes f region ∷ []
+refusals f (calls.Log region client on) = unknown_region f region ∷ wrong_kind is_memory f region ∷ []
 refusals f (calls.Global on) = []
 refusals f (calls.Map region iova size space translated perm) =
     unknown_region f region ∷ unknown_space f space ∷ wrong_kind is_iommu f region ∷ bad_page iova size ∷ page_overlap f region iova size ∷ no_more_entries f
@@ -63,16 +63,13 @@ refusals f (calls.Drop region) = unknown_region f region ∷ has_container f reg
 abbrev pub refusal_of : Forest → Call → Option Refusal
 refusal_of f call = first_refusal (refusals f call ++ no_more_calls f ∷ [])
 
+-- the forest with one call more counted
 abbrev pub counted : Forest → Forest
 counted f = record f { calls = f.calls + 1 }
 
 -- the forest after an accepted call, or the first refusal that stands
-abbrev pub after_unless : Option Refusal → Forest → Call → Result Forest Refusal
-after_unless None f call = Ok (counted (changed f call))
-after_unless (Some why) f call = Err why
-
 abbrev pub after : Forest → Call → Result Forest Refusal
-after f call = after_unless (refusal_of f call) f call
+after f call = or_refused (refusal_of f call) (counted (changed f call))
 
 -- what an accepted call answers
 abbrev pub answer_of : Forest → Call → Applied

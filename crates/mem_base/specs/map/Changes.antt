@@ -1,5 +1,6 @@
 -- What an accepted call changes in a forest. All that is not named stays.
 use Rattle.std.specs.Prelude.{ℕ, ◌+◌, ◌==◌, true, false, not, if◌then◌else◌, List, [], ◌∷◌, ◌++◌, Option, Some, None, map, filter, ℤ, pos}
+use Rattle.std.specs.Prelude.{unwrap_or, option_map}
 use Rattle.mem_base.specs.declared.map.ids.RegionId.{RegionId}
 use Rattle.mem_base.specs.declared.map.forests.Node.{Node}
 use Rattle.mem_base.specs.declared.map.forests.Forest.{Forest}
@@ -8,7 +9,7 @@ use Rattle.mem_base.specs.declared.map.calls.Call.{Call}
 use Rattle.mem_base.specs.declared.map.calls.Call.TheVariants as calls
 use Rattle.mem_base.specs.map.Region.{has_id, node_of}
 use Rattle.mem_base.specs.map.Kinds.{is_rom_device}
-use Rattle.mem_base.specs.map.Edits.{edits, edited}
+use Rattle.mem_base.specs.map.Edits.{edit}
 
 -- the node of one region changed
 abbrev pub changed_at : RegionId → (Node → Node) → List Node → List Node
@@ -53,11 +54,6 @@ moves offset (Some n) = if n.offset == offset then 0 else 1
 abbrev pub at_region : Forest → RegionId → (Node → Node) → Forest
 at_region f r change = record f { nodes = changed_at r change f.nodes }
 
--- the forest with its one edited region
-abbrev pub edited_in : Forest → Call → Option RegionId → Forest
-edited_in f call None = f
-edited_in f call (Some region) = at_region f region (edited call)
-
 -- the forest that an accepted call makes, but for the number of calls
 abbrev pub changed : Forest → Call → Forest
 changed f (calls.Region kind size) =
@@ -70,4 +66,4 @@ changed f (calls.Move child offset) =
     record f { nodes = changed_at child (moved offset f.placings) f.nodes; placings = f.placings + moves offset (node_of f.nodes child) }
 changed f (calls.Global on) = record f { global = on }
 changed f (calls.Drop region) = record f { nodes = filter (λ n. not (has_id region n)) f.nodes }
-changed f call = edited_in f call (edits call)
+changed f call = unwrap_or (option_map (λ e. at_region f e.0 e.1) (edit call)) f

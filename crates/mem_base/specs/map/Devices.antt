@@ -7,6 +7,7 @@ use Rattle.mem_base.specs.declared.map.kinds.DeviceKind.{DeviceKind}
 use Rattle.mem_base.specs.declared.map.kinds.Ops.{Ops}
 use Rattle.mem_base.specs.map.Limits.{most_registers}
 
+-- 1, 2, 4 or 8 bytes
 abbrev pub is_access_size : ℕ → Bool
 is_access_size n = (n == 1) || (n == 2) || (n == 4) || (n == 8)
 

@@ -19,6 +19,7 @@ entry_order x y = nat_cmp x.iova y.iova
 abbrev pub iova_cmp : ℕ → Entry → Ordering
 iova_cmp iova e = nat_cmp e.iova iova
 
+-- the translation's page begins at this iova
 abbrev pub has_iova : ℕ → Entry → Bool
 has_iova iova e = e.iova == iova
 

@@ -11,7 +11,7 @@ use Rattle.mem_base.specs.declared.map.calls.Call.TheVariants as calls
 use Rattle.mem_base.specs.map.Limits.{most_depth, most_weight, most_regions, most_made, most_spaces, most_entries, most_events, most_calls}
 use Rattle.mem_base.specs.lists.Every.{Every, EveryPair}
 use Rattle.mem_base.specs.map.Region.{IsAscending, node_of}
-use Rattle.mem_base.specs.map.Kinds.{is_alias, has_bytes, is_rom_device, is_iommu, takes_events, device_of, target_of}
+use Rattle.mem_base.specs.map.Kinds.{is_alias, is_memory, is_rom_device, is_iommu, takes_events, device_of, target_of}
 use Rattle.mem_base.specs.map.Search.{root_of}
 use Rattle.mem_base.specs.map.Entries.{AreEntries}
 use Rattle.mem_base.specs.map.Events.{AreEvents}
@@ -80,10 +80,10 @@ pub record IsRegion (nodes : List Node) (n : Node) : Type 0 where
   pub events : AreEvents n.events
   pub good_events : Every (λ e. bad_event e ≡ None) n.events
   pub few_events : length n.events ≤ most_events
-  -- only an IOMMU region translates, only a device has ioeventfds, only what has bytes is logged
+  -- only an IOMMU region translates, only a device has ioeventfds, only memory is logged
   pub untranslated : is_iommu n.kind ≡ false → n.entries ≡ []
   pub uneventful : takes_events n.kind ≡ false → n.events ≡ []
-  pub unlogged : has_bytes n.kind ≡ false → n.log ≡ 0
+  pub unlogged : is_memory n.kind ≡ false → n.log ≡ 0
 
 -- two regions in containers were not placed by one placing
 abbrev pub ArePlacedApart : Node → Node → Type 0

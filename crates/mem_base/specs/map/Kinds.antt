@@ -1,9 +1,9 @@
 -- What each kind of region is. QEMU's manual, "The memory API", "Types of regions".
-use Rattle.std.specs.Prelude.{Bool, true, false, Option, Some, None}
+use Rattle.std.specs.Prelude.{Bool, true, false, Option, Some, None, is_some}
 use Rattle.mem_base.specs.declared.map.ids.RegionId.{RegionId}
 use Rattle.mem_base.specs.declared.map.kinds.Kind.{Kind}
 use Rattle.mem_base.specs.declared.map.kinds.Device.{Device}
-use Rattle.mem_base.specs.declared.map.kinds.Kind.TheVariants.{Container, Ram, Rom, RomDevice, Io, Iommu, Alias}
+use Rattle.mem_base.specs.declared.map.kinds.Kind.TheVariants.{Container, Ram, Rom, RomDevice, Io, Iommu, Alias, Host}
 
 -- a region that only groups its children
 abbrev pub is_container : Kind → Bool
@@ -15,7 +15,16 @@ abbrev pub is_alias : Kind → Bool
 is_alias (Alias target offset) = true
 is_alias _ = false
 
--- RAM, ROM or a ROM device
+-- memory, whoever keeps its bytes: RAM, ROM, a ROM device, or memory that a program beside the machine keeps
+-- (`memory_region_init_ram_ptr` of QEMU's core)
+abbrev pub is_memory : Kind → Bool
+is_memory Ram = true
+is_memory Rom = true
+is_memory (RomDevice device) = true
+is_memory Host = true
+is_memory _ = false
+
+-- memory whose bytes the machine keeps: RAM, ROM or a ROM device
 abbrev pub has_bytes : Kind → Bool
 has_bytes Ram = true
 has_bytes Rom = true
@@ -38,11 +47,9 @@ device_of (RomDevice device) = Some device
 device_of (Io device) = Some device
 device_of _ = None
 
--- a region whose writes may set a notifier
+-- a region whose writes may set a notifier: one that has a device
 abbrev pub takes_events : Kind → Bool
-takes_events (RomDevice device) = true
-takes_events (Io device) = true
-takes_events _ = false
+takes_events kind = is_some (device_of kind)
 
 -- the target of an alias
 abbrev pub target_of : Kind → Option RegionId

@@ -1,5 +1,5 @@
 -- Regions by their ids and by their containers.
-use Rattle.std.specs.Prelude.{◌<◌, Bool, false, ◌==◌, List, [], ◌∷◌, Option, Some, None, find}
+use Rattle.std.specs.Prelude.{◌<◌, Bool, false, ◌==◌, List, [], ◌∷◌, Option, Some, None, find, unwrap_or, option_map}
 use Rattle.mem_base.specs.declared.map.ids.RegionId.{RegionId}
 use Rattle.mem_base.specs.declared.map.forests.Node.{Node}
 use Rattle.mem_base.specs.lists.Every.{Every}
@@ -11,6 +11,10 @@ has_id r n = n.id.0 == r.0
 -- the node with this id
 abbrev pub node_of : List Node → RegionId → Option Node
 node_of nodes r = find (has_id r) nodes
+
+-- what the region with this id has; the default where it is not there
+abbrev pub of_region : {A : Type 0} → List Node → RegionId → A → (Node → A) → A
+of_region nodes r default has = unwrap_or (option_map has (node_of nodes r)) default
 
 -- the regions stand by ascending id
 abbrev pub IsAscending : List Node → Type 0

@@ -15,7 +15,7 @@ use Rattle.mem_base.specs.declared.map.forests.Forest.{Forest}
 use Rattle.mem_base.specs.declared.map.spots.Spot.{Spot}
 use Rattle.mem_base.specs.declared.map.kinds.Kind.{Kind}
 use Rattle.mem_base.specs.declared.map.kinds.Client.TheVariants.{Migration}
-use Rattle.mem_base.specs.declared.map.kinds.Kind.TheVariants.{Container, Ram, Rom, RomDevice, Io, Iommu, Alias, Reserve}
+use Rattle.mem_base.specs.declared.map.kinds.Kind.TheVariants.{Container, Ram, Rom, RomDevice, Io, Iommu, Alias, Reserve, Host}
 use Rattle.mem_base.specs.map.Limits.{most_depth}
 use Rattle.mem_base.specs.map.Attributes.{passing}
 use Rattle.mem_base.specs.map.Clients.{bit_of}
@@ -49,7 +49,7 @@ own n a readonly romd log =
     Some (record { leaf = n.id; offset = a; attrs = record { readonly = readonly; nonvolatile = false; romd = romd; unmergeable = false; log = log } }, [])
 
 -- what a region itself answers where no child does: a pure container and an alias have nothing of their own, a
--- ROM is read-only, and global logging concerns RAM, ROM and ROM devices
+-- ROM is read-only, and global logging concerns all memory
 abbrev pub itself : Bool → Kind → Node → ℕ → Option Found
 itself global Container n a = None
 itself global Ram n a = own n a false n.romd (log_of global n)
@@ -59,6 +59,7 @@ itself global (Io device) n a = own n a false n.romd n.log
 itself global Iommu n a = own n a false n.romd n.log
 itself global (Alias target offset) n a = None
 itself global Reserve n a = own n a false n.romd n.log
+itself global Host n a = own n a false n.romd (log_of global n)
 
 -- the first child that holds the offset and in which something is found
 abbrev pub first_of_children : Search → List Node → ℕ → Option Found

@@ -20,10 +20,12 @@ abbrev pub steps_at : List Node → Kind → Node → List RegionId
 steps_at nodes (Alias target offset) n = target ∷ []
 steps_at nodes _ n = map (λ c. c.id) (children_of nodes n.id)
 
+-- the regions that one step leads to from a region, none where it is not there
 abbrev pub steps_from : List Node → Option Node → List RegionId
 steps_from nodes None = []
 steps_from nodes (Some n) = steps_at nodes n.kind n
 
+-- the steps of a forest's regions
 abbrev pub steps_of : List Node → Steps
 steps_of nodes r = steps_from nodes (node_of nodes r)
 
@@ -32,6 +34,7 @@ abbrev pub greatest : List ℕ → ℕ
 greatest [] = 0
 greatest (x ∷ xs) = max x (greatest xs)
 
+-- the sum of some numbers
 abbrev pub total : List ℕ → ℕ
 total [] = 0
 total (x ∷ xs) = x + total xs
@@ -68,8 +71,10 @@ weight_of nodes r = weight_by (steps_of nodes) longest r
 abbrev pub reaches : List Node → RegionId → RegionId → Bool
 reaches nodes from to = reaches_by (steps_of nodes) longest from to
 
+-- the greatest depth of all regions
 abbrev pub greatest_depth : List Node → ℕ
 greatest_depth nodes = greatest (map (λ n. depth_of nodes n.id) nodes)
 
+-- the greatest weight of all regions
 abbrev pub greatest_weight : List Node → ℕ
 greatest_weight nodes = greatest (map (λ n. weight_of nodes n.id) nodes)

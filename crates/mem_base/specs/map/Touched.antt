@@ -9,7 +9,7 @@ use Rattle.mem_base.specs.declared.map.ids.SpaceId.{SpaceId}
 use Rattle.mem_base.specs.declared.map.forests.Node.{Node}
 use Rattle.mem_base.specs.declared.map.forests.Forest.{Forest}
 use Rattle.mem_base.specs.declared.map.kinds.Kind.{Kind}
-use Rattle.mem_base.specs.declared.map.kinds.Kind.TheVariants.{Container, Ram, Rom, RomDevice, Io, Iommu, Alias, Reserve}
+use Rattle.mem_base.specs.declared.map.kinds.Kind.TheVariants.{Container, Ram, Rom, RomDevice, Io, Iommu, Alias, Reserve, Host}
 use Rattle.mem_base.specs.declared.map.kinds.Device.{Device}
 use Rattle.mem_base.specs.declared.map.kinds.DeviceKind.{DeviceKind}
 use Rattle.mem_base.specs.declared.map.kinds.DeviceKind.TheVariants.{Latch, Count, Bell, Fault}
@@ -63,6 +63,7 @@ is_same_kind (Io x) (Io y) = is_same_device x y
 is_same_kind Iommu Iommu = true
 is_same_kind (Alias r x) (Alias q y) = (r.0 == q.0) && (x == y)
 is_same_kind Reserve Reserve = true
+is_same_kind Host Host = true
 is_same_kind _ _ = false
 
 -- the same but for translations and ioeventfds, which no view shows

@@ -75,6 +75,7 @@ event = do ends (changes.Event (← name) (← address) (← decimal_number 255)
 abbrev pub unevent : Form MapChange
 unevent = do ends (changes.Unevent (← name) (← address) (← decimal_number 255) (← last_data))
 
+-- each first word of such a line, with the form of what follows
 abbrev pub change_forms : List (Text × Form MapChange)
 change_forms =
     (codes "add", add) ∷ (codes "del", del) ∷ (codes "move", move) ∷ (codes "resize", resize)

@@ -54,6 +54,7 @@ notified = do ends (commands.Notified (← notifier))
 abbrev pub dirty : Form Command
 dirty = do ends (commands.Dirty (← name) (← client))
 
+-- each first word of such a line, with the form of what follows
 abbrev pub desk_forms : List (Text × Form Command)
 desk_forms =
     (codes "machine", machine) ∷ (codes "region", region) ∷ (codes "space", space) ∷ (codes "load", load)

@@ -11,6 +11,7 @@ use Rattle.mem_base.specs.script.ChangeForms.{change_forms}
 use Rattle.mem_base.specs.script.DeskForms.{desk_forms}
 use Rattle.mem_base.specs.script.PassForms.{pass_line}
 
+-- a line that changes the map, as a command
 abbrev pub changed : Form MapChange → Form Command
 changed form tokens = made_by commands.Change (form tokens)
 

@@ -16,6 +16,7 @@ may_stand b = (b == 9) || between 32 126 b
 abbrev pub is_gap : ℕ → Bool
 is_gap b = (b == 32) || (b == 9)
 
+-- the text is not empty
 abbrev pub has_bytes : Text → Bool
 has_bytes text = nat_lt 0 (length text)
 
@@ -23,6 +24,7 @@ has_bytes text = nat_lt 0 (length text)
 abbrev pub tokens_of : Text → List Text
 tokens_of text = filter has_bytes (slice_split is_gap text)
 
+-- a carriage return
 abbrev pub is_return : Option ℕ → Bool
 is_return None = false
 is_return (Some b) = b == 13

@@ -23,6 +23,7 @@ infixl 10 ◌>>=◌
 abbrev pub ◌>>=◌ : {G X Y : Type 0} → Drawn G X → (X → Drawn G Y) → Drawn G Y
 drawn >>= rest = λ g. let x = drawn g in rest x.0 x.1
 
+-- what draws no word
 abbrev pub give : {G X : Type 0} → X → Drawn G X
 give x g = (x, g)
 
@@ -40,9 +41,11 @@ draw_page next n = do
 
 -- Regions
 
+-- the name of the root container
 abbrev pub root : Text
 root = codes "sys"
 
+-- the name of the one space
 abbrev pub space : Text
 space = codes "s"
 
@@ -50,6 +53,7 @@ space = codes "s"
 abbrev pub region_name : ℕ → Text
 region_name i = codes "r" ++ decimal i
 
+-- a latch with one register, for accesses of 1 to 4 bytes
 abbrev pub latch : Device
 latch = device_with Latch 1 (1, 4) (1, 4) false false false
 
@@ -91,6 +95,7 @@ draw_place next i latest = do
   priority ← draw next 5
   give (added latest i offset chosen (pos priority -ℤ pos 2))
 
+-- the latest container, once region i of a kind is made
 abbrev pub latest_after : Option ℕ → ℕ → ℕ → Option ℕ
 latest_after latest i k = if k == 3 then Some i else latest
 
@@ -113,9 +118,11 @@ draw_move next = do
   offset ← draw_page next 4096
   give (commands.Change (changes.Move (region_name region) offset) ∷ [])
 
+-- the move before access t, where there is one
 abbrev pub draw_move_at : {G : Type 0} → Generator G → ℕ → Drawn G (List Command)
 draw_move_at next t = if t % 100 == 99 then draw_move next else give []
 
+-- a number of bytes
 abbrev pub draw_bytes : {G : Type 0} → Generator G → ℕ → Drawn G (List ℕ)
 draw_bytes next zero = give []
 draw_bytes next (suc n) = do
@@ -123,6 +130,7 @@ draw_bytes next (suc n) = do
   rest ← draw_bytes next n
   give (byte ∷ rest)
 
+-- a write of a number of bytes by a pass
 abbrev pub draw_write : {G : Type 0} → Generator G → PassId → ℕ → ℕ → Drawn G Command
 draw_write next pass addr len = do
   bytes ← draw_bytes next len
@@ -154,6 +162,7 @@ draw_accesses next (suc count) t = do
 
 -- Scripts
 
+-- the whole script, with the lines of regions and the lines of accesses
 abbrev pub made_of : List Command → List Command → List Command
 made_of regions accesses =
     commands.Machine 0x1000000 ∷ commands.RegionContainer root 0x40000000 ∷ commands.Begin ∷ commands.Space space root

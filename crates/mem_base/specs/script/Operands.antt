@@ -47,6 +47,7 @@ made_by make (Err cause) = Err cause
 abbrev pub give : {X : Type 0} → X → Operand X
 give x tokens = Ok (x, tokens)
 
+-- a value and the tokens after it, or this cause where there is no value
 abbrev pub with_value : {X : Type 0} → Cause → Option X → Operand X
 with_value cause None tokens = Err cause
 with_value cause (Some x) tokens = Ok (x, tokens)
@@ -117,6 +118,7 @@ one_of table = token_as causes.Word (value_in table)
 abbrev pub switches : List (Text × Bool)
 switches = (codes "on", true) ∷ (codes "off", false) ∷ []
 
+-- on or off
 abbrev pub switch : Operand Bool
 switch = one_of switches
 
@@ -124,6 +126,7 @@ switch = one_of switches
 abbrev pub clients : List (Text × Client)
 clients = (codes "vga", Vga) ∷ (codes "code", Code) ∷ (codes "migration", Migration) ∷ []
 
+-- a client of marks
 abbrev pub client : Operand Client
 client = one_of clients
 
@@ -131,6 +134,7 @@ client = one_of clients
 abbrev pub perms : List (Text × Perm)
 perms = (codes "none", Nothing) ∷ (codes "r", Read) ∷ (codes "w", Write) ∷ (codes "rw", Both) ∷ []
 
+-- the permission of a translation
 abbrev pub perm : Operand Perm
 perm = one_of perms
 

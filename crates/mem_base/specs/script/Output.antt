@@ -1,7 +1,7 @@
 -- The lines that a run of a script writes of accesses, notifiers, marks, listeners and watchers.
 -- Numbers of passes, generations and notifiers, the value of a notifier, numbers of pages, sizes of ioeventfds and logging
 -- masks are decimal; all other numbers are lower-case hexadecimal, without prefix or leading zeros.
-use Rattle.std.specs.Prelude.{if◌then◌else◌, ℕ, Bool, List, [], ◌∷◌, ◌++◌, Option, Some, None, codes, decimal, ℤ, pos, int_lt, nat_abs}
+use Rattle.std.specs.Prelude.{if◌then◌else◌, ℕ, Bool, List, [], ◌∷◌, ◌++◌, Option, Some, None, codes, decimal, ℤ, pos, int_lt, nat_abs, flat_map}
 use Rattle.mem_base.specs.declared.map.ids.RegionId.{RegionId}
 use Rattle.mem_base.specs.declared.map.ids.PassId.{PassId}
 use Rattle.mem_base.specs.declared.map.kinds.Client.{Client}
@@ -17,7 +17,7 @@ use Rattle.mem_base.specs.declared.access.accesses.TxResult.{TxResult}
 use Rattle.mem_base.specs.views.Listening.{Delivery}
 use Rattle.mem_base.specs.script.Spelling.{Text}
 use Rattle.mem_base.specs.script.Printing.{bytes_text, client_text, pass_text, perm_text}
-use Rattle.mem_base.specs.script.Named.{Names, region_name, space_name, listener_name, notifier_name}
+use Rattle.mem_base.specs.script.Named.{Names, region_name, space_name, listener_name, watcher_name}
 use Rattle.mem_base.specs.script.Watching.{Noticed}
 use Rattle.mem_base.specs.script.RefusalLines.{hex, line_feed}
 use Rattle.mem_base.specs.script.SpotLines.{range_text}
@@ -55,6 +55,7 @@ write_line pass x = entered_text pass x.number ++ (codes " write " ++ (result_te
 abbrev pub dma_line : PassId → Access → Text
 dma_line pass x = entered_text pass x.number ++ (codes " dma " ++ (result_text x.result ++ line_feed))
 
+-- ` gG`, where a generation was published
 abbrev pub published_text : Option ℕ → Text
 published_text None = []
 published_text (Some generation) = codes " g" ++ decimal generation
@@ -69,6 +70,7 @@ do_line pass published = pass_text pass ++ (codes " do" ++ (published_text publi
 abbrev pub notified_line : ℕ → ℕ → Text
 notified_line number value = codes "notified " ++ (decimal number ++ (codes " " ++ (decimal value ++ line_feed)))
 
+-- the pages, each after a space
 abbrev pub page_list : List ℕ → Text
 page_list [] = []
 page_list (page ∷ pages) = codes " " ++ (decimal page ++ page_list pages)
@@ -87,9 +89,9 @@ dirty_line region client pages =
 abbrev pub released_line : Names → RegionId → Text
 released_line names region = codes "released " ++ (region_name names region ++ line_feed)
 
+-- a line for each region that was released
 abbrev pub released_lines : Names → List RegionId → Text
-released_lines names [] = []
-released_lines names (r ∷ rs) = released_line names r ++ released_lines names rs
+released_lines names regions = flat_map (released_line names) regions
 
 -- Listeners: the calls that they got
 
@@ -97,6 +99,7 @@ released_lines names (r ∷ rs) = released_line names r ++ released_lines names 
 abbrev pub from_to_text : ℕ → ℕ → Text
 from_to_text from to = codes " from " ++ (decimal from ++ (codes " to " ++ decimal to))
 
+-- what a listener is told of a range: what happens to it, the range, and the masks where logging starts or stops
 abbrev pub range_event_text : Names → RangeEvent → Text
 range_event_text names (Delete r) = codes "del " ++ range_text names r
 range_event_text names (Add r) = codes "add " ++ range_text names r
@@ -117,6 +120,7 @@ abbrev pub live_text : Live → Text
 live_text l =
     signed_hex l.addr ++ (codes " " ++ (decimal l.size ++ (codes " " ++ (value_text l.matched l.value ++ (codes " " ++ decimal l.number)))))
 
+-- a call of a listener, without its name
 abbrev pub listener_event_text : Names → ListenerEvent → Text
 listener_event_text names Begin = codes "begin"
 listener_event_text names (Range e) = range_event_text names e
@@ -128,9 +132,9 @@ listener_event_text names Commit = codes "commit"
 abbrev pub told_line : Names → Delivery → Text
 told_line names t = listener_name names t.0 ++ (codes " " ++ (listener_event_text names t.1 ++ line_feed))
 
+-- a line for each call that a listener got
 abbrev pub told_lines : Names → List Delivery → Text
-told_lines names [] = []
-told_lines names (t ∷ ts) = told_line names t ++ told_lines names ts
+told_lines names told = flat_map (told_line names) told
 
 -- Watchers
 
@@ -146,8 +150,8 @@ notice_text names (Unmap p) = codes "unmap " ++ offsets_text p.from p.to
 
 -- a notice that a watcher got
 abbrev pub notice_line : Names → Noticed → Text
-notice_line names x = notifier_name names x.0 ++ (codes " " ++ (notice_text names x.1 ++ line_feed))
+notice_line names x = watcher_name names x.0 ++ (codes " " ++ (notice_text names x.1 ++ line_feed))
 
+-- a line for each notice that a watcher got
 abbrev pub notice_lines : Names → List Noticed → Text
-notice_lines names [] = []
-notice_lines names (x ∷ xs) = notice_line names x ++ notice_lines names xs
+notice_lines names notices = flat_map (notice_line names) notices

@@ -28,6 +28,7 @@ pass_dma pass = do
 abbrev pub pass_do : PassId → Form Command
 pass_do pass tokens = made_by (commands.PassDo pass) (change tokens)
 
+-- each second word of a pass's line, with the form of what follows
 abbrev pub pass_forms : PassId → List (Text × Form Command)
 pass_forms pass =
     (codes "enter", ends (commands.PassEnter pass)) ∷ (codes "leave", ends (commands.PassLeave pass))

@@ -12,9 +12,11 @@ use Rattle.mem_base.specs.machine.Composites.{accessed, is_entered, enters_anew,
 use Rattle.mem_base.specs.script.Output.{dma_line, enter_line, leave_line, read_line, write_line}
 use Rattle.mem_base.specs.script.States.{Outcome, outcome, State}
 
+-- the number of the generation in which a pass is entered; 0 where it is in none
 abbrev pub entered_number : World → PassId → ℕ
 entered_number w pass = unwrap_or (pass_of w.passes pass).entered 0
 
+-- a pass enters the current generation, and leaves its own one first where it is in one
 abbrev pub enter : State → PassId → Outcome
 enter state pass =
     let ran = run_events state.world (enters_anew (is_entered state.world pass) pass) in
@@ -26,16 +28,19 @@ leave state pass =
     let ran = run_events state.world (if is_entered state.world pass then leaves pass else []) in
     outcome state state.names ran.world (leave_line pass)
 
+-- a pass reads a number of bytes
 abbrev pub read : State → PassId → SpaceId → ℕ → ℕ → Outcome
 read state pass space addr len =
     let x = accessed state.world pass space addr (reading len) in
     outcome state state.names x.world (read_line pass x.answer x.bytes)
 
+-- a pass writes these bytes
 abbrev pub write : State → PassId → SpaceId → ℕ → List ℕ → Outcome
 write state pass space addr bytes =
     let x = accessed state.world pass space addr (writing bytes) in
     outcome state state.names x.world (write_line pass x.answer)
 
+-- the answer of a copy, by those of its read and its write
 abbrev pub joined : Access → Access → Access
 joined x y = record { result = either x.result y.result; number = x.number }
 

@@ -23,21 +23,25 @@ use Rattle.mem_base.specs.script.Scripts.{Line}
 abbrev pub number_text : ℕ → Text
 number_text n = codes "0x" ++ digits 16 false n
 
+-- on|off
 abbrev pub switch_text : Bool → Text
 switch_text true = codes "on"
 switch_text false = codes "off"
 
+-- vga|code|migration
 abbrev pub client_text : Client → Text
 client_text Vga = codes "vga"
 client_text Code = codes "code"
 client_text Migration = codes "migration"
 
+-- none|r|w|rw
 abbrev pub perm_text : Perm → Text
 perm_text Nothing = codes "none"
 perm_text Read = codes "r"
 perm_text Write = codes "w"
 perm_text Both = codes "rw"
 
+-- latch|count|bell|fault
 abbrev pub device_kind_text : DeviceKind → Text
 device_kind_text Latch = codes "latch"
 device_kind_text Count = codes "count"
@@ -49,6 +53,7 @@ abbrev pub bytes_text : List ℕ → Text
 bytes_text [] = []
 bytes_text (b ∷ bs) = digit_glyph false (b / 16) ∷ digit_glyph false (b % 16) ∷ bytes_text bs
 
+-- vN
 abbrev pub pass_text : PassId → Text
 pass_text pass = codes "v" ++ decimal pass.0
 
@@ -58,23 +63,29 @@ range_text r = decimal r.0 ++ 45 ∷ decimal r.1
 
 -- Options: nothing is written for a default
 
+-- [prio N]
 abbrev pub prio_tokens : ℤ → List Text
 prio_tokens (pos zero) = []
 prio_tokens n = codes "prio" ∷ signed_decimal n ∷ []
 
+-- [data VALUE]
 abbrev pub data_tokens : Option ℕ → List Text
 data_tokens None = []
 data_tokens (Some value) = codes "data" ∷ number_text value ∷ []
 
+-- [regs REGS]
 abbrev pub regs_tokens : ℕ → List Text
 regs_tokens regs = if regs == 1 then [] else codes "regs" ∷ decimal regs ∷ []
 
+-- [valid A-B] or [impl A-B]
 abbrev pub range_tokens : Text → ℕ × ℕ → List Text
 range_tokens keyword r = if (r.0 == 1) && (r.1 == 4) then [] else keyword ∷ range_text r ∷ []
 
+-- a word, where the flag is on
 abbrev pub flag_tokens : Text → Bool → List Text
 flag_tokens keyword on = if on then keyword ∷ [] else []
 
+-- DEVICE
 abbrev pub device_tokens : Device → List Text
 device_tokens d =
     device_kind_text d.kind ∷ (regs_tokens d.regs ++ (range_tokens (codes "valid") (d.ops.valid_min, d.ops.valid_max)
@@ -83,6 +94,7 @@ device_tokens d =
 
 -- Lines
 
+-- the tokens of a line that changes the map
 abbrev pub change_tokens : MapChange → List Text
 change_tokens (changes.Add parent offset child priority) = codes "add" ∷ parent ∷ number_text offset ∷ child ∷ prio_tokens priority
 change_tokens (changes.Del parent child) = codes "del" ∷ parent ∷ child ∷ []
@@ -105,9 +117,11 @@ change_tokens (changes.Event region offset size number value) =
 change_tokens (changes.Unevent region offset size value) =
     codes "unevent" ∷ region ∷ number_text offset ∷ decimal size ∷ data_tokens value
 
+-- the tokens of a line that makes a region
 abbrev pub region_tokens : Text → Text → ℕ → List Text → List Text
 region_tokens name kind size tokens = codes "region" ∷ name ∷ kind ∷ number_text size ∷ tokens
 
+-- the tokens of a command
 abbrev pub command_tokens : Command → List Text
 command_tokens (commands.Machine size) = codes "machine" ∷ number_text size ∷ []
 command_tokens (commands.RegionContainer name size) = region_tokens name (codes "container") size []

@@ -15,11 +15,13 @@ use Rattle.mem_base.specs.declared.script.faults.Cause.{Cause}
 use Rattle.mem_base.specs.declared.script.faults.Cause.TheVariants as cause
 use Rattle.mem_base.specs.declared.script.faults.BadScript.{BadScript}
 use Rattle.mem_base.specs.script.Spelling.{Text}
-use Rattle.mem_base.specs.script.Named.{Names, region_name, space_name, listener_name, notifier_name}
+use Rattle.mem_base.specs.script.Named.{Names, region_name, space_name, listener_name, watcher_name}
 
+-- a number in lower-case hexadecimal
 abbrev pub hex : ℕ → Text
 hex n = digits 16 false n
 
+-- the end of a line
 abbrev pub line_feed : Text
 line_feed = 10 ∷ []
 
@@ -28,14 +30,16 @@ abbrev pub what_text : Names → What → Text
 what_text names (what.Region r) = region_name names r
 what_text names (what.Space s) = space_name names s
 what_text names (what.Listener l) = listener_name names l
-what_text names (what.Notifier n) = notifier_name names n
+what_text names (what.Watcher n) = watcher_name names n
 what_text names (what.Entry iova) = hex iova
 what_text names (what.Event offset) = hex offset
 
+-- who uses a region
 abbrev pub user_text : Names → User → Text
 user_text names (user.Region r) = region_name names r
 user_text names (user.Space s) = space_name names s
 
+-- what a limit counts
 abbrev pub which_text : Which → Text
 which_text which.Regions = codes "regions"
 which_text which.Made = codes "made"
@@ -44,11 +48,13 @@ which_text which.Listeners = codes "listeners"
 which_text which.Entries = codes "entries"
 which_text which.Events = codes "events"
 which_text which.Calls = codes "calls"
-which_text which.Notifiers = codes "notifiers"
+which_text which.Watchers = codes "notifiers"
 
+-- a count stands at its limit
 abbrev pub limit_text : Which → ℕ → Text
 limit_text w limit = codes "F17 limit " ++ (which_text w ++ (codes " " ++ decimal limit))
 
+-- a pass holds a publish up
 abbrev pub held_text : PassId → ℕ → Text
 held_text pass generation = codes "F19 held v" ++ (decimal pass.0 ++ (codes " " ++ decimal generation))
 
@@ -84,11 +90,13 @@ refused_line number text = codes "refused " ++ (decimal number ++ (codes " " ++ 
 abbrev pub unknown_text : Text → Text
 unknown_text name = codes "F1 unknown " ++ name
 
+-- a name that is to be made stands for something
 abbrev pub taken_text : Text → Text
 taken_text name = codes "F2 name-taken " ++ name
 
 -- Faulty scripts
 
+-- the word for a cause
 abbrev pub cause_text : Cause → Text
 cause_text cause.Byte = codes "byte"
 cause_text cause.Word = codes "word"

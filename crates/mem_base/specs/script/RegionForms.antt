@@ -9,6 +9,7 @@ use Rattle.mem_base.specs.script.Spelling.{Text}
 use Rattle.mem_base.specs.script.Operands.{◌>>=◌, Form, Operand, address, decimal_number, ends, ends_after_options, flag, give, name}
 use Rattle.mem_base.specs.script.Operands.{one_of, optional, range, size}
 
+-- a device, by what its line says
 abbrev pub device_with : DeviceKind → ℕ → ℕ × ℕ → ℕ × ℕ → Bool → Bool → Bool → Device
 device_with kind regs valid impl valid_unaligned impl_unaligned big = record {
   kind = kind;
@@ -28,6 +29,7 @@ device_with kind regs valid impl valid_unaligned impl_unaligned big = record {
 abbrev pub device_kinds : List (Text × DeviceKind)
 device_kinds = (codes "latch", Latch) ∷ (codes "count", Count) ∷ (codes "bell", Bell) ∷ (codes "fault", Fault) ∷ []
 
+-- what the registers of a device do
 abbrev pub device_kind : Operand DeviceKind
 device_kind = one_of device_kinds
 
@@ -81,6 +83,7 @@ alias region = do ends (commands.RegionAlias region (← size) (← name) (← a
 abbrev pub reserve : Text → Form Command
 reserve name = do ends (commands.RegionReserve name (← size))
 
+-- each kind of region, with the form of what it takes
 abbrev pub region_forms : Text → List (Text × Form Command)
 region_forms name =
     (codes "container", container name) ∷ (codes "ram", ram name) ∷ (codes "rom", rom name)

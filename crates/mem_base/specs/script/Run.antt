@@ -83,6 +83,7 @@ step state line command = if is_desk_line command then catches_up (own_step stat
 abbrev pub default_words : ℕ
 default_words = 2097152
 
+-- the words of the pool that a command asks for
 abbrev pub words_named : Command → ℕ
 words_named (commands.Machine size) = size / word_size
 words_named _ = default_words

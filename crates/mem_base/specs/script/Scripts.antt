@@ -23,9 +23,11 @@ Line = ℕ × Command
 abbrev pub Meaning : Type 0
 Meaning = Result (List Line) BadScript
 
+-- a script with a line at fault
 abbrev pub bad : ℕ → Cause → Meaning
 bad line cause = Err (record { line = line; cause = cause })
 
+-- where a command may stand
 abbrev pub rule_of : Command → PlaceRule
 rule_of (commands.Machine size) = First
 rule_of (commands.Space name root) = OutsideBlock
@@ -46,10 +48,12 @@ placed line (Block par) OutsideBlock = None
 placed line Start rule = Some Setup
 placed line section rule = Some section
 
+-- a command before those of the rest, if the rest is a script
 abbrev pub with_line : Line → Meaning → Meaning
 with_line line (Ok lines) = Ok (line ∷ lines)
 with_line line (Err fault) = Err fault
 
+-- a command where it may stand, and then the rest
 abbrev pub placed_then : ℕ → Command → Option Section → (Section → Meaning) → Meaning
 placed_then line command None rest = bad line causes.Place
 placed_then line command (Some section) rest = with_line (line, command) (rest section)

@@ -4,7 +4,7 @@
 use Rattle.std.specs.Prelude.{ℕ, ◌+◌, [], ◌∷◌, ◌++◌, length, flat_map, Option, Some, None}
 use Rattle.mem_base.specs.declared.map.ids.RegionId.{RegionId}
 use Rattle.mem_base.specs.declared.map.ids.SpaceId.{SpaceId}
-use Rattle.mem_base.specs.declared.map.ids.NotifierId.{NotifierId}
+use Rattle.mem_base.specs.declared.map.ids.WatcherId.{WatcherId}
 use Rattle.mem_base.specs.declared.map.forests.Forest.{Forest}
 use Rattle.mem_base.specs.declared.map.refusals.Refusal.{Refusal}
 use Rattle.mem_base.specs.map.Search.{look}
@@ -20,13 +20,16 @@ use Rattle.mem_base.specs.script.States.{Outcome, watcher_named, writes, where_n
 
 -- What the current generation shows
 
+-- the forest of the current generation
 abbrev pub shown_forest : State → Forest
 shown_forest state = current_forest state.world.writer.generations
 
+-- the view of a space, a line for each range
 abbrev pub show : State → Text → SpaceId → Outcome
 show state space s =
     writes state (view_line space state.world.writer.generations.current ++ range_lines state.names (view_of (shown_forest state) s))
 
+-- the spot at an address of a space
 abbrev pub at : State → Text → ℕ → SpaceId → Outcome
 at state space addr s = writes state (at_line state.names space addr (look (shown_forest state) s addr))
 
@@ -39,10 +42,12 @@ joins state name w =
     let parts = parts_shown (shown_forest state) w in
     (notice_lines names (notices_of parts w), record state { names = names; watchers = state.watchers ++ with_parts parts w ∷ [] })
 
+-- a watcher joins, unless it is refused
 abbrev pub joins_unless : State → ℕ → Option Refusal → Text → Watcher → Outcome
 joins_unless state line None name w = joins state name w
 joins_unless state line (Some why) name w = writes state (refused_line line (refusal_text state.names why))
 
+-- a watcher with a new name joins, for a range of a region's table
 abbrev pub watch : State → ℕ → Text → RegionId → ℕ → ℕ → Outcome
 watch state line name region first last =
     where_new state line name (watcher_named state name)
@@ -55,7 +60,7 @@ watch state line name region first last =
     }))
 
 -- a watcher leaves, and is told that the parts which it has are gone
-abbrev pub unwatch : State → NotifierId → Outcome
+abbrev pub unwatch : State → WatcherId → Outcome
 unwatch state id = (
   notice_lines state.names (flat_map (notices_of []) (with_number id.0 state.watchers)),
   record state { watchers = without_number id.0 state.watchers },

@@ -8,6 +8,7 @@ use Rattle.std.specs.Str.{bytes_eq}
 abbrev pub Text : Type 0
 Text = List ℕ
 
+-- a number from a low one to a high one, both inclusive
 abbrev pub between : ℕ → ℕ → ℕ → Bool
 between low high b = nat_le low b && nat_le b high
 
@@ -19,6 +20,7 @@ is_letter b = between 97 122 b || between 65 90 b
 abbrev pub may_follow : ℕ → Bool
 may_follow b = is_letter b || between 48 57 b || (b == 95) || (b == 45) || (b == 46)
 
+-- the first byte is a letter
 abbrev pub begins_with_letter : Text → Bool
 begins_with_letter [] = false
 begins_with_letter (b ∷ bs) = is_letter b
@@ -27,6 +29,7 @@ begins_with_letter (b ∷ bs) = is_letter b
 abbrev pub is_name : Text → Bool
 is_name text = begins_with_letter text && nat_le (length text) 32 && list_all may_follow text
 
+-- the name that a token is, if it is one
 abbrev pub name_of : Text → Option Text
 name_of text = if is_name text then Some text else None
 
@@ -39,6 +42,7 @@ digit_of radix b =
     else if (radix == 16) && between 97 102 b then Some (b - 87)
     else if (radix == 16) && between 65 70 b then Some (b - 55) else None
 
+-- a number that is at most the limit
 abbrev pub at_most : ℕ → ℕ → Option ℕ
 at_most limit n = if nat_le n limit then Some n else None
 
@@ -56,6 +60,7 @@ digits radix limit text = if length text == 0 then None else digits_after radix 
 abbrev pub plain_number : ℕ → Text → Option ℕ
 plain_number limit text = if bytes_eq (take 2 text) (codes "0x") then digits 16 limit (drop 2 text) else digits 10 limit text
 
+-- the last byte
 abbrev pub last_of : Text → Option ℕ
 last_of text = slice_get text (length text - 1)
 
@@ -64,6 +69,7 @@ abbrev pub scale_of : Option ℕ → ℕ
 scale_of None = 1
 scale_of (Some b) = if b == 75 then 2 ^ 10 else if b == 77 then 2 ^ 20 else if b == 71 then 2 ^ 30 else 1
 
+-- a number with a scale, of at most `limit` once it is scaled
 abbrev pub scaled : ℕ → ℕ → Text → Option ℕ
 scaled limit scale text =
     if scale == 1 then plain_number limit text
@@ -81,6 +87,7 @@ most_address = 2 ^ 64 - 1
 abbrev pub most_size : ℕ
 most_size = 2 ^ 64
 
+-- a number that is not 0
 abbrev pub nonzero : ℕ → Option ℕ
 nonzero n = if n == 0 then None else Some n
 
@@ -88,6 +95,7 @@ nonzero n = if n == 0 then None else Some n
 abbrev pub length_of : Text → Option ℕ
 length_of text = option_and_then nonzero (number_of 64 text)
 
+-- one page or more, and no part of a page
 abbrev pub whole_pages : ℕ → Option ℕ
 whole_pages n = if (n % 4096 == 0) && nat_le 4096 n then Some n else None
 
@@ -101,10 +109,12 @@ priority_of text =
     if bytes_eq (take 1 text) (codes "-") then option_map (λ n. neg_ℤ (pos n)) (digits 10 (2 ^ 31) (drop 1 text))
     else option_map (λ n. pos n) (digits 10 (2 ^ 31 - 1) text)
 
+-- both numbers, where both are there
 abbrev pub pair_of : Option ℕ → Option ℕ → Option (ℕ × ℕ)
 pair_of (Some low) (Some high) = Some (low, high)
 pair_of _ _ = None
 
+-- the two numbers on either side of the dash
 abbrev pub range_at : Option ℕ → Text → Option (ℕ × ℕ)
 range_at None text = None
 range_at (Some dash) text = pair_of (digits 10 255 (take dash text)) (digits 10 255 (drop (dash + 1) text))
@@ -124,9 +134,11 @@ pass_of text =
 
 -- Bytes
 
+-- the byte that two digits are
 abbrev pub byte_of : ℕ → ℕ → Option ℕ
 byte_of high low = option_and_then (λ h. option_map (λ l. h * 16 + l) (digit_of 16 low)) (digit_of 16 high)
 
+-- the bytes that pairs of digits are
 abbrev pub byte_pairs : Text → Option (List ℕ)
 byte_pairs [] = Some []
 byte_pairs (high ∷ []) = None

@@ -6,8 +6,7 @@ use Rattle.std.specs.List.{list_any}
 use Rattle.mem_base.specs.declared.map.ids.RegionId.{RegionId}
 use Rattle.mem_base.specs.declared.map.ids.SpaceId.{SpaceId}
 use Rattle.mem_base.specs.declared.map.ids.ListenerId.{ListenerId}
-use Rattle.mem_base.specs.declared.map.ids.NotifierId.{NotifierId}
-use Rattle.mem_base.specs.declared.map.forests.Forest.{Forest}
+use Rattle.mem_base.specs.declared.map.ids.WatcherId.{WatcherId}
 use Rattle.mem_base.specs.map.Region.{node_of}
 use Rattle.mem_base.specs.views.Listening.{Delivery, listens}
 use Rattle.mem_base.specs.machine.World.{World}
@@ -35,33 +34,29 @@ abbrev pub number_from : ℕ → List Text → (ℕ → Bool) → Text → Optio
 number_from n [] test name = None
 number_from n (other ∷ names) test name = if bytes_eq other name && test n then Some n else number_from (n + 1) names test name
 
-abbrev pub desk_forest : State → Forest
-desk_forest state = state.world.writer.desk.forest
-
 -- the region is there: it was not dropped
 abbrev pub has_region : State → ℕ → Bool
-has_region state n = is_some (node_of (desk_forest state).nodes (record { 0 = n }))
+has_region state n = is_some (node_of state.world.writer.desk.forest.nodes (record { 0 = n }))
 
 -- the listener is there: it has not left
 abbrev pub has_listener : State → ℕ → Bool
 has_listener state n = listens state.world.writer.desk.listening (record { 0 = n })
 
--- the watcher is there: it has not left
-abbrev pub has_watcher : State → ℕ → Bool
-has_watcher state n = list_any (is_watcher n) state.watchers
-
 -- what a name stands for: of all that had it, the one that is there
 abbrev pub region_named : State → Text → Option RegionId
 region_named state name = option_map (λ n. record { 0 = n }) (number_from 0 state.names.regions (has_region state) name)
 
+-- the space that a name stands for
 abbrev pub space_named : State → Text → Option SpaceId
 space_named state name = option_map (λ n. record { 0 = n }) (number_from 0 state.names.spaces (λ n. true) name)
 
+-- the listener that a name stands for: of all that had it, the one that is there
 abbrev pub listener_named : State → Text → Option ListenerId
 listener_named state name = option_map (λ n. record { 0 = n }) (number_from 0 state.names.listeners (has_listener state) name)
 
-abbrev pub watcher_named : State → Text → Option NotifierId
-watcher_named state name = option_map (λ n. record { 0 = n }) (number_from 0 state.names.notifiers (has_watcher state) name)
+-- the watcher that a name stands for: of all that had it, the one that is there
+abbrev pub watcher_named : State → Text → Option WatcherId
+watcher_named state name = option_map (λ n. record { 0 = n }) (number_from 0 state.names.notifiers (λ n. list_any (is_watcher n) state.watchers) name)
 
 -- What a command leaves
 
@@ -83,9 +78,11 @@ abbrev pub where_known : {I : Type 0} → State → ℕ → Text → Option I �
 where_known state line name None rest = writes state (refused_line line (unknown_text name))
 where_known state line name (Some id) rest = rest id
 
+-- the rest of a command, with the region that a name stands for
 abbrev pub with_region : State → ℕ → Text → (RegionId → Outcome) → Outcome
 with_region state line name rest = where_known state line name (region_named state name) rest
 
+-- the rest of a command, with the space that a name stands for
 abbrev pub with_space : State → ℕ → Text → (SpaceId → Outcome) → Outcome
 with_space state line name rest = where_known state line name (space_named state name) rest
 

@@ -10,9 +10,11 @@ use Rattle.mem_base.specs.script.RefusalLines.{line_feed}
 abbrev pub seed_of : Text → Option ℕ
 seed_of text = if nat_le (length text) 20 then digits 10 (2 ^ 64 - 1) text else None
 
+-- what a word alone asks for
 abbrev pub task_alone : Text → Option Task
 task_alone word = if bytes_eq word (codes "run") then Some Run else if bytes_eq word (codes "race") then Some Race else None
 
+-- what a word with a seed asks for
 abbrev pub task_with_seed : Text → Option ℕ → Option Task
 task_with_seed word seed =
     if bytes_eq word (codes "make") then option_map (λ n. Make n) seed

@@ -23,6 +23,7 @@ use Rattle.mem_base.specs.script.RefusalLines.{refusal_text, refused_line}
 use Rattle.mem_base.specs.script.Output.{dirty_line, do_line, notified_line, released_lines}
 use Rattle.mem_base.specs.script.States.{Outcome, region_named, space_named, listener_named, outcome, writes, with_region, with_space, where_new, State}
 
+-- why a call was refused, if it was
 abbrev pub refusal_in : Answer → Option Refusal
 refusal_in (call_answer (Err why)) = Some why
 refusal_in (commit_answer (Err why)) = Some why
@@ -41,6 +42,7 @@ abbrev pub ordered : State → ℕ → Names → Order → (Answer → Text) →
 ordered state line names order text =
     let c = completed state.world order in answered state line names c.world (refusal_in c.answer) (text c.answer)
 
+-- no line
 abbrev pub silent : Answer → Text
 silent answer = []
 
@@ -48,9 +50,11 @@ silent answer = []
 abbrev pub does : State → ℕ → Order → Outcome
 does state line order = ordered state line state.names order silent
 
+-- a call to the map
 abbrev pub calls_map : State → ℕ → Call → Outcome
 calls_map state line call = does state line (configure (configs.Call call))
 
+-- a region with a new name is made
 abbrev pub make_region : State → ℕ → Text → Kind → ℕ → Outcome
 make_region state line name kind size =
     where_new state line name (region_named state name)
@@ -64,12 +68,14 @@ make_space state line name root =
     (ordered state line (record state.names { spaces = state.names.spaces ++ name ∷ [] })
     (configure (configs.Call (calls.Space (record { 0 = length state.names.spaces }) root))) silent)
 
+-- a listener with a new name joins a space
 abbrev pub listen : State → ℕ → Text → SpaceId → ℤ → Outcome
 listen state line name space priority =
     where_new state line name (listener_named state name)
     (ordered state line (record state.names { listeners = state.names.listeners ++ name ∷ [] })
     (configure (configs.Listen (record { 0 = length state.names.listeners }) space priority)) silent)
 
+-- an ioeventfd, by what its line says
 abbrev pub ioevent : ℕ → ℕ → Option ℕ → ℕ → Ioevent
 ioevent offset size data_value number = record {
   offset = offset;
@@ -106,18 +112,22 @@ with_call state line (changes.Unevent region offset size value) rest =
 
 -- Answers of the writer
 
+-- the lines of the regions that a reap released
 abbrev pub released_in : Names → Answer → Text
 released_in names (reap_answer (Ok regions)) = released_lines names regions
 released_in names _ = []
 
+-- the line of the pages that a harvest found marked
 abbrev pub pages_in : Text → Client → Answer → Text
 pages_in region client (harvest_answer (Ok pages)) = dirty_line region client pages
 pages_in region client _ = []
 
+-- the line of a notifier's value
 abbrev pub value_in : ℕ → Answer → Text
 value_in number (notifier_answer value) = notified_line number value
 value_in number _ = []
 
+-- the line of a virtual CPU's call
 abbrev pub published_in : PassId → Answer → Text
 published_in pass (call_answer (Ok applied)) = do_line pass applied.1
 published_in pass _ = []

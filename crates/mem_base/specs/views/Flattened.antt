@@ -18,6 +18,7 @@ use Rattle.mem_base.specs.views.View.{PathAt, IsView}
 abbrev pub lone : ℕ → Spot → FlatRange
 lone a s = record { start = a; last = a; leaf = s.leaf; offset = s.offset; attrs = s.attrs }
 
+-- the same regions in the same order
 abbrev pub same_path : List RegionId → List RegionId → Bool
 same_path [] [] = true
 same_path (r ∷ rs) (q ∷ qs) = (r.0 == q.0) && same_path rs qs

@@ -24,7 +24,7 @@ use Rattle.mem_base.specs.declared.map.refusals.Which.TheVariants as which
 use Rattle.mem_base.specs.map.Limits.{most_listeners}
 use Rattle.mem_base.specs.map.Refusals.{first_refusal, refuse_if}
 use Rattle.mem_base.specs.lists.Sorting.{put_by, sorted_by}
-use Rattle.mem_base.specs.views.LiveEvents.{live_order, lives_of, lost, gained}
+use Rattle.mem_base.specs.views.LiveEvents.{live_order, lives_of, without}
 use Rattle.mem_base.specs.views.Flattened.{view_of}
 use Rattle.mem_base.specs.views.Walk.{walk}
 
@@ -37,9 +37,11 @@ pub record Listening : Type 0 where
   pub listeners : List Listener
   pub journal : List Delivery
 
+-- nobody listens yet
 abbrev pub no_listeners : Listening
 no_listeners = record { listeners = []; journal = [] }
 
+-- the listener has this id
 abbrev pub is_listener : ListenerId → Listener → Bool
 is_listener id l = l.listener.0 == id.0
 
@@ -47,14 +49,17 @@ is_listener id l = l.listener.0 == id.0
 abbrev pub listens : Listening → ListenerId → Bool
 listens x id = list_any (is_listener id) x.listeners
 
+-- these calls, all to one listener
 abbrev pub deliveries_to : ListenerId → List ListenerEvent → List Delivery
 deliveries_to id events = map (λ e. (id, e)) events
 
 -- one listener joins a space: it is told what the space shows
 
+-- what it is told
 abbrev pub joining : List FlatRange → List Live → List ListenerEvent
 joining ranges lives = Begin ∷ map (λ r. Range (Add r)) ranges ++ map (λ l. EventAdd l) lives ++ Commit ∷ []
 
+-- the listeners with this one last, and its calls in the journal
 abbrev pub joined : Listening → Listener → List FlatRange → List Live → Listening
 joined x l ranges lives = record {
   listeners = x.listeners ++ l ∷ [];
@@ -69,20 +74,24 @@ join_refusal x id = first_refusal
 
 -- one listener leaves: its ioeventfds are deleted before its ranges
 
+-- what it is told
 abbrev pub leaving : List FlatRange → List Live → List ListenerEvent
 leaving ranges lives = Begin ∷ map (λ l. EventDel l) lives ++ map (λ r. Range (Delete r)) ranges ++ Commit ∷ []
 
+-- the listeners without this one, and its calls in the journal
 abbrev pub left : Listening → ListenerId → List FlatRange → List Live → Listening
 left x id ranges lives = record {
   listeners = filter (λ l. not (is_listener id l)) x.listeners;
   journal = x.journal ++ deliveries_to id (leaving ranges lives);
 }
 
+-- why it may not: it does not listen
 abbrev pub leave_refusal : Listening → ListenerId → Option Refusal
 leave_refusal x id = refuse_if (not (listens x id)) (Unknown (what.Listener id))
 
 -- a generation is published
 
+-- listeners stand by ascending priority
 abbrev pub priority_order : Listener → Listener → Ordering
 priority_order x y = int_cmp x.priority y.priority
 
@@ -97,19 +106,16 @@ goes_down (Range (LogStop r from to)) = true
 goes_down (EventAdd l) = true
 goes_down _ = false
 
-abbrev pub in_direction : Bool → List Listener → List Listener
-in_direction true listeners = reverse listeners
-in_direction false listeners = listeners
-
 -- one call to each of some listeners, which are given in ascending order
 abbrev pub deliver_each : List Listener → ListenerEvent → List Delivery
-deliver_each listeners event = map (λ l. (l.listener, event)) (in_direction (goes_down event) listeners)
+deliver_each listeners event = map (λ l. (l.listener, event)) (if goes_down event then reverse listeners else listeners)
 
 -- an ioeventfd that is lost or gained
 pub record Switch : Type 0 where
   pub live : Live
   pub on : Bool
 
+-- such a switch, by whether it is gained
 abbrev pub switch : Bool → Live → Switch
 switch on live = record { live = live; on = on }
 
@@ -121,6 +127,7 @@ switch_order x y = ordering_then (live_order x.live y.live) (bool_cmp x.on y.on)
 abbrev pub switches : List Live → List Live → List Switch
 switches lost gained = sorted_by switch_order (map (switch false) lost ++ map (switch true) gained)
 
+-- the call that tells of it
 abbrev pub switched : Switch → ListenerEvent
 switched x = if x.on then EventAdd x.live else EventDel x.live
 
@@ -132,6 +139,7 @@ calls_of c = map (λ e. Range e) c.walk ++ map switched (switches c.lost c.gaine
 abbrev pub hears : SpaceId → Listener → Bool
 hears s l = l.space.0 == s.0
 
+-- the calls of one change, each to those who listen to its space
 abbrev pub deliveries_of : List Listener → Change → List Delivery
 deliveries_of listeners c = flat_map (deliver_each (filter (hears c.space) listeners)) (calls_of c)
 
@@ -139,6 +147,7 @@ deliveries_of listeners c = flat_map (deliver_each (filter (hears c.space) liste
 abbrev pub deliveries_of_changes : List Listener → List Change → List Delivery
 deliveries_of_changes listeners changes = deliver_each listeners Begin ++ flat_map (deliveries_of listeners) changes ++ deliver_each listeners Commit
 
+-- the journal with the calls of all changes
 abbrev pub delivered : Listening → List Change → Listening
 delivered x changes = record x { journal = x.journal ++ deliveries_of_changes (ascending x.listeners) changes }
 
@@ -147,8 +156,8 @@ abbrev pub change_of : Forest → Forest → SpaceId → Change
 change_of old new s = record {
   space = s;
   walk = walk (view_of old s) (view_of new s);
-  lost = lost (lives_of old s) (lives_of new s);
-  gained = gained (lives_of old s) (lives_of new s);
+  lost = without (lives_of old s) (lives_of new s);
+  gained = without (lives_of new s) (lives_of old s);
 }
 
 -- the changes of all spaces, in order of making

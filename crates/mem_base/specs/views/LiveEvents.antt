@@ -12,19 +12,14 @@ use Rattle.mem_base.specs.declared.map.spots.Spot.{Spot}
 use Rattle.mem_base.specs.declared.views.flat.FlatRange.{FlatRange}
 use Rattle.mem_base.specs.declared.map.ioevents.Ioevent.{Ioevent}
 use Rattle.mem_base.specs.declared.map.ioevents.Live.{Live}
-use Rattle.mem_base.specs.declared.map.forests.Node.{Node}
 use Rattle.mem_base.specs.declared.map.forests.Forest.{Forest}
 use Rattle.mem_base.specs.lists.Every.{Every}
-use Rattle.mem_base.specs.map.Region.{node_of}
 use Rattle.mem_base.specs.map.Search.{look}
-
-abbrev pub events_at : Option Node → List Ioevent
-events_at None = []
-events_at (Some n) = n.events
+use Rattle.mem_base.specs.map.Region.{of_region}
 
 -- the ioeventfds of a region
 abbrev pub events_of : Forest → RegionId → List Ioevent
-events_of f region = events_at (node_of f.nodes region)
+events_of f region = of_region f.nodes region [] (λ n. n.events)
 
 -- live ioeventfds stand by address, size, whether they are matched (false first), value and number
 abbrev pub live_order : Live → Live → Ordering
@@ -33,6 +28,7 @@ live_order x y =
     (ordering_then (nat_cmp x.size y.size)
     (ordering_then (bool_cmp x.matched y.matched) (ordering_then (nat_cmp x.value y.value) (nat_cmp x.number y.number))))
 
+-- one and the same
 abbrev pub is_same_live : Live → Live → Bool
 is_same_live x y = is_eq (live_order x y)
 
@@ -94,16 +90,10 @@ lives_of_range f r = filter (meets r.start r.last) (map (moved_to r.start r.offs
 abbrev pub lives_in : Forest → List FlatRange → List Live
 lives_in f rs = lives_in_order (flat_map (lives_of_range f) rs)
 
--- those of the first list that are not in the second
+-- those of the first list that are not in the second: a change from the old to the new loses the old ones without the new,
+-- and gains the new ones without the old
 abbrev pub without : List Live → List Live → List Live
 without xs ys = filter (λ x. not (list_any (is_same_live x) ys)) xs
-
--- what a change from the old to the new loses and gains
-abbrev pub lost : List Live → List Live → List Live
-lost old new = without old new
-
-abbrev pub gained : List Live → List Live → List Live
-gained old new = without new old
 
 -- nothing that is lost is gained
 abbrev pub ShareNoLive : List Live → List Live → Type 0

@@ -23,6 +23,7 @@ is_equal_range r q = is_same_range r q && (r.attrs.log == q.attrs.log)
 abbrev pub meets_range : FlatRange → FlatRange → Bool
 meets_range r q = not (nat_lt r.last q.start || nat_lt q.last r.start)
 
+-- ranges stand by ascending start
 abbrev pub range_order : FlatRange → FlatRange → Ordering
 range_order r q = nat_cmp r.start q.start
 
@@ -34,6 +35,7 @@ with_log log r = record r { attrs = record r.attrs { log = log } }
 abbrev pub relogged : FlatRange → ℕ → List FlatRange → List FlatRange
 relogged r log rs = map (λ q. if is_same_range r q then with_log log q else q) rs
 
+-- this, where the call fits
 abbrev pub if_fits : {A : Type 0} → Bool → A → Option A
 if_fits true x = Some x
 if_fits false x = None
@@ -58,6 +60,7 @@ pub record ListenerState : Type 0 where
   pub lives : List Live
   pub begun : Bool
 
+-- what a listener has when it joins
 abbrev pub nothing_heard : ListenerState
 nothing_heard = record { ranges = []; lives = []; begun = false }
 
@@ -70,6 +73,7 @@ listener_after h (EventAdd l) = if_fits (not (list_any (is_same_live l) h.lives)
 listener_after h (EventDel l) = if_fits (list_any (is_same_live l) h.lives) (record h { lives = filter (λ x. not (is_same_live l x)) h.lives })
 listener_after h Commit = if_fits h.begun (record h { begun = false })
 
+-- what it has after some calls
 abbrev pub listener_after_all : Option ListenerState → List ListenerEvent → Option ListenerState
 listener_after_all h [] = h
 listener_after_all h (e ∷ es) = listener_after_all (option_and_then (λ x. listener_after x e) h) es

@@ -16,9 +16,11 @@ is_same_range r q = (r.start == q.start) && (r.last == q.last) && (r.leaf.0 == q
 abbrev pub has_more_bits : ℕ → ℕ → Bool
 has_more_bits from to = not (bit_or from to == from)
 
+-- the range is logged for clients for whom it was not
 abbrev pub log_started : FlatRange → ℕ → ℕ → List RangeEvent
 log_started new from to = if has_more_bits from to then LogStart new from to ∷ [] else []
 
+-- the range is no longer logged for clients for whom it was
 abbrev pub log_stopped : FlatRange → ℕ → ℕ → List RangeEvent
 log_stopped new from to = if has_more_bits to from then LogStop new from to ∷ [] else []
 
@@ -36,5 +38,6 @@ deleted old new = map (λ r. Delete r) (filter (λ r. not (list_any (is_same_ran
 abbrev pub shown_again : List FlatRange → List FlatRange → List RangeEvent
 shown_again old new = flat_map (λ r. added_or_kept r (find (is_same_range r) old)) new
 
+-- the calls from the old ranges to the new ones
 abbrev pub walk : List FlatRange → List FlatRange → List RangeEvent
 walk old new = deleted old new ++ shown_again old new

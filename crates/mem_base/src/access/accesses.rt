@@ -1,6 +1,6 @@
 // What an access to a device is cut into, where an access ends, and what it answers.
 
-use crate::{Spot, WordStep};
+use crate::{SpaceId, Spot, WordStep};
 
 /// A part of an access that a device is asked for at once.
 #[derive(Clone, Copy, Debug, PartialEq, Eq)]
@@ -41,4 +41,12 @@ pub struct Access {
 pub struct TxResult {
     pub error: bool,
     pub decode: bool,
+}
+
+/// Where a mapped window begins, and whether it is to be written.
+#[derive(Clone, Copy, Debug, PartialEq, Eq)]
+pub struct WindowStart {
+    pub space: SpaceId,
+    pub addr: u64,
+    pub write: bool,
 }

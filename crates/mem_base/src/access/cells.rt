@@ -1,9 +1,10 @@
 // Words that back regions, and the atomic steps on them.
 ghost use Rattle.std.specs.Prelude.{◌≡◌, ◌≤◌, ◌<◌, ◌+◌, ◌%◌, ◌^◌};
+ghost use Rattle.mem_base.specs.access.Places.{notifiers_place};
 ghost use Rattle.mem_base.specs.access.Words.{in_word, replaced, word_after};
 
 use crate::RegionId;
-use crate::map::limits::WORD_SIZE;
+use crate::map::limits::{NOTIFIER_COUNT, WORD_SIZE};
 
 /// The words of the pool that back a region: `words` words of 8 bytes from `start` on.
 #[derive(Clone, Copy, Debug, PartialEq, Eq)]
@@ -15,6 +16,21 @@ pub struct Place {
     pub bytes: u64,
     /// The registers, in the words after the data.
     pub regs: u32,
+}
+
+impl Place {
+    /// The place of the notifiers: one word each, after a pool of this many words.
+    pub fn notifiers(pool_words: usize) -> Place
+        ensures { result ≡ notifiers_place pool_words }
+    {
+        Place {
+            region: RegionId::NOTIFIERS,
+            start: pool_words,
+            words: NOTIFIER_COUNT,
+            bytes: 0,
+            regs: NOTIFIER_COUNT as u32,
+        }
+    }
 }
 
 /// A word of a region: its data, then its registers, then its marks.

@@ -1,4 +1,4 @@
-// What a notifier of an IOMMU region is told.
+// What a watcher of an IOMMU region's table is told.
 
 use crate::{Perm, SpaceId};
 
@@ -16,7 +16,7 @@ pub struct Part {
     pub perm: Perm,
 }
 
-/// What a notifier is told: QEMU's `IOMMU_NOTIFIER_MAP` and `IOMMU_NOTIFIER_UNMAP`.
+/// What a watcher is told: QEMU's `IOMMU_NOTIFIER_MAP` and `IOMMU_NOTIFIER_UNMAP`.
 #[derive(Clone, Copy, Debug, PartialEq, Eq)]
 pub enum Notice {
     /// The part is there now.

@@ -35,7 +35,7 @@ pub enum Call {
         child: RegionId,
         offset: u64,
     },
-    /// Gives a region another size: any region but RAM, ROM or a ROM device.
+    /// Gives a region another size: any region but memory.
     Resize {
         region: RegionId,
         size: Size,

@@ -49,7 +49,7 @@ impl Node {
         };
         let (readonly, log) = match self.kind {
             Kind::Container | Kind::Alias { .. } => return None,
-            Kind::Ram | Kind::RomDevice(_) => (false, logged),
+            Kind::Ram | Kind::RomDevice(_) | Kind::Host => (false, logged),
             Kind::Rom => (true, logged),
             Kind::Io(_) | Kind::Iommu | Kind::Reserve => (false, self.log),
         };

@@ -4,6 +4,11 @@
 #[derive(Clone, Copy, Debug, PartialEq, Eq, PartialOrd, Ord)]
 pub struct RegionId(pub u32);
 
+impl RegionId {
+    /// The owner of the notifiers' words: the greatest id, which no region ever has.
+    pub const NOTIFIERS: RegionId = RegionId(u32::MAX);
+}
+
 /// An address space.
 #[derive(Clone, Copy, Debug, PartialEq, Eq, PartialOrd, Ord)]
 pub struct SpaceId(pub u32);
@@ -14,7 +19,7 @@ pub struct ListenerId(pub u32);
 
 /// A watcher of a range of one IOMMU region's table, which is told how the range's translations change.
 #[derive(Clone, Copy, Debug, PartialEq, Eq, PartialOrd, Ord)]
-pub struct NotifierId(pub u32);
+pub struct WatcherId(pub u32);
 
 /// A pass: what one virtual CPU reads and writes with.
 #[derive(Clone, Copy, Debug, PartialEq, Eq, PartialOrd, Ord)]

@@ -2,7 +2,7 @@
 ghost use Rattle.std.specs.Prelude.{◌≡◌};
 ghost use Rattle.mem_base.specs.map.Clients.{bit_of};
 ghost use Rattle.mem_base.specs.map.Devices.{default_ops, plain_device};
-ghost use Rattle.mem_base.specs.map.Kinds.{device_of, has_bytes, is_alias, is_container, is_iommu, is_rom_device, takes_events, target_of};
+ghost use Rattle.mem_base.specs.map.Kinds.{device_of, has_bytes, is_alias, is_container, is_iommu, is_memory, is_rom_device, takes_events, target_of};
 
 use crate::RegionId;
 
@@ -74,7 +74,7 @@ impl Device {
     }
 }
 
-/// The kinds of region of QEMU's manual, "The memory API", "Types of regions".
+/// The kinds of region of QEMU's manual, "The memory API", "Types of regions", and one more, host memory.
 #[derive(Clone, Copy, Debug, PartialEq, Eq)]
 pub enum Kind {
     /// Only groups its children: it answers no address itself.
@@ -93,10 +93,25 @@ pub enum Kind {
     Alias { target: RegionId, offset: u64 },
     /// An address range that is claimed and has no callbacks.
     Reserve,
+    /// Host memory: RAM whose bytes a program that stands on the library keeps, as `memory_region_init_ram_ptr` of QEMU's
+    /// core has it. It is whole pages, up to 2^64 bytes, and stands in the map and in views as RAM does. The machine has
+    /// none of its bytes, so nobody answers an access that ends there; it is not loaded, and has no marks.
+    Host,
 }
 
 impl Kind {
-    /// Whether it is RAM, ROM or a ROM device.
+    /// Whether it is memory, whoever keeps its bytes: RAM, ROM, a ROM device or host memory. Memory is whole pages, keeps
+    /// its size, and has a logging mask.
+    pub fn is_memory(&self) -> bool
+        ensures { result ≡ is_memory self.now }
+    {
+        matches!(
+            self,
+            Kind::Ram | Kind::Rom | Kind::RomDevice(_) | Kind::Host
+        )
+    }
+
+    /// Whether it is RAM, ROM or a ROM device: memory whose bytes the machine keeps.
     pub fn has_bytes(&self) -> bool
         ensures { result ≡ has_bytes self.now }
     {

@@ -49,7 +49,7 @@ pub const MOST_GENERATIONS: u64 = 8;
 /// The translations on the way of one address.
 pub const MOST_TRANSLATIONS: usize = 8;
 
-/// The bytes of a page: RAM, ROM and ROM devices are whole pages.
+/// The bytes of a page: memory is whole pages.
 pub const PAGE_SIZE: u64 = 4096;
 
 /// The largest RAM, ROM or ROM device, in bytes: 512 MiB.

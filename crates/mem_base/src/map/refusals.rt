@@ -1,7 +1,7 @@
 // Why a call is refused.
 ghost use Rattle.std.specs.Prelude.{◌≡◌};
 
-use crate::{ListenerId, NotifierId, PassId, RegionId, SpaceId};
+use crate::{ListenerId, PassId, RegionId, SpaceId, WatcherId};
 use std::alloc::{AllocError, AllocFailed};
 
 /// What is not there, or is there already.
@@ -11,7 +11,7 @@ pub enum What {
     Space(SpaceId),
     Listener(ListenerId),
     /// The watcher of an IOMMU region's table.
-    Notifier(NotifierId),
+    Watcher(WatcherId),
     /// The translation at this offset.
     Entry(u64),
     /// The ioeventfd at this offset.
@@ -35,7 +35,8 @@ pub enum Which {
     Entries,
     Events,
     Calls,
-    Notifiers,
+    /// The watchers of IOMMU regions' tables.
+    Watchers,
 }
 
 /// Why a call is refused. A refused call changes nothing.
@@ -43,7 +44,7 @@ pub enum Which {
 pub enum Refusal {
     /// Something that the call names is not there.
     Unknown(What),
-    /// The space, the listener or the notifier is there already.
+    /// The space, the listener or the watcher is there already.
     NameTaken(What),
     /// The region is in this container.
     HasContainer(RegionId),
@@ -57,7 +58,7 @@ pub enum Refusal {
     TooDeep(u32),
     /// Some region would have this weight, which is above 65,536.
     TooWide(u64),
-    /// A size of 0; RAM, ROM or a ROM device that is no whole number of pages or is larger than 512 MiB; bytes that end
+    /// A size of 0; memory that is no whole number of pages; RAM, ROM or a ROM device larger than 512 MiB; bytes that end
     /// past their region; or a range whose first offset is above its last.
     BadSize,
     /// Access sizes, registers or an ioeventfd that no device has.

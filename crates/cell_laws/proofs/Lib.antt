@@ -1,0 +1,10 @@
+pub mod PlaceKeeping
+pub mod EachEvent
+pub mod Marks
+pub mod Histories
+pub mod DataSteps
+pub mod TurnHistories
+pub mod MadeTurns
+pub mod Following
+pub mod Carrying
+pub mod WriteMarkLaws

@@ -1,0 +1,4 @@
+pub mod CellHistory
+pub mod TurnCells
+pub mod MayFollow
+pub mod WriteMarks

@@ -1,0 +1,5 @@
+pub mod BlockLaws
+pub mod EndLaws
+pub mod TurnRuns
+pub mod Shows
+pub mod GoingOn

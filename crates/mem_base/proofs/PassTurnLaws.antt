@@ -1,0 +1,26 @@
+-- Entries of a list of events of a pass, by their replies.
+use Rattle.std.proofs.Common.{◌≡◌, ℕ, suc, List, [], ◌∷◌, ◌++◌, length, map, refl, ap, arith}
+use Rattle.mem_base.specs.declared.access.cells.Place.{Place}
+use Rattle.mem_base.specs.declared.machine.events.Event.{Event}
+use Rattle.mem_base.specs.declared.machine.events.HistoryEntry.{HistoryEntry}
+use Rattle.mem_base.specs.machine.Turns.{history_entry}
+use Rattle.mem_base.specs.machine.PassTurns.{carried_among, entries_of}
+
+pub entries_append : (places : List Place) (es fs : List Event) (rs qs : List ℕ) → length rs ≡ length es
+    → entries_of places (es ++ fs) (rs ++ qs) ≡ entries_of places es rs ++ entries_of places fs qs
+entries_append places [] fs [] qs e = refl
+entries_append places [] fs (r ∷ rs) qs e = absurd (omega (arith, e))
+entries_append places (x ∷ es) fs [] qs e = absurd (omega (arith, e))
+entries_append places (x ∷ es) fs (r ∷ rs) qs e =
+    let less : length rs ≡ length es = omega (arith, e) in
+    ap (λ (l : List HistoryEntry). history_entry x (carried_among places x) r ∷ l) (entries_append places es fs rs qs less)
+
+pub entries_count : (places : List Place) (es : List Event) (ns : List ℕ) → length (entries_of places es ns) ≡ length es
+entries_count places [] ns = refl
+entries_count places (e ∷ es) [] = ap suc (entries_count places es [])
+entries_count places (e ∷ es) (n ∷ ns) = ap suc (entries_count places es ns)
+
+pub events_are : (places : List Place) (es : List Event) (ns : List ℕ) → map (λ y. y.event) (entries_of places es ns) ≡ es
+events_are places [] ns = refl
+events_are places (e ∷ es) [] = ap (λ (fs : List Event). e ∷ fs) (events_are places es [])
+events_are places (e ∷ es) (n ∷ ns) = ap (λ (fs : List Event). e ∷ fs) (events_are places es ns)

@@ -1,0 +1,6 @@
+pub mod PlanLaws
+pub mod FirstRuns
+pub mod Sizes
+pub mod Parts
+pub mod Ways
+pub mod CoreLaws

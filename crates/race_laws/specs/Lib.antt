@@ -1,0 +1,5 @@
+pub mod OutsideRuns
+pub mod SoFar
+pub mod Acting
+pub mod Stopped
+pub mod Outside

@@ -1,0 +1,13 @@
+pub mod FittingLaws
+pub mod MadeLaws
+pub mod Passing
+pub mod Ordering
+pub mod Commands
+pub mod Lawful
+pub mod EachCommand
+pub mod JournalLaws
+pub mod DeskLaws
+pub mod Naming
+pub mod TaskLaws
+pub mod KnowingLaws
+pub mod TurnLaws
