@@ -3,7 +3,7 @@ use Rattle.std.proofs.Common.{◌≡◌, ℕ, ◌+◌, ◌<◌, ◌≤◌, ◌==
 use Rattle.std.proofs.Common.{◌≢◌, refl, sym, ap, subst, ◌∙◌}
 use Rattle.std.proofs.lemmas.Bool.{eqb-true, eqb-false}
 use Rattle.std.proofs.Common.{arith, ne_eqb, eq-eqb, append-nil, length, filter, ◌-◌, ◌%◌}
-use Rattle.std.specs.Prelude.{◌&&◌, ◌||◌, if◌then◌else◌, is_none, is_some, IsSome, nat_lt, nat_le, Result, IfOk, IfErr, OnErr, ◌↔◌}
+use Rattle.std.specs.Prelude.{◌&&◌, if◌then◌else◌, is_none, is_some, IsSome, nat_le, Result, IfOk, IfErr, OnErr, ◌↔◌}
 use Rattle.std.proofs.Common.{inl}
 use Rattle.std.specs.Option.{option_or}
 use Rattle.std.proofs.lemmas.Bool.Decides.{nat_tests}
@@ -13,7 +13,7 @@ use Rattle.std.proofs.lemmas.List.Elements.{filter-append}
 use Rattle.mem_base.specs.declared.map.kinds.Kind.TheVariants.{Ram, Rom, RomDevice, Io}
 use Rattle.mem_base.specs.declared.map.kinds.Device.{Device}
 use Rattle.mem_base.specs.declared.map.refusals.Which.TheVariants as which
-use Rattle.mem_base.specs.declared.map.refusals.Refusal.TheVariants.{BadSize, Memory}
+use Rattle.mem_base.specs.declared.map.refusals.Refusal.TheVariants.{Memory}
 use Rattle.mem_base.specs.declared.map.ids.RegionId.{RegionId}
 use Rattle.mem_base.specs.declared.map.forests.Node.{Node}
 use Rattle.mem_base.specs.declared.map.forests.Forest.{Forest}
@@ -28,10 +28,10 @@ use Rattle.mem_base.specs.map.Limits.{most_made, most_regions, page_size, most_b
 use Rattle.mem_base.specs.map.Kinds.{device_of}
 use Rattle.mem_base.specs.map.Devices.{is_good_device, is_access_size}
 use Rattle.mem_base.specs.map.Region.{node_of}
-use Rattle.mem_base.specs.map.Refusals.{refuse_if, bad_size}
+use Rattle.mem_base.specs.map.Refusals.{refuse_if, bad_size, or_refused}
 use Rattle.mem_base.specs.map.TableRefusals.{bad_device, no_more_calls, at_limit}
 use Rattle.mem_base.specs.map.Changes.{changed}
-use Rattle.mem_base.specs.map.Calls.{after, counted, refusals, refusal_of, is_quiet, after_unless, answer_of}
+use Rattle.mem_base.specs.map.Calls.{after, counted, refusals, refusal_of, is_quiet, answer_of}
 use Rattle.mem_base.specs.declared.map.calls.Applied.{Applied}
 use Rattle.mem_base.specs.declared.map.calls.Applied.TheVariants.{Made, Done}
 use Rattle.mem_base.specs.access.PlacesByRegion.{place_in}
@@ -49,6 +49,7 @@ use Rattle.mem_base.proofs.ForestLaws.{known_below}
 use Rattle.mem_base.proofs.EntryLaws.{nat_is}
 use Rattle.map_laws.proofs.PairLaws.{pairs_push, pairs_filter}
 use Rattle.map_laws.proofs.RefusalLaws.{each_none, refuse_if-none}
+use Rattle.map_laws.proofs.SizeLaws.{size_whole}
 use Rattle.view_laws.proofs.Tests.{none_is_not_some, both_of}
 use Rattle.view_laws.proofs.LiveLaws.{every_in}
 use Rattle.history_laws.proofs.PlaceLaws.{place_of_region}
@@ -319,10 +320,6 @@ pub bytes_fit : (kind : Kind) (size bytes regs : ℕ) → bad_size kind size ≡
     → (bytes % page_size ≡ 0) × (bytes ≤ most_bytes) × (regs ≤ most_registers)
 bytes_fit kind size bytes regs s d e = go kind s d (ap (λ (x : Extent). x.bytes) e) (ap (λ (x : Extent). x.regs) e)
   where
-    pages : (test : Bool) → refuse_if ((size == 0) || (not (size % page_size == 0) || nat_lt most_bytes size)) BadSize ≡ None
-        → (size % page_size ≡ 0) × (size ≤ most_bytes)
-    pages test h = let t = refuse_if-none _ _ h in (grind (arith, nat_tests), grind (arith, nat_tests))
-
     few : (device : Device) → bad_device (Some device) ≡ None → device.regs ≤ most_registers
     few device h =
         let good : is_good_device device ≡ true = is_true _ (refuse_if-none _ _ h) in
@@ -333,9 +330,10 @@ bytes_fit kind size bytes regs s d e = go kind s d (ap (λ (x : Extent). x.bytes
 
     go : (k : Kind) → bad_size k size ≡ None → bad_device (device_of k) ≡ None → bytes ≡ (extent_of k size).bytes → regs ≡ (extent_of k size).regs
         → (bytes % page_size ≡ 0) × (bytes ≤ most_bytes) × (regs ≤ most_registers)
-    go Ram s d x y = let p = pages true s in (ap (λ n. n % page_size) x ∙ p.0, omega (arith, p), omega arith)
-    go Rom s d x y = let p = pages true s in (ap (λ n. n % page_size) x ∙ p.0, omega (arith, p), omega arith)
-    go (RomDevice device) s d x y = let p = pages true s in let r = few device d in (ap (λ n. n % page_size) x ∙ p.0, omega (arith, p), omega arith)
+    go Ram s d x y = let p = size_whole Ram size s refl in (ap (λ n. n % page_size) x ∙ p.1, omega (arith, p.2), omega arith)
+    go Rom s d x y = let p = size_whole Rom size s refl in (ap (λ n. n % page_size) x ∙ p.1, omega (arith, p.2), omega arith)
+    go (RomDevice device) s d x y = let p = size_whole (RomDevice device) size s refl in let r = few device d in
+        (ap (λ n. n % page_size) x ∙ p.1, omega (arith, p.2), omega arith)
     go (Io device) s d x y = let r = few device d in (ap (λ n. n % page_size) x, omega arith, omega arith)
     go k s d x y = (ap (λ n. n % page_size) x, omega arith, omega arith)
 
@@ -499,9 +497,9 @@ pub after_refused : (f : Forest) (call : Call) (why : Refusal) → after f call 
 after_refused f call why e = go (refusal_of f call) refl
   where
     go : (o : Option Refusal) → refusal_of f call ≡ o → refusal_of f call ≡ Some why
-    go None h = absurd (let no : Ok (counted (changed f call)) ≡ Err why = subst (λ (o : Option Refusal). after_unless o f call ≡ Err why) h e in cc)
+    go None h = absurd (let no : Ok (counted (changed f call)) ≡ Err why = subst (λ (o : Option Refusal). or_refused o (counted (changed f call)) ≡ Err why) h e in cc)
     go (Some w) h =
-        let is : Err w ≡ after f call = sym (subst (λ (o : Option Refusal). after_unless o f call ≡ Err w) (sym h) refl) in
+        let is : Err w ≡ after f call = sym (subst (λ (o : Option Refusal). or_refused o (counted (changed f call)) ≡ Err w) (sym h) refl) in
         h ∙ ap (λ (x : Refusal). Some x) (same_err w why (is ∙ e))
 
 pub refused_plain : (s : BackedState) (call : Call) (r : Result Applied Refusal) → IfErr r (λ why. why ≢ Memory → after (forest_at s) call ≡ Err why)

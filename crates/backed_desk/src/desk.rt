@@ -10,7 +10,7 @@ ghost use Rattle.mem_base.specs.map.Region.{node_of};
 ghost use Rattle.mem_base.specs.map.Calls.{after, answer_of, is_quiet};
 ghost use Rattle.mem_base.specs.machine.Committed.{transaction_after};
 ghost use Rattle.mem_base.specs.access.PlacesByRegion.{place_in};
-ghost use Rattle.mem_base.specs.access.Places.{extent, extent_of, words_of, notifiers_place};
+ghost use Rattle.mem_base.specs.access.Places.{extent, extent_of, words_of};
 ghost use Rattle.generation.specs.Published.{AscendByRegion};
 ghost use Rattle.transact.specs.Desks.{with_state};
 ghost use Rattle.transact.specs.Preparing.{AreDeskPlaces, readied, when_done, most_carves};
@@ -21,7 +21,7 @@ ghost use Rattle.backed_desk.specs.Backed.{IsCalled, IsOfBackedDesk};
 ghost use Rattle.backed_desk.specs.Commits.{IfReady};
 
 use backing_pool::Pool;
-use mem_base::{Applied, Call, Kind, NOTIFIER_COUNT, Place, Refusal, RegionId, Size};
+use mem_base::{Applied, Call, Kind, Place, Refusal, RegionId, Size};
 use region_tree::Tree;
 use std::alloc::{AllocError, Global};
 use std::marker::Model;
@@ -50,19 +50,6 @@ impl Model for BackedDesk {
     ghost view = { λ b. backed_state b.desk b.pool };
 
     ghost invariant = { λ b. IsBackedDesk (backed_state b.desk b.pool) b.made b.places.items };
-}
-
-// The place of the notifiers, after a pool of this many words.
-fn notifiers(words: usize) -> Place
-    ensures { result ≡ notifiers_place words }
-{
-    Place {
-        region: RegionId(u32::MAX),
-        start: words,
-        words: NOTIFIER_COUNT,
-        bytes: 0,
-        regs: NOTIFIER_COUNT as u32,
-    }
 }
 
 // The bytes of data and the registers of a region of a kind and of a size that the kind may have.
@@ -113,7 +100,7 @@ impl BackedDesk {
         ensures { IfOk result (λ desk. desk ≡ first_backed words) }
     {
         let mut places = Vec::new(alloc);
-        places.push(notifiers(words))?;
+        places.push(Place::notifiers(words))?;
         Ok(BackedDesk {
             desk: Desk::new(alloc)?,
             pool: Pool::new(alloc, words)?,

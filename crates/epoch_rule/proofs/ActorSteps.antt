@@ -1,7 +1,6 @@
 -- The kinds of step on the current number, the passes' words and the slots.
-use Rattle.std.proofs.Common.{◌≡◌, ◌≢◌, ℕ, zero, suc, ◌+◌, ◌*◌, ◌%◌, ◌<◌, ◌≤◌, true, false, List, [], ◌∷◌, ◌++◌, length, get_or, set, sym}
-use Rattle.std.proofs.Common.{refl, ap, ◌∙◌, subst, ⊎_elim, arith, length-set, length-append, get_or-set_other, get_or-set_same, Option}
-use Rattle.std.proofs.Common.{Some, None}
+use Rattle.std.proofs.Common.{◌≡◌, ◌≢◌, ℕ, zero, suc, ◌+◌, ◌*◌, ◌%◌, ◌<◌, ◌≤◌, true, false, List, [], ◌∷◌, ◌++◌, length, get_or, set, sym, refl, ap, ◌∙◌, subst}
+use Rattle.std.proofs.Common.{⊎_elim, arith, length-set, length-append, get_or-set_other, get_or-set_same, Option, Some, None}
 use Rattle.std.specs.Prelude.{is_some, is_none, not}
 use Rattle.std.proofs.lemmas.Bool.{lt-ltb, le-leb}
 use mathlib.Core.Logic.{dite}
@@ -20,13 +19,12 @@ use Rattle.mem_base.specs.declared.machine.events.Carried.{Carried}
 use Rattle.mem_base.specs.declared.machine.events.Carried.TheVariants.{Nothing, Edition}
 use Rattle.mem_base.specs.declared.machine.events.HistoryEntry.{HistoryEntry}
 use Rattle.mem_base.specs.lists.Every.{Every}
-use Rattle.mem_base.specs.machine.Passes.{PassState, idle, pass_of}
+use Rattle.mem_base.specs.machine.Passes.{PassState, idle, pass_of, pass_id}
 use Rattle.mem_base.specs.machine.Generations.{Generation, generation, Generations, PassTrack, known_of, known_after_sweep, with_placed, all_placed, pin_word}
 use Rattle.mem_base.specs.machine.SharedHistory.{Shared, shared, shared_possible, shared_reply, after_shared_entry}
 use Rattle.epoch_rule.specs.declared.views.Sizes.{Sizes}
 use Rattle.epoch_rule.specs.declared.views.Picked.{Picked}
 use Rattle.epoch_rule.specs.declared.views.View.{View}
-use Rattle.mem_base.specs.machine.Passes.{pass_id}
 use Rattle.mem_base.specs.machine.Turns.{history_entry}
 use Rattle.mem_base.specs.machine.Actors.{generations_published, published_from, published_with, generation_published, first_generation}
 use Rattle.epoch_rule.specs.Rule.{state_of, IsLegal, generation_of_pick, carried_pick, pass_seen, generations_seen, WordsShow, PlacesFit}
@@ -39,7 +37,7 @@ use Rattle.mem_base.specs.declared.map.forests.Forest.{Forest}
 use Rattle.mem_base.specs.declared.access.cells.Place.{Place}
 use Rattle.epoch_rule.specs.Copies.{IsCopy, picked, placed_as}
 use Rattle.view_laws.proofs.Tests.{none_is_no_number, same_number, both}
-use Rattle.epoch_rule.proofs.HistoryLaws.{published_append}
+use Rattle.history_laws.proofs.AppendLaws.{published_append}
 use Rattle.history_laws.proofs.NumberLaws.{all_of, none_placed}
 use Rattle.epoch_rule.proofs.EntrySteps.{grown, good, extends, adds, knows_pass, knows_generations, inside, shows_moved, slots_moved, slots_known}
 use Rattle.epoch_rule.proofs.SlotSteps as of_slots
@@ -460,32 +458,6 @@ module _ {S : Type 0} (Copy : ℕ → Generation → S → Type 0) (z : Sizes) w
         (refl, (refl, refl), adds Copy z s k id me.0 at 0 events.Publish x new me.0.held me.0.next role may is refl),
       )
 
-published_grows : (xs : List HistoryEntry) (gs : List Generation) → IsPrefix gs (published_from gs xs)
-published_grows [] gs = prefix_refl gs
-published_grows (x ∷ xs) gs = prefix_trans gs (published_with gs x.event x.carried) (published_from (published_with gs x.event x.carried) xs)
-    (one x.event x.carried) (published_grows xs (published_with gs x.event x.carried))
-  where
-    one : (e : Event) (c : Carried) → IsPrefix gs (published_with gs e c)
-    one events.Publish (Edition forest places) = (generation forest places ∷ [], refl)
-    one e c = prefix_refl gs
-
--- what a generation shows stays, once it was published
-pub generation_stays : (xs log : List HistoryEntry) → IsPrefix xs log → (g : ℕ) → g < length (generations_published xs)
-    → generation_published log g ≡ generation_published xs g
-generation_stays xs log h g l =
-    let more = published_grows h.0 (generations_published xs) in
-    let whole : published_from (generations_published xs) h.0 ≡ generations_published log = sym (published_append xs h.0 (first_generation ∷ []))
-    ∙ ap generations_published h.1 in
-    ap (λ t. get_or t g first_generation) (sym whole ∙ sym more.1) ∙ get_or-append (generations_published xs) more.0 first_generation g l
-
-pub published_more : (xs log : List HistoryEntry) → IsPrefix xs log → (g : ℕ) → g < length (generations_published xs) → g < length (generations_published log)
-published_more xs log h g l =
-    let more = published_grows h.0 (generations_published xs) in
-    let whole : published_from (generations_published xs) h.0 ≡ generations_published log = sym (published_append xs h.0 (first_generation ∷ []))
-    ∙ ap generations_published h.1 in
-    let long : length (generations_published xs) + length more.0 ≡ length (generations_published log) = sym (length-append (generations_published xs) more.0)
-    ∙ ap length (more.1 ∙ whole) in omega arith
-
 -- for a play that names what was picked by the value in hand
 pub place_as : {E Y : Type 0} (number : E → ℕ) (forest : E → Forest) (places : E → List Place) (z : Sizes) (slots id : ℕ) (me : Me (Option (Arc E Y)) View)
     (p : ℕ) (a : Arc E Y) → p < z.passes → slots ≡ 16 * z.passes → me.0.role ≡ Some 0 → me.0.held ≡ p + 1
@@ -514,11 +486,3 @@ place_as {E} {Y} number forest places z slots id me p a near wide role holding c
 
     in_hand : (x y : Arc E Y) → x ≡ y → x ≡ y
     in_hand x y e = e
-
-pub published_longer : (xs log : List HistoryEntry) → IsPrefix xs log → length (generations_published xs) ≤ length (generations_published log)
-published_longer xs log h =
-    let more = published_grows h.0 (generations_published xs) in
-    let whole : published_from (generations_published xs) h.0 ≡ generations_published log = sym (published_append xs h.0 (first_generation ∷ []))
-    ∙ ap generations_published h.1 in
-    let long : length (generations_published xs) + length more.0 ≡ length (generations_published log) = sym (length-append (generations_published xs) more.0)
-    ∙ ap length (more.1 ∙ whole) in omega arith

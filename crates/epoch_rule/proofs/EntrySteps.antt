@@ -15,20 +15,19 @@ use Rattle.mem_base.specs.declared.machine.events.Event.{Event}
 use Rattle.mem_base.specs.declared.machine.events.Carried.{Carried}
 use Rattle.mem_base.specs.declared.machine.events.HistoryEntry.{HistoryEntry}
 use Rattle.mem_base.specs.lists.Every.{Every}
-use Rattle.mem_base.specs.machine.Passes.{PassState, idle, pass_of}
+use Rattle.mem_base.specs.machine.Passes.{PassState, idle, pass_of, pass_id}
 use Rattle.mem_base.specs.machine.Generations.{Generation, PassTrack, nothing_known, known_of, pin_word, first_generations, with_known}
 use Rattle.mem_base.specs.machine.SharedHistory.{Shared, shared, shared_possible, shared_reply, after_shared_entry, shared_opening}
 use Rattle.epoch_rule.specs.declared.views.Sizes.{Sizes}
 use Rattle.epoch_rule.specs.declared.views.Picked.{Picked}
 use Rattle.epoch_rule.specs.declared.views.View.{View}
-use Rattle.mem_base.specs.machine.Passes.{pass_id}
 use Rattle.mem_base.specs.machine.Turns.{history_entry}
 use Rattle.mem_base.specs.machine.Actors.{actor_of, own_entries, pass_after_all, generations_after_all, generations_published, published_with, first_generation}
 use Rattle.history_laws.specs.Numbers.{HasSoundNumbers}
 use Rattle.epoch_rule.specs.Rule.{state_of, IsLegal, generation_of_pick, pass_seen, generations_seen, WordsShow, PlacesFit, PassSlots}
 use Rattle.epoch_rule.specs.Rule.{SlotsOfPass, AllSlots, SeatKnows, IsRuled, ComesNext}
 use Rattle.view_laws.proofs.Tests.{same_number}
-use Rattle.epoch_rule.proofs.HistoryLaws.{after_append, published_append, legal_snoc, own_append, own_other, pass_owns, generations_own}
+use Rattle.history_laws.proofs.AppendLaws.{after_append, published_append, legal_snoc, own_append, own_other, pass_owns, generations_own}
 use Rattle.history_laws.proofs.NumberLaws.{sound}
 use Rattle.epoch_rule.proofs.SlotSteps as of_slots
 

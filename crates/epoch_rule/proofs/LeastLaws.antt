@@ -15,7 +15,7 @@ use Rattle.epoch_rule.specs.declared.writers.Found.{Found}
 use Rattle.epoch_rule.specs.Rule.{IsLegal}
 use Rattle.epoch_rule.specs.Writing.{stored}
 use Rattle.epoch_rule.specs.Calls.{first_at, IsLeastPassAt, generations_in_seen}
-use Rattle.epoch_rule.proofs.HistoryLaws.{generations_own}
+use Rattle.history_laws.proofs.AppendLaws.{generations_own}
 
 -- the current number is that of the last Publish
 pub current_seen : (z : Sizes) (xs : List HistoryEntry) → IsLegal z xs → (generations_in_seen z xs).current ≡ number_seen xs

@@ -15,22 +15,21 @@ use Rattle.mem_base.specs.declared.machine.events.Event.TheVariants as events
 use Rattle.mem_base.specs.declared.machine.events.Carried.{Carried}
 use Rattle.mem_base.specs.declared.machine.events.Carried.TheVariants.{Nothing}
 use Rattle.mem_base.specs.declared.machine.events.HistoryEntry.{HistoryEntry}
-use Rattle.mem_base.specs.machine.Passes.{PassState, idle, pass_after}
+use Rattle.mem_base.specs.machine.Passes.{PassState, idle, pass_after, pass_id}
 use Rattle.mem_base.specs.machine.Generations.{Generation, generations_after, first_generations}
 use Rattle.mem_base.specs.machine.SharedHistory.{shared_opening}
 use Rattle.epoch_rule.specs.declared.views.Sizes.{Sizes}
 use Rattle.epoch_rule.specs.declared.views.View.{View}
-use Rattle.mem_base.specs.machine.Passes.{pass_id}
 use Rattle.mem_base.specs.machine.Turns.{history_entry}
 use Rattle.mem_base.specs.machine.Actors.{actor_of, own_entries, pass_after_all, generations_after_all, generations_published}
 use Rattle.mem_base.specs.machine.Actors.{generation_published, first_generation}
 use Rattle.epoch_rule.specs.Rule.{state_of, IsLegal, pass_seen, generations_seen, PlacesFit, ComesNext}
 use Rattle.epoch_rule.specs.Copies.{Suits, shown_by, IsCopy, IsEnteredIn, HasItsEdition, value_in}
-use Rattle.epoch_rule.proofs.HistoryLaws.{own_append, pass_by_append, generations_by_append, published_append, legal_start, last_reply}
+use Rattle.history_laws.proofs.AppendLaws.{own_append, pass_by_append, generations_by_append, published_append, legal_start, last_reply}
 use Rattle.mem_base.specs.machine.Histories.{last_of}
 use Rattle.epoch_rule.specs.Wrote.{EndsWith}
 use Rattle.history_laws.proofs.NumberLaws.{sound}
-use Rattle.epoch_rule.proofs.ActorSteps.{generation_stays, published_more}
+use Rattle.history_laws.proofs.AppendLaws.{generation_stays, published_more}
 
 pub own_added : (a : ℕ) (v : View) (e : Event) (x : Carried) (r : ℕ) (w : View) → actor_of e ≡ a → ComesNext a v e x r w
     → own_entries a w.seen ≡ own_entries a v.seen ++ history_entry e x r ∷ []

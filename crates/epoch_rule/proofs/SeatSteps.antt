@@ -28,7 +28,7 @@ use Rattle.epoch_rule.specs.Wrote.{longer}
 use Rattle.epoch_rule.specs.Values.{first_free}
 use Rattle.epoch_rule.specs.Plays.{note_view, spent_view, met_view, with_least_out, next_pass, taken_in, settles}
 use Rattle.view_laws.proofs.Tests.{none_is_no_number, same_number}
-use Rattle.epoch_rule.proofs.HistoryLaws.{own_append, legal_start}
+use Rattle.history_laws.proofs.AppendLaws.{own_append, legal_start}
 
 module _ {A : Type 0} where
   abbrev tail : List A → List A

@@ -1,8 +1,7 @@
 -- A call that makes an event for each pass, step by step.
-use Rattle.std.proofs.Common.{◌≡◌, ℕ, zero, suc, ◌+◌, ◌-◌, ◌<◌, ◌≤◌, max, ne_eqb, Bool, true, false, List, [], ◌∷◌, ◌++◌, length, map}
-use Rattle.std.proofs.Common.{get_or, set, sym, refl, ap, ◌∙◌, subst, arith, length-set, length-append, append_assoc, append-nil, Option}
-use Rattle.std.proofs.Common.{Some, None, if◌then◌else◌}
-use Rattle.std.proofs.Common.{get_or-set_other, get_or-set_same}
+use Rattle.std.proofs.Common.{◌≡◌, ℕ, zero, suc, ◌+◌, ◌-◌, ◌<◌, ◌≤◌, max, ne_eqb, Bool, true, false, List, [], ◌∷◌, ◌++◌, length, map, get_or, set, sym, refl}
+use Rattle.std.proofs.Common.{ap, ◌∙◌, subst, arith, length-set, length-append, append_assoc, append-nil, Option, Some, None, if◌then◌else◌, get_or-set_other}
+use Rattle.std.proofs.Common.{get_or-set_same}
 use Rattle.std.proofs.lemmas.Bool.{leb-false, both_ways}
 use Rattle.std.specs.Option.{option_to_list}
 use Rattle.std.specs.Arc.{arc_value}
@@ -33,7 +32,7 @@ use Rattle.mem_base.specs.machine.Publishing.{holds_up}
 use Rattle.epoch_rule.specs.declared.views.Picked.{Picked}
 use Rattle.epoch_rule.specs.Calls.{sweeps_of, places_of, HasWritten, HasSwept, HasPlaced, AreCopies, held_in}
 use Rattle.view_laws.proofs.Tests.{none_is_no_number, same_number, none_is_not_some, both}
-use Rattle.epoch_rule.proofs.HistoryLaws.{generations_by_append}
+use Rattle.history_laws.proofs.AppendLaws.{generations_by_append}
 use Rattle.epoch_rule.specs.Wrote.{EndsWith}
 use Rattle.epoch_rule.proofs.PassLaws.{own_added, begins_added, ends_added, generations_added}
 

@@ -26,7 +26,7 @@ use Rattle.mem_base.specs.views.Naming.{names}
 use Rattle.mem_base.specs.access.Places.{extent, extent_of, words_of, place_from, past, pages_in, is_data_or_register, word_of_page}
 use Rattle.mem_base.specs.access.Places.{notifiers_place, is_notifiers}
 use Rattle.mem_base.specs.access.Cells.{cell}
-use Rattle.mem_base.specs.machine.Passes.{PassState, idle, pass_of, pass_after}
+use Rattle.mem_base.specs.machine.Passes.{PassState, idle, pass_of, pass_after, pass_id}
 use Rattle.mem_base.specs.machine.Generations.{Generation, generation, Generations, known_of, entered_generation}
 use Rattle.mem_base.specs.machine.Guards.{is_notifier, may_reach, may_mark}
 use Rattle.mem_base.specs.machine.SharedHistory.{Shared, shared_opening, shared_possible, is_same_place}
@@ -34,7 +34,6 @@ use Rattle.epoch_rule.specs.declared.views.Sizes.{Sizes}
 use Rattle.epoch_rule.specs.declared.views.View.{View}
 use Rattle.epoch_rule.specs.declared.touches.Touch.{Touch}
 use Rattle.epoch_rule.specs.declared.touches.Touch.TheVariants as touches
-use Rattle.mem_base.specs.machine.Passes.{pass_id}
 use Rattle.mem_base.specs.machine.Turns.{history_entry}
 use Rattle.mem_base.specs.machine.Actors.{actor_of, actor_of_hand, own_entries, pass_after_all}
 use Rattle.epoch_rule.specs.Rule.{state_of, IsLegal, pass_seen, generations_seen, ComesNext, KeepsSlot, KeepsHome}
@@ -47,9 +46,8 @@ use Rattle.atomic_table.specs.Table.{Me}
 use Rattle.epoch_rule.specs.declared.writers.Found.{Found}
 use Rattle.epoch_rule.specs.Writing.{IsWriting, stored}
 use Rattle.view_laws.proofs.Tests.{both, both_of, or_left, or_right}
-use Rattle.epoch_rule.proofs.HistoryLaws.{pass_owns}
+use Rattle.history_laws.proofs.AppendLaws.{pass_owns, generation_stays}
 use Rattle.history_laws.proofs.NumberLaws.{sound}
-use Rattle.epoch_rule.proofs.ActorSteps.{generation_stays}
 use Rattle.epoch_rule.proofs.PassLaws.{own_added, begins_added, ends_added, pass_added, generations_added, suits_on}
 use Rattle.epoch_rule.proofs.WordSteps.{entered_is}
 

@@ -30,6 +30,14 @@ pub record Wrote (hand : Hand) (z : Sizes) (before new after : List HistoryEntry
   pub events : own_entries (actor_of_hand hand) after ≡ own_entries (actor_of_hand hand) before ++ new
   pub ends : EndsWith new after
 
+-- The same of any number of events: where there are none, it has seen no more than before
+pub record Adds (z : Sizes) (actor : ℕ) (before new after : List HistoryEntry) : Type 0 where
+  pub begins : IsPrefix before after
+  pub lawful : IsLegal z before → IsLegal z after
+  pub events : own_entries actor after ≡ own_entries actor before ++ new
+  pub ends : EndsWith new after
+  pub still : new ≡ [] → after ≡ before
+
 -- after this legal history, which begins with what was seen, a word of the cabinet had this value
 pub record HadWord (z : Sizes) (seen : List HistoryEntry) (word found : ℕ) (log : List HistoryEntry) : Type 0 where
   pub begins : IsPrefix seen log

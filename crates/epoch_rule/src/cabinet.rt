@@ -11,13 +11,16 @@ ghost use Rattle.epoch_rule.specs.Touches.{IsTouch};
 ghost use Rattle.epoch_rule.specs.Shown.{ShowsTouch};
 ghost use mathlib.Core.List.{IsPrefix};
 
-use crate::board::{Announces, Enters, Law, Leaves, Looks, Meets, Settles, Slot, Tells};
-use crate::hands::Hand;
+use crate::board::{
+    Announces, Enters, LINE_WORDS, Law, Leaves, Looks, Meets, NUMBER_WORD, PASS_SLOTS, Settles,
+    Slot, Tells,
+};
+use crate::hands::{Hand, Seal};
 use crate::passes::{Note, Pass};
 use crate::touches::Touch;
 use crate::views::{Sizes, View};
 use atomic_table::Table;
-use mem_base::{Edition, Place};
+use mem_base::{Edition, MOST_GENERATIONS, Place};
 use std::alloc::Global;
 use std::marker::Model;
 
@@ -51,10 +54,14 @@ impl<E: Edition + Drop> Cabinet<E> {
             × (shown_by E.forest E.places e ≡ generation_published pass.new.seen result) }
     {
         let shared = &self.table.shared;
-        let looked = shared.load::<Looks>(&mut pass.seat, 0);
-        shared.store::<Announces>(&mut pass.seat, 8 * (pass.number as usize + 1), looked + 1);
-        let number = shared.load::<Enters>(&mut pass.seat, 0);
-        let slot = 16 * pass.number as usize + (number % 8) as usize;
+        let looked = shared.load::<Looks>(&mut pass.seat, NUMBER_WORD);
+        shared.store::<Announces>(
+            &mut pass.seat,
+            LINE_WORDS * (pass.number as usize + 1),
+            looked + 1,
+        );
+        let number = shared.load::<Enters>(&mut pass.seat, NUMBER_WORD);
+        let slot = PASS_SLOTS * pass.number as usize + (number % MOST_GENERATIONS) as usize;
         pass.edition = shared.exchange(&mut pass.seat, slot, None);
         number
     }
@@ -68,9 +75,10 @@ impl<E: Edition + Drop> Cabinet<E> {
     {
         let shared = &self.table.shared;
         if let Some(edition) = pass.edition.take() {
-            let slot = 16 * pass.number as usize + (edition.number() % 8) as usize;
+            let slot = PASS_SLOTS * pass.number as usize
+                + (edition.number() % MOST_GENERATIONS) as usize;
             shared.exchange(&mut pass.seat, slot, Some(edition));
-            shared.store::<Leaves>(&mut pass.seat, 8 * (pass.number as usize + 1), 0);
+            shared.store::<Leaves>(&mut pass.seat, LINE_WORDS * (pass.number as usize + 1), 0);
         }
     }
 
@@ -115,7 +123,7 @@ impl<E: Edition + Drop> Cabinet<E> {
         let shared = &self.table.shared;
         let Note { seat } = note;
         shared.join_seat::<Meets>(&mut pass.seat, seat);
-        shared.load::<Settles>(&mut pass.seat, 0);
+        shared.load::<Settles>(&mut pass.seat, NUMBER_WORD);
     }
 
     /// One atomic step on word `word` of a place, by a pass or the writer: the value that the word had, or 0 where the
@@ -129,6 +137,6 @@ impl<E: Edition + Drop> Cabinet<E> {
         ensures shown { ShowsTouch (H.actor hand.old) (H.sizes hand.old) place.now word touch (H.seen hand.old) result (H.seen hand.new) }
         ensures stays { H.stays hand.old hand.new }
     {
-        hand.touch_in(self, place, word, touch)
+        hand.touch_in(self, place, word, touch, Seal)
     }
 }

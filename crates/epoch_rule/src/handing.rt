@@ -6,7 +6,7 @@ ghost use Rattle.mem_base.specs.machine.Actors.{own_entries};
 ghost use Rattle.epoch_rule.specs.Wrote.{IsNewPass, Wrote, longer};
 ghost use mathlib.Core.List.{IsPrefix};
 
-use crate::board::{HandsOut, Settles, TakesIn};
+use crate::board::{HandsOut, NUMBER_WORD, Settles, TakesIn};
 use crate::cabinet::Cabinet;
 use crate::passes::Pass;
 use crate::writers::WriterSeat;
@@ -39,7 +39,7 @@ impl<E: Edition + Drop> Cabinet<E> {
         }
         let shared = &self.table.shared;
         let mut seat = shared.split_seat::<HandsOut>(&mut writer.seat);
-        shared.load::<Settles>(&mut seat, 0);
+        shared.load::<Settles>(&mut seat, NUMBER_WORD);
         writer.out[free] = true;
         Some(Pass {
             seat,
@@ -69,7 +69,7 @@ impl<E: Edition + Drop> Cabinet<E> {
             edition: _,
         } = pass;
         shared.join_seat::<TakesIn>(&mut writer.seat, seat);
-        shared.load::<Settles>(&mut writer.seat, 0);
+        shared.load::<Settles>(&mut writer.seat, NUMBER_WORD);
         writer.out[number as usize] = false;
     }
 }

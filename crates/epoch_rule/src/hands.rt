@@ -20,7 +20,11 @@ use crate::touches::{Touch, touch_word};
 use crate::writers::WriterSeat;
 use mem_base::{Edition, Hand as Actor, PassId, Place};
 
-/// Who touches the cabinet's words: implemented by `Pass` and `WriterSeat`.
+/// What `Hand::touch_in` is given, so that no other crate can implement `Hand` or call that: none can name this type.
+#[derive(Clone, Copy, Drop)]
+pub struct Seal;
+
+/// Who touches the cabinet's words: implemented by `Pass` and `WriterSeat` alone.
 pub trait Hand<E: Edition + Drop> {
     /// The cabinet that made it.
     ghost made_by: { Self → TableId };
@@ -41,7 +45,14 @@ pub trait Hand<E: Edition + Drop> {
     ghost stays: { Self → Self → Type 0 };
 
     /// The step of `Cabinet::touch`.
-    fn touch_in(&mut self, cabinet: &Cabinet<E>, place: &Place, word: usize, touch: Touch) -> u64
+    fn touch_in(
+        &mut self,
+        cabinet: &Cabinet<E>,
+        place: &Place,
+        word: usize,
+        touch: Touch,
+        _seal: Seal,
+    ) -> u64
         requires own { made_by self.old ≡ cabinet.now.id }
         requires kind { IsTouch (actor self.old) place.now word touch }
         requires may { may self.old place.now word touch }
@@ -79,7 +90,14 @@ impl<E: Edition + Drop> Hand<E> for Pass<E> {
     ghost tries = { λ x p word old first bytes value m. m };
 
     #[inline(always)]
-    fn touch_in(&mut self, cabinet: &Cabinet<E>, place: &Place, word: usize, touch: Touch) -> u64 {
+    fn touch_in(
+        &mut self,
+        cabinet: &Cabinet<E>,
+        place: &Place,
+        word: usize,
+        touch: Touch,
+        _seal: Seal,
+    ) -> u64 {
         let Some(edition) = &self.edition else {
             unreachable!()
         };
@@ -118,7 +136,14 @@ impl<E: Edition + Drop> Hand<E> for WriterSeat<E> {
     ghost tries = { λ x p word old first bytes value m. m };
 
     #[inline(always)]
-    fn touch_in(&mut self, cabinet: &Cabinet<E>, place: &Place, word: usize, touch: Touch) -> u64 {
+    fn touch_in(
+        &mut self,
+        cabinet: &Cabinet<E>,
+        place: &Place,
+        word: usize,
+        touch: Touch,
+        _seal: Seal,
+    ) -> u64 {
         touch_word(
             &cabinet.table.shared,
             &mut self.seat,

@@ -27,7 +27,7 @@ mod writing;
 pub use batches::Batch;
 pub use cabinet::Cabinet;
 pub use hands::Hand;
-pub use laws::taken_slots_are_free;
+pub use laws::{seats_begin_one_history, taken_slots_are_free};
 pub use passes::{Note, Pass};
 pub use touches::Touch;
 pub use views::Sizes;

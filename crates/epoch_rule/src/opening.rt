@@ -5,7 +5,7 @@ ghost use Rattle.std.specs.declared.sync.Arc.{Arc};
 ghost use Rattle.mem_base.specs.map.Calls.{empty};
 ghost use Rattle.epoch_rule.specs.Opening.{AddsSlots, AreFirstSlots};
 
-use crate::board::{Law, Slot};
+use crate::board::{LINE_WORDS, Law, PASS_SLOTS, Slot};
 use crate::cabinet::Cabinet;
 use crate::views::{Sizes, View};
 use crate::writers::{Found, WriterSeat};
@@ -36,7 +36,7 @@ fn add_slots<E: Edition + Drop>(
 {
     let copy = Arc::try_clone(first)?;
     slots.push(Some(copy))?;
-    for _ in 0..15usize {
+    for _ in 0..PASS_SLOTS - 1 {
         slots.push(None)?;
     }
     Ok(())
@@ -75,7 +75,7 @@ impl<E: Edition + Drop> Cabinet<E> {
         let none = Found { word: 0, lowest: 0 };
         let known = filled(alloc, passes as usize, none)?;
         let out = filled(alloc, passes as usize, false)?;
-        let blank = filled(alloc, 8 * (passes as usize + 1) + words, 0u64)?;
+        let blank = filled(alloc, LINE_WORDS * (passes as usize + 1) + words, 0u64)?;
         let slots = first_slots(alloc, passes, &first)?;
         let sizes = Sizes { passes, words };
         let Ok((table, seat)) = Table::new(alloc, blank.as_slice(), slots, &sizes) else {

@@ -1,8 +1,9 @@
 // The writer's steps, one at a time.
-ghost use Rattle.std.specs.Prelude.{◌≡◌, ℕ, ◌+◌, ◌*◌, ◌%◌, ◌≤◌, ◌<◌, ◌^◌, true, false, [], Some, length, map};
+ghost use Rattle.std.specs.Prelude.{◌≡◌, ℕ, ◌+◌, ◌-◌, ◌*◌, ◌%◌, ◌≤◌, ◌<◌, ◌^◌, true, false, [], Some, length, map};
 ghost use Rattle.std.specs.Arc.{arc_value};
 ghost use Rattle.mem_base.specs.declared.machine.events.Event.TheVariants.{Sweep, Place, Publish};
 ghost use Rattle.mem_base.specs.declared.machine.events.Carried.TheVariants.{Nothing};
+ghost use Rattle.mem_base.specs.map.Limits.{most_generations};
 ghost use Rattle.mem_base.specs.machine.Generations.{PassTrack, all_placed, known_after_sweep, known_of};
 ghost use Rattle.mem_base.specs.machine.Passes.{pass_id};
 ghost use Rattle.epoch_rule.specs.Rule.{ComesNext, KeepsSlot, PlacesFit, IsLegal, carried_pick, generation_of_pick, generations_seen};
@@ -11,12 +12,17 @@ ghost use Rattle.epoch_rule.specs.declared.views.Picked.{Picked};
 ghost use Rattle.epoch_rule.specs.Calls.{AreCopies, HasPlaced, HasSwept, first_at as first_at_in, held_in, least_in};
 ghost use Rattle.epoch_rule.specs.Copies.{Suits, picked};
 
-use crate::board::{Places, Publishes, Reaches, SharedTable, Sweeps, TableSeat};
+use crate::board::{
+    LINE_WORDS, NUMBER_WORD, PASS_SLOTS, Places, Publishes, Reaches, SharedTable, Sweeps, TableSeat,
+};
 use crate::writers::{Found, Held};
-use mem_base::{Edition, PassId};
+use mem_base::{Edition, MOST_GENERATIONS, PassId};
 use std::alloc::Global;
 use std::cmp::{max, min};
 use std::sync::Arc;
+
+/// The generations that are kept before the current one.
+const KEPT_BEFORE: u64 = MOST_GENERATIONS - 1;
 
 /// Looks at what the pass has announced: 0, or that number plus one.
 pub(crate) fn sweep<E: Edition + Drop>(
@@ -29,7 +35,7 @@ pub(crate) fn sweep<E: Edition + Drop>(
     ensures seat { (seat.new.table_id ≡ seat.old.table_id) × (seat.new.me.1 ≡ seat.old.me.1) × KeepsSlot seat.old.me.0 seat.new.me.0 }
     ensures adds { ComesNext 0 seat.old.me.0 (Sweep (pass_id pass)) Nothing result seat.new.me.0 }
 {
-    shared.load::<Sweeps>(seat, 8 * (pass as usize + 1))
+    shared.load::<Sweeps>(seat, LINE_WORDS * (pass as usize + 1))
 }
 
 /// Gives the pass its copy of the next generation. The slot that it takes is of no generation that the pass may use.
@@ -43,7 +49,7 @@ pub(crate) fn place<E: Edition + Drop>(
     requires table { (seat.old.table_id ≡ shared.now.table_id) × Suits shared.now.table_id shared.now.key × (pass < shared.now.key.passes) }
     requires writer { (seat.old.me.0.role ≡ Some 0) × (seat.old.me.0.held ≡ 0) × (seat.old.me.1 ≡ []) }
     requires next { next ≡ (generations_seen seat.old.me.0).current + 1 }
-    requires near { (generations_seen seat.old.me.0).current ≤ (known_of (generations_seen seat.old.me.0) (pass_id pass)).lowest + 6 }
+    requires near { (generations_seen seat.old.me.0).current ≤ (known_of (generations_seen seat.old.me.0) (pass_id pass)).lowest + (most_generations - 2) }
     requires free { (known_of (generations_seen seat.old.me.0) (pass_id pass)).placed ≡ false }
     requires copy { (E.counted (arc_value copy) ≡ next) × ((v : ℕ) → (known_of (generations_seen seat.old.me.0) (pass_id v)).placed ≡ true
         → seat.old.me.0.next ≡ picked E.forest E.places (arc_value copy)) }
@@ -51,10 +57,10 @@ pub(crate) fn place<E: Edition + Drop>(
         × (seat.new.me.0.next ≡ picked E.forest E.places (arc_value copy)) }
     ensures adds { ComesNext 0 seat.old.me.0 (Place (pass_id pass)) Nothing 0 seat.new.me.0 }
 {
-    shared.load::<Reaches>(seat, 8 * (pass as usize + 1));
-    let slot = 16 * pass as usize + (next % 8) as usize;
+    shared.load::<Reaches>(seat, LINE_WORDS * (pass as usize + 1));
+    let slot = PASS_SLOTS * pass as usize + (next % MOST_GENERATIONS) as usize;
     drop(shared.exchange(seat, slot, Some(copy)));
-    shared.load::<Places>(seat, 8 * (pass as usize + 1));
+    shared.load::<Places>(seat, LINE_WORDS * (pass as usize + 1));
 }
 
 /// Makes the next generation the current one.
@@ -71,7 +77,7 @@ pub(crate) fn publish<E: Edition + Drop>(
     ensures seat { (seat.new.table_id ≡ seat.old.table_id) × (seat.new.me.1 ≡ seat.old.me.1) × KeepsSlot seat.old.me.0 seat.new.me.0 }
     ensures adds { ComesNext 0 seat.old.me.0 Publish (carried_pick seat.old.me.0.next) next seat.new.me.0 }
 {
-    shared.store::<Publishes>(seat, 0, next)
+    shared.store::<Publishes>(seat, NUMBER_WORD, next)
 }
 
 /// What is kept of a pass after a sweep that found this word.
@@ -122,7 +128,10 @@ pub(crate) fn held(known: &[Found], current: u64) -> Option<Held>
 {
     for i in 0..known.len() {
         let found = known[i];
-        if found.word != 0 && found.word - 1 <= u64::MAX - 7 && found.word - 1 + 7 <= current {
+        if found.word != 0
+            && found.word - 1 <= u64::MAX - KEPT_BEFORE
+            && found.word - 1 + KEPT_BEFORE <= current
+        {
             return Some(Held {
                 pass: PassId(i as u32),
                 number: found.word - 1,
@@ -143,7 +152,8 @@ pub(crate) fn place_all<E: Edition + Drop>(
     requires table { (seat.old.table_id ≡ shared.now.table_id) × Suits shared.now.table_id shared.now.key × (passes ≡ shared.now.key.passes) }
     requires writer { (seat.old.me.0.role ≡ Some 0) × (seat.old.me.0.held ≡ 0) × (seat.old.me.1 ≡ []) }
     requires next { next ≡ (generations_seen seat.old.me.0).current + 1 }
-    requires near { (v : ℕ) → v < passes → (generations_seen seat.old.me.0).current ≤ (known_of (generations_seen seat.old.me.0) (pass_id v)).lowest + 6 }
+    requires near { (v : ℕ) → v < passes
+        → (generations_seen seat.old.me.0).current ≤ (known_of (generations_seen seat.old.me.0) (pass_id v)).lowest + (most_generations - 2) }
     requires free { (v : ℕ) → (known_of (generations_seen seat.old.me.0) (pass_id v)).placed ≡ false }
     requires copies { (x : Picked) × AreCopies E.counted E.forest E.places next x copies.items }
     requires many { length copies.items ≡ passes }

@@ -8,7 +8,7 @@ ghost use Rattle.epoch_rule.specs.Rule.{KeepsSlot};
 ghost use Rattle.epoch_rule.specs.Copies.{Suits};
 ghost use Rattle.epoch_rule.specs.Touches.{IsReady, IsTouch, IsWholeStep, Told, ToldStep};
 
-use crate::board::{SharedTable, TableSeat};
+use crate::board::{LINE_WORDS, SharedTable, TableSeat};
 use crate::plans::{add_as, load_as, look_as, or_as, store_as, take_as, try_as};
 use mem_base::{Cell, Client, Edition, Event, Hand, PassId, Place, WordStep};
 use std::marker::Brand;
@@ -235,7 +235,7 @@ pub(crate) fn touch_word<E: Edition + Drop>(
     ensures seat { (seat.new.me.1 ≡ seat.old.me.1) × KeepsSlot seat.old.me.0 seat.new.me.0 }
     ensures told { Told hand place.now word touch seat.old.me.0 result seat.new.me.0 }
 {
-    let index = 8 * (passes as usize + 1) + (place.start + word);
+    let index = LINE_WORDS * (passes as usize + 1) + (place.start + word);
     match touch {
         Touch::Look => look(shared, seat, index, hand, place, word),
         Touch::Step(step) => step_word(shared, seat, index, hand, place, word, step),

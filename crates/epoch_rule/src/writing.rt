@@ -11,7 +11,7 @@ ghost use Rattle.epoch_rule.specs.Calls.{HeldUp, IsLeastPassAt, Published, gener
 ghost use mathlib.Core.List.{IsPrefix};
 
 use crate::batches::Batch;
-use crate::board::{Meets, Settles, Tells};
+use crate::board::{Meets, NUMBER_WORD, Settles, Tells};
 use crate::cabinet::Cabinet;
 use crate::passes::Note;
 use crate::steps::{first_at, held, least, place_all, publish, sweep_all};
@@ -42,13 +42,14 @@ impl<E: Edition + Drop> Cabinet<E> {
         let shared = &self.table.shared;
         let Note { seat } = note;
         shared.join_seat::<Meets>(&mut writer.seat, seat);
-        shared.load::<Settles>(&mut writer.seat, 0);
+        shared.load::<Settles>(&mut writer.seat, NUMBER_WORD);
     }
 
-    /// Looks at what each pass has announced, by ascending number. The answer is the least number of a generation that
+    /// Looks at what each pass has announced, by ascending number; there is one pass at least. The answer is the least number of a generation that
     /// a pass may still use after that, and the least pass that may.
     pub fn sweep(&self, writer: &mut WriterSeat<E>) -> Swept
         requires own { writer.old.cabinet ≡ self.now.id }
+        ensures some { 0 < writer.old.sizes.passes }
         ensures swept { (rs : List ℕ) × (length rs ≡ writer.old.sizes.passes) × Wrote Writer writer.old.sizes writer.old.seen (sweeps_of 0 rs) writer.new.seen }
         ensures lowest { result.lowest ≡ least_lowest (generations_in_seen writer.old.sizes writer.new.seen).current
             (generations_in_seen writer.old.sizes writer.new.seen).passes }

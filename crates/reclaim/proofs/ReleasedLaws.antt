@@ -1,7 +1,7 @@
 -- A ledger that has seen each generation answers what a reap releases.
-use Rattle.std.proofs.Common.{◌≡◌, ℕ, zero, suc, ◌+◌, ◌-◌, ◌<◌, ◌≤◌, ◌||◌, Bool, true, false, not, List, [], ◌∷◌, length, Some, None}
+use Rattle.std.proofs.Common.{◌≡◌, ℕ, zero, suc, ◌+◌, ◌-◌, ◌<◌, ◌≤◌, ◌||◌, Bool, true, false, not, List, [], ◌∷◌, length, Option, Some, None}
 use Rattle.std.proofs.Common.{refl, sym, ap, subst, ◌∙◌, arith, filter}
-use Rattle.std.specs.Prelude.{if◌then◌else◌, map, take, nat_lt, nat_le}
+use Rattle.std.specs.Prelude.{if◌then◌else◌, find, map, take, nat_lt, nat_le}
 use Rattle.std.specs.List.{list_any}
 use Rattle.std.proofs.lemmas.List.{take-map}
 use Rattle.std.proofs.lemmas.Bool.Decides.{nat_tests}
@@ -11,11 +11,14 @@ use Rattle.mem_base.specs.lists.Every.{Every}
 use Rattle.mem_base.specs.views.Naming.{names}
 use Rattle.mem_base.specs.machine.Generations.{Generation, Generations, least_lowest, held_generations}
 use Rattle.mem_base.specs.machine.Reaps.{Writer, is_named, released}
-use Rattle.mem_base.proofs.EveryLaws.{weaker}
+use Rattle.mem_base.proofs.EveryLaws.{weaker, every_filter}
+use Rattle.mem_base.proofs.DelLaws.{every_put_by}
 use Rattle.generation.specs.Published.{Published}
 use Rattle.reclaim.specs.declared.notes.Note.{Note}
-use Rattle.reclaim.specs.Notes.{note, is_before, is_due, seen_in}
-use Rattle.reclaim.specs.Released.{last_naming, TellLast, KeepsSight, ArePublished, AnswersReleased}
+use Rattle.reclaim.specs.Notes.{note, note_order, is_of, is_noted, is_before, is_due, others, others_if, seen_in}
+use Rattle.reclaim.specs.Ledgers.{noted_last}
+use Rattle.reclaim.specs.Released.{last_naming, TellLast, HasSeen, KeepsSight, ArePublished, AnswersReleased}
+use Rattle.reclaim.proofs.LedgerLaws.{found_every, found_note, noted_found}
 
 -- by a test
 either_way : {A : Type 0} (P : A → Type 0) (b : Bool) (x y : A) → (b ≡ true → P x) → (b ≡ false → P y) → P (if b then x else y)
@@ -30,9 +33,46 @@ told fs g n e h =
     (λ yes. rw yes (ap (λ k. Some k) e))
     (λ no. rw no h)
 
+all_told : (fs : List Forest) (g : Published) (notes : List Note) → g.number ≡ length fs → TellLast fs notes → TellLast (g.forest ∷ fs) (map (seen_in g) notes)
+all_told fs g [] e h = tt
+all_told fs g (n ∷ ns) e h = (told fs g n e h.0, all_told fs g ns e h.1)
+
+-- the notes but that of a region tell what they told
+others_tell : (fs : List Forest) (region : RegionId) (notes : List Note) → TellLast fs notes → TellLast fs (others region notes)
+others_tell fs region notes h =
+    every_filter (λ n. n.last ≡ last_naming fs n.region) (λ n. not (is_of region n)) notes h
+
+-- the note of a region that is noted
+note_tells : (fs : List Forest) (region : RegionId) (notes : List Note) → is_noted region notes ≡ true → TellLast fs notes
+    → noted_last region notes ≡ last_naming fs region
+note_tells fs region notes there h = go (find (is_of region) notes) refl
+  where
+    go : (found : Option Note) → find (is_of region) notes ≡ found → noted_last region notes ≡ last_naming fs region
+    go None e = absurd (noted_found region notes there e)
+    go (Some m) e =
+        let is : m ≡ note region (noted_last region notes) = found_note region notes m e in
+        let tells : m.last ≡ last_naming fs m.region = found_every (λ n. n.last ≡ last_naming fs n.region) (is_of region) notes m e h in
+        subst (λ (n : Note). n.last ≡ last_naming fs n.region) is tells
+
 pub keeps_sight : KeepsSight
-keeps_sight fs g [] e h = tt
-keeps_sight fs g (n ∷ ns) e h = (told fs g n e h.0, keeps_sight fs g ns e h.1)
+keeps_sight = record {
+  first = record { there = tt; gone = tt };
+  made = λ fs present dropped region h none. record {
+    there = every_put_by (λ n. n.last ≡ last_naming fs n.region) note_order (note region None) present (sym none) h.there;
+    gone = h.gone;
+  };
+  seen = λ fs present dropped g h e. record { there = all_told fs g present e h.there; gone = all_told fs g dropped e h.gone };
+  drops = λ fs present dropped region h there. record {
+    there = others_tell fs region present h.there;
+    gone = every_put_by (λ n. n.last ≡ last_naming fs n.region) note_order (note region (noted_last region present)) dropped
+        (note_tells fs region present there h.there) h.gone;
+  };
+  releases = λ fs present dropped region h. record { there = h.there; gone = left fs region dropped h.gone };
+}
+  where
+    left : (fs : List Forest) (region : Option RegionId) (notes : List Note) → TellLast fs notes → TellLast fs (others_if region notes)
+    left fs None notes h = h
+    left fs (Some region) notes h = others_tell fs region notes h
 
 -- a forest of those that are looked at names the region
 abbrev named_in : RegionId → List Forest → Bool

@@ -15,6 +15,7 @@ pub fn fill<E: Edition + Drop>(cabinet: &Cabinet<E>, writer: &mut WriterSeat<E>,
     requires own { writer.old.cabinet ≡ cabinet.now.id }
     requires within { past place.now ≤ writer.old.sizes.words }
     ensures wrote { Wrote Writer writer.old.sizes writer.old.seen (fills_of place.now place.now.words) writer.new.seen }
+    ensures still { place.now.words ≡ 0 → writer.new ≡ writer.old }
     ensures home { KeepsHome writer.old.out writer.old.seen writer.new.seen }
     ensures same { (writer.new.cabinet ≡ writer.old.cabinet) × (writer.new.sizes ≡ writer.old.sizes) × (writer.new.out ≡ writer.old.out) }
 {

@@ -97,10 +97,10 @@ done_desk d r tree known new_known noted spare new_spare k of_it made e reach se
         let calls = ap (λ (f : Forest). f.calls) own in
         whole (omega arith)
 
--- where a change is pending, one more publish has a number
+-- each publish had a call of its own, so 64 bits hold the numbers after the current one
 pub number_fits : (d : DeskState) (known : List (SpaceId × List RegionId)) (noted : Option (List RegionId)) (spare : Option Forest)
-    → IsDesk d known noted spare → d.state.pending ≡ true → d.current.number + 1 < 2 ^ 64
-number_fits d known noted spare k due =
-    let few : d.current.number + 1 ≤ d.state.forest.calls = subst (λ b. d.current.number + publishes_due b ≤ d.state.forest.calls) due k.counted in
+    → IsDesk d known noted spare → d.current.number + 2 < 2 ^ 64
+number_fits d known noted spare k =
+    let few : d.current.number + publishes_due d.state.pending ≤ d.state.forest.calls = k.counted in
     let calls : d.state.forest.calls ≤ 2 ^ 62 = (closed_made d.state.forest k.made).few_calls in
     omega arith

@@ -1,7 +1,7 @@
 -- Whether a forest shows an ioeventfd, by its regions.
 use Rattle.std.proofs.Common.{◌≡◌, ◌<◌, ◌&&◌, ◌||◌, if◌then◌else◌, Bool, true, false, ltb, List, [], ◌∷◌, length, Option, Some, None, refl}
 use Rattle.std.proofs.Common.{sym, ap, subst, ◌∙◌, arith}
-use Rattle.std.specs.Prelude.{find, filter, nat_lt, unwrap_or}
+use Rattle.std.specs.Prelude.{find, filter, nat_lt, unwrap_or, option_map}
 use Rattle.std.specs.List.{list_any}
 use Rattle.std.proofs.lemmas.Bool.Decides.{nat_tests}
 use Rattle.mem_base.specs.declared.map.ids.RegionId.{RegionId}
@@ -10,7 +10,7 @@ use Rattle.mem_base.specs.declared.map.forests.Forest.{Forest}
 use Rattle.mem_base.specs.lists.Every.{Every}
 use Rattle.mem_base.specs.map.Region.{IsAscending, node_of, has_id}
 use Rattle.mem_base.specs.map.Order.{ids_of}
-use Rattle.mem_base.specs.views.LiveEvents.{events_at, events_of}
+use Rattle.mem_base.specs.views.LiveEvents.{events_of}
 use Rattle.mem_base.specs.views.Naming.{names, shows_events}
 use Rattle.mem_base.proofs.ForestLaws.{node_of-itself, every_node_of}
 use Rattle.view_laws.proofs.Tests.{none_is_not_some, same_region}
@@ -70,15 +70,15 @@ events_named f ascending = bool_same (list_any (is_shown f) f.nodes) (shows_even
         let n = one.0 in
         let t = both_true (ltb 0 (length n.events)) (names f n.id) one.2 in
         let some : 0 < length n.events = let h = t.0 in grind (arith, nat_tests) in
-        (events_shown f).1 (n.id, (names_leaves f n.id).0 t.1, subst (λ o. 0 < length (events_at o)) (sym one.1) some)
+        (events_shown f).1 (n.id, (names_leaves f n.id).0 t.1, subst (λ o. 0 < length (unwrap_or (option_map (λ (m : Node). m.events) o) [])) (sym one.1) some)
 
     shown : (region : RegionId) → names f region ≡ true → 0 < length (events_of f region) → (o : Option Node) → node_of f.nodes region ≡ o
         → list_any (is_shown f) f.nodes ≡ true
-    shown region named some None e = absurd (let none : 0 < length (events_at None) = subst (λ o. 0 < length (events_at o)) e some in omega arith)
+    shown region named some None e = absurd (let none : 0 < length (unwrap_or (option_map (λ (m : Node). m.events) None) []) = subst (λ o. 0 < length (unwrap_or (option_map (λ (m : Node). m.events) o) [])) e some in omega arith)
     shown region named some (Some n) e =
         let it : has_id region n ≡ true = (every_node_of (λ n. Unit {0}) f.nodes region n e (every_unit f.nodes)).1 in
         let same : n.id ≡ region = same_region n.id region (grind (arith, nat_tests, it)) in
-        let has : 0 < length n.events = subst (λ o. 0 < length (events_at o)) e some in
+        let has : 0 < length n.events = subst (λ o. 0 < length (unwrap_or (option_map (λ (m : Node). m.events) o) [])) e some in
         let less : ltb 0 (length n.events) ≡ true = grind (arith, nat_tests) in
         found_any (has_id region) (is_shown f) f.nodes n e (rw (less, same) named)
 

@@ -1,6 +1,6 @@
 -- Live ioeventfds where no leaf is noted.
 use Rattle.std.proofs.Common.{◌≡◌, ◌++◌, Bool, true, false, eqb, List, [], ◌∷◌, map, refl, sym, ap, inl, inr, ◌∙◌, arith}
-use Rattle.std.specs.Prelude.{filter, flat_map, not}
+use Rattle.std.specs.Prelude.{filter, flat_map, not, unwrap_or, option_map}
 use Rattle.std.specs.List.{list_any}
 use Rattle.std.proofs.lemmas.Bool.Decides.{nat_tests}
 use Rattle.mem_base.specs.declared.map.ids.RegionId.{RegionId}
@@ -13,10 +13,11 @@ use Rattle.mem_base.specs.declared.views.listening.RangeEvent.{RangeEvent}
 use Rattle.mem_base.specs.map.Region.{node_of}
 use Rattle.mem_base.specs.map.Forest.{IsMade}
 use Rattle.mem_base.specs.views.Flattened.{view_of}
-use Rattle.mem_base.specs.views.LiveEvents.{is_same_live, lives_in_order, moved_to, meets, events_at, lives_of_range, lives_in, lives_of, without}
+use Rattle.mem_base.specs.views.LiveEvents.{is_same_live, lives_in_order, moved_to, meets, lives_of_range, lives_in, lives_of, without}
 use Rattle.mem_base.specs.views.Listening.{change_of}
 use Rattle.mem_base.specs.views.Walk.{walk}
 use Rattle.mem_base.specs.views.Naming.{has_leaf}
+use Rattle.mem_base.specs.declared.map.forests.Node.{Node}
 use Rattle.view_laws.proofs.LiveLaws.{In, order_itself}
 use Rattle.view_laws.proofs.SortedLaws.{any_in, any_found}
 use Rattle.transact.specs.Noted.{is_among, OthersStay}
@@ -55,7 +56,7 @@ module _ (f g : Forest) (noted : List RegionId) (others : OthersStay f g noted) 
       → flat_map (lives_of_range f) rs ≡ flat_map (lives_of_range g) rs
   each_same [] h = refl
   each_same (r ∷ rs) h =
-      let here : lives_of_range f r ≡ lives_of_range g r = ap (λ o. filter (meets r.start r.last) (map (moved_to r.start r.offset) (events_at o))) (h r (inl refl)) in
+      let here : lives_of_range f r ≡ lives_of_range g r = ap (λ o. filter (meets r.start r.last) (map (moved_to r.start r.offset) (unwrap_or (option_map (λ (m : Node). m.events) o) []))) (h r (inl refl)) in
       let rest = each_same rs (λ q m. h q (inr m)) in λ i. here i ++ rest i
 
   -- a view of which no leaf is noted shows the same ioeventfds

@@ -12,7 +12,7 @@ use Rattle.mem_base.specs.declared.views.flat.FlatRange.{FlatRange}
 use Rattle.mem_base.specs.declared.map.ioevents.Live.{Live}
 use Rattle.mem_base.specs.lists.Every.{Every}
 use Rattle.mem_base.specs.map.Region.{node_of}
-use Rattle.std.specs.Prelude.{option_and_then}
+use Rattle.std.specs.Prelude.{option_and_then, unwrap_or, option_map}
 use Rattle.mem_base.specs.map.Limits.{most_depth}
 use Rattle.mem_base.specs.map.Search.{root_of, found_in, spot_of}
 use Rattle.mem_base.specs.map.Devices.{is_access_size}
@@ -23,7 +23,7 @@ use Rattle.mem_base.specs.map.Calls.{after, after_all, left_by, empty}
 use Rattle.mem_base.specs.map.Forest.{FitsTypes, IsMade, IsOrderedForest, IsClosedForest, IsRegion}
 use Rattle.mem_base.specs.views.View.{IsView}
 use Rattle.mem_base.specs.views.Flattened.{view_of}
-use Rattle.mem_base.specs.views.LiveEvents.{events_at, lives_of, lives_in}
+use Rattle.mem_base.specs.views.LiveEvents.{lives_of, lives_in}
 use Rattle.mem_base.proofs.EveryLaws.{weaker, every_push}
 use Rattle.mem_base.proofs.ForestLaws.{every_node_of}
 use Rattle.mem_base.proofs.ViewLaws.{IsView-unique}
@@ -33,28 +33,7 @@ use Rattle.map_laws.proofs.OffsetLaws.{IsView-made}
 use Rattle.map_laws.proofs.RefusalLaws.{refuse_if-none}
 use Rattle.view_laws.specs.LiveLists.{HaveBytes}
 use Rattle.view_laws.proofs.LiveRanges.{lives_agree}
-
--- calls one after another
-pub after_both : (f : Forest) (xs ys : List Call) → after_all f (xs ++ ys) ≡ after_all (after_all f xs) ys
-after_both f [] ys = refl
-after_both f (call ∷ xs) ys = after_both (left_by f (after f call)) xs ys
-
--- one more accepted call
-pub made_after : (f g : Forest) (call : Call) → IsMade f → FitsTypes call → after f call ≡ Ok g → IsMade g
-made_after f g call m fits e = record {
-  calls = m.calls ++ call ∷ [];
-  fitting = every_push FitsTypes m.calls call m.fitting fits;
-  made = after_both empty m.calls (call ∷ []) ∙ ap (λ h. after_all h (call ∷ [])) m.made ∙ ap (left_by f) e;
-}
-
-pub made_empty : IsMade empty
-made_empty = record { calls = []; fitting = tt; made = refl }
-
-pub ordered_made : (f : Forest) → IsMade f → IsOrderedForest f
-ordered_made f m = subst IsOrderedForest m.made (IsOrderedForest-made m.calls)
-
-pub closed_made : (f : Forest) → IsMade f → IsClosedForest f
-closed_made f m = subst IsClosedForest m.made (IsClosedForest-made m.calls m.fitting)
+pub use Rattle.map_laws.proofs.MadeForests.{calls_both, closed_made, made_after, made_empty, ordered_made}
 
 -- what a call changes is not the number of calls
 calls_stay : (f : Forest) (call : Call) → (changed f call).calls ≡ f.calls
@@ -116,7 +95,7 @@ has_bytes e h =
 have_bytes : (f : Forest) → IsClosedForest f → HaveBytes f
 have_bytes f k region = go (node_of f.nodes region) refl
   where
-    go : (o : Option Node) → node_of f.nodes region ≡ o → Every (λ e. 0 < e.size) (events_at o)
+    go : (o : Option Node) → node_of f.nodes region ≡ o → Every (λ e. 0 < e.size) (unwrap_or (option_map (λ (m : Node). m.events) o) [])
     go None e = tt
     go (Some n) e = weaker (λ x. bad_event x ≡ None) (λ x. 0 < x.size) has_bytes n.events
         (every_node_of (IsRegion f.nodes) f.nodes region n e k.regions).0.good_events

@@ -10,7 +10,7 @@ use Rattle.mem_base.specs.declared.map.ids.SpaceId.{SpaceId}
 use Rattle.mem_base.specs.declared.map.forests.Node.{Node}
 use Rattle.mem_base.specs.declared.map.forests.Forest.{Forest}
 use Rattle.mem_base.specs.declared.map.kinds.Kind.{Kind}
-use Rattle.mem_base.specs.declared.map.kinds.Kind.TheVariants.{Container, Ram, Rom, RomDevice, Io, Iommu, Alias, Reserve}
+use Rattle.mem_base.specs.declared.map.kinds.Kind.TheVariants.{Container, Ram, Rom, RomDevice, Io, Iommu, Alias, Reserve, Host}
 use Rattle.mem_base.specs.declared.map.kinds.Device.{Device}
 use Rattle.mem_base.specs.declared.map.kinds.DeviceKind.{DeviceKind}
 use Rattle.mem_base.specs.declared.map.kinds.DeviceKind.TheVariants.{Latch, Count, Bell, Fault}
@@ -68,6 +68,7 @@ kind_itself (Io x) = device_itself x
 kind_itself Iommu = refl
 kind_itself (Alias r x) = let a = number_itself r.0 in let b = number_itself x in rw (a, b) refl
 kind_itself Reserve = refl
+kind_itself Host = refl
 
 region_itself : (o : Option RegionId) → is_same_region o o ≡ true
 region_itself None = refl

@@ -17,7 +17,7 @@ use crate::preparing::prepare;
 use crate::regions::Regions;
 use crate::spare::{Next, Spare, lacking, replace, second};
 use generation::Generation;
-use mem_base::{Applied, Call, MOST_NESTED, Place, Refusal, SpaceId};
+use mem_base::{Applied, Call, Edition, MOST_NESTED, Place, Refusal, SpaceId};
 use region_tree::Tree;
 use std::alloc::{AllocError, Global};
 use std::marker::Model;
@@ -62,8 +62,8 @@ fn fits_address(address: u64)
     ensures { address < 2 ^ 64 }
 {}
 
-// That the sizes of a call, and the address of a page, are such as their types hold.
-fn fits(call: &Call)
+/// A law: the sizes of a call, and the address of a page, are such as their types hold. It does nothing.
+pub fn fits_types(call: &Call)
     ensures { FitsTypes call.now }
 {
     match *call {
@@ -131,6 +131,14 @@ impl Desk {
         &self.current
     }
 
+    /// The number of the current generation. Each publish had a call of its own, so 64 bits hold the numbers after it.
+    pub fn number(&self) -> u64
+        ensures value { result ≡ self.now.current.number }
+        ensures fits { result + 2 < 2 ^ 64 }
+    {
+        self.current.number()
+    }
+
     /// Opens a transaction, inside of those that are open. QEMU's core, `memory_region_transaction_begin`.
     ///
     /// Refused with `TooNested` where 64 are open, and then nothing changes; the bound is this project's own.
@@ -159,7 +167,7 @@ impl Desk {
         ensures refused { IfErr result (λ why. why ≢ Refusal.Memory → after self.old.state.forest call.now ≡ Err why) }
         ensures unchanged { OnErr result (self.new ≡ self.old) }
     {
-        fits(call);
+        fits_types(call);
         let applied = self.tree.apply(call)?;
         self.spare = lacking(self.spare.take(), call);
         self.noted = noting(self.noted.take(), call, applied);
@@ -192,7 +200,7 @@ impl Desk {
         ensures carves { (f : Forest) → after self.old.state.forest call.now ≡ Ok f → steps.new ≤ steps.old + most_carves self.old.current.forest f }
         ensures spared { IfErr result (λ why. why ≢ Refusal.Memory → steps.new ≡ steps.old) }
     {
-        fits(call);
+        fits_types(call);
         let (mut tree, mut missing) = second(self.alloc, &self.tree, self.spare.take())?;
         let applied = match tree.apply(call) {
             Ok(applied) => applied,

@@ -17,5 +17,5 @@ mod shown;
 mod spare;
 mod touched;
 
-pub use desk::Desk;
+pub use desk::{Desk, fits_types};
 pub use prepared::{Prepared, Step};

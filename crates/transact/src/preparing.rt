@@ -28,9 +28,6 @@ use std::sync::Arc;
 use std::sync::ledger::Ledger;
 use step_counter::Steps;
 
-// The owner of the notifiers' words: no region ever has this id.
-const NOTIFIERS: RegionId = RegionId(u32::MAX);
-
 // Whether one of these regions is a leaf in one of the views.
 fn any_leaf(regions: &[RegionId], atlases: &[(SpaceId, Arc<Atlas, Global>)]) -> bool
     ensures { result ≡ list_any (λ r. list_any (λ p. has_leaf r (arc_value p.1)) atlases.now) regions.now }
@@ -68,7 +65,7 @@ fn is_shown(
     requires { AreLeafMarks arc_value atlases.now marks.now }
     ensures { result ≡ (if is_notifiers place.now.region then notifies else list_any (λ p. has_leaf place.now.region (arc_value p.1)) atlases.now) }
 {
-    if place.region.0 == NOTIFIERS.0 {
+    if place.region.0 == RegionId::NOTIFIERS.0 {
         return notifies;
     }
     is_leaf(atlases, marks, place.region)

@@ -60,6 +60,7 @@ fn is_same_kind(x: &Kind, y: &Kind) -> bool
             },
         ) => x.0 == y.0 && a == b,
         (Kind::Reserve, Kind::Reserve) => true,
+        (Kind::Host, Kind::Host) => true,
         _ => false,
     }
 }

@@ -18,9 +18,10 @@ use Rattle.mem_base.specs.machine.Reaps.{Writer}
 use Rattle.mem_base.specs.machine.World.{World, possible, reply, world_after, after_telling, number_in, is_at_rest, if_placed, place_in_world}
 use Rattle.mem_base.specs.machine.History.{PureEntry, after_entry, after_entries, IsLegalFrom}
 use Rattle.mem_base.specs.machine.Orders.{Order, load, harvest, notified, unless, loads, harvests, load_refusal, harvest_refusal}
-use Rattle.mem_base.specs.machine.Answers.{plain_answer, harvest_answer, notifier_answer, or_refused}
+use Rattle.mem_base.specs.machine.Answers.{plain_answer, harvest_answer, notifier_answer}
 use Rattle.mem_base.specs.machine.Composites.{completed}
 use Rattle.mem_base.specs.machine.Completions.{IsCompleted}
+use Rattle.mem_base.specs.map.Refusals.{or_refused}
 use Rattle.view_laws.proofs.Tests.{both_of}
 use Rattle.world_laws.specs.Legal.{IsFitting, IsLegalCall}
 use Rattle.world_laws.proofs.OrderLaws.{orders_are_legal}

@@ -25,7 +25,7 @@ use Rattle.view_laws.proofs.Tests.{both_of, true_is_not_false}
 use Rattle.turn_laws.proofs.Coupled.{IsWhole}
 use Rattle.world_laws.proofs.Lists.{found_has}
 use Rattle.kept_generations.specs.KeptState.{KeptState, generations_of}
-use Rattle.place_words.specs.Blocks.{blocks_at}
+use Rattle.mem_base.specs.access.PlaceCells.{blocks_at}
 use Rattle.backed_desk.specs.Backed.{all_places}
 use Rattle.writer_desk.specs.Writers.{WriterState, desk_of}
 use Rattle.world_core.specs.Worlds.{Aside, aside, beside, world_of, IsReached, IsWorld}

@@ -22,13 +22,14 @@ use Rattle.mem_base.specs.machine.World.{World, world, possible, world_after, is
 use Rattle.history_laws.specs.BackedForests.{BacksForest}
 use Rattle.generation.specs.Published.{Published}
 use Rattle.kept_generations.specs.KeptState.{KeptState, generations_of}
-use Rattle.place_words.specs.Blocks.{blocks_at}
+use Rattle.mem_base.specs.access.PlaceCells.{blocks_at}
 use Rattle.transact.specs.Preparing.{Readied}
 use Rattle.backing_pool.specs.Backing.{Backing}
 use Rattle.backed_desk.specs.Backed.{all_places}
 use Rattle.writer_desk.specs.Writers.{WriterState, Beside, desk_of, settled_as, standing, IsConfigured, IsAccepted}
 use Rattle.world_core.specs.Worlds.{Aside, aside, beside, world_of, filled_beside, filled_world, IsReached, IsWorld, IsFilledWorld}
-use Rattle.world_core.specs.Configuring.{dropped_with, made_place, cleared_at, unswept}
+use Rattle.writer_desk.specs.Writers.{dropped_with, made_place}
+use Rattle.world_core.specs.Configuring.{cleared_at, unswept}
 use Rattle.world_core.specs.Events.{IsChanged, makes_region}
 use Rattle.world_core.specs.Unfilled.{cells_at}
 use Rattle.world_core.proofs.ConfiguringLaws.{current_is, kept_beside, pool_stays, none_due}
@@ -39,7 +40,8 @@ use Rattle.world_core.proofs.WordLaws.{backs}
 use Rattle.world_core.proofs.WriterCallLaws.{sound_of}
 
 -- the parts make a world, and the event leads there with this answer
-pub record ChangesWorld (w : World) (c : Config) (answer : Result Applied Refusal) (d : WriterState) (k : KeptState) (ws : List ℕ) (x : Aside) : Type 0 where
+pub record ChangesWorld (w : World) (c : Config) (answer : Result Applied Refusal) (d : WriterState) (k : KeptState) (ws : List ℕ)
+    (x : Aside) : Type 0 where
   pub world : IsWorld d k ws x
   pub changed : IsChanged w c answer (world_of d k ws x)
 
@@ -98,7 +100,8 @@ module _ (d : WriterState) (k : KeptState) (ws : List ℕ) (dropped : List Regio
         (wide : length ws_then ≡ e.backed.backing.pool_words + notifier_count) (current : e.backed.desk.current ≡ d.backed.desk.current) where
       leads : world_after w (events.Config c) ≡ world_of e (unswept k) ws_then (aside dropped_then unfilled)
       leads =
-          ap (λ (s : Settled). world (writer (desks.unswept s.desk) (generations_of k)) k.states (map (block_for blocks) (places_of (desks.unswept s.desk)))) settles
+          ap (λ (s : Settled). world (writer (desks.unswept s.desk) (generations_of k)) k.states (map (block_for blocks) (places_of
+          (desks.unswept s.desk)))) settles
           ∙ ap (λ (bs : List Block). world (writer (desks.unswept desk_then) (generations_of k)) k.states bs) cells
 
       changes : ChangesWorld w c r e (unswept k) ws_then (aside dropped_then unfilled)

@@ -45,15 +45,16 @@ use Rattle.generation.specs.Published.{Published}
 use Rattle.kept_generations.specs.KeptState.{KeptState, generations_of, shown_by, kept_at, after_publish}
 use Rattle.kept_generations.specs.Sweeping.{all_swept}
 use Rattle.kept_generations.proofs.FoldLaws.{sweeps_run}
-use Rattle.place_words.specs.Blocks.{blocks_at}
+use Rattle.mem_base.specs.access.PlaceCells.{blocks_at}
 use Rattle.transact.specs.Preparing.{Readied}
 use Rattle.backing_pool.specs.Backing.{Backing}
 use Rattle.backed_desk.specs.Backed.{all_places}
 use Rattle.writer_desk.specs.Writers.{WriterState, writer_state, Beside, desk_of, beside_by, settled_as, standing, IsConfigured, IsReady}
 use Rattle.writer_desk.specs.Writers.{IsAccepted, backing_by, published_with}
 use Rattle.world_core.specs.Worlds.{filled_beside, filled_world, IsReached, IsFilledWorld}
-use Rattle.world_core.specs.Configuring.{answer_by, dropped_with, is_held, made_place, cleared_at, swept_if, unswept, followed}
-use Rattle.world_core.proofs.HeldLaws.{held_where_refused}
+use Rattle.writer_desk.specs.Writers.{dropped_with, is_held, made_place}
+use Rattle.world_core.specs.Configuring.{answer_by, cleared_at, swept_if, unswept, followed}
+use Rattle.writer_desk.proofs.HeldLaws.{held_where_refused}
 use Rattle.world_core.proofs.ComposedLaws.{publishes_leave, fills_leave_rest}
 use Rattle.world_core.proofs.MadeCellLaws.{unfilled_with}
 use Rattle.world_core.proofs.MadeCellLaws as made
@@ -152,7 +153,8 @@ module _ (d : WriterState) (k : KeptState) (ws : List ℕ) (dropped : List Regio
       sweeps_run k w (sym o.all_known) (o.all_flagged ∙ sym o.all_known) (record { generations = refl; states = refl; swept = refl })
   swept_is false = refl
 
-  before : (b : Bool) → would_publish w.writer.desk c ≡ b → (run_events w (events_before w.writer (configure c))).world ≡ filled_world d (swept_if b k) ws dropped
+  before : (b : Bool) → would_publish w.writer.desk c ≡ b → (run_events w (events_before w.writer (configure c))).world ≡ filled_world d
+      (swept_if b k) ws dropped
   before b e = ap (λ (z : Bool). (run_events w (if z then sweeps w.writer.generations else [])).world) e ∙ swept_is b
 
   same_passes : (b : Bool) → (swept_if b k).states ≡ k.states
@@ -260,7 +262,8 @@ module _ (d : WriterState) (k : KeptState) (ws : List ℕ) (dropped : List Regio
             (after_publish (unswept (all_swept k)) g.generation) ws_then dropped_then
         leaves_due = record {
           world = record {
-            reached = subst IsReached (leads_to w c h.reached rest (filled_world d (all_swept k) ws dropped) (left_by true (Some g)) last r (Some (k.current + 1))
+            reached = subst IsReached (leads_to w c h.reached rest (filled_world d (all_swept k) ws dropped) (left_by true (Some g)) last r (Some
+                (k.current + 1))
                 (before true t) (private true (Some g) t due) made_current) (end_reached w c h.reached rest);
             current = first_kept_at (after_publish (unswept (all_swept k)) g.generation) (Some g.generation) refl;
             wide = wide;
@@ -315,7 +318,8 @@ module _ (d : WriterState) (k : KeptState) (ws : List ℕ) (dropped : List Regio
         (is (generations_of (swept_if z k)) (filled_beside dropped (swept_if z k).swept) (here z) (free held told z u)))
         ws (made.same_cells ws d.backed h.wide w.writer.desk.forest back few below) (λ u x. refl) h.wide b t none_due refl
 
-    pub refused : (b : Bool) → b ≡ would_publish (desk_of e (filled_beside dropped k.swept)) c → (kept_then : KeptState) → kept_then ≡ unswept (swept_if b k)
+    pub refused : (b : Bool) → b ≡ would_publish (desk_of e (filled_beside dropped k.swept)) c → (kept_then : KeptState)
+        → kept_then ≡ unswept (swept_if b k)
         → (dropped_then : List RegionId) → dropped_then ≡ dropped → LeavesWorld w c (answer_of_config c (Err why) None) e kept_then ws dropped_then
     refused b t kept_then kept dropped_then drops =
         subst (λ (z : WriterState × KeptState × List RegionId). LeavesWorld w c (answer_of_config c (Err why) None) z.0 z.1 ws z.2)
@@ -434,7 +438,8 @@ module _ (d : WriterState) (k : KeptState) (ws : List ℕ) (dropped : List Regio
       → (kept_then : KeptState) → kept_then ≡ unswept k
       → LeavesWorld (filled_world d k ws dropped) configs.Begin (answer_of_config configs.Begin (Ok a) None) e kept_then ws dropped
   begun a is ok kept_then kept =
-      subst (λ (x : KeptState). LeavesWorld (filled_world d k ws dropped) configs.Begin (answer_of_config configs.Begin (Ok a) None) e x ws dropped) (sym kept)
+      subst (λ (x : KeptState). LeavesWorld (filled_world d k ws dropped) configs.Begin (answer_of_config configs.Begin (Ok a) None) e x ws dropped)
+      (sym kept)
       (accepted_rest d k ws dropped h rest configs.Begin e told a (is told) refl ok ws
       (sym (ap (λ (x : Applied). cleared_at ws (made_place e.backed.backing.places x)) ok.answered)) refl refl)
 

@@ -6,8 +6,6 @@ pub mod ComposedLaws
 pub mod ConfiguringLaws
 pub mod FilledLaws
 pub mod HarvestLaws
-pub mod HeldLaws
-pub mod KeepingLaws
 pub mod MadeCellLaws
 pub mod NamedLaws
 pub mod NumberLaws

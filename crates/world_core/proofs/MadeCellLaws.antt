@@ -24,12 +24,14 @@ use Rattle.mem_base.specs.machine.History.{run_events}
 use Rattle.mem_base.proofs.EveryLaws.{weaker, every_push}
 use Rattle.history_laws.specs.BackedForests.{BacksForest}
 use Rattle.world_laws.proofs.Lists.{found_has}
-use Rattle.place_words.specs.Blocks.{AreWithin, blocks_at}
+use Rattle.mem_base.specs.access.PlaceCells.{blocks_at}
+use Rattle.place_words.specs.Blocks.{AreWithin}
 use Rattle.place_words.proofs.CellLaws.{new_cleared, places_keep}
 use Rattle.backing_pool.specs.Backing.{Backing}
 use Rattle.backed_desk.specs.Backed.{BackedState, all_places, backing_at, places_for, forest_at}
 use Rattle.writer_desk.specs.Writers.{unfilled_by, backing_by, applied_by}
-use Rattle.world_core.specs.Configuring.{made_place, cleared_at}
+use Rattle.writer_desk.specs.Writers.{made_place}
+use Rattle.world_core.specs.Configuring.{cleared_at}
 use Rattle.world_core.specs.Events.{makes_region}
 use Rattle.world_core.specs.Unfilled.{cells_at}
 use Rattle.world_core.proofs.ComposedLaws.{fills_leave_blocks}
@@ -101,7 +103,8 @@ module _ (ws : List ℕ) (s : BackedState) (wide : length ws ≡ s.backing.pool_
   }
 
   without_words : (a : Applied) → made_place s.backing.places a ≡ None → Clears (backing_at s.backing.pool_words (s.backing.places ++ [])) a []
-  without_words a none = subst (λ (ps : List Place). Clears (backing_at s.backing.pool_words ps) a []) (sym (append-nil s.backing.places)) (none_made a none)
+  without_words a none = subst (λ (ps : List Place). Clears (backing_at s.backing.pool_words ps) a []) (sym (append-nil s.backing.places))
+      (none_made a none)
 
   with_words : (p : Place) → p.region ≡ made → (g : Forest) → BacksForest s.backing.pool_words g (s.backing.places ++ p ∷ [])
       → Clears (backing_at s.backing.pool_words (s.backing.places ++ p ∷ [])) (Made p.region) (cells_of p ++ [])
@@ -119,7 +122,8 @@ module _ (ws : List ℕ) (s : BackedState) (wide : length ws ≡ s.backing.pool_
         room = subst (λ (o : Option Place). IfSome o (λ q. past q ≤ length ws)) (sym found) (omega (arith, inside, wide));
         cells = new_cleared ws s.backing.places (notifiers_place s.backing.pool_words ∷ []) p within
             (all_apart s.backing.pool_words (s.backing.places ++ p ∷ []) new.inside new.apart)
-            ∙ ap (λ (o : Option Place). blocks_at (cleared_at ws o) ((s.backing.places ++ p ∷ []) ++ notifiers_place s.backing.pool_words ∷ [])) (sym found);
+            ∙ ap (λ (o : Option Place). blocks_at (cleared_at ws o) ((s.backing.places ++ p ∷ []) ++ notifiers_place s.backing.pool_words ∷ []))
+            (sym found);
         fills = λ u e. ap (λ (cs : List Cell). (run_events u (map (λ x. events.Fill x) cs)).world.blocks) (append-nil (cells_of p))
             ∙ fills_leave_blocks p.region p.words (range_with_len 0 p.words) u (ap (λ (bs : List Block). cells_in bs p.region) e
             ∙ new_cells blocks p (notifiers_place s.backing.pool_words ∷ []) s.backing.places strange

@@ -15,7 +15,7 @@ use Rattle.mem_base.specs.machine.World.{World, world, possible, world_after}
 use Rattle.view_laws.proofs.Tests.{both_of, true_is_not_false, none_is_not_some, same_some}
 use Rattle.generation.specs.Published.{Published}
 use Rattle.kept_generations.specs.KeptState.{KeptState, generations_of, shown_by, kept_at, after_publish, with_tracks}
-use Rattle.place_words.specs.Blocks.{blocks_at}
+use Rattle.mem_base.specs.access.PlaceCells.{blocks_at}
 use Rattle.transact.specs.Preparing.{Readied}
 use Rattle.backed_desk.specs.Backed.{all_places}
 use Rattle.writer_desk.specs.Writers.{WriterState, writer_state, desk_of, standing, IsReady, published_with}

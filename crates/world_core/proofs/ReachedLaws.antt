@@ -22,6 +22,7 @@ use Rattle.place_words.proofs.CellLaws.{first_zero}
 use Rattle.kept_generations.specs.KeptState.{KeptState, first_kept, with_states, kept_at}
 use Rattle.writer_desk.specs.Writers.{WriterState, first_state}
 use Rattle.world_core.specs.Worlds.{Aside, aside, world_of, IsReached, IsWorld}
+use Rattle.world_laws.proofs.PassKeeping.{not_entered}
 
 after_last : (w : World) (xs : List PureEntry) (x : PureEntry) → after_entries w (xs ++ x ∷ []) ≡ after_entry (after_entries w xs) x
 after_last w [] x = refl
@@ -57,15 +58,6 @@ passes_change d k l ws x states e h is may goes = record {
   current = ap (λ (m : KeptState). kept_at m m.current) is ∙ h.current;
   wide = h.wide;
 }
-
--- who is entered announced a number before
-not_entered : (p : PassState) → ((number : ℕ) → p.entered ≡ Some number → (before : ℕ) × (p.announced ≡ Some before)) → is_none p.announced ≡ true
-    → is_none p.entered ≡ true
-not_entered p h none = go p.entered refl
-  where
-    go : (o : Option ℕ) → p.entered ≡ o → is_none o ≡ true
-    go None e = refl
-    go (Some n) e = true_is_not_false (is_none p.announced) none (ap (λ (o : Option ℕ). is_none o) (h n e).1)
 
 -- a pass that looked and then announced may enter
 pub may_enter : (w : World) (pass : PassId) → IsReached w → possible w (events.Look pass) ≡ true

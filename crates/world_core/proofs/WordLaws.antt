@@ -12,14 +12,13 @@ use Rattle.mem_base.specs.declared.access.cells.WordStep.TheVariants.{Or}
 use Rattle.mem_base.specs.declared.machine.events.Hand.{Hand}
 use Rattle.mem_base.specs.declared.machine.events.Event.{Event}
 use Rattle.mem_base.specs.declared.machine.events.Event.TheVariants as events
-use Rattle.mem_base.specs.lists.Every.{Every}
+use Rattle.mem_base.specs.lists.Every.{Every, EveryPair}
 use Rattle.mem_base.specs.map.Limits.{notifier_count}
 use Rattle.mem_base.specs.access.Places.{notifiers_place, is_notifiers, past, is_data_or_register, data_words, word_of_page, bit_of_page}
 use Rattle.mem_base.specs.access.PlacesByRegion.{place_in}
 use Rattle.mem_base.specs.access.EditionPlaces.{ArePlacesApart}
 use Rattle.mem_base.specs.access.Cells.{cell, Touch, touch, touch_of, Block, words_after}
-use Rattle.mem_base.specs.lists.Every.{EveryPair}
-use Rattle.mem_base.proofs.EveryLaws.{weaker, every_push}
+use Rattle.mem_base.proofs.EveryLaws.{weaker, every_push, every_element}
 use Rattle.mem_base.specs.machine.Passes.{pass_of}
 use Rattle.mem_base.specs.machine.Generations.{Generation, entered_generation}
 use Rattle.mem_base.specs.machine.World.{World, world, possible, reply, number_in, world_after, touched_blocks, touch_at, old_at}
@@ -31,11 +30,11 @@ use Rattle.turn_laws.proofs.PassSteps.{touch_there}
 use Rattle.world_laws.specs.Standing.{StandsIn}
 use Rattle.world_laws.specs.Entered.{EntersHeld, MayStep}
 use Rattle.world_laws.proofs.Keeping.{Holds, holds, all_stand}
-use Rattle.world_laws.proofs.Lists.{found_has, every_element}
+use Rattle.world_laws.proofs.Lists.{found_has}
 use Rattle.world_laws.proofs.Entering.{entered_generations_are_held, steps_possible}
 use Rattle.access_run.specs.Hands.{IsPlaceOf}
 use Rattle.kept_generations.specs.KeptState.{KeptState}
-use Rattle.place_words.specs.Blocks.{blocks_at}
+use Rattle.mem_base.specs.access.PlaceCells.{blocks_at}
 use Rattle.place_words.proofs.CellLaws.{steps_on_cells}
 use Rattle.backed_desk.specs.Backed.{all_places}
 use Rattle.writer_desk.specs.Writers.{WriterState}

@@ -17,23 +17,17 @@ use Rattle.mem_base.specs.machine.Composites.{completed}
 use Rattle.mem_base.specs.machine.Completions.{IsCompleted}
 use Rattle.world_laws.specs.Legal.{IsLegalCall}
 use Rattle.world_laws.proofs.OrderLaws.{orders_are_legal}
-use Rattle.world_laws.proofs.Running.{Sound, sound, run_ends}
+use Rattle.history_laws.proofs.PureAppends.{run_ends}
+use Rattle.world_laws.proofs.Running.{Sound, sound}
 use Rattle.world_core.specs.Worlds.{IsReached}
 use Rattle.world_core.proofs.ReachedLaws.{reached_after}
+use Rattle.history_laws.proofs.PureAppends.{legal_parts}
 
 pub nothing_left : (cells : List Cell) → (length cells == 0) ≡ true → cells ≡ []
 nothing_left [] h = refl
 nothing_left (c ∷ cs) h = absurd (omega (arith, eqb-true _ _ h))
 
 -- histories in parts
-
-first_part : (w : World) (xs ys : List PureEntry) → IsLegalFrom w (xs ++ ys) → IsLegalFrom w xs
-first_part w [] ys l = tt
-first_part w (x ∷ xs) ys l = (l.0, l.1, first_part (after_entry w x) xs ys l.2)
-
-rest_part : (w : World) (xs ys : List PureEntry) → IsLegalFrom w (xs ++ ys) → IsLegalFrom (after_entries w xs) ys
-rest_part w [] ys l = l
-rest_part w (x ∷ xs) ys l = rest_part (after_entry w x) xs ys l.2
 
 reached_run : (es : List Event) (w : World) → IsReached w → IsLegalFrom w (run_events w es).entries → IsReached (run_events w es).world
 reached_run [] w r l = r
@@ -60,18 +54,18 @@ module _ (w : World) (c : Config) (r : IsReached w) (rest : is_at_rest w.writer.
       ((run_events swept_world (private_of (configure c))).entries ++ (run_events private_world (events_after private_world.writer (configure c))).entries)
   after_sweeps = subst (λ (v : World). IsLegalFrom v ((run_events swept_world (private_of (configure c))).entries
       ++ (run_events private_world (events_after private_world.writer (configure c))).entries)) (run_ends (events_before w.writer (configure c)) w)
-      (rest_part w (run_events w (events_before w.writer (configure c))).entries _ legal.legal)
+      ((legal_parts w (run_events w (events_before w.writer (configure c))).entries _ legal.legal).1)
 
   -- the world after the private event is reached
   pub private_reached : IsReached private_world
   private_reached = reached_run (private_of (configure c)) swept_world
-      (reached_run (events_before w.writer (configure c)) w r (first_part w (run_events w (events_before w.writer (configure c))).entries _ legal.legal))
-      (first_part swept_world (run_events swept_world (private_of (configure c))).entries _ after_sweeps)
+      (reached_run (events_before w.writer (configure c)) w r ((legal_parts w (run_events w (events_before w.writer (configure c))).entries _ legal.legal).0))
+      ((legal_parts swept_world (run_events swept_world (private_of (configure c))).entries _ after_sweeps).0)
 
   -- and so is the one after the call
   pub end_reached : IsReached (completed w (configure c)).world
   end_reached = reached_run (events_after private_world.writer (configure c)) private_world private_reached
-      (rest_part swept_world (run_events swept_world (private_of (configure c))).entries _ after_sweeps)
+      ((legal_parts swept_world (run_events swept_world (private_of (configure c))).entries _ after_sweeps).1)
 
   module _ (v u z : World) (a : Result Applied Refusal) (n : Option ℕ) (before : swept_world ≡ v) (private : world_after v (events.Config c) ≡ u)
       (later : last_world u ≡ z) where

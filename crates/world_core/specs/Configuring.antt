@@ -1,40 +1,19 @@
 -- What a private event of the writer leaves of the parts of the machine, and what it answers.
-use Rattle.std.specs.Prelude.{ℕ, Bool, true, false, if◌then◌else◌, List, map, Option, Some, None, Result, Ok, Err}
-use Rattle.mem_base.specs.declared.map.ids.RegionId.{RegionId}
+use Rattle.std.specs.Prelude.{ℕ, Bool, false, if◌then◌else◌, List, map, Option, Some, None, Result, Ok, Err}
 use Rattle.mem_base.specs.declared.map.calls.Applied.{Applied}
-use Rattle.mem_base.specs.declared.map.calls.Applied.TheVariants.{Made, Done}
 use Rattle.mem_base.specs.declared.map.calls.Config.{Config}
-use Rattle.mem_base.specs.declared.map.calls.Config.TheVariants as configs
 use Rattle.mem_base.specs.declared.map.refusals.Refusal.{Refusal}
-use Rattle.mem_base.specs.declared.map.refusals.Refusal.TheVariants.{Held}
 use Rattle.mem_base.specs.declared.access.cells.Place.{Place}
-use Rattle.mem_base.specs.access.PlacesByRegion.{place_in}
 use Rattle.mem_base.specs.machine.Answers.{Answer, answer_of_config}
 use Rattle.generation.specs.Published.{Published}
 use Rattle.kept_generations.specs.KeptState.{KeptState, with_swept, after_publish}
 use Rattle.kept_generations.specs.Sweeping.{all_swept}
 use Rattle.place_words.specs.Blocks.{cleared}
-use Rattle.writer_desk.specs.Writers.{dropped_by}
-
--- a refusal that says that a pass holds a publish up
-abbrev pub is_held : Refusal → Bool
-is_held (Held pass number) = true
-is_held _ = false
 
 -- what is answered, with the number that was published, as the machine's answer
 abbrev pub answer_by : Config → Result (Applied × Option ℕ) Refusal → Answer
 answer_by k (Ok x) = answer_of_config k (Ok x.0) x.1
 answer_by k (Err why) = answer_of_config k (Err why) None
-
--- the dropped regions after an accepted event
-abbrev pub dropped_with : Config → List RegionId → List RegionId
-dropped_with (configs.Call call) dropped = dropped_by call dropped
-dropped_with k dropped = dropped
-
--- the place of a region that was made, where it has one
-abbrev pub made_place : List Place → Applied → Option Place
-made_place places (Made region) = place_in places region
-made_place places Done = None
 
 -- the words, with those of a place 0
 abbrev pub cleared_at : List ℕ → Option Place → List ℕ

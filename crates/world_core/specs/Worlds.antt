@@ -8,7 +8,7 @@ use Rattle.mem_base.specs.machine.World.{World, world, opening}
 use Rattle.mem_base.specs.machine.Reaps.{writer}
 use Rattle.mem_base.specs.machine.History.{PureEntry, IsLegal, after_entries, run_events}
 use Rattle.kept_generations.specs.KeptState.{KeptState, generations_of, kept_at}
-use Rattle.place_words.specs.Blocks.{blocks_at}
+use Rattle.mem_base.specs.access.PlaceCells.{blocks_at}
 use Rattle.backed_desk.specs.Backed.{all_places}
 use Rattle.writer_desk.specs.Writers.{WriterState, Beside, desk_of}
 

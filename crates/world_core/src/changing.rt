@@ -3,11 +3,11 @@ ghost use Rattle.std.specs.Prelude.{◌≡◌, ◌≢◌, ◌≤◌, true, [], I
 ghost use Rattle.mem_base.specs.declared.machine.events.Event.TheVariants as events;
 ghost use Rattle.mem_base.specs.machine.Configs.{answers};
 ghost use Rattle.mem_base.specs.machine.World.{possible};
-ghost use Rattle.world_core.specs.Configuring.{made_place};
+ghost use Rattle.writer_desk.specs.Writers.{made_place};
 ghost use Rattle.world_core.specs.Events.{IsChanged, makes_region};
 ghost use Rattle.world_core.specs.Unfilled.{cells_at};
 
-use crate::configuring::{clear_made, configured, note_drop};
+use crate::configuring::{clear_made, configured};
 use crate::unfilled::Unfilled;
 use crate::world::World;
 use backed_desk::BackedDesk;
@@ -15,6 +15,7 @@ use mem_base::{Applied, Call, Config, Refusal, Reply};
 use std::alloc::AllocError;
 use std::marker::Brand;
 use std::sync::ledger::Blank;
+use writer_desk::note_drop;
 
 // Makes room to note each word of a region that is to be made, which has at most `words`.
 fn room_for_made(unfilled: &mut Unfilled, config: &Config, words: usize) -> Result<(), AllocError>

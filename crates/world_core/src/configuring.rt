@@ -1,30 +1,28 @@
 // The writer's calls that change the map, and the listeners that join and leave: private events, with what goes before and after.
-ghost use Rattle.std.specs.Prelude.{◌≡◌, ◌≢◌, ◌+◌, ◌^◌, ◌<◌, ◌≤◌, true, length, option_map, vec_capacity, vec_len};
+ghost use Rattle.std.specs.Prelude.{◌≡◌, ◌≢◌, ◌+◌, ◌^◌, ◌<◌, ◌≤◌, true, length, option_map};
 ghost use Rattle.std.specs.Prelude.{Option, Some, Ok, Err, IfSome, OnErr, OnOk, IfOk};
 ghost use Rattle.std.specs.Arc.{arc_value};
 ghost use Rattle.mem_base.specs.declared.map.calls.Config.TheVariants as configs;
-ghost use Rattle.mem_base.specs.lists.Sorting.{put_by};
 ghost use Rattle.mem_base.specs.access.Places.{past};
-ghost use Rattle.mem_base.specs.machine.Desk.{region_order};
 ghost use Rattle.mem_base.specs.machine.World.{is_at_rest};
 ghost use Rattle.mem_base.specs.machine.Orders.{configure};
 ghost use Rattle.mem_base.specs.machine.Answers.{call_answer, commit_answer, plain_answer};
 ghost use Rattle.mem_base.specs.machine.Completions.{IsCompleted};
-ghost use Rattle.writer_desk.specs.Writers.{IsAccepted, IsConfigured};
-ghost use Rattle.world_core.specs.Configuring.{answer_by, cleared_at, dropped_with, followed, is_held, made_place, swept_if, unswept};
+ghost use Rattle.writer_desk.specs.Writers.{IsAccepted, IsConfigured, is_held, made_place};
+ghost use Rattle.world_core.specs.Configuring.{answer_by, cleared_at, followed, swept_if, unswept};
 
 use crate::world::World;
 use backed_desk::BackedDesk;
 use generation::Generation;
 use kept_generations::Kept;
-use mem_base::{Applied, Call, Config, ListenerId, Refusal, RegionId, SpaceId};
+use mem_base::{Applied, Call, Config, ListenerId, Refusal, SpaceId};
 use place_words::Words;
 use std::alloc::Global;
 use std::marker::Brand;
 use std::sync::Arc;
 use std::sync::ledger::{Blank, Ledger};
 use step_counter::Steps;
-use writer_desk::WriterDesk;
+use writer_desk::{WriterDesk, note_drop};
 
 /// The private event, with a counter of carves of its own.
 pub(crate) fn configured<L: Ledger>(
@@ -44,28 +42,6 @@ pub(crate) fn configured<L: Ledger>(
 {
     let mut steps = Steps::<L>::new(blank);
     desk.configure(config, held, &mut steps)
-}
-
-// Puts a region to its place among others that ascend. There is room for one more.
-fn put(regions: &mut Vec<RegionId>, region: RegionId)
-    requires room { vec_len regions.old < vec_capacity regions.old }
-    ensures { regions.new.items ≡ put_by region_order region regions.old.items }
-{
-    let mut at = 0;
-    while at < regions.len() && regions[at].0 <= region.0 {
-        at += 1;
-    }
-    let _ = regions.insert(at, region);
-}
-
-/// A region that is dropped is one of the dropped ones, which ascend. There is room for one more.
-pub(crate) fn note_drop(dropped: &mut Vec<RegionId>, config: &Config)
-    requires room { vec_len dropped.old < vec_capacity dropped.old }
-    ensures { dropped.new.items ≡ dropped_with config.now dropped.old.items }
-{
-    if let Config::Call(Call::Drop { region }) = *config {
-        put(dropped, region);
-    }
 }
 
 /// The words of a region that was made are 0.

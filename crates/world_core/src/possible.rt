@@ -8,7 +8,6 @@ ghost use Rattle.mem_base.specs.machine.World.{is_at_rest, possible};
 
 use crate::harvesting::mark_words;
 use crate::world::World;
-use crate::writing::NOTIFIERS;
 use generation::Generation;
 use mem_base::{
     Cell, Client, Config, Event, Hand, NOTIFIER_COUNT, PAGE_SIZE, PassId, Place, RegionId,
@@ -26,7 +25,7 @@ fn is_data_or_register(place: &Place, word: usize) -> bool
 fn is_notifier(cell: &Cell) -> bool
     ensures { result ≡ is_notifier cell.now }
 {
-    cell.region.0 == NOTIFIERS.0 && cell.word < NOTIFIER_COUNT
+    cell.region.0 == RegionId::NOTIFIERS.0 && cell.word < NOTIFIER_COUNT
 }
 
 // Whether a pass that is entered in a generation may step on a cell of a place.

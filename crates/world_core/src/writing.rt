@@ -14,9 +14,6 @@ use access_cut::number_of;
 use mem_base::{Hand, NOTIFIER_COUNT, Place, Refusal, RegionId, WORD_SIZE, What, WordStep};
 use region_tree::Tree;
 
-/// The owner of the notifiers' words.
-pub(crate) const NOTIFIERS: RegionId = RegionId(u32::MAX);
-
 // Why this count of bytes is not loaded at an offset of a region; `None` where it is.
 fn load_refusal(tree: &Tree, region: RegionId, offset: u64, count: usize) -> Option<Refusal>
     ensures value { result ≡ load_refusal tree.now region offset count }
@@ -83,20 +80,14 @@ impl World {
         ensures region { result.region ≡ notifiers }
     {
         let start = self.words.len() - NOTIFIER_COUNT;
-        Place {
-            region: NOTIFIERS,
-            start,
-            words: NOTIFIER_COUNT,
-            bytes: 0,
-            regs: NOTIFIER_COUNT as u32,
-        }
+        Place::notifiers(start)
     }
 
     /// The place of a region, or of the notifiers: `None` exactly where it has none.
     pub(crate) fn place_of(&self, region: RegionId) -> Option<Place>
         ensures { result ≡ place_in_world self.now region }
     {
-        if region == NOTIFIERS {
+        if region == RegionId::NOTIFIERS {
             return Some(self.notifiers());
         }
         self.desk.backed().place_of(region)

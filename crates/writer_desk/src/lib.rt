@@ -7,6 +7,12 @@
 #![tactic(auto)]
 
 mod desk;
+mod idle;
+mod listened;
+mod ready;
 mod releases;
 
 pub use desk::WriterDesk;
+pub use idle::{IdleDesk, note_drop};
+pub use listened::ListenedDesk;
+pub use ready::{Due, Planned};

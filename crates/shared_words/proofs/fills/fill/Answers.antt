@@ -23,4 +23,5 @@ loop-word-preserved g c =
       stays.1 ∙ inv.2,
       stays.2 ∙ inv.3,
       λ q l. stays.3 q (ap (λ o. get_or o q false) inv.3 ∙ l) ∙ inv.4 q l,
+      λ e. absurd (omega (arith, e)),
     )

@@ -5,13 +5,13 @@ use Rattle.mem_base.specs.declared.machine.events.HistoryEntry.{HistoryEntry}
 use Rattle.mem_base.specs.declared.machine.events.Carried.TheVariants.{Nothing}
 use Rattle.mem_base.specs.machine.Histories.{last_of}
 use Rattle.mem_base.specs.machine.Turns.{history_entry}
-use Rattle.mem_base.specs.machine.Passes.{PassState, pass_after}
+use Rattle.mem_base.specs.machine.Passes.{PassState, pass_after, pass_id}
 use Rattle.epoch_rule.specs.declared.views.Sizes.{Sizes}
-use Rattle.mem_base.specs.machine.Passes.{pass_id}
 use Rattle.mem_base.specs.machine.Actors.{own_entries, generations_published, generation_published}
 use Rattle.epoch_rule.specs.Rule.{IsLegal, pass_seen, PlacesFit}
 use Rattle.epoch_rule.specs.Copies.{IsCopy}
-use Rattle.epoch_rule.proofs.ActorSteps.{look, announce, enter, published_longer}
+use Rattle.history_laws.proofs.AppendLaws.{published_longer}
+use Rattle.epoch_rule.proofs.ActorSteps.{look, announce, enter}
 use Rattle.epoch_rule.proofs.PassLaws.{pass_added, entered_counts, stands_out, stands_in, edition_of, three, top_of, suits_on, ends_added}
 use Rattle.epoch_rule.proofs.cabinet.Cabinet.enter.Goals as goal
 

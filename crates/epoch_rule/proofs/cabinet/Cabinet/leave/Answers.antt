@@ -9,7 +9,8 @@ use Rattle.mem_base.specs.machine.Turns.{history_entry}
 use Rattle.mem_base.specs.machine.Actors.{own_entries, generations_published, generation_published}
 use Rattle.epoch_rule.specs.Rule.{IsLegal, pass_seen}
 use Rattle.epoch_rule.specs.Copies.{IsCopy, HasItsEdition}
-use Rattle.epoch_rule.proofs.ActorSteps.{leave, generation_stays}
+use Rattle.history_laws.proofs.AppendLaws.{generation_stays}
+use Rattle.epoch_rule.proofs.ActorSteps.{leave}
 use Rattle.epoch_rule.proofs.PassLaws.{own_added, begins_added, ends_added, pass_added, stands_at, suits_on}
 use Rattle.epoch_rule.proofs.cabinet.Cabinet.leave.Goals as goal
 

@@ -19,6 +19,17 @@ invariant_of-writer g c =
     swept_writing _ _ c.writer.inside.seat.me c.sweep_all.new.seat.me _ _ c.sweep_all.new.known.items _ n c.sweep_all.ensures.seat.0
     c.sweep_all.ensures.seat.1 s inv
 
+pub returns-clause-some : goal.returns-clause-some
+returns-clause-some g c =
+    let suits = c.self.invariant.suits in
+    let some = c.self.invariant.some in
+    let inv = c.writer.invariant in
+    let t = ap (λ x. x.cabinet) c.writer.view_is ∙ (c.requires.own ∙ sym (ap (λ w. w.id) c.self.view_is)) in
+    let slots = ap (λ y. y.slots) t in
+    let b = suits.1 in
+    let e = inv.suits.1 in
+    rw (sym c.writer.view_is) (omega arith)
+
 pub returns-clause-swept : goal.returns-clause-swept
 returns-clause-swept g c =
     let num = g.E.Edition.counted in

@@ -11,7 +11,8 @@ use Rattle.kept_generations.specs.KeptState.{generations_of}
 use Rattle.backed_desk.specs.Backed.{BackedState}
 use Rattle.writer_desk.specs.Writers.{WriterState, IsConfigured, IsAccepted}
 use Rattle.world_core.specs.Worlds.{aside, world_of, filled_world}
-use Rattle.world_core.specs.Configuring.{dropped_with, made_place, cleared_at}
+use Rattle.writer_desk.specs.Writers.{dropped_with, made_place}
+use Rattle.world_core.specs.Configuring.{cleared_at}
 use Rattle.world_core.specs.Events.{IsChanged}
 use Rattle.world_core.specs.Unfilled.{cells_at}
 use Rattle.world_core.proofs.ChangeLaws.{ChangesWorld, accepted, has_words, refused}

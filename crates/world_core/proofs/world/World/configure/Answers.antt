@@ -14,7 +14,8 @@ use Rattle.kept_generations.specs.Sweeping.{all_swept}
 use Rattle.backed_desk.specs.Backed.{BackedState}
 use Rattle.writer_desk.specs.Writers.{WriterState, desk_of, IsConfigured, IsAccepted}
 use Rattle.world_core.specs.Worlds.{filled_beside}
-use Rattle.world_core.specs.Configuring.{dropped_with, made_place, cleared_at}
+use Rattle.writer_desk.specs.Writers.{dropped_with, made_place}
+use Rattle.world_core.specs.Configuring.{cleared_at}
 use Rattle.world_core.proofs.ConfiguringLaws.{held_is_told, has_room, next_number, next_fits, accepted, refused, refused_as_held}
 use Rattle.world_core.proofs.FilledLaws.{Filled, filled_as, LeavesAll, leaves}
 use Rattle.world_core.proofs.world.World.configure.Goals as goal
@@ -48,7 +49,8 @@ follow-number-requires-clause-number c =
     c.in-Ok.ensures.configured (λ q. cc) in
     let ok : IsAccepted s.desk c.args.config.now c.configured.new.desk c.in-Ok.applied = c.in-Ok.ensures.accepted in
     let number : s.desk.backed.desk.current.number ≡ s.kept.current =
-    ap (λ (p : Published). p.number) (same_some _ _ (sym c.self.invariant.current ∙ c.current_generation.ensures.kept)) ∙ c.current_generation.ensures.number in
+    ap (λ (p : Published). p.number) (same_some _ _ (sym c.self.invariant.current ∙ c.current_generation.ensures.kept))
+    ∙ c.current_generation.ensures.number in
     next_number s.desk s.kept s.words s.dropped.items f.world f.rest c.args.config.now c.configured.new.desk c.held_up_if_swept-held.result
     c.in-Ok.applied is told ok number c.publish.ensures.ready _ arc_value c.publish.result c.publish.ensures.generation
 
@@ -62,7 +64,8 @@ follow-number-requires-clause-fits c =
     c.in-Ok.ensures.configured (λ q. cc) in
     let ok : IsAccepted s.desk c.args.config.now c.configured.new.desk c.in-Ok.applied = c.in-Ok.ensures.accepted in
     let number : s.desk.backed.desk.current.number ≡ s.kept.current =
-    ap (λ (p : Published). p.number) (same_some _ _ (sym c.self.invariant.current ∙ c.current_generation.ensures.kept)) ∙ c.current_generation.ensures.number in
+    ap (λ (p : Published). p.number) (same_some _ _ (sym c.self.invariant.current ∙ c.current_generation.ensures.kept))
+    ∙ c.current_generation.ensures.number in
     let made : IsMade s.desk.backed.desk.state.forest = search rules in
     next_fits s.desk s.kept s.words s.dropped.items f.world f.rest c.args.config.now made _ arc_value c.publish.result
     (next_number s.desk s.kept s.words s.dropped.items f.world f.rest c.args.config.now c.configured.new.desk c.held_up_if_swept-held.result

@@ -1,12 +1,10 @@
-use Rattle.std.proofs.Common.{◌≡◌, true, sym, ap, subst, ◌∙◌}
+use Rattle.std.proofs.Common.{◌≡◌, true, sym, ap, subst, ◌∙◌, rules}
 use Rattle.mem_base.specs.declared.machine.events.Event.TheVariants as events
 use Rattle.mem_base.specs.machine.World.{World, possible, world_after}
 use Rattle.world_core.proofs.ReachedLaws.{may_enter}
-use Rattle.world_core.specs.Worlds.{IsReached}
-use Rattle.std.proofs.Common.{rules}
+use Rattle.world_core.specs.Worlds.{IsReached, after_events}
 use Rattle.mem_base.specs.machine.Composites.{enters}
-use Rattle.world_core.specs.Worlds.{after_events}
-use Rattle.world_core.proofs.KeepingLaws.{enter_keeps}
+use Rattle.world_laws.proofs.PassKeeping.{enter_keeps}
 use Rattle.world_core.proofs.world.World.enter.Goals as goal
 
 pub enter_current-requires : goal.enter_current-requires

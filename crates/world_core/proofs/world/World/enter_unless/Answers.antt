@@ -5,7 +5,8 @@ use Rattle.mem_base.specs.machine.Passes.{pass_of}
 use Rattle.mem_base.specs.machine.World.{World, possible}
 use Rattle.mem_base.specs.machine.Composites.{enters}
 use Rattle.world_core.specs.Worlds.{after_events}
-use Rattle.world_core.proofs.AccessLaws.{inside_of, entered_by}
+use Rattle.world_core.proofs.AccessLaws.{inside_of}
+use Rattle.world_laws.proofs.PassKeeping.{entered_by}
 use Rattle.world_core.proofs.world.World.enter_unless.Goals as goal
 
 pub returns-then-not-entered-clause-inside : goal.returns-then-not-entered-clause-inside

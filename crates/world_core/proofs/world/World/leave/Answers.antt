@@ -1,12 +1,10 @@
 use Rattle.std.proofs.Common.{rules, ◌≡◌, true}
 use Rattle.mem_base.specs.declared.machine.events.Event.TheVariants.{Leave}
-use Rattle.mem_base.specs.machine.World.{possible, world_after}
-use Rattle.world_core.specs.Worlds.{Aside, aside, world_of}
+use Rattle.mem_base.specs.machine.World.{possible, world_after, World}
+use Rattle.world_core.specs.Worlds.{Aside, aside, world_of, after_events}
 use Rattle.world_core.proofs.ReachedLaws.{passes_change}
-use Rattle.mem_base.specs.machine.World.{World}
 use Rattle.mem_base.specs.machine.Composites.{leaves}
-use Rattle.world_core.specs.Worlds.{after_events}
-use Rattle.world_core.proofs.KeepingLaws.{leave_keeps}
+use Rattle.world_laws.proofs.PassKeeping.{leave_keeps}
 use Rattle.world_core.proofs.world.World.leave.Goals as goal
 
 pub invariant_of-self : goal.invariant_of-self

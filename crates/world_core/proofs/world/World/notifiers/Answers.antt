@@ -18,5 +18,5 @@ returns-clause-place c =
     let s = c.self.inside in
     let x : Aside = aside s.dropped.items s.unfilled.cells in
     let len : c.len-start.result ≡ length s.words = search rules in
-    sym (ap (λ (w : World). place_in_world w notifiers) c.self.view_is)
-    ∙ notifiers_after s.desk s.kept s.words x c.self.invariant (c.len-start.result - notifier_count) (ap (λ (n : ℕ). n - notifier_count) len)
+    rw c.notifiers.ensures (sym (ap (λ (w : World). place_in_world w notifiers) c.self.view_is)
+    ∙ notifiers_after s.desk s.kept s.words x c.self.invariant (c.len-start.result - notifier_count) (ap (λ (n : ℕ). n - notifier_count) len))

@@ -1,10 +1,9 @@
 use Rattle.std.proofs.Common.{rules, ◌≡◌, ap, ◌∙◌}
-use Rattle.std.specs.Prelude.{is_some}
-use Rattle.std.specs.Prelude.{length}
+use Rattle.std.specs.Prelude.{is_some, length}
 use Rattle.mem_base.specs.access.AccessSteps.{reading}
 use Rattle.mem_base.specs.machine.World.{World}
 use Rattle.mem_base.specs.machine.Composites.{accessed}
-use Rattle.world_core.proofs.KeepingLaws.{access_keeps}
+use Rattle.world_laws.proofs.PassKeeping.{access_keeps}
 use Rattle.world_core.proofs.world.World.read.Goals as goal
 
 pub leave_unless-number-requires : goal.leave_unless-number-requires

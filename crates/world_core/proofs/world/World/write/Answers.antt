@@ -3,7 +3,7 @@ use Rattle.std.specs.Prelude.{is_some}
 use Rattle.mem_base.specs.access.AccessSteps.{writing}
 use Rattle.mem_base.specs.machine.World.{World}
 use Rattle.mem_base.specs.machine.Composites.{accessed}
-use Rattle.world_core.proofs.KeepingLaws.{access_keeps}
+use Rattle.world_laws.proofs.PassKeeping.{access_keeps}
 use Rattle.world_core.proofs.world.World.write.Goals as goal
 
 pub leave_unless-number-requires : goal.leave_unless-number-requires

@@ -1,0 +1,9 @@
+use Rattle.mem_base.specs.machine.Answers.{plain_answer}
+use Rattle.mem_base.specs.machine.Orders.{load}
+use Rattle.config_desk.proofs.ConfigLaws.{after_turn}
+use Rattle.config_desk.proofs.config.Config.load_bytes.Goals as goal
+
+pub invariant_of-self : goal.invariant_of-self
+invariant_of-self g c =
+    after_turn c.self.inside.desk c.self.inside.hand.seat c.self.invariant c.load.new.self.seat c.load.ensures.parts
+    (load c.args.region c.args.offset c.args.bytes.now) (plain_answer c.load.result) tt c.load.ensures.turn

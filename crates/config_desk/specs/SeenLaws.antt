@@ -1,0 +1,45 @@
+-- What the laws of turns say of the history that the writer's seat has seen, with the private events of the turns put in.
+use Rattle.std.specs.Prelude.{◌≡◌, ℕ, List, ◌∷◌, ◌++◌, Some}
+use Rattle.mem_base.specs.declared.map.ids.ListenerId.{ListenerId}
+use Rattle.mem_base.specs.declared.map.ids.PassId.{PassId}
+use Rattle.mem_base.specs.declared.map.ids.RegionId.{RegionId}
+use Rattle.mem_base.specs.declared.map.kinds.Client.{Client}
+use Rattle.mem_base.specs.declared.access.cells.Place.{Place}
+use Rattle.mem_base.specs.declared.machine.events.Event.TheVariants as events
+use Rattle.mem_base.specs.views.Replay.{replay}
+use Rattle.mem_base.specs.views.Listening.{calls_to}
+use Rattle.mem_base.specs.machine.History.{PureEntry, IsLegal, after_entry, after_entries}
+use Rattle.mem_base.specs.machine.JoinedHistory.{joined_history}
+use Rattle.mem_base.specs.machine.ListenerReplay.{listener_of, heard_of, told_forest}
+use Rattle.mem_base.specs.machine.Reaps.{first_writer}
+use Rattle.mem_base.specs.machine.Turns.{turns}
+use Rattle.mem_base.specs.machine.World.{opening, place_in_world}
+use Rattle.mem_base.specs.machine.CellHistories.{IsMarkKept}
+use Rattle.cell_laws.specs.TurnCells.{ReusesReleased}
+use Rattle.config_desk.specs.Configs.{ConfigState, IsOfTurns}
+
+-- what was seen, as a history of the pure machine
+abbrev pub seen_by_turns : (c : ConfigState) → IsOfTurns c.seat c.part → List PureEntry
+seen_by_turns c t = joined_history (turns (first_writer t.pool_words t.passes) t.orders) c.seat.seen
+
+-- it is legal, and ends in the writer's part
+abbrev pub IsSeenLegal : ConfigState → Type 0
+IsSeenLegal c = (t : IsOfTurns c.seat c.part) → IsLegal t.pool_words t.passes (seen_by_turns c t)
+    × ((after_entries (opening t.pool_words t.passes) (seen_by_turns c t)).writer ≡ c.part)
+
+-- a step on a cell tells what the steps on it before left, from 0 on; and a word of the pool comes to another region only after the
+-- region that had it was released
+abbrev pub ReusesWords : ConfigState → Type 0
+ReusesWords c = (t : IsOfTurns c.seat c.part) → ReusesReleased t.pool_words t.passes (seen_by_turns c t)
+
+-- each mark of a page is told by the first event that takes its word, or its region was released before any did, or it still stands
+abbrev pub KeepsMarks : ConfigState → Type 0
+KeepsMarks c = (t : IsOfTurns c.seat c.part) (before after : List PureEntry) (x : PureEntry) (pass : PassId) (r : RegionId) (client : Client) (page : ℕ) →
+    seen_by_turns c t ≡ before ++ x ∷ after → x.event ≡ events.Mark pass r client page →
+    let w = after_entries (opening t.pool_words t.passes) before in
+    (p : Place) → place_in_world w r ≡ Some p → IsMarkKept p client page (after_entry w x) after
+
+-- all calls that an id got replay to what its listener is to have
+abbrev pub ReplaysToListeners : ConfigState → Type 0
+ReplaysToListeners c = (id : ListenerId) →
+    replay (calls_to id c.part.desk.listening.journal) ≡ Some (heard_of (told_forest c.part) (listener_of c.part.desk.listening.listeners id))
