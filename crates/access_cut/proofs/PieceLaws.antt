@@ -9,8 +9,7 @@ use Rattle.std.proofs.lemmas.Bool.Decides.{nat_tests}
 use Rattle.mem_base.specs.declared.map.kinds.Ops.{Ops}
 use Rattle.mem_base.specs.declared.access.accesses.Piece.{Piece}
 use Rattle.mem_base.specs.access.Pieces.{aligned_size, piece_at, pieces, pieces_from, power_dividing, power_within, size_at}
-use Rattle.access_cut.specs.Conditions.{AreGood, IsCut}
-use Rattle.access_cut.proofs.Good.{some_valid}
+use Rattle.access_cut.specs.Conditions.{IsCut}
 
 -- the bytes of a piece that began before are passed over
 skip : (ops : Ops) (offset left inside : ℕ) → inside ≤ left → pieces_from ops offset left inside ≡ pieces_from ops (offset + inside) (left - inside) 0
@@ -51,62 +50,47 @@ next_cut ops offset left size next within e some most is =
 
 -- How far a piece goes
 
-power_some : (n : ℕ) → 1 ≤ n → 1 ≤ power_within n
-power_some n some = grind (arith, nat_tests)
+pub power_some : (n : ℕ) → 1 ≤ power_within n
+power_some n = grind (arith, nat_tests)
 
-power_most : (n : ℕ) → 1 ≤ n → power_within n ≤ n
-power_most n some = grind (arith, nat_tests)
+pub power_fits : (n m : ℕ) → n ≤ m → 1 ≤ m → power_within n ≤ m
+power_fits n m l some = grind (arith, nat_tests)
 
-dividing_some : (offset : ℕ) → 1 ≤ power_dividing offset
-dividing_some offset = grind (arith, nat_tests)
-
-chosen_some : (b : Bool) (n d : ℕ) → 1 ≤ n → 1 ≤ d → 1 ≤ (if b then n else min n d)
-chosen_some true n d some some' = some
-chosen_some false n d some some' = omega (arith, some, some')
-
-chosen_most : (b : Bool) (n d : ℕ) → (if b then n else min n d) ≤ n
+pub chosen_most : (b : Bool) (n d : ℕ) → (if b then n else min n d) ≤ n
 chosen_most true n d = omega arith
 chosen_most false n d = omega arith
 
-most_left : (ops : Ops) (left : ℕ) → AreGood ops → 1 ≤ left → 1 ≤ min left ops.valid_max
-most_left ops left good some = omega (arith, some, some_valid ops good)
+pub size_some : (ops : Ops) (offset left : ℕ) → 1 ≤ size_at ops offset left
+size_some ops offset left = power_some (aligned_size ops offset (min left ops.valid_max))
 
-size_some : (ops : Ops) (offset left : ℕ) → AreGood ops → 1 ≤ left → 1 ≤ size_at ops offset left
-size_some ops offset left good some =
-    power_some (aligned_size ops offset (min left ops.valid_max))
-    (chosen_some (ops.impl_unaligned || (offset == 0)) (min left ops.valid_max) (power_dividing offset) (most_left ops left good some) (dividing_some offset))
-
-size_most : (ops : Ops) (offset left : ℕ) → AreGood ops → 1 ≤ left → size_at ops offset left ≤ left
-size_most ops offset left good some =
+pub size_most : (ops : Ops) (offset left : ℕ) → 1 ≤ left → size_at ops offset left ≤ left
+size_most ops offset left some =
     let n : ℕ = min left ops.valid_max in
-    let at : 1 ≤ aligned_size ops offset n =
-    chosen_some (ops.impl_unaligned || (offset == 0)) n (power_dividing offset) (most_left ops left good some) (dividing_some offset) in
-    let a = power_most (aligned_size ops offset n) at in
-    let b = chosen_most (ops.impl_unaligned || (offset == 0)) n (power_dividing offset) in
-    omega (arith, a, b)
+    let l = chosen_most (ops.impl_unaligned || (offset == 0)) n (power_dividing offset) in
+    power_fits (aligned_size ops offset n) left (omega (arith, l)) some
 
 -- the piece has a byte, and ends by this offset
 abbrev EndsBy : ℕ → Piece → Type 0
 EndsBy end p = (1 ≤ p.size) × (p.offset + p.size ≤ end)
 
-within : (ops : Ops) → AreGood ops → (offset left inside : ℕ) → All (EndsBy (offset + left)) (pieces_from ops offset left inside)
-within ops good offset zero inside = All-nil (EndsBy (offset + 0))
-within ops good offset (suc left) zero =
+within : (ops : Ops) (offset left inside : ℕ) → All (EndsBy (offset + left)) (pieces_from ops offset left inside)
+within ops offset zero inside = All-nil (EndsBy (offset + 0))
+within ops offset (suc left) zero =
     let same : offset + 1 + left ≡ offset + suc left = omega arith in
     let some : 1 ≤ suc left = omega arith in
-    let most = size_most ops offset (suc left) good some in
+    let most = size_most ops offset (suc left) some in
     All-cons (EndsBy (offset + suc left)) (piece_at ops offset (suc left)) (pieces_from ops (offset + 1) left (size_at ops offset (suc left) - 1))
-    (size_some ops offset (suc left) good some, omega (arith, most))
+    (size_some ops offset (suc left), omega (arith, most))
     (subst (λ e. All (EndsBy e) (pieces_from ops (offset + 1) left (size_at ops offset (suc left) - 1))) same
-    (within ops good (offset + 1) left (size_at ops offset (suc left) - 1)))
-within ops good offset (suc left) (suc inside) =
+    (within ops (offset + 1) left (size_at ops offset (suc left) - 1)))
+within ops offset (suc left) (suc inside) =
     let same : offset + 1 + left ≡ offset + suc left = omega arith in
-    subst (λ e. All (EndsBy e) (pieces_from ops (offset + 1) left inside)) same (within ops good (offset + 1) left inside)
+    subst (λ e. All (EndsBy e) (pieces_from ops (offset + 1) left inside)) same (within ops (offset + 1) left inside)
 
 -- a piece of a cut has a byte, and ends by 2^64
-pub cut_ends : (ops : Ops) (p : Piece) → AreGood ops → IsCut ops p → (1 ≤ p.size) × (p.offset + p.size ≤ 2 ^ 64)
-cut_ends ops p good cut =
-    let at = All-contains (EndsBy (cut.0 + cut.1)) (pieces ops cut.0 cut.1) p (within ops good cut.0 cut.1 0) cut.3 in
+pub cut_ends : (ops : Ops) (p : Piece) → IsCut ops p → (1 ≤ p.size) × (p.offset + p.size ≤ 2 ^ 64)
+cut_ends ops p cut =
+    let at = All-contains (EndsBy (cut.0 + cut.1)) (pieces ops cut.0 cut.1) p (within ops cut.0 cut.1 0) cut.3 in
     (at.0, omega (arith, at.1, cut.2))
 
 -- a piece that a cut gives, after others, is one of a cut

@@ -61,7 +61,7 @@ begins_of ops p good cut = by (p.size / size) refl
     size = callback_size ops p.size
 
     ends : (1 ≤ p.size) × (p.offset + p.size ≤ 2 ^ 64)
-    ends = cut_ends ops p good cut
+    ends = cut_ends ops p cut
 
     some : 1 ≤ size
     some = omega (arith, some_impl ops good)

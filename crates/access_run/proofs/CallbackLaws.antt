@@ -1,17 +1,17 @@
 -- Laws of what callbacks do to registers.
 use Rattle.std.proofs.Common.{◌≡◌, ℕ, zero, suc, ◌+◌, ◌*◌, ◌%◌, ◌^◌, ◌<◌, true, Some, ap, subst, ◌∙◌, arith}
-use Rattle.std.specs.Prelude.{nat_lt}
+use Rattle.std.specs.Prelude.{nat_lt, unwrap_or, option_map}
 use Rattle.std.proofs.lemmas.Bool.Decides.{nat_tests}
 use Rattle.std.proofs.lemmas.Nat.{mod_below, pow-add}
 use Rattle.mem_base.specs.declared.map.kinds.Device.{Device}
 use Rattle.mem_base.specs.declared.map.kinds.DeviceKind.{DeviceKind}
 use Rattle.mem_base.specs.declared.map.kinds.DeviceKind.TheVariants.{Latch, Count, Bell, Fault}
-use Rattle.mem_base.specs.declared.access.accesses.DeviceStep.TheVariants.{Step}
+use Rattle.mem_base.specs.declared.access.accesses.DeviceStep.TheVariants.{Step, Error}
 use Rattle.mem_base.specs.declared.access.cells.Place.{Place}
 use Rattle.mem_base.specs.declared.access.cells.WordStep.{WordStep}
 use Rattle.mem_base.specs.access.Words.{in_word}
 use Rattle.mem_base.specs.access.Places.{data_words, is_data_or_register}
-use Rattle.mem_base.specs.access.DeviceAccess.{step_of, stores, sets, word_step, on_register, register_of}
+use Rattle.mem_base.specs.access.DeviceAccess.{step_of, stores, sets, word_step, register_of}
 use Rattle.access_run.specs.Hands.{IsWriteStep}
 
 -- a register is one of the words that an access may reach
@@ -47,7 +47,7 @@ write_kind device offset size value reg step some e = go device.kind e
     r : ℕ
     r = register_of device offset
 
-    go : (k : DeviceKind) → on_register r (word_step k offset size (Some value)) ≡ Step reg step → IsWriteStep step
+    go : (k : DeviceKind) → unwrap_or (option_map (λ s. Step r s) (word_step k offset size (Some value))) Error ≡ Step reg step → IsWriteStep step
     go Latch f = subst IsWriteStep (same_step r reg (stores offset size value) step f) (stores_bytes offset size value some)
     go Count f = subst IsWriteStep (same_step r reg (stores offset size value) step f) (stores_bytes offset size value some)
     go Bell f = subst IsWriteStep (same_step r reg (sets offset size value) step f) tt

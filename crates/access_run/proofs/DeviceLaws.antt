@@ -3,24 +3,22 @@ use Rattle.std.proofs.Common.{◌≡◌, ℕ, zero, suc, ◌+◌, ◌-◌, ◌*�
 use Rattle.std.proofs.Common.{map, ◌⊎◌, inl, inr, if◌then◌else◌, refl, sym, ap, subst, ◌∙◌, arith, ◌^◌}
 use Rattle.std.specs.List.{range_with_len}
 use Rattle.std.proofs.lemmas.Bool.{eqb-true, cases_lt}
-use Rattle.std.proofs.lemmas.Bool.Decides.{nat_tests}
 use Rattle.std.proofs.Math.Nat.{div-eq_of_lt}
 use Rattle.mem_base.specs.declared.map.kinds.Ops.{Ops}
 use Rattle.mem_base.specs.declared.access.accesses.Piece.{Piece}
 use Rattle.mem_base.specs.lists.Every.{Every}
 use Rattle.mem_base.specs.map.Devices.{is_access_size}
 use Rattle.mem_base.specs.access.Pieces.{aligned_size, callback_at, callback_count, callback_size, callbacks, piece_at, pieces}
-use Rattle.mem_base.specs.access.Pieces.{power_dividing, power_within, size_at}
+use Rattle.mem_base.specs.access.Pieces.{power_within, size_at}
 use Rattle.access_cut.specs.Conditions.{AreGood, IsCut}
 use Rattle.access_cut.specs.Offsets.{place_of, places, row}
-use Rattle.access_cut.proofs.Good.{some_valid}
-use Rattle.access_cut.proofs.PieceLaws.{next_piece, given_is_cut}
+use Rattle.access_cut.proofs.PieceLaws.{next_piece, given_is_cut, size_some, size_most}
 use Rattle.access_cut.proofs.Rows.{row_is_places}
 use Rattle.access_run.specs.Sizes.{IsSize, Tiles, callback_of}
 
 -- sizes
 
-size_so : (n : ℕ) → is_access_size n ≡ true → IsSize n
+pub size_so : (n : ℕ) → is_access_size n ≡ true → IsSize n
 size_so n h = go (n == 1) (n == 2) (n == 4) (n == 8) refl refl refl refl h
   where
     go : (a b c d : Bool) → (n == 1) ≡ a → (n == 2) ≡ b → (n == 4) ≡ c → (n == 8) ≡ d → (a || b || c || d) ≡ true → IsSize n
@@ -145,13 +143,7 @@ callbacks_at ops p = go (range_with_len 0 (callback_count ops p.size))
 
 -- the next piece of an access
 
-power_some : (n : ℕ) → 1 ≤ n → 1 ≤ power_within n
-power_some n some = grind (arith, nat_tests)
-
-power_most : (n : ℕ) → 1 ≤ n → power_within n ≤ n
-power_most n some = grind (arith, nat_tests)
-
-power_is_size : (n : ℕ) → IsSize (power_within n)
+pub power_is_size : (n : ℕ) → IsSize (power_within n)
 power_is_size n = go (nat_le 8 n) (nat_le 4 n) (nat_le 2 n)
   where
     go : (a b c : Bool) → IsSize (if a then 8 else if b then 4 else if c then 2 else 1)
@@ -159,20 +151,6 @@ power_is_size n = go (nat_le 8 n) (nat_le 4 n) (nat_le 2 n)
     go false true c = inr (inr (inl refl))
     go false false true = inr (inl refl)
     go false false false = inl refl
-
-dividing_some : (offset : ℕ) → 1 ≤ power_dividing offset
-dividing_some offset = grind (arith, nat_tests)
-
-chosen : (b : Bool) (n d : ℕ) → 1 ≤ n → 1 ≤ d → (1 ≤ (if b then n else min n d)) × ((if b then n else min n d) ≤ n)
-chosen true n d some some' = (some, omega arith)
-chosen false n d some some' = (omega (arith, some, some'), omega arith)
-
-size_at_some : (ops : Ops) (offset left : ℕ) → AreGood ops → 1 ≤ left → (1 ≤ size_at ops offset left) × (size_at ops offset left ≤ left)
-size_at_some ops offset left good some =
-    let n : ℕ = min left ops.valid_max in
-    let at = chosen (ops.impl_unaligned || (offset == 0)) n (power_dividing offset) (omega (arith, some, some_valid ops good)) (dividing_some offset) in
-    let a = power_most (aligned_size ops offset n) at.0 in
-    (power_some (aligned_size ops offset n) at.0, omega (arith, a, at.1))
 
 pub record NextPiece (ops : Ops) (a m : ℕ) (p : Piece) (rest : List Piece) : Type 0 where
   pub at : p.offset ≡ a
@@ -186,15 +164,16 @@ pub next_given : (ops : Ops) (a m : ℕ) (p : Piece) (rest : List Piece) → Are
 next_given ops a zero p rest good within e = cc
 next_given ops a (suc m) p rest good within e =
     let s : ℕ = size_at ops a (suc m) in
-    let t = size_at_some ops a (suc m) good (omega arith) in
-    let first = next_piece ops a (suc m) s refl t.0 t.1 in
+    let some : 1 ≤ s = size_some ops a (suc m) in
+    let most : s ≤ suc m = size_most ops a (suc m) (omega arith) in
+    let first = next_piece ops a (suc m) s refl some most in
     let both : piece_at ops a (suc m) ∷ pieces ops (a + s) (suc m - s) ≡ p ∷ rest = sym first ∙ e in
     let is : piece_at ops a (suc m) ≡ p = cc in
     let tail : pieces ops (a + s) (suc m - s) ≡ rest = cc in
     let size : s ≡ p.size = ap (λ (x : Piece). x.size) is in record {
       at = sym (ap (λ (x : Piece). x.offset) is);
-      some = subst (λ n. 1 ≤ n) size t.0;
-      most = subst (λ n. n ≤ suc m) size t.1;
+      some = subst (λ n. 1 ≤ n) size some;
+      most = subst (λ n. n ≤ suc m) size most;
       sized = subst IsSize size (power_is_size (aligned_size ops a (min (suc m) ops.valid_max)));
       cut = given_is_cut ops a (suc m) [] rest p within e;
       later = sym tail ∙ (λ i. pieces ops (a + size i) (suc m - size i));
@@ -203,8 +182,7 @@ next_given ops a (suc m) p rest good within e =
 pub no_more : (ops : Ops) (a m : ℕ) → AreGood ops → pieces ops a m ≡ [] → m ≡ 0
 no_more ops a zero good e = refl
 no_more ops a (suc m) good e =
-    let t = size_at_some ops a (suc m) good (omega arith) in
-    let first = next_piece ops a (suc m) (size_at ops a (suc m)) refl t.0 t.1 in
+    let first = next_piece ops a (suc m) (size_at ops a (suc m)) refl (size_some ops a (suc m)) (size_most ops a (suc m) (omega arith)) in
     let bad : piece_at ops a (suc m) ∷ pieces ops (a + size_at ops a (suc m)) (suc m - size_at ops a (suc m)) ≡ [] = sym first ∙ e in cc
 
 -- what holds of each of two lists together

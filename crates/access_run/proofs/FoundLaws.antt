@@ -10,7 +10,7 @@ use Rattle.mem_base.specs.declared.map.forests.Node.{Node}
 use Rattle.mem_base.specs.declared.map.forests.Forest.{Forest}
 use Rattle.mem_base.specs.declared.map.spots.Spot.{Spot}
 use Rattle.mem_base.specs.declared.map.kinds.Kind.{Kind}
-use Rattle.mem_base.specs.declared.map.kinds.Kind.TheVariants.{Container, Ram, Rom, RomDevice, Io, Iommu, Alias, Reserve}
+use Rattle.mem_base.specs.declared.map.kinds.Kind.TheVariants.{Container, Ram, Rom, RomDevice, Io, Iommu, Alias, Reserve, Host}
 use Rattle.mem_base.specs.map.Limits.{most_depth}
 use Rattle.mem_base.specs.map.Region.{node_of}
 use Rattle.mem_base.specs.map.Order.{children_of}
@@ -37,6 +37,7 @@ itself_inside nodes n global (Io device) a e l = in_node nodes n (node_of nodes 
 itself_inside nodes n global Iommu a e l = in_node nodes n (node_of nodes n.id) a e l
 itself_inside nodes n global (Alias target offset) a e l = tt
 itself_inside nodes n global Reserve a e l = in_node nodes n (node_of nodes n.id) a e l
+itself_inside nodes n global Host a e l = in_node nodes n (node_of nodes n.id) a e l
 
 passed_inside : (nodes : List Node) (n : Node) (o : Option Found) → Inside nodes o → Inside nodes (option_map (passed n) o)
 passed_inside nodes n None h = tt

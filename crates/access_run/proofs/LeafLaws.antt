@@ -1,13 +1,13 @@
 -- Laws of the places of leaves, and of what answers there.
-use Rattle.std.proofs.Common.{◌≡◌, ℕ, ◌+◌, ◌/◌, ◌%◌, ◌^◌, ◌<◌, ◌≤◌, ◌-◌, ◌==◌, ◌||◌, ◌&&◌, not, Bool, true, false, List, [], ◌∷◌, length}
+use Rattle.std.proofs.Common.{◌≡◌, ℕ, ◌+◌, ◌/◌, ◌%◌, ◌^◌, ◌<◌, ◌≤◌, ◌-◌, ◌==◌, ◌&&◌, not, Bool, true, false, List, [], ◌∷◌, length}
 use Rattle.std.proofs.Common.{Option, Some, None, ◌⊎◌, inl, inr, refl, sym, ap, subst, ◌∙◌, if◌then◌else◌, arith}
-use Rattle.std.specs.Prelude.{nat_lt, is_some, IsSome, IsSomeAnd, IfSome, option_map, find}
-use Rattle.std.proofs.lemmas.Bool.{eqb-true, eqb-false, lt-ltb}
+use Rattle.std.specs.Prelude.{is_some, IsSome, IsSomeAnd, IfSome, option_map, find, unwrap_or}
+use Rattle.std.proofs.lemmas.Bool.{eqb-true, lt-ltb}
 use Rattle.std.proofs.lemmas.Bool.Decides.{nat_tests}
 use Rattle.mem_base.specs.declared.map.ids.RegionId.{RegionId}
 use Rattle.mem_base.specs.declared.map.spots.Spot.{Spot}
 use Rattle.mem_base.specs.declared.map.kinds.Kind.{Kind}
-use Rattle.mem_base.specs.declared.map.kinds.Kind.TheVariants.{Container, Ram, Rom, RomDevice, Io, Iommu, Alias, Reserve}
+use Rattle.mem_base.specs.declared.map.kinds.Kind.TheVariants.{Container, Ram, Rom, RomDevice, Io, Iommu, Alias, Reserve, Host}
 use Rattle.mem_base.specs.declared.map.kinds.Device.{Device}
 use Rattle.mem_base.specs.declared.map.forests.Node.{Node}
 use Rattle.mem_base.specs.declared.map.forests.Forest.{Forest}
@@ -16,23 +16,24 @@ use Rattle.mem_base.specs.lists.Every.{Every}
 use Rattle.mem_base.specs.map.Kinds.{has_bytes, device_of}
 use Rattle.mem_base.specs.map.Limits.{most_bytes, page_size, notifier_count}
 use Rattle.mem_base.specs.map.Devices.{is_good_device}
-use Rattle.mem_base.specs.map.Region.{node_of}
+use Rattle.mem_base.specs.map.Region.{node_of, of_region}
 use Rattle.mem_base.specs.map.Refusals.{bad_size}
 use Rattle.mem_base.specs.map.TableRefusals.{bad_device, bad_event}
 use Rattle.mem_base.specs.declared.map.ioevents.Ioevent.{Ioevent}
 use Rattle.mem_base.specs.map.Events.{is_good_event}
 use Rattle.mem_base.specs.map.Forest.{IsMade, IsRegion, IsOrderedForest, IsClosedForest}
 use Rattle.mem_base.specs.views.Naming.{names, shows_events}
-use Rattle.mem_base.specs.views.LiveEvents.{events_of, events_at}
+use Rattle.mem_base.specs.views.LiveEvents.{events_of}
 use Rattle.mem_base.specs.access.PlacesByRegion.{notifiers, place_in}
 use Rattle.mem_base.specs.access.Places.{extent_of, words_of, place_from, data_words, is_data_or_register}
 use Rattle.mem_base.specs.access.EditionPlaces.{IsRegionPlace, IsNotifiersPlace, HasPlace, IsEdition}
 use Rattle.mem_base.specs.access.AccessSteps.{Transfer, reading, writing, is_write, length_of, unanswered}
 use Rattle.mem_base.specs.access.MemoryAccess.{in_memory}
 use Rattle.mem_base.specs.access.DeviceAccess.{in_device, fits, notifier_of}
-use Rattle.mem_base.specs.access.Access.{at_leaf, in_region}
+use Rattle.mem_base.specs.access.Access.{at_leaf}
 use Rattle.mem_base.proofs.ForestLaws.{every_node_of, id_of}
 use Rattle.map_laws.proofs.RefusalLaws.{refuse_if-none}
+use Rattle.map_laws.proofs.SizeLaws.{size_whole}
 use Rattle.view_laws.proofs.NamingLaws.{names_leaves}
 use Rattle.view_laws.proofs.ShownEvents.{events_shown}
 use Rattle.map_laws.proofs.CallLaws.{IsOrderedForest-made}
@@ -56,23 +57,6 @@ found_place P (p ∷ ps) r q h e = go (p.region.0 == r.0) refl e (found_place P 
         → (place_in ps r ≡ Some q → P q × (q.region ≡ r)) → P q × (q.region ≡ r)
     go true t e rest = let is : p ≡ q = cc in subst (λ x. P x × (x.region ≡ r)) is (h.0, same_region p.region r (eqb-true p.region.0 r.0 t))
     go false t e rest = rest e
-
--- whole pages of memory
-pub size_whole : (k : Kind) (size : ℕ) → bad_size k size ≡ None → has_bytes k ≡ true → (0 < size) × (size % 4096 ≡ 0) × (size ≤ most_bytes)
-size_whole k size none bytes =
-    let test : ((size == 0) || has_bytes k && (not (size % page_size == 0) || nat_lt most_bytes size)) ≡ false = refuse_if-none _ _ none in
-    go (size == 0) (size % page_size == 0) refl refl (sym (ap (λ b. (size == 0) || b && (not (size % page_size == 0) || nat_lt most_bytes size)) bytes) ∙ test)
-  where
-    not_above : (b : Bool) → nat_lt most_bytes size ≡ b → (false || true && (false || b)) ≡ false → size ≤ most_bytes
-    not_above true h e = cc
-    not_above false h e = grind (arith, nat_tests, h)
-
-    go : (zero whole : Bool) → (size == 0) ≡ zero → (size % page_size == 0) ≡ whole → (zero || true && (not whole || nat_lt most_bytes size)) ≡ false
-        → (0 < size) × (size % 4096 ≡ 0) × (size ≤ most_bytes)
-    go true whole z w e = cc
-    go false false z w e = cc
-    go false true z w e = let some : size ≡ 0 → ⊥ = eqb-false size 0 z in
-        (omega (arith, some), eqb-true (size % 4096) 0 w, not_above (nat_lt most_bytes size) refl e)
 
 module _ (g : Published) (k : IsEdition g.forest g.places) where
   abbrev f : Forest
@@ -141,7 +125,7 @@ module _ (g : Published) (k : IsEdition g.forest g.places) where
         go (inr h) e = absurd (not_notifiers r n is (sym e ∙ ap (λ (x : Place). x.region) h.1))
 
     -- words, where there are bytes or registers
-    bytes_words : (kind : Kind) (size : ℕ) → bad_size kind size ≡ None → has_bytes kind ≡ true → 0 < words_of (extent_of kind size)
+    pub bytes_words : (kind : Kind) (size : ℕ) → bad_size kind size ≡ None → has_bytes kind ≡ true → 0 < words_of (extent_of kind size)
     bytes_words kind size none bytes =
         let t = size_whole kind size none bytes in
         let d : 0 < size / 8 = omega (arith, t.0, t.1) in
@@ -156,6 +140,7 @@ module _ (g : Published) (k : IsEdition g.forest g.places) where
         go Iommu e d = cc
         go (Alias target offset) e d = cc
         go Reserve e d = cc
+        go Host e d = cc
 
     good : (device : Device) → device_of n.kind ≡ Some device → IsGood device
     good device e =
@@ -167,8 +152,8 @@ module _ (g : Published) (k : IsEdition g.forest g.places) where
         go false e h = cc
 
     -- what has no place answers nothing
-    pub unplaced : (spot : Spot) (t : Transfer) → place_in places r ≡ None → in_region (node_of f.nodes r) spot t ≡ unanswered t
-    unplaced spot t none = ap (λ o. in_region o spot t) is ∙ go n.kind refl
+    pub unplaced : (spot : Spot) (t : Transfer) → place_in places r ≡ None → of_region f.nodes r (unanswered t) (λ n. at_leaf n.kind n spot t) ≡ unanswered t
+    unplaced spot t none = ap (λ o. unwrap_or (option_map (λ (m : Node). at_leaf m.kind m spot t) o) (unanswered t)) is ∙ go n.kind refl
       where
         memory : (kind : Kind) → n.kind ≡ kind → has_bytes kind ≡ true → ⊥
         memory kind e bytes = leaf_has_place none
@@ -185,6 +170,7 @@ module _ (g : Published) (k : IsEdition g.forest g.places) where
         go Iommu e = refl
         go (Alias target offset) e = refl
         go Reserve e = refl
+        go Host e = refl
 
     module _ (spot : Spot) (here : spot.leaf ≡ r) (p : Place) (found : place_in places r ≡ Some p) where
       itself_there : IsPlaceOf g p
@@ -203,7 +189,7 @@ module _ (g : Published) (k : IsEdition g.forest g.places) where
       memory_there write bytes does =
           let size : p.bytes ≡ n.size = ap (λ (x : Place). x.bytes) (leaf_place p found).1 ∙ whole n.kind bytes in
           let t = size_whole n.kind n.size region.sized bytes in record {
-            does = λ t w. ap (λ o. in_region o spot t) (ap (node_of f.nodes) here ∙ is) ∙ does t w;
+            does = λ t w. ap (λ o. unwrap_or (option_map (λ (m : Node). at_leaf m.kind m spot t) o) (unanswered t)) (ap (node_of f.nodes) here ∙ is) ∙ does t w;
             placed = itself_there;
             region = (leaf_place p found).0 ∙ sym here;
             pages = ap (λ m. m % page_size) size ∙ t.1;
@@ -220,6 +206,7 @@ module _ (g : Published) (k : IsEdition g.forest g.places) where
           whole Iommu e = cc
           whole (Alias target offset) e = cc
           whole Reserve e = cc
+          whole Host e = cc
 
       -- the steps of a device by its region and its ioeventfds
       by_region : (device : Device) (base : ℕ) (t : Transfer)
@@ -236,9 +223,9 @@ module _ (g : Published) (k : IsEdition g.forest g.places) where
           let fits = (leaf_place p found).1 in
           let at : p.region ≡ r = (leaf_place p found).0 in
           let id : n.id ≡ p.region = id_of f.nodes r n is ∙ sym at in
-          let events : n.events ≡ events_of f p.region = sym (ap events_at (ap (node_of f.nodes) at ∙ is)) in
+          let events : n.events ≡ events_of f p.region = sym (ap (λ (m : Option Node). unwrap_or (option_map (λ n. n.events) m) []) (ap (node_of f.nodes) at ∙ is)) in
           let bytes : (extent_of n.kind n.size).bytes ≡ p.bytes = sym (ap (λ (x : Place). x.bytes) fits) in record {
-            does = λ t w. ap (λ o. in_region o spot t) (ap (node_of f.nodes) here ∙ is) ∙ does t w
+            does = λ t w. ap (λ o. unwrap_or (option_map (λ (m : Node). at_leaf m.kind m spot t) o) (unanswered t)) (ap (node_of f.nodes) here ∙ is) ∙ does t w
                 ∙ by_region device (data_words (extent_of n.kind n.size).bytes) t
                 ∙ (λ i. device_steps (id i) (events i) device (data_words (bytes i)) spot.offset t);
             placed = itself_there;
@@ -257,6 +244,7 @@ module _ (g : Published) (k : IsEdition g.forest g.places) where
           registers Iommu e = cc
           registers (Alias target offset) e = cc
           registers Reserve e = cc
+          registers Host e = cc
 
 -- a ROM device is read directly while its mode is on
 pub rom_device_direct : (n : Node) (device : Device) (spot : Spot) (write : Bool) (t : Transfer) → n.kind ≡ RomDevice device → spot.attrs.romd ≡ true
@@ -314,7 +302,7 @@ notifier_known f made r n is offset size value o e =
 
 pub notifier_shown : (f : Forest) (r : RegionId) (n : Node) → names f r ≡ true → node_of f.nodes r ≡ Some n → (offset size value : ℕ) (o : Option ℕ)
     → o ≡ notifier_of n.events offset size value → IfSome o (λ number. shows_events f ≡ true)
-notifier_shown f r n named is offset size value o e = go n.events (ap events_at is) o e
+notifier_shown f r n named is offset size value o e = go n.events (ap (λ (m : Option Node). unwrap_or (option_map (λ n. n.events) m) []) is) o e
   where
     shown : 0 < length (events_of f r) → shows_events f ≡ true
     shown some = (events_shown f).1 (r, (names_leaves f r).0 named, some)

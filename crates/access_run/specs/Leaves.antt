@@ -7,13 +7,13 @@ use Rattle.mem_base.specs.declared.access.cells.Place.{Place}
 use Rattle.mem_base.specs.declared.access.accesses.Target.{Target}
 use Rattle.mem_base.specs.declared.access.accesses.Target.TheVariants.{Leaf, Unassigned}
 use Rattle.mem_base.specs.map.Limits.{most_bytes, page_size}
-use Rattle.mem_base.specs.map.Region.{node_of}
+use Rattle.mem_base.specs.map.Region.{node_of, of_region}
 use Rattle.mem_base.specs.views.Naming.{names}
 use Rattle.mem_base.specs.views.LiveEvents.{events_of}
 use Rattle.mem_base.specs.access.Places.{data_words}
 use Rattle.mem_base.specs.access.AccessSteps.{Transfer, is_write, AccessStep, unanswered}
 use Rattle.mem_base.specs.access.MemoryAccess.{in_memory}
-use Rattle.mem_base.specs.access.Access.{in_region}
+use Rattle.mem_base.specs.access.Access.{at_leaf}
 use Rattle.access_cut.specs.Conditions.{IsGood}
 use Rattle.generation.specs.Published.{Published}
 use Rattle.access_run.specs.declared.leaves.Backing.{Backing}
@@ -33,7 +33,7 @@ IsTargetRun f Unassigned bytes = Unit {0}
 
 -- a write, or a read, at the spot does just this
 abbrev pub IsDoneBy : Published → Spot → Bool → (Transfer → List AccessStep) → Type 0
-IsDoneBy g spot write does = (t : Transfer) → is_write t ≡ write → in_region (node_of g.forest.nodes spot.leaf) spot t ≡ does t
+IsDoneBy g spot write does = (t : Transfer) → is_write t ≡ write → of_region g.forest.nodes spot.leaf (unanswered t) (λ n. at_leaf n.kind n spot t) ≡ does t
 
 -- the place is the leaf's, and is whole pages of memory; bytes that lie in the region lie in its data
 pub record IsMemoryAt (g : Published) (spot : Spot) (write : Bool) (p : Place) : Type 0 where

@@ -14,9 +14,6 @@ use generation::Generation;
 use ioevents::matches;
 use mem_base::{Edition, Piece, RegionId, WordStep};
 
-// The owner of the notifiers' words.
-const NOTIFIERS: RegionId = RegionId(u32::MAX);
-
 /// The notifier that a piece of a write to a region sets by its value, if any. The region is a leaf of the generation.
 pub(crate) fn notifier(g: &Generation, region: RegionId, piece: &Piece, value: u64) -> Option<u32>
     requires { names g.now.forest region ≡ true }
@@ -35,7 +32,7 @@ pub(crate) fn notify<H: Writes>(hand: &mut H, number: u32)
     requires takes { H.takes hand.old (Or 1) }
     ensures { HasDone H.makes (H.pass hand.old) hand.old (steps (notifier_cell number) (Or 1) nothing_shown ∷ []) [] hand.new }
 {
-    let Some(place) = hand.generation().place_of(NOTIFIERS) else {
+    let Some(place) = hand.generation().place_of(RegionId::NOTIFIERS) else {
         unreachable!()
     };
     hand.write_word(&place, number as usize, WordStep::Or { bits: 1 });

@@ -34,13 +34,28 @@ pub(crate) fn padded(bytes: &[u8], size: u8, big: bool) -> u64
     }
 }
 
+// The same, where the caller tells how many there is room for: where that is a constant, no loop is left.
+fn put_count(number: u64, size: u8, big: bool, out: &mut [u8], count: usize)
+    requires count { count ≡ length out.old }
+    requires fits { length out.old ≤ size }
+    requires size { size ≤ 8 }
+    ensures { out.new ≡ take (length out.old) (bytes_of number size big) }
+{
+    for i in 0..count {
+        out[i] = byte_of(number, size, big, i as u8);
+    }
+}
+
 /// Puts the first bytes of a number of `size` bytes, in the order of addresses, as many as there is room for.
 pub(crate) fn put(number: u64, size: u8, big: bool, out: &mut [u8])
     requires fits { length out.old ≤ size }
     requires size { size ≤ 8 }
     ensures { out.new ≡ take (length out.old) (bytes_of number size big) }
 {
-    for i in 0..out.len() {
-        out[i] = byte_of(number, size, big, i as u8);
+    let count = out.len();
+    if count == 8 {
+        put_count(number, size, big, out, 8);
+    } else {
+        put_count(number, size, big, out, count);
     }
 }

@@ -17,7 +17,7 @@ both true true e = (refl, refl)
 both true false e = cc
 both false y e = cc
 
-bool_eq-is : (x y : Bool) → bool_eq x y ≡ true → x ≡ y
+pub bool_eq-is : (x y : Bool) → bool_eq x y ≡ true → x ≡ y
 bool_eq-is true true e = refl
 bool_eq-is true false e = cc
 bool_eq-is false true e = cc

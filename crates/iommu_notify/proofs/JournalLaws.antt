@@ -1,13 +1,13 @@
 -- The journal of notices, and what each watcher got of it.
-use Rattle.std.proofs.Common.{◌≡◌, ℕ, ◌+◌, ◌≤◌, Bool, true, false, not, ◌||◌, cond, eqb, List, [], ◌∷◌, ◌++◌, length, map, filter}
+use Rattle.std.proofs.Common.{◌≡◌, ℕ, Bool, true, false, not, ◌||◌, cond, eqb, List, [], ◌∷◌, ◌++◌, length, map, filter}
 use Rattle.std.proofs.Common.{drop, flat_map}
-use Rattle.std.proofs.Common.{Option, Some, None, refl, sym, ap, subst, ◌∙◌, arith}
+use Rattle.std.proofs.Common.{Option, Some, None, refl, ap, ◌∙◌, arith}
 use Rattle.std.specs.List.{list_any}
 use Rattle.std.specs.Option.{option_or}
 use Rattle.std.proofs.lemmas.List.{append-nil, drop-append-le, length-append}
 use Rattle.std.proofs.Math.Seq.{drop-append_seam}
 use Rattle.std.proofs.lemmas.Bool.Decides.{nat_tests}
-use Rattle.mem_base.specs.declared.map.ids.NotifierId.{NotifierId}
+use Rattle.mem_base.specs.declared.map.ids.WatcherId.{WatcherId}
 use Rattle.mem_base.specs.declared.map.forests.Forest.{Forest}
 use Rattle.mem_base.specs.declared.map.refusals.Refusal.{Refusal}
 use Rattle.mem_base.specs.declared.access.notices.Part.{Part}
@@ -16,10 +16,10 @@ use Rattle.mem_base.specs.map.Refusals.{refuse_if}
 use Rattle.mem_base.specs.lists.Every.{Every, EveryPair}
 use Rattle.mem_base.specs.access.Parts.{notices_to, notices_between, parts_after_all, replay_notices}
 use Rattle.mem_base.specs.script.Watching.{Watcher, Noticed, parts_shown, with_parts, notices_of, notices_all, caught_up}
-use Rattle.mem_base.specs.script.Watching.{is_watcher, with_number, without_number}
+use Rattle.mem_base.specs.script.Watching.{with_number, without_number}
 use Rattle.mem_base.proofs.EveryLaws.{weaker, both, every_map, every_filter, every_push}
 use Rattle.iommu_notify.specs.PartLists.{AreParts, noticed}
-use Rattle.iommu_notify.specs.Watchers.{Joined, joined, notices_state, has_same_id, is_joined, has_watcher, IsReplayed}
+use Rattle.iommu_notify.specs.Watchers.{Joined, joined, notices_state, has_same_id, is_joined, IsReplayed}
 use Rattle.iommu_notify.specs.Watchers.{AreReplayed, caught, told, others, leaving}
 use Rattle.iommu_notify.proofs.ReplayLaws.{after_then, replay_between}
 
@@ -37,14 +37,14 @@ pub watchers_pushed : (js : List Joined) (j : Joined)
 watchers_pushed [] j = refl
 watchers_pushed (i ∷ is) j = ap (λ ws. i.watcher ∷ ws) (watchers_pushed is j)
 
-pub watchers_others : (id : NotifierId) (js : List Joined)
+pub watchers_others : (id : WatcherId) (js : List Joined)
     → map (λ j. j.watcher) (others id js) ≡ without_number id.0 (map (λ j. j.watcher) js)
 watchers_others id [] = refl
 watchers_others id (j ∷ js) = elim (is_joined id j) as (λ b. map (λ i. i.watcher) (cond (not b) (j ∷ others id js) (others id js))
     ≡ cond (not b) (j.watcher ∷ without_number id.0 (map (λ i. i.watcher) js)) (without_number id.0 (map (λ i. i.watcher) js)))
     [ true ↦ watchers_others id js | false ↦ ap (λ ws. j.watcher ∷ ws) (watchers_others id js) ]
 
-pub notices_leaving : (id : NotifierId) (js : List Joined)
+pub notices_leaving : (id : WatcherId) (js : List Joined)
     → leaving id js ≡ flat_map (notices_of []) (with_number id.0 (map (λ j. j.watcher) js))
 notices_leaving id [] = refl
 notices_leaving id (j ∷ js) = elim (is_joined id j) as
@@ -55,17 +55,17 @@ notices_leaving id (j ∷ js) = elim (is_joined id j) as
 
 -- What one watcher got
 
-to_append : (id : NotifierId) (xs ys : List Noticed) → notices_to id (xs ++ ys) ≡ notices_to id xs ++ notices_to id ys
+to_append : (id : WatcherId) (xs ys : List Noticed) → notices_to id (xs ++ ys) ≡ notices_to id xs ++ notices_to id ys
 to_append id [] ys = refl
 to_append id (x ∷ xs) ys = elim (eqb x.0.0 id.0) as (λ b. cond b (x.1 ∷ notices_to id (xs ++ ys)) (notices_to id (xs ++ ys))
     ≡ cond b (x.1 ∷ notices_to id xs) (notices_to id xs) ++ notices_to id ys)
     [ true ↦ ap (λ zs. x.1 ∷ zs) (to_append id xs ys) | false ↦ to_append id xs ys ]
 
-to_own : (id : NotifierId) (xs : List Notice) → notices_to id (noticed id xs) ≡ xs
+to_own : (id : WatcherId) (xs : List Notice) → notices_to id (noticed id xs) ≡ xs
 to_own id [] = refl
 to_own id (x ∷ xs) = let one : eqb id.0 id.0 ≡ true = grind (arith, nat_tests) in rw one (ap (λ zs. x ∷ zs) (to_own id xs))
 
-to_other : (id other : NotifierId) (xs : List Notice) → eqb other.0 id.0 ≡ false → notices_to id (noticed other xs) ≡ []
+to_other : (id other : WatcherId) (xs : List Notice) → eqb other.0 id.0 ≡ false → notices_to id (noticed other xs) ≡ []
 to_other id other [] e = refl
 to_other id other (x ∷ xs) e = rw e (to_other id other xs e)
 
@@ -73,7 +73,7 @@ module _ (tell : Joined → List Notice) where
   abbrev telling : List Joined → List Noticed
   telling js = flat_map (λ j. noticed j.watcher.id (tell j)) js
 
-  to_none : (id : NotifierId) (js : List Joined) → Every (λ j. eqb j.watcher.id.0 id.0 ≡ false) js
+  to_none : (id : WatcherId) (js : List Joined) → Every (λ j. eqb j.watcher.id.0 id.0 ≡ false) js
       → notices_to id (telling js) ≡ []
   to_none id [] h = refl
   to_none id (j ∷ js) h =
@@ -190,7 +190,7 @@ all_caught f js journal h parts = record {
 }
 
 -- no watcher has an id
-absent : (id : NotifierId) (js : List Joined) → list_any (is_joined id) js ≡ false
+absent : (id : WatcherId) (js : List Joined) → list_any (is_joined id) js ≡ false
     → Every (λ j. eqb j.watcher.id.0 id.0 ≡ false) js
 absent id [] e = tt
 absent id (j ∷ js) e =
@@ -212,7 +212,7 @@ pairs_pushed : (js : List Joined) (j : Joined) → EveryPair (λ i k. has_same_i
 pairs_pushed [] j h k = (tt, tt)
 pairs_pushed (i ∷ is) j h k = (every_push (λ x. has_same_id i x ≡ false) is j h.0 k.0, pairs_pushed is j h.1 k.1)
 
-none_to : (id other : NotifierId) (xs : List Notice) → eqb other.0 id.0 ≡ false → notices_to other (noticed id xs) ≡ []
+none_to : (id other : WatcherId) (xs : List Notice) → eqb other.0 id.0 ≡ false → notices_to other (noticed id xs) ≡ []
 none_to id other xs e = to_other other id xs (let back : eqb id.0 other.0 ≡ false = grind (arith, nat_tests) in back)
 
 -- one more has joined
@@ -241,7 +241,7 @@ pairs_filter test (j ∷ js) h = elim (test j) as
     ]
 
 -- those that stay get nothing of what those that leave are told
-stay_untold : (id other : NotifierId) (js : List Joined) → eqb other.0 id.0 ≡ false → notices_to other (leaving id js) ≡ []
+stay_untold : (id other : WatcherId) (js : List Joined) → eqb other.0 id.0 ≡ false → notices_to other (leaving id js) ≡ []
 stay_untold id other [] e = refl
 stay_untold id other (j ∷ js) e =
     let rest = stay_untold id other js e in
@@ -259,7 +259,7 @@ stay_untold id other (j ∷ js) e =
     differs : is_joined id j ≡ true → eqb j.watcher.id.0 other.0 ≡ false
     differs t = grind (arith, nat_tests)
 
-those_others : (id : NotifierId) (js : List Joined) → Every (λ j. eqb j.watcher.id.0 id.0 ≡ false) (others id js)
+those_others : (id : WatcherId) (js : List Joined) → Every (λ j. eqb j.watcher.id.0 id.0 ≡ false) (others id js)
 those_others id [] = tt
 those_others id (j ∷ js) =
     let rest = those_others id js in
@@ -268,7 +268,7 @@ those_others id (j ∷ js) =
     [ true ↦ λ t. rest | false ↦ λ t. (t, rest) ] refl
 
 -- one has left
-pub one_left : (id : NotifierId) (js : List Joined) (journal : List Noticed) → AreReplayed (notices_state js journal)
+pub one_left : (id : WatcherId) (js : List Joined) (journal : List Noticed) → AreReplayed (notices_state js journal)
     → AreReplayed (notices_state (others id js) (journal ++ leaving id js))
 one_left id js journal h = record {
   each = weaker (λ j. IsReplayed journal j × (eqb j.watcher.id.0 id.0 ≡ false)) (IsReplayed (journal ++ leaving id js))

@@ -1,8 +1,7 @@
 -- Parts of a table in order: their places by the first offset, and those that a table gives.
-use Rattle.std.proofs.Common.{◌≡◌, ◌≢◌, ℕ, zero, suc, ◌+◌, ◌<◌, ◌≤◌, ◌^◌, min, max, Bool, true, false, ◌&&◌, ◌||◌, cond, eqb, ltb}
+use Rattle.std.proofs.Common.{◌≡◌, ℕ, suc, ◌+◌, ◌<◌, ◌≤◌, Bool, true, false, ◌||◌, cond, eqb, ltb}
 use Rattle.std.proofs.Common.{List, [], ◌∷◌, ◌++◌, length, get_or, drop}
-use Rattle.std.proofs.Common.{map, filter, Result, Ok, Err, refl, sym, ap, ◌∙◌, arith, add-one}
-use Rattle.std.specs.Prelude.{nat_le}
+use Rattle.std.proofs.Common.{map, filter, Result, Ok, Err, refl, sym, ap, ◌∙◌, arith}
 use Rattle.std.specs.List.{list_any}
 use Rattle.std.proofs.lemmas.List.{append-nil, drop_all}
 use Rattle.std.proofs.lemmas.Bool.Decides.{nat_tests}
@@ -17,7 +16,7 @@ use Rattle.mem_base.specs.declared.access.notices.Part.{Part}
 use Rattle.mem_base.specs.lists.Every.{Every}
 use Rattle.mem_base.specs.lists.Sorting.{IsRising, place_at, place_of}
 use Rattle.mem_base.specs.map.Entries.{AreEntries}
-use Rattle.mem_base.specs.access.Parts.{meets_offsets, part_of, parts_of, is_same_part, is_same_perm, part_order}
+use Rattle.mem_base.specs.access.Parts.{meets_offsets, part_of, parts_of, is_same_part, part_order}
 use Rattle.mem_base.proofs.EveryLaws.{weaker}
 use Rattle.mem_base.proofs.EntryLaws.{nat_is}
 use Rattle.mem_base.proofs.PlaceLaws.{Rises, Rises-rising}

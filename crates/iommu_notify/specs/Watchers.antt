@@ -1,9 +1,9 @@
 -- What the watchers with their journal are seen as.
-use Rattle.std.specs.Prelude.{◌≡◌, ◌==◌, ℕ, ◌≤◌, false, not, Bool, List, [], ◌∷◌, map, filter, flat_map, drop, length, Option}
+use Rattle.std.specs.Prelude.{◌≡◌, ◌==◌, ℕ, ◌≤◌, false, not, Bool, List, [], map, filter, flat_map, drop, length, Option}
 use Rattle.std.specs.Prelude.{Some}
 use Rattle.std.specs.Option.{option_or}
 use Rattle.std.specs.List.{list_any}
-use Rattle.mem_base.specs.declared.map.ids.NotifierId.{NotifierId}
+use Rattle.mem_base.specs.declared.map.ids.WatcherId.{WatcherId}
 use Rattle.mem_base.specs.declared.map.ids.RegionId.{RegionId}
 use Rattle.mem_base.specs.declared.map.forests.Forest.{Forest}
 use Rattle.mem_base.specs.declared.map.refusals.What.TheVariants as what
@@ -29,7 +29,7 @@ abbrev pub IsWatcher : Watcher → Type 0
 IsWatcher w = (w.first ≤ w.last) × AreParts w.parts
 
 -- a watcher of a range, which was told of no part yet
-abbrev pub new_watcher : NotifierId → RegionId → ℕ → ℕ → Watcher
+abbrev pub new_watcher : WatcherId → RegionId → ℕ → ℕ → Watcher
 new_watcher id region first last = record { id = id; region = region; first = first; last = last; parts = [] }
 
 -- who watches, in order of joining, and all notices, the oldest first
@@ -43,15 +43,15 @@ notices_state watchers journal = record { joined = watchers; journal = journal }
 abbrev pub watchers_of : NoticesState → List Watcher
 watchers_of s = map (λ j. j.watcher) s.joined
 
-abbrev pub is_joined : NotifierId → Joined → Bool
+abbrev pub is_joined : WatcherId → Joined → Bool
 is_joined id j = is_watcher id.0 j.watcher
 
-abbrev pub has_watcher : NoticesState → NotifierId → Bool
+abbrev pub has_watcher : NoticesState → WatcherId → Bool
 has_watcher s id = list_any (is_joined id) s.joined
 
 -- why a watcher does not join: the id is there already, the range is empty, or too many watch
-abbrev pub join_refusal : NoticesState → NotifierId → ℕ → ℕ → Option Refusal
-join_refusal s id first last = option_or (refuse_if (has_watcher s id) (NameTaken (what.Notifier id)))
+abbrev pub join_refusal : NoticesState → WatcherId → ℕ → ℕ → Option Refusal
+join_refusal s id first last = option_or (refuse_if (has_watcher s id) (NameTaken (what.Watcher id)))
     (watch_refusal (watchers_of s) first last)
 
 -- the notices that a watcher got since it joined, one after another, leave it just its parts
@@ -81,8 +81,8 @@ abbrev pub told : Forest → Joined → List Noticed
 told f j = notices_of (parts_shown f j.watcher) j.watcher
 
 -- the watchers that do not have an id, and what those that have it are told when they leave
-abbrev pub others : NotifierId → List Joined → List Joined
+abbrev pub others : WatcherId → List Joined → List Joined
 others id js = filter (λ j. not (is_joined id j)) js
 
-abbrev pub leaving : NotifierId → List Joined → List Noticed
+abbrev pub leaving : WatcherId → List Joined → List Noticed
 leaving id js = flat_map (λ j. notices_of [] j.watcher) (filter (is_joined id) js)

@@ -6,7 +6,7 @@ ghost use Rattle.mem_base.specs.declared.access.notices.Notice.TheVariants.{Map,
 ghost use Rattle.iommu_notify.specs.PartLists.{AreParts, noticed};
 
 use crate::parts::is_same_part;
-use mem_base::{Notice, NotifierId, Part};
+use mem_base::{Notice, Part, WatcherId};
 use std::alloc::AllocError;
 
 // Whether a part is among these, by halving.
@@ -22,8 +22,8 @@ fn has_part(parts: &[Part], part: &Part) -> bool
 
 // Tells a watcher that those of the first parts which are not among the second are gone.
 fn unmap_each(
-    notices: &mut Vec<(NotifierId, Notice)>,
-    id: NotifierId,
+    notices: &mut Vec<(WatcherId, Notice)>,
+    id: WatcherId,
     parts: &[Part],
     others: &[Part],
 ) -> Result<(), AllocError>
@@ -41,8 +41,8 @@ fn unmap_each(
 
 // Tells a watcher that those of the first parts which are not among the second are there now.
 fn map_each(
-    notices: &mut Vec<(NotifierId, Notice)>,
-    id: NotifierId,
+    notices: &mut Vec<(WatcherId, Notice)>,
+    id: WatcherId,
     parts: &[Part],
     others: &[Part],
 ) -> Result<(), AllocError>
@@ -61,8 +61,8 @@ fn map_each(
 /// Tells a watcher how the parts that it has differ from those that it is to have: each that goes is unmapped, ascending,
 /// and then each that comes is mapped, ascending.
 pub(crate) fn tell(
-    notices: &mut Vec<(NotifierId, Notice)>,
-    id: NotifierId,
+    notices: &mut Vec<(WatcherId, Notice)>,
+    id: WatcherId,
     old: &[Part],
     new: &[Part],
 ) -> Result<(), AllocError>

@@ -8,12 +8,12 @@ ghost use Rattle.mem_base.specs.script.Watching.{notices_all, notices_of, caught
 ghost use Rattle.mem_base.specs.script.Watching.{without_number};
 ghost use Rattle.mem_base.specs.lists.Every.{Every};
 ghost use Rattle.iommu_notify.specs.PartLists.{AreParts};
-ghost use Rattle.iommu_notify.specs.Watchers.{caught, has_watcher, is_joined, join_refusal, leaving, new_watcher, told};
-ghost use Rattle.iommu_notify.specs.Watchers.{watchers_of, AreReplayed};
+ghost use Rattle.iommu_notify.specs.Watchers.{caught, has_watcher, is_joined, join_refusal, joined, leaving, new_watcher, others};
+ghost use Rattle.iommu_notify.specs.Watchers.{told, watchers_of, AreReplayed};
 
 use crate::watchers::Watcher;
 use generation::Generation;
-use mem_base::{MOST_WATCHERS, Notice, NotifierId, Refusal, RegionId, What, Which};
+use mem_base::{MOST_WATCHERS, Notice, Refusal, RegionId, WatcherId, What, Which};
 use std::alloc::{AllocError, Global};
 use std::marker::Model;
 
@@ -25,7 +25,7 @@ use std::marker::Model;
 pub struct Notices {
     alloc: Global,
     watchers: Vec<Watcher>,
-    journal: Vec<(NotifierId, Notice)>,
+    journal: Vec<(WatcherId, Notice)>,
 }
 
 impl Model for Notices {
@@ -39,7 +39,7 @@ impl Model for Notices {
 }
 
 // Whether one of these watchers has an id.
-fn has_id(watchers: &[Watcher], id: NotifierId) -> bool
+fn has_id(watchers: &[Watcher], id: WatcherId) -> bool
     ensures { result ≡ list_any (is_joined id) watchers.now }
 {
     watchers.iter().any(|watcher| watcher.id().0 == id.0)
@@ -50,7 +50,7 @@ fn all_caught_up(
     alloc: Global,
     watchers: &[Watcher],
     generation: &Generation,
-    notices: &mut Vec<(NotifierId, Notice)>,
+    notices: &mut Vec<(WatcherId, Notice)>,
 ) -> Result<Vec<Watcher>, AllocError>
     ensures watchers { IfOk result (λ ws. ws.items ≡ map (caught generation.now.forest) watchers.now) }
     ensures parts { IfOk result (λ ws. Every (λ j. AreParts j.watcher.parts) ws.items) }
@@ -66,8 +66,8 @@ fn all_caught_up(
 // Tells those of the watchers that have an id that their parts are gone.
 fn take_back(
     watchers: &[Watcher],
-    id: NotifierId,
-    notices: &mut Vec<(NotifierId, Notice)>,
+    id: WatcherId,
+    notices: &mut Vec<(WatcherId, Notice)>,
 ) -> Result<(), AllocError>
     ensures { OnOk result (notices.new.items ≡ notices.old.items ++ leaving id watchers.now) }
 {
@@ -93,7 +93,7 @@ impl Notices {
     }
 
     /// All notices, the oldest first, each with the watcher that got it.
-    pub fn journal(&self) -> &[(NotifierId, Notice)]
+    pub fn journal(&self) -> &[(WatcherId, Notice)]
         ensures { result.now ≡ self.now.journal }
     {
         self.journal.as_slice()
@@ -107,22 +107,22 @@ impl Notices {
     }
 
     /// Whether a watcher is there.
-    pub fn has(&self, id: NotifierId) -> bool
+    pub fn has(&self, id: WatcherId) -> bool
         ensures { result ≡ has_watcher self.now id }
     {
         has_id(self.watchers.as_slice(), id)
     }
 
     // Why a watcher does not join.
-    fn join_refusal(&self, id: NotifierId, first: u64, last: u64) -> Option<Refusal>
+    fn join_refusal(&self, id: WatcherId, first: u64, last: u64) -> Option<Refusal>
         ensures { result ≡ join_refusal self.now id first last }
     {
         if self.has(id) {
-            Some(Refusal::NameTaken(What::Notifier(id)))
+            Some(Refusal::NameTaken(What::Watcher(id)))
         } else if last < first {
             Some(Refusal::BadSize)
         } else if self.len() >= MOST_WATCHERS {
-            Some(Refusal::LimitReached(Which::Notifiers, MOST_WATCHERS as u64))
+            Some(Refusal::LimitReached(Which::Watchers, MOST_WATCHERS as u64))
         } else {
             None
         }
@@ -135,7 +135,7 @@ impl Notices {
     /// where 64 watch, tried in this order. A refusal, or a lack of memory, changes nothing.
     pub fn watch(
         &mut self,
-        id: NotifierId,
+        id: WatcherId,
         region: RegionId,
         first: u64,
         last: u64,
@@ -147,6 +147,8 @@ impl Notices {
             watchers_of self.new ≡ watchers_of self.old ++ with_parts (parts_shown generation.now.forest w) w ∷ []) }
         ensures journal { OnOk result (let w = new_watcher id region first last in
             self.new.journal ≡ self.old.journal ++ notices_of (parts_shown generation.now.forest w) w) }
+        ensures since { OnOk result (let w = new_watcher id region first last in self.new.joined ≡ self.old.joined
+            ++ joined (with_parts (parts_shown generation.now.forest w) w) (length self.old.journal) ∷ []) }
         ensures replayed { AreReplayed self.new }
         ensures unchanged { OnErr result (self.new ≡ self.old) }
     {
@@ -166,18 +168,19 @@ impl Notices {
     /// A watcher leaves, and is told that each of its parts is gone, ascending.
     ///
     /// It is refused with `Unknown` exactly where it is not there. A refusal, or a lack of memory, changes nothing.
-    pub fn unwatch(&mut self, id: NotifierId) -> Result<(), Refusal>
-        ensures refused { IfErr result (λ why. why ≢ Memory → (why ≡ Unknown (what.Notifier id))
+    pub fn unwatch(&mut self, id: WatcherId) -> Result<(), Refusal>
+        ensures refused { IfErr result (λ why. why ≢ Memory → (why ≡ Unknown (what.Watcher id))
             × (has_watcher self.old id ≡ false)) }
         ensures accepted { OnOk result (has_watcher self.old id ≡ true) }
         ensures watchers { OnOk result (watchers_of self.new ≡ without_number id.0 (watchers_of self.old)) }
         ensures journal { OnOk result (self.new.journal ≡ self.old.journal ++ flat_map (notices_of [])
             (with_number id.0 (watchers_of self.old))) }
+        ensures since { OnOk result (self.new.joined ≡ others id self.old.joined) }
         ensures replayed { AreReplayed self.new }
         ensures unchanged { OnErr result (self.new ≡ self.old) }
     {
         if !self.has(id) {
-            return Err(Refusal::Unknown(What::Notifier(id)));
+            return Err(Refusal::Unknown(What::Watcher(id)));
         }
         let mut notices = Vec::new(self.alloc);
         take_back(self.watchers.as_slice(), id, &mut notices)?;
@@ -194,6 +197,7 @@ impl Notices {
         ensures watchers { OnOk result (watchers_of self.new ≡ caught_up generation.now.forest (watchers_of self.old)) }
         ensures journal { OnOk result (self.new.journal ≡ self.old.journal ++ notices_all generation.now.forest
             (watchers_of self.old)) }
+        ensures since { OnOk result (self.new.joined ≡ map (caught generation.now.forest) self.old.joined) }
         ensures replayed { AreReplayed self.new }
         ensures unchanged { OnErr result (self.new ≡ self.old) }
     {

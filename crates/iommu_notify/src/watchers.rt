@@ -7,7 +7,7 @@ ghost use Rattle.iommu_notify.specs.Watchers.{joined, new_watcher};
 use crate::differences::tell;
 use crate::parts::parts_in;
 use generation::Generation;
-use mem_base::{Notice, NotifierId, Part, RegionId};
+use mem_base::{Notice, Part, RegionId, WatcherId};
 use std::alloc::{AllocError, Global};
 use std::marker::Model;
 
@@ -15,7 +15,7 @@ use std::marker::Model;
 /// told of.
 #[derive(Debug, Drop)]
 pub(crate) struct Watcher {
-    id: NotifierId,
+    id: WatcherId,
     region: RegionId,
     first: u64,
     last: u64,
@@ -38,7 +38,7 @@ impl Watcher {
     /// A watcher of a range, which was told of no part yet, when there were this many notices.
     pub(crate) fn new(
         alloc: Global,
-        id: NotifierId,
+        id: WatcherId,
         region: RegionId,
         first: u64,
         last: u64,
@@ -58,7 +58,7 @@ impl Watcher {
     }
 
     /// Its id.
-    pub(crate) fn id(&self) -> NotifierId
+    pub(crate) fn id(&self) -> WatcherId
         ensures { result ≡ self.now.watcher.id }
     {
         self.id
@@ -69,7 +69,7 @@ impl Watcher {
         &self,
         alloc: Global,
         generation: &Generation,
-        notices: &mut Vec<(NotifierId, Notice)>,
+        notices: &mut Vec<(WatcherId, Notice)>,
     ) -> Result<Watcher, AllocError>
         ensures watcher { IfOk result (λ w. w ≡ joined
             (with_parts (parts_shown generation.now.forest self.now.watcher) self.now.watcher) self.now.since) }
@@ -92,7 +92,7 @@ impl Watcher {
     /// Tells it that all parts which it has are gone.
     pub(crate) fn taken_back(
         &self,
-        notices: &mut Vec<(NotifierId, Notice)>,
+        notices: &mut Vec<(WatcherId, Notice)>,
     ) -> Result<(), AllocError>
         ensures { OnOk result (notices.new.items ≡ notices.old.items ++ notices_of [] self.now.watcher) }
     {

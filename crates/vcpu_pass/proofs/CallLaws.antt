@@ -1,6 +1,7 @@
 -- Laws of whole calls: what comes before an access and after it, joined with what the access makes.
-use Rattle.std.proofs.Common.{◌≡◌, ℕ, ◌+◌, ◌≤◌, Bool, true, false, List, [], ◌∷◌, ◌++◌, length, refl, sym, ap, subst, ◌∙◌, append-nil, arith}
+use Rattle.std.proofs.Common.{◌≡◌, ℕ, ◌+◌, ◌<◌, ◌≤◌, Bool, true, false, List, [], ◌∷◌, ◌++◌, length, refl, sym, ap, subst, ◌∙◌, append-nil, arith}
 use Rattle.std.proofs.Common.{Option, Some, None}
+use mathlib.Core.List.{IsPrefix}
 use Rattle.std.specs.Prelude.{is_some, IfSome, MatchBool}
 use Rattle.mem_base.specs.declared.map.ids.PassId.{PassId}
 use Rattle.mem_base.specs.declared.map.ids.SpaceId.{SpaceId}
@@ -15,20 +16,22 @@ use Rattle.mem_base.specs.access.Access.{access}
 use Rattle.mem_base.specs.machine.Passes.{pass_id}
 use Rattle.mem_base.specs.machine.Generations.{generation}
 use Rattle.mem_base.specs.machine.Composites.{enters, leaves, enters_unless, leaves_unless, enters_anew, access_events, word_write, is_not_whole}
-use Rattle.mem_base.specs.machine.Actors.{number_seen, generation_published}
+use Rattle.mem_base.specs.machine.Actors.{number_seen, generations_published, generation_published}
 use Rattle.view_laws.proofs.Tests.{true_is_not_false, none_is_not_some}
 use Rattle.generation.specs.Published.{Published}
 use Rattle.epoch_rule.specs.declared.views.Sizes.{Sizes}
 use Rattle.epoch_rule.specs.Rule.{IsLegal}
 use Rattle.epoch_rule.specs.Values.{PassValue}
 use Rattle.epoch_rule.specs.Wrote.{Made, entries_of_enter}
-use Rattle.epoch_rule.proofs.ActorSteps.{generation_stays, published_longer}
+use Rattle.history_laws.proofs.AppendLaws.{generation_stays, published_longer}
 use Rattle.access_run.specs.Runs.{HasDone}
-use Rattle.vcpu_pass.specs.Entries.{entries_of, replies_to_enter, replies_to_leave, replies_around, replies_anew}
+use Rattle.mem_base.specs.machine.PassTurns.{entries_of}
+use Rattle.vcpu_pass.specs.Entries.{replies_to_enter, replies_to_leave, replies_around, replies_anew}
 use Rattle.vcpu_pass.specs.Steps.{generation_shown, generation_in, Adds, HasMade}
-use Rattle.vcpu_pass.specs.StepLaws.{entries_append, adds_then, adds_some, made_none}
+use Rattle.mem_base.proofs.PassTurnLaws.{entries_append}
+use Rattle.vcpu_pass.specs.StepLaws.{adds_then, adds_some, made_none}
 use Rattle.vcpu_pass.specs.Around.{HasBegun, HasEnded}
-use Rattle.vcpu_pass.specs.Calls.{is_entered, HasLeft, HasEntered, GoesBy, HasAccessedBy, HasAccessed, HasRefusedBy, HasRefused, HasWritten8}
+use Rattle.vcpu_pass.specs.Calls.{is_entered, HasLeft, HasEntered, GoesBy, IsPublishedIn, HasAccessedBy, HasAccessed, HasRefusedBy, HasRefused, HasWritten8}
 
 -- what was made, from what was added, and back
 made_of : (v w : PassValue Published) (new : List HistoryEntry) → w.cabinet ≡ v.cabinet → w.number ≡ v.number → w.sizes ≡ v.sizes
@@ -66,13 +69,14 @@ if_number None n e = tt
 if_number (Some g) n e = e
 
 -- what a call makes around its events, by the generation in which the pass then is
-record IsAround (u v : PassValue Published) (number : ℕ) (es : List Event) (rs : List ℕ) (y : PassValue Published) : Type 0 where
+pub record IsAround (u v : PassValue Published) (number : ℕ) (es : List Event) (rs : List ℕ) (y : PassValue Published) : Type 0 where
   pub goes_by : GoesBy u number y
   pub looked : ℕ
   pub made : Made u (entries_of (generation_in v).places
       (enters_unless (is_entered u) (pass_id u.number) ++ (es ++ leaves_unless (is_entered u) (pass_id u.number)))
       (replies_around (is_entered u) looked number rs)) y
   pub shown : generation (generation_in v).forest (generation_in v).places ≡ generation_published y.seen number
+  pub published : IsPublishedIn y number
 
 -- of a pass that was entered
 stayed : (u w : PassValue Published) (es : List Event) (rs : List ℕ) (number : ℕ) → is_some u.edition ≡ true → HasMade u es rs w → HasEnded true w number w
@@ -90,7 +94,13 @@ stayed u w es rs number is m n =
           (replies_around b 0 number rs)) w)
           (sym is) padded;
       shown = ap (λ g. generation g.forest g.places) (sym same) ∙ n.shown.1 ∙ ap (generation_published w.seen) (sym n.is_number);
+      published = subst (λ k. k < length (generations_published w.seen)) (sym n.is_number) n.shown.0;
     }
+
+-- a number that was published stays so
+later_number : (xs ys : List HistoryEntry) → IsPrefix xs ys → (k number : ℕ) → number ≡ k → k < length (generations_published xs)
+    → number < length (generations_published ys)
+later_number xs ys h k number e l = let more = published_longer xs ys h in omega (arith, e, l, more)
 
 -- of one that was not
 came : (u v w y : PassValue Published) (es : List Event) (rs : List ℕ) (number : ℕ) → is_some u.edition ≡ false → HasBegun false u v
@@ -137,10 +147,11 @@ came u v w y es rs number is b each m n =
       shown = ap (λ g. generation g.forest g.places) (sym same) ∙ n.shown.1
           ∙ sym (generation_stays w.seen y.seen l.0.wrote.begins (generation_in w).number n.shown.0)
           ∙ ap (generation_published y.seen) (sym n.is_number);
+      published = later_number w.seen y.seen l.0.wrote.begins (generation_in w).number number n.is_number n.shown.0;
     }
 
 -- of either, where the events are those of a pass of this number
-around : (e : Bool) (u v w y : PassValue Published) (es : PassId → List Event) (rs : List ℕ) (number : ℕ) → HasBegun e u v
+pub around : (e : Bool) (u v w y : PassValue Published) (es : PassId → List Event) (rs : List ℕ) (number : ℕ) → HasBegun e u v
     → length rs ≡ length (es (pass_id v.number)) → HasMade v (es (pass_id v.number)) rs w → HasEnded e w number y
     → IsAround u v number (es (pass_id u.number)) rs y
 around true u v w y es rs number b each m n =
@@ -166,6 +177,7 @@ accessed e u v w y space addr t number result bytes b r d n =
     let same : v.number ≡ u.number = same_number e u v b in
     subst (λ x. HasAccessedBy x u space addr t (record { result = result; number = number }) bytes y) a.shown record {
       goes_by = a.goes_by;
+      published = a.published;
       looked = a.looked;
       replies = d.replies;
       each = d.each ∙ ap (λ k. length (es (pass_id k))) same;
@@ -192,6 +204,7 @@ refused e u v w y space addr value number b still not_whole none n =
     a.made in
     subst (λ x. HasRefusedBy x u space addr value number y) a.shown record {
       goes_by = a.goes_by;
+      published = a.published;
       not_whole = not_whole;
       looked = a.looked;
       made = subst

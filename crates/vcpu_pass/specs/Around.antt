@@ -8,7 +8,8 @@ use Rattle.epoch_rule.specs.Rule.{IsLegal}
 use Rattle.epoch_rule.specs.Copies.{ShowsPublished}
 use Rattle.epoch_rule.specs.Values.{PassValue}
 use Rattle.epoch_rule.specs.Wrote.{Made}
-use Rattle.vcpu_pass.specs.Entries.{entries_of, replies_to_enter, replies_to_leave}
+use Rattle.mem_base.specs.machine.PassTurns.{entries_of}
+use Rattle.vcpu_pass.specs.Entries.{replies_to_enter, replies_to_leave}
 use Rattle.vcpu_pass.specs.Steps.{generation_in}
 
 -- the pass is entered now: it was, or it entered a generation that is no older than what it had seen

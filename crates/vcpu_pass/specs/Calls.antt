@@ -1,5 +1,5 @@
 -- What the calls of a virtual CPU add to the shared history, and what they answer.
-use Rattle.std.specs.Prelude.{◌≡◌, ℕ, ◌≤◌, Bool, true, false, List, [], length, None, is_some, IfSome}
+use Rattle.std.specs.Prelude.{◌≡◌, ℕ, ◌<◌, ◌≤◌, Bool, true, false, List, [], length, None, is_some, IfSome}
 use Rattle.mem_base.specs.declared.map.ids.SpaceId.{SpaceId}
 use Rattle.mem_base.specs.declared.access.accesses.Access.{Access}
 use Rattle.mem_base.specs.access.AccessSteps.{Transfer, events_of_steps, result_of, bytes_read}
@@ -7,11 +7,12 @@ use Rattle.mem_base.specs.access.Access.{access}
 use Rattle.mem_base.specs.machine.Passes.{pass_id}
 use Rattle.mem_base.specs.machine.Generations.{Generation}
 use Rattle.mem_base.specs.machine.Composites.{enters_anew, access_events, is_not_whole, word_write, word_write_events, leaves}
-use Rattle.mem_base.specs.machine.Actors.{number_seen, generation_published}
+use Rattle.mem_base.specs.machine.Actors.{number_seen, generations_published, generation_published}
 use Rattle.generation.specs.Published.{Published}
 use Rattle.epoch_rule.specs.Values.{PassValue}
 use Rattle.epoch_rule.specs.Wrote.{Made}
-use Rattle.vcpu_pass.specs.Entries.{entries_of, replies_anew, replies_around, replies_to_leave}
+use Rattle.mem_base.specs.machine.PassTurns.{entries_of}
+use Rattle.vcpu_pass.specs.Entries.{replies_anew, replies_around, replies_to_leave}
 
 -- the pass is entered
 abbrev pub is_entered : PassValue Published → Bool
@@ -38,6 +39,10 @@ pub record GoesBy (v : PassValue Published) (number : ℕ) (w : PassValue Publis
   pub newest : v.edition ≡ None → number_seen v.seen ≤ number
   pub edition : w.edition ≡ v.edition
 
+-- a generation of this number was published, as the pass has seen
+abbrev pub IsPublishedIn : PassValue Published → ℕ → Type 0
+IsPublishedIn w number = number < length (generations_published w.seen)
+
 -- the generation that the Publish of a number carried, as the pass has seen
 abbrev pub generation_of : PassValue Published → ℕ → Generation
 generation_of w number = generation_published w.seen number
@@ -47,6 +52,7 @@ generation_of w number = generation_published w.seen number
 pub record HasAccessedBy (x : Generation) (v : PassValue Published) (space : SpaceId) (addr : ℕ) (transfer : Transfer) (answer : Access) (bytes : List ℕ)
     (w : PassValue Published) : Type 0 where
   pub goes_by : GoesBy v answer.number w
+  pub published : IsPublishedIn w answer.number
   pub looked : ℕ
   pub replies : List ℕ
   pub each : length replies ≡ length (events_of_steps (pass_id v.number) (access x.forest space addr transfer))
@@ -62,6 +68,7 @@ HasAccessed v space addr transfer answer bytes w = HasAccessedBy (generation_of 
 -- a write of one word that would replace only a part of some word: none of its events was made
 pub record HasRefusedBy (x : Generation) (v : PassValue Published) (space : SpaceId) (addr value number : ℕ) (w : PassValue Published) : Type 0 where
   pub goes_by : GoesBy v number w
+  pub published : IsPublishedIn w number
   pub not_whole : is_not_whole x.forest space addr value ≡ true
   pub looked : ℕ
   pub made : Made v (entries_of x.places (word_write_events (is_entered v) (pass_id v.number) x.forest space addr value)

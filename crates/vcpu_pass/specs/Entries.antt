@@ -1,23 +1,5 @@
--- The entries that the events of a pass are in the shared history.
-use Rattle.std.specs.Prelude.{ℕ, Bool, if◌then◌else◌, List, [], ◌∷◌, ◌++◌, option_and_then}
-use Rattle.mem_base.specs.declared.access.cells.Place.{Place}
-use Rattle.mem_base.specs.declared.machine.events.Event.{Event}
-use Rattle.mem_base.specs.declared.machine.events.Carried.{Carried}
-use Rattle.mem_base.specs.declared.machine.events.HistoryEntry.{HistoryEntry}
-use Rattle.mem_base.specs.access.PlacesByRegion.{place_in}
-use Rattle.mem_base.specs.access.Cells.{region_of}
-use Rattle.mem_base.specs.machine.Desk.{at_place}
-use Rattle.mem_base.specs.machine.Turns.{history_entry}
-
--- what an event of a pass carries: a step on a cell the place that the pass's generation has for the cell's region
-abbrev pub carried_among : List Place → Event → Carried
-carried_among places e = at_place (option_and_then (place_in places) (region_of e))
-
--- an entry for each of these events, in order, with its reply
-abbrev pub entries_of : List Place → List Event → List ℕ → List HistoryEntry
-entries_of places [] replies = []
-entries_of places (e ∷ es) [] = history_entry e (carried_among places e) 0 ∷ entries_of places es []
-entries_of places (e ∷ es) (r ∷ rs) = history_entry e (carried_among places e) r ∷ entries_of places es rs
+-- The replies that the calls of a virtual CPU get beside those of an access.
+use Rattle.std.specs.Prelude.{ℕ, Bool, if◌then◌else◌, List, [], ◌∷◌, ◌++◌}
 
 -- the replies to an enter: the number that the pass looked at, and the number that it entered
 abbrev pub replies_to_enter : ℕ → ℕ → List ℕ

@@ -8,23 +8,14 @@ use Rattle.mem_base.specs.declared.machine.events.Hand.TheVariants as hands
 use Rattle.mem_base.specs.machine.Passes.{pass_id}
 use Rattle.mem_base.specs.machine.Histories.{last_of}
 use Rattle.mem_base.specs.machine.Actors.{own_entries}
-use Rattle.mem_base.specs.machine.Turns.{history_entry}
 use Rattle.view_laws.proofs.Tests.{none_is_not_some}
 use Rattle.generation.specs.Published.{Published}
 use Rattle.epoch_rule.specs.declared.views.Sizes.{Sizes}
 use Rattle.epoch_rule.specs.Values.{PassValue}
 use Rattle.epoch_rule.specs.Wrote.{EndsWith, Wrote}
-use Rattle.vcpu_pass.specs.Entries.{carried_among, entries_of}
+use Rattle.mem_base.specs.machine.PassTurns.{entries_of}
 use Rattle.vcpu_pass.specs.Steps.{generation_shown, generation_in, Adds, HasMade}
-
-pub entries_append : (places : List Place) (es fs : List Event) (rs qs : List ℕ) → length rs ≡ length es
-    → entries_of places (es ++ fs) (rs ++ qs) ≡ entries_of places es rs ++ entries_of places fs qs
-entries_append places [] fs [] qs e = refl
-entries_append places [] fs (r ∷ rs) qs e = absurd (omega (arith, e))
-entries_append places (x ∷ es) fs [] qs e = absurd (omega (arith, e))
-entries_append places (x ∷ es) fs (r ∷ rs) qs e =
-    let less : length rs ≡ length es = omega (arith, e) in
-    ap (λ l. history_entry x (carried_among places x) r ∷ l) (entries_append places es fs rs qs less)
+use Rattle.mem_base.proofs.PassTurnLaws.{entries_append}
 
 last_append : (xs : List HistoryEntry) (y : HistoryEntry) (ys : List HistoryEntry) → last_of (xs ++ y ∷ ys) ≡ last_of (y ∷ ys)
 last_append [] y ys = refl

@@ -12,7 +12,7 @@ use Rattle.epoch_rule.specs.declared.views.Sizes.{Sizes}
 use Rattle.epoch_rule.specs.Rule.{IsLegal}
 use Rattle.epoch_rule.specs.Values.{PassValue}
 use Rattle.epoch_rule.specs.Wrote.{EndsWith}
-use Rattle.vcpu_pass.specs.Entries.{entries_of}
+use Rattle.mem_base.specs.machine.PassTurns.{entries_of}
 
 -- the generation of a pass that is entered in one
 abbrev pub generation_shown : Option Published → Published

@@ -41,3 +41,8 @@ returns-clause-journal c =
 
 pub returns-clause-replayed : goal.returns-clause-replayed
 returns-clause-replayed c = invariant_of-self-2 c
+
+pub returns-clause-since : goal.returns-clause-since
+returns-clause-since c =
+    let f = c.args.generation.now.forest in
+    c.in_ok-watchers.ensures.watchers ∙ ap (map (caught f)) c.as_slice.ensures.value ∙ ap (λ s. map (caught f) s.joined) c.self.view_is

@@ -1,5 +1,5 @@
 use Rattle.std.proofs.Common.{◌≡◌, ◌++◌, [], rules, subst, sym, ap, ◌∙◌, flat_map}
-use Rattle.std.specs.Prelude.{not, filter}
+use Rattle.std.specs.Prelude.{not}
 use Rattle.std.proofs.lemmas.Fn.{filter_same}
 use Rattle.mem_base.specs.script.Watching.{notices_of, with_number, without_number}
 use Rattle.iommu_notify.specs.Watchers.{AreReplayed, Joined, is_joined, leaving, notices_state, others, watchers_of}
@@ -38,3 +38,9 @@ returns-clause-journal c =
 
 pub returns-clause-replayed : goal.returns-clause-replayed
 returns-clause-replayed c = invariant_of-self-2 c
+
+pub returns-clause-since : goal.returns-clause-since
+returns-clause-since c =
+    let id = c.args.id in
+    filter_same _ (λ (j : Joined). not (is_joined id j)) _ (λ x b f k. search rules) _ _ c.retain.ensures.filtered
+    ∙ ap (λ s. others id s.joined) c.self.view_is

@@ -24,10 +24,21 @@ invariant_of-self-2 c =
     let journal : c.append.new.self.items ≡ before ++ notices_of new w = search rules in
     let none : join_refusal c.args.self.now c.args.id c.args.first c.args.last ≡ None = search rules in
     let free : list_any (is_joined c.args.id) old ≡ false = ap (λ s. has_watcher s c.args.id) c.self.view_is
-    ∙ free_id (has_watcher c.args.self.now c.args.id) (NameTaken (what.Notifier c.args.id))
+    ∙ free_id (has_watcher c.args.self.now c.args.id) (NameTaken (what.Watcher c.args.id))
     (watch_refusal (watchers_of c.args.self.now) c.args.first c.args.last) none in
     let all = one_joined old before w new c.self.invariant free refl parts in
     subst AreReplayed (λ i. notices_state (sym (watchers ∙ ap (λ j. old ++ j ∷ []) one) i) (sym journal i)) all
 
 pub returns-clause-replayed : goal.returns-clause-replayed
 returns-clause-replayed c = invariant_of-self-2 c
+
+pub returns-clause-since : goal.returns-clause-since
+returns-clause-since c =
+    let w = new_watcher c.args.id c.args.region c.args.first c.args.last in
+    let new = parts_shown c.args.generation.now.forest w in
+    let one : c.in_ok-watcher.watcher ≡ joined (with_parts new w) (length c.self.inside.journal.items) = c.in_ok-watcher.ensures.watcher
+    ∙ ap (λ j. joined (with_parts (parts_shown c.args.generation.now.forest j.watcher) j.watcher) j.since) c.new-watcher.ensures
+    ∙ ap (λ xs. joined (with_parts new w) (length xs)) c.as_slice-since.ensures.value in
+    let watchers : c.push.new.self.items ≡ c.self.inside.watchers.items ++ c.in_ok-watcher.watcher ∷ [] = search rules in
+    watchers ∙ ap (λ j. c.self.inside.watchers.items ++ j ∷ []) one
+    ∙ ap (λ s. s.joined ++ joined (with_parts new w) (length s.journal) ∷ []) c.self.view_is

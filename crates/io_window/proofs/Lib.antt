@@ -1,0 +1,10 @@
+pub mod ChunkLaws
+pub mod WholeLaws
+pub mod GetLaws
+pub mod PutLaws
+pub mod MarkLaws
+pub mod CutLaws
+pub mod DirectLaws
+pub mod CallLaws
+pub mod MoveLaws
+pub mod CopyLaws

@@ -1,0 +1,5 @@
+pub mod Windows
+pub mod Calls
+pub mod Whole
+pub mod Moves
+pub mod Copies
