@@ -1,34 +1,17 @@
 //! The program `mtree`: it reads a script, does its commands over the memory map of a machine, and writes what
 //! they answer.
 //!
-//! `top` has the top call, which does all that the program does over the words, the source and the sink that it is
-//! handed; its contract says how each ending comes and what is then written. `main` hands in those of the process.
-//! The reading of a script (`script_text`), its run (`script_run`), and the script of a seed (`script_make`) are crates of
-//! their own. What a script is, what its commands mean and what each line looks like is defined in `mem_base`.
+//! `main` hands the words, the standard input and the standard output of the process to the top call (`top_call`), which does
+//! all the rest.
 #![tactic(auto)]
 
-#[cfg(test)]
-mod end_tests;
-mod endings;
-mod kept;
-#[cfg(test)]
-mod language;
-#[cfg(test)]
-mod machines;
-#[cfg(test)]
-mod tests;
-mod top;
-#[cfg(test)]
-mod worked;
-
-use crate::endings::Ending;
-use crate::top::exit_code;
 use outside::{StdSink, StdSource};
 use std::alloc::{AllocError, Global};
 use std::env::Args;
 use std::io;
 use std::io::ErrorKind;
 use std::process::ExitCode;
+use top_call::{Ending, exit_code};
 
 // The words after the program's name; none where one of them is not UTF-8, which no form of words has.
 fn words_of(alloc: Global, args: io::Result<Args>) -> Result<Vec<String>, AllocError> {

@@ -21,8 +21,6 @@ mod schedule;
 mod sink;
 mod source;
 mod standard;
-#[cfg(test)]
-mod tests;
 
 pub use calm::{CalmSink, CalmSource};
 pub use gate::{Actor, Gate, OpenGate};

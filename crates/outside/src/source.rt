@@ -51,7 +51,8 @@ impl From<AllocError> for ReadStop {
 /// All bytes that the source gives, up to the end of its input, where these are at most `most`.
 ///
 /// `Long` exactly where more than `most` bytes came; some of them are then read and some may be left. `Failed`
-/// only where a read failed. After any error the source has lost a prefix of what was left in it.
+/// only where a read failed, and at most `most` bytes came before it. After any error the source has lost a prefix of what was
+/// left in it.
 pub fn read_all<S: Source>(alloc: Global, source: &mut S, most: usize) -> Result<Vec<u8>, ReadStop>
     // All came, and nothing is left.
     ensures all { IfOk result (λ bytes. AllCame (S.left source.old) (S.left source.new) bytes.items) }
@@ -60,7 +61,11 @@ pub fn read_all<S: Source>(alloc: Global, source: &mut S, most: usize) -> Result
     // More bytes came than were allowed.
     ensures long { IsErrOf result ReadStop.Long
         → SomeCame (S.left source.old) (S.left source.new) (λ bytes. most < length bytes) }
+
+    // A read failed, before more came than were allowed.
     ensures failed { IsErrOf result ReadStop.Failed → Rose (S.faults source.old) (S.faults source.new) }
+    ensures short { IsErrOf result ReadStop.Failed
+        → SomeCame (S.left source.old) (S.left source.new) (λ bytes. length bytes ≤ most) }
 
     // Whatever the answer, no more than a prefix of what was left is gone, and no fault is forgotten.
     ensures prefix { CameInOrder (S.left source.old) (S.left source.new) }

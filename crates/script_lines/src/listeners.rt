@@ -8,7 +8,7 @@ ghost use Rattle.script_names.specs.Tables.{printed_names};
 use crate::commands::perm_text;
 use crate::line::Line;
 use crate::spots::add_range;
-use mem_base::{FlatRange, ListenerEvent, ListenerId, Live, Notice, NotifierId, RangeEvent};
+use mem_base::{FlatRange, ListenerEvent, ListenerId, Live, Notice, RangeEvent, WatcherId};
 use script_names::Names;
 use std::alloc::AllocError;
 
@@ -154,12 +154,12 @@ fn add_notice(line: &mut Line, names: &Names, notice: Notice) -> Result<(), Allo
 pub fn add_notice_line(
     line: &mut Line,
     names: &Names,
-    notifier: NotifierId,
+    watcher: WatcherId,
     notice: Notice,
 ) -> Result<(), AllocError>
-    ensures { OnOk result (line.new ≡ line.old ++ notice_line (printed_names names.now) (notifier, notice)) }
+    ensures { OnOk result (line.new ≡ line.old ++ notice_line (printed_names names.now) (watcher, notice)) }
 {
-    line.bytes(names.notifier_name(notifier))?;
+    line.bytes(names.watcher_name(watcher))?;
     line.text(" ")?;
     add_notice(line, names, notice)?;
     line.end()

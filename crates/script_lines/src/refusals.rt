@@ -16,7 +16,7 @@ fn add_what(line: &mut Line, text: &str, names: &Names, what: What) -> Result<()
         What::Region(region) => line.named(text, names.region_name(region)),
         What::Space(space) => line.named(text, names.space_name(space)),
         What::Listener(listener) => line.named(text, names.listener_name(listener)),
-        What::Notifier(notifier) => line.named(text, names.notifier_name(notifier)),
+        What::Watcher(watcher) => line.named(text, names.watcher_name(watcher)),
         What::Entry(iova) => line.placed(text, iova),
         What::Event(offset) => line.placed(text, offset),
     }
@@ -42,7 +42,7 @@ fn which_text(which: Which) -> &'static str
         Which::Entries => "entries",
         Which::Events => "events",
         Which::Calls => "calls",
-        Which::Notifiers => "notifiers",
+        Which::Watchers => "notifiers",
     }
 }
 

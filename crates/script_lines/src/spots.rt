@@ -24,6 +24,7 @@ fn kind_word(kind: Kind) -> &'static str
             offset: _,
         } => "alias",
         Kind::Reserve => "reserve",
+        Kind::Host => "host",
     }
 }
 

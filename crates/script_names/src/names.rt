@@ -1,10 +1,10 @@
 // The names of all sorts.
 ghost use Rattle.std.specs.Prelude.{◌≡◌, ◌<◌, ◌^◌, ◌++◌, [], ◌∷◌, None, Some, IfOk, OnOk, length, option_map};
-ghost use Rattle.mem_base.specs.script.Named.{kind_named, listener_name, notifier_name, region_name, space_name};
+ghost use Rattle.mem_base.specs.script.Named.{kind_named, listener_name, watcher_name, region_name, space_name};
 ghost use Rattle.script_names.specs.Tables.{AllNames, Rebinds, number_of, printed_names, table};
 
 use crate::tables::NameTable;
-use mem_base::{Kind, ListenerId, NotifierId, RegionId, SpaceId};
+use mem_base::{Kind, ListenerId, RegionId, SpaceId, WatcherId};
 use std::alloc::{AllocError, Global};
 use std::marker::Model;
 
@@ -97,10 +97,10 @@ impl Names {
     }
 
     /// The name of a watcher, also of one that has left.
-    pub fn notifier_name(&self, notifier: NotifierId) -> &[u8]
-        ensures { result.now ≡ notifier_name (printed_names self.now) notifier }
+    pub fn watcher_name(&self, watcher: WatcherId) -> &[u8]
+        ensures { result.now ≡ watcher_name (printed_names self.now) watcher }
     {
-        self.notifiers.name_at(notifier.0)
+        self.notifiers.name_at(watcher.0)
     }
 
     /// One more region: its name stands for it, and its id is the number of regions made before it.
@@ -150,16 +150,16 @@ impl Names {
     }
 
     /// One more watcher.
-    pub fn add_notifier(&mut self, alloc: Global, name: &[u8]) -> Result<NotifierId, AllocError>
+    pub fn add_watcher(&mut self, alloc: Global, name: &[u8]) -> Result<WatcherId, AllocError>
         requires free { number_of self.old.notifiers.bound name.now ≡ None }
         requires room { length self.old.notifiers.made < 2 ^ 32 }
-        ensures id { IfOk result (λ notifier. notifier.0 ≡ length self.old.notifiers.made) }
-        ensures notifiers { IfOk result (λ notifier. self.new.notifiers
-            ≡ table (self.old.notifiers.bound ++ (name.now, notifier.0) ∷ []) (self.old.notifiers.made ++ name.now ∷ [])) }
+        ensures id { IfOk result (λ watcher. watcher.0 ≡ length self.old.notifiers.made) }
+        ensures notifiers { IfOk result (λ watcher. self.new.notifiers
+            ≡ table (self.old.notifiers.bound ++ (name.now, watcher.0) ∷ []) (self.old.notifiers.made ++ name.now ∷ [])) }
         ensures others { OnOk result (self.new ≡ record self.old { notifiers = self.new.notifiers }) }
     {
         let number = self.notifiers.bind(alloc, name)?;
-        Ok(NotifierId(number))
+        Ok(WatcherId(number))
     }
 
     /// Lets the name of a dropped region go. The region keeps it in lines.
@@ -181,7 +181,7 @@ impl Names {
     }
 
     /// Lets the name of a watcher that has left go.
-    pub fn drop_notifier(&mut self, name: &[u8])
+    pub fn drop_watcher(&mut self, name: &[u8])
         ensures bound { Rebinds self.old.notifiers.bound self.new.notifiers.bound name.now None }
         ensures same { printed_names self.new ≡ printed_names self.old }
         ensures others { self.new ≡ record self.old { notifiers = self.new.notifiers } }

@@ -1,10 +1,8 @@
 pub mod NamedLaws
-pub mod WorldLaws
 pub mod Writing
 pub mod ReadyLaws
 pub mod OrderLaws
 pub mod ShowLaws
 pub mod PassLaws
-pub mod BoundLaws
 pub mod RunLaws
 pub mod WatchLaws

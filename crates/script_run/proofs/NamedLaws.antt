@@ -1,6 +1,5 @@
 -- Laws of a table of names, as what is there changes.
-use Rattle.std.proofs.Common.{◌≡◌, ◌≢◌, ◌<◌, ◌≤◌, ◌+◌, ℕ, suc, Bool, true, false, ◌&&◌, cond, if◌then◌else◌, List, [], ◌∷◌, ◌++◌}
-use Rattle.std.proofs.Common.{length, Option, Some, None}
+use Rattle.std.proofs.Common.{◌≡◌, ◌≢◌, ◌<◌, ◌≤◌, ◌+◌, ℕ, suc, Bool, true, false, ◌&&◌, cond, if◌then◌else◌, List, [], ◌∷◌, ◌++◌, length, Option, Some, None}
 use Rattle.std.proofs.Common.{refl, sym, ap, subst, ◌∙◌, arith, eqb, eqb-true, ne_eqb, zero-add, add-zero, add-one, add_assoc}
 use mathlib.Core.Logic.{dite}
 use native.Mathlib.Decide.{ℕ_discrete}
@@ -12,6 +11,7 @@ use Rattle.mem_base.specs.script.States.{number_from}
 use Rattle.view_laws.proofs.Tests.{none_is_not_some, same_some, both_of, both, true_is_not_false}
 use Rattle.script_names.specs.Tables.{Rebinds, Table, number_of, table}
 use Rattle.script_run.specs.Ready.{AreSingle, IsNamed}
+use Rattle.run_laws.proofs.Naming.{from_agree}
 
 same_text : (x y : Text) → bytes_eq x y ≡ true → x ≡ y
 same_text x y e = (bytes_eq-Decides x y).0 e
@@ -29,15 +29,6 @@ either_way false false f g = refl
 bytes_eq-sym : (x y : Text) → bytes_eq x y ≡ bytes_eq y x
 bytes_eq-sym x y = either_way (bytes_eq x y) (bytes_eq y x) (λ e. text_same y x (sym (same_text x y e)))
     (λ e. text_same x y (sym (same_text y x e)))
-
--- tests that agree on the numbers of some names
-from_agree : (n : ℕ) (names : List Text) (p q : ℕ → Bool) → ((k : ℕ) → n ≤ k → k < n + length names → p k ≡ q k) → (name : Text)
-    → number_from n names p name ≡ number_from n names q name
-from_agree n [] p q h name = refl
-from_agree n (x ∷ xs) p q h name =
-    let here : p n ≡ q n = h n (omega arith) (omega arith) in
-    let ih = from_agree (n + 1) xs p q (λ k l m. h k (omega arith) (omega arith)) name in
-    (λ i. if bytes_eq x name && here i then Some n else ih i)
 
 single_agree : (n : ℕ) (names : List Text) (p q : ℕ → Bool) → ((k : ℕ) → n ≤ k → k < n + length names → p k ≡ q k)
     → AreSingle n names p → AreSingle n names q

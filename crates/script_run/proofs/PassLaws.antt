@@ -1,6 +1,5 @@
 -- What passes do: they enter and leave, and the writer's part stays as it was.
-use Rattle.std.proofs.Common.{◌≡◌, ◌<◌, ◌+◌, ℕ, zero, suc, Bool, true, false, ◌&&◌, ◌||◌, List, [], ◌∷◌, ◌++◌, length, drop}
-use Rattle.std.proofs.Common.{Option, Some, None, Result, OnOk}
+use Rattle.std.proofs.Common.{◌≡◌, ◌<◌, ◌+◌, ℕ, zero, suc, Bool, true, false, ◌&&◌, ◌||◌, List, [], ◌∷◌, ◌++◌, length, drop, Option, Some, None, Result, OnOk}
 use Rattle.std.proofs.Common.{refl, sym, ap, subst, ◌∙◌, arith, if◌then◌else◌, get_or}
 use Rattle.std.specs.Prelude.{is_some, is_none, nat_lt, slice_set, unwrap_or}
 use Rattle.std.specs.List.{slice_index_or, filter_map, list_any}
@@ -13,16 +12,14 @@ use Rattle.mem_base.specs.declared.access.accesses.Access.{Access}
 use Rattle.mem_base.specs.declared.machine.events.Event.{Event}
 use Rattle.mem_base.specs.declared.machine.events.Event.TheVariants as events
 use Rattle.mem_base.specs.declared.machine.events.Hand.TheVariants as hands
-use Rattle.mem_base.specs.access.AccessSteps.{AccessStep, Transfer, blank, steps, marks, event_of, events_of_steps, reading}
-use Rattle.mem_base.specs.access.AccessSteps.{writing}
+use Rattle.mem_base.specs.access.AccessSteps.{AccessStep, Transfer, blank, steps, marks, event_of, events_of_steps, reading, writing}
 use Rattle.mem_base.specs.map.Region.{node_of}
 use Rattle.mem_base.specs.views.Listening.{Delivery, is_listener}
 use Rattle.mem_base.specs.machine.Passes.{PassState, idle, is_pass, pass_of}
 use Rattle.mem_base.specs.machine.Reaps.{Writer}
 use Rattle.mem_base.specs.machine.World.{World, possible, is_at_rest, world_after}
 use Rattle.mem_base.specs.machine.History.{run_events}
-use Rattle.mem_base.specs.machine.Composites.{accessed, enters, enters_anew, enters_unless, is_entered, leaves, leaves_unless}
-use Rattle.mem_base.specs.machine.Composites.{steps_in}
+use Rattle.mem_base.specs.machine.Composites.{accessed, enters, enters_anew, enters_unless, is_entered, leaves, leaves_unless, steps_in}
 use Rattle.mem_base.specs.machine.Completions.{may_access, IsAccessed, KeepsWriter}
 use Rattle.mem_base.specs.script.Named.{Names}
 use Rattle.mem_base.specs.script.Output.{dma_line, told_lines}
@@ -36,12 +33,8 @@ use Rattle.script_run.specs.declared.faults.RunFault.TheVariants.{Write}
 use Rattle.script_run.specs.Performs.{IsLeft, Performs}
 use Rattle.script_run.specs.Ready.{state_of, IsNamed, IsReady}
 use Rattle.script_run.proofs.OrderLaws.{always_ok}
-
-pub keeps_self : (w : World) → KeepsWriter w w
-keeps_self w = record { writer = refl; may = λ pass t. t }
-
-pub keeps_then : (u v w : World) → KeepsWriter u v → KeepsWriter v w → KeepsWriter u w
-keeps_then u v w k l = record { writer = l.writer ∙ k.writer; may = λ pass t. l.may pass (k.may pass t) }
+use Rattle.world_laws.proofs.PassKeeping.{keeps_itself, keeps_then}
+use Rattle.run_laws.proofs.Lawful.{drop_all}
 
 -- Entering and leaving
 
@@ -133,10 +126,6 @@ ready_keeps names w v watchers r k = record {
   rests = ap (λ (h : Writer). is_at_rest h.desk) k.writer ∙ r.rests;
   passes = λ pass l. k.may pass (r.passes pass l);
 }
-
-drop_all : (xs : List Delivery) → drop (length xs) xs ≡ []
-drop_all [] = refl
-drop_all (x ∷ xs) = drop_all xs
 
 -- nobody hears of what passes do
 pub quiet_outcome : (s : State) (names : Names) (v : World) (text : List ℕ) → KeepsWriter s.world v

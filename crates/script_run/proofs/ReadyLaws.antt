@@ -1,8 +1,7 @@
 -- What each kind of call keeps: the tables hold what is there, the machine is at rest, and each pass may make an access.
-use Rattle.std.proofs.Common.{◌≡◌, ◌≢◌, ◌<◌, ℕ, ◌||◌, Bool, true, false, List, [], ◌∷◌, ◌++◌, length, Option, Some, None}
-use Rattle.std.proofs.Common.{refl, sym, ap, subst, ◌∙◌}
+use Rattle.std.proofs.Common.{◌≡◌, ◌≢◌, ◌<◌, ℕ, ◌||◌, Bool, true, false, List, [], ◌∷◌, ◌++◌, length, Option, Some, None, refl, sym, ap, subst, ◌∙◌, ◌≤◌, arith}
+use Rattle.std.proofs.Common.{eq-eqb, ne_eqb}
 use Rattle.std.specs.Prelude.{is_some, is_none, ◌&&◌, ◌==◌, ◌+◌, ℤ}
-use Rattle.std.proofs.Common.{◌≤◌, arith, eq-eqb, ne_eqb}
 use Rattle.std.proofs.lemmas.List.{length-append}
 use Rattle.std.specs.List.{list_any}
 use Rattle.mem_base.specs.declared.map.ids.PassId.{PassId}
@@ -35,10 +34,10 @@ use Rattle.mem_base.specs.script.Named.{Names}
 use Rattle.script_names.specs.Tables.{AllNames, Rebinds, Table, number_of, printed_names, table}
 use Rattle.script_run.specs.Ready.{IsNamed, IsReady, is_region, is_listener, watches}
 use Rattle.script_run.proofs.NamedLaws.{named_drop, named_push, named_same}
-use Rattle.script_run.proofs.WorldLaws.{IsGone, LeavesCall, LeavesListen, LeavesUnlisten, SameMap, any_push, call_leaves}
-use Rattle.script_run.proofs.WorldLaws.{change_keeps, dropped_gone}
-use Rattle.script_run.proofs.WorldLaws.{dropped_others, listen_leaves, made_others, made_there, or_false, or_true}
-use Rattle.script_run.proofs.WorldLaws.{unlisten_leaves}
+use Rattle.run_laws.proofs.DeskLaws.{IsGone, LeavesCall, LeavesListen, LeavesUnlisten, SameMap, any_push, call_leaves, change_keeps, dropped_gone}
+use Rattle.view_laws.proofs.Tests.{or_right}
+use Rattle.run_laws.proofs.DeskLaws.{dropped_others, listen_leaves, made_others, made_there, or_false, unlisten_leaves}
+use Rattle.run_laws.proofs.Ordering.{same_may}
 
 -- the same regions and the same listeners are there
 pub record SameThere (d e : Desk) : Type 0 where
@@ -75,12 +74,6 @@ pub refused_there : (w : World) (call : Call) (why : Refusal)
 refused_there w call why e = let c = completed w (configure (configs.Call call)) in
     same_there w.writer.desk c.world.writer.desk (subst (LeavesCall w.writer.desk call c.world.writer.desk) e
     (call_leaves w call))
-
--- where the passes are as they were, each may make an access as before
-pub same_may : (w v : World) → v.passes ≡ w.passes → (pass : PassId) → may_access w pass ≡ true → may_access v pass ≡ true
-same_may w v e pass t =
-    ap (λ (ps : List PassState). is_some (pass_of ps pass).entered || (is_pass ps pass && is_none (pass_of ps pass).announced)) e
-    ∙ t
 
 pub ready_by : (names : AllNames) (w v : World) (watchers : List Watcher) (k : Order) (answer : Answer) → IsReady names w watchers
     → IsCompleted w k answer v → SameThere w.writer.desk (completed w k).world.writer.desk → IsReady names v watchers
@@ -183,7 +176,7 @@ module _ (names after : AllNames) (w v : World) (watchers : List Watcher) (answe
             (λ n q. there n ∙ or_false (is_listener w n) (length names.listeners.made == n)
             (ne_eqb (length names.listeners.made) n (λ s. omega arith)))
             (there (length names.listeners.made)
-            ∙ or_true (is_listener w (length names.listeners.made)) (length names.listeners.made == length names.listeners.made)
+            ∙ or_right (is_listener w (length names.listeners.made)) (length names.listeners.made == length names.listeners.made)
             (eq-eqb (length names.listeners.made) (length names.listeners.made) refl)));
         notifiers = subst (λ (t : Table). IsNamed t (watches watchers)) (sym (ap (λ (x : AllNames). x.notifiers) others))
             r.notifiers;

@@ -1,7 +1,6 @@
 -- The text of a run, command after command.
-use Rattle.std.proofs.Common.{◌≡◌, ◌<◌, ◌≤◌, ◌+◌, ℕ, zero, suc, Bool, true, false, ◌||◌, ◌&&◌, List, [], ◌∷◌, ◌++◌, length, drop}
-use Rattle.std.proofs.Common.{get_or, add-one, Option, Some, None, Result, OnOk}
-use Rattle.std.proofs.Common.{refl, sym, ap, subst, ◌∙◌, arith, if◌then◌else◌, replicate}
+use Rattle.std.proofs.Common.{◌≡◌, ◌<◌, ◌≤◌, ◌+◌, ℕ, zero, suc, Bool, true, false, ◌||◌, ◌&&◌, List, [], ◌∷◌, ◌++◌, length, drop, get_or, add-one, Option, Some}
+use Rattle.std.proofs.Common.{None, Result, OnOk, refl, sym, ap, subst, ◌∙◌, arith, if◌then◌else◌, replicate}
 use Rattle.std.specs.Prelude.{is_some, is_none, nat_lt, map}
 use Rattle.std.specs.List.{list_any}
 use Rattle.std.proofs.Math.Seq.{drop-cons}
@@ -26,17 +25,12 @@ use Rattle.script_names.specs.Tables.{AllNames, table}
 use Rattle.script_run.specs.Ready.{state_of, IsReady, is_listener, is_region, watches}
 use Rattle.script_run.proofs.NamedLaws.{named_none, named_same}
 use Rattle.script_run.proofs.Writing.{Through, through_next, through_prefix}
+use Rattle.run_laws.proofs.EachCommand.{may_first}
 
 -- Before the first command
 
 abbrev no_tables : AllNames
 no_tables = record { regions = table [] []; kinds = []; spaces = table [] []; listeners = table [] []; notifiers = table [] [] }
-
-may_first : (pool : ℕ) (pass : PassId) → pass.0 < most_passes → may_access (opening pool most_passes) pass ≡ true
-may_first pool pass l =
-    let same : get_or (replicate 16 idle) pass.0 idle ≡ idle = get_or-replicate 16 pass.0 idle idle l in
-    let there : nat_lt pass.0 16 ≡ true = grind (arith, nat_tests) in
-    (λ i. is_some (same i).entered || (nat_lt pass.0 16 && is_none (same i).announced)) ∙ (λ i. there i && true)
 
 ready_first : (pool : ℕ) → IsReady no_tables (opening pool most_passes) []
 ready_first pool = record {
@@ -108,10 +102,6 @@ pub each_later : (P : Line → Type 0) (lines : List Line) (i : ℕ) (line : Lin
 each_later P lines i line l is h = (each_split P lines i line l is h).1
 
 -- Watchers
-
-pub drop_front : {A : Type 0} (xs ys : List A) → drop (length xs) (xs ++ ys) ≡ ys
-drop_front [] ys = refl
-drop_front (x ∷ xs) ys = drop_front xs ys
 
 same_watchers : (f : Forest) (watchers : List Watcher) (n : ℕ) → watches (caught_up f watchers) n ≡ watches watchers n
 same_watchers f [] n = refl

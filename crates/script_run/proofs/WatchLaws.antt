@@ -1,7 +1,6 @@
 -- Watchers that join and leave.
-use Rattle.std.proofs.Common.{◌≡◌, ◌≢◌, ◌<◌, ◌≤◌, ◌+◌, ℕ, Bool, true, false, ◌||◌, cond, List, [], ◌∷◌, ◌++◌, length, Option}
-use Rattle.std.proofs.Common.{Some, None, Result, OnOk}
-use Rattle.std.proofs.Common.{refl, sym, ap, subst, ◌∙◌, arith, ne_eqb, eq-eqb, if◌then◌else◌}
+use Rattle.std.proofs.Common.{◌≡◌, ◌≢◌, ◌<◌, ◌≤◌, ◌+◌, ℕ, Bool, true, false, ◌||◌, cond, List, [], ◌∷◌, ◌++◌, length, Option, Some, None, Result, OnOk, refl}
+use Rattle.std.proofs.Common.{sym, ap, subst, ◌∙◌, arith, ne_eqb, eq-eqb, if◌then◌else◌}
 use Rattle.std.specs.Prelude.{not, filter, map, ◌==◌}
 use Rattle.view_laws.proofs.Tests.{none_is_not_some}
 use Rattle.std.specs.List.{list_any}
@@ -19,7 +18,8 @@ use Rattle.mem_base.specs.script.Watching.{Watcher, is_watcher, without_number}
 use Rattle.script_names.specs.Tables.{AllNames, Rebinds, Table, number_of, printed_names, table}
 use Rattle.script_run.specs.Ready.{IsNamed, IsReady, is_listener, is_region, watches}
 use Rattle.script_run.proofs.NamedLaws.{named_drop, named_push}
-use Rattle.script_run.proofs.WorldLaws.{any_push, or_false, or_true}
+use Rattle.view_laws.proofs.Tests.{or_right}
+use Rattle.run_laws.proofs.DeskLaws.{any_push, or_false}
 
 -- one more watcher, with the next number
 pub watcher_made : (names after : AllNames) (w : World) (old new : List Watcher) (x : Watcher) (name : Text) → IsReady names w old
@@ -34,7 +34,7 @@ watcher_made names after w old new x name r is joins free notifiers others = rec
   notifiers = subst (λ (t : Table). IsNamed t (watches new)) (sym notifiers)
       (named_push names.notifiers (watches old) (watches new) name r.notifiers free
       (λ n l. there n ∙ or_false (watches old n) (x.id.0 == n) (ne_eqb x.id.0 n (λ s. omega arith)))
-      (there (length names.notifiers.made) ∙ or_true (watches old (length names.notifiers.made))
+      (there (length names.notifiers.made) ∙ or_right (watches old (length names.notifiers.made))
       (x.id.0 == length names.notifiers.made)
       (eq-eqb x.id.0 (length names.notifiers.made) is)));
   made = ap (λ (y : AllNames). length y.regions.made) others ∙ r.made;

@@ -5,7 +5,7 @@ ghost use Rattle.mem_base.specs.script.Shows.{catches_up};
 ghost use Rattle.mem_base.specs.script.States.{State, writes};
 ghost use Rattle.mem_base.specs.script.WriterSteps.{make_region};
 ghost use Rattle.iommu_notify.specs.Watchers.{watchers_of};
-ghost use Rattle.script_run.specs.Bounds.{IsBounded};
+ghost use Rattle.run_laws.specs.Fitting.{FitsCommand};
 ghost use Rattle.script_run.specs.Groups.{changes_names, makes_region};
 ghost use Rattle.script_run.specs.Performs.{Performs};
 ghost use Rattle.script_run.specs.Ready.{state_of, IsReady};
@@ -64,7 +64,7 @@ impl<M: Machine> Session<M> {
         sink: &mut K,
     ) -> Result<(), RunFault>
         requires ready { IsReady self.old.names (M.world self.old.machine) (watchers_of self.old.notices) }
-        requires bounded { IsBounded command.now }
+        requires fits { FitsCommand command.now }
         requires pass { is_desk_line command.now ≡ false }
         ensures { Performs K.written K.holds K.faults sink.old sink.new
             (own_step (state_of self.old.names (M.world self.old.machine) (watchers_of self.old.notices)) number command.now)
@@ -146,7 +146,7 @@ impl<M: Machine> Session<M> {
         sink: &mut K,
     ) -> Result<(), RunFault>
         requires ready { IsReady self.old.names (M.world self.old.machine) (watchers_of self.old.notices) }
-        requires bounded { IsBounded command.now }
+        requires fits { FitsCommand command.now }
         requires desk { is_desk_line command.now ≡ true }
         requires other { makes_region command.now ≡ false }
         ensures { Performs K.written K.holds K.faults sink.old sink.new
@@ -187,7 +187,7 @@ impl<M: Machine> Session<M> {
         sink: &mut K,
     ) -> Result<(), RunFault>
         requires ready { IsReady self.old.names (M.world self.old.machine) (watchers_of self.old.notices) }
-        requires bounded { IsBounded command.now }
+        requires fits { FitsCommand command.now }
         requires desk { is_desk_line command.now ≡ true }
         ensures { Performs K.written K.holds K.faults sink.old sink.new
             (own_step (state_of self.old.names (M.world self.old.machine) (watchers_of self.old.notices)) number command.now)
@@ -226,7 +226,7 @@ impl<M: Machine> Session<M> {
         sink: &mut K,
     ) -> Result<(), RunFault>
         requires ready { IsReady self.old.names (M.world self.old.machine) (watchers_of self.old.notices) }
-        requires bounded { IsBounded command.now }
+        requires fits { FitsCommand command.now }
         ensures { Performs K.written K.holds K.faults sink.old sink.new
             (step (state_of self.old.names (M.world self.old.machine) (watchers_of self.old.notices)) number command.now)
             self.new.names (M.world self.new.machine) (watchers_of self.new.notices) result }

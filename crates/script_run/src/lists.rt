@@ -6,7 +6,7 @@ ghost use Rattle.script_names.specs.Tables.{printed_names};
 
 use crate::faults::RunFault;
 use crate::output::{say_notice, say_range, say_released, say_told};
-use mem_base::{FlatRange, ListenerEvent, ListenerId, Notice, NotifierId, RegionId};
+use mem_base::{FlatRange, ListenerEvent, ListenerId, Notice, RegionId, WatcherId};
 use outside::Sink;
 use script_lines::Line;
 use script_names::Names;
@@ -63,14 +63,14 @@ pub(crate) fn say_all_told<K: Sink>(
 pub(crate) fn say_notices<K: Sink>(
     line: &mut Line,
     names: &Names,
-    notices: &[(NotifierId, Notice)],
+    notices: &[(WatcherId, Notice)],
     sink: &mut K,
 ) -> Result<(), RunFault>
     ensures { Writes K.written K.holds K.faults sink.old sink.new (notice_lines (printed_names names.now) notices.now)
         RunFault.Write result }
 {
-    for (notifier, notice) in notices {
-        say_notice(line, names, *notifier, *notice, sink)?;
+    for (watcher, notice) in notices {
+        say_notice(line, names, *watcher, *notice, sink)?;
     }
     Ok(())
 }

@@ -8,8 +8,8 @@ ghost use Rattle.script_names.specs.Tables.{printed_names};
 
 use crate::faults::RunFault;
 use mem_base::{
-    Access, Client, FlatRange, ListenerEvent, ListenerId, Notice, NotifierId, PassId, Refusal,
-    RegionId, Spot,
+    Access, Client, FlatRange, ListenerEvent, ListenerId, Notice, PassId, Refusal, RegionId, Spot,
+    WatcherId,
 };
 use outside::{Sink, write_all};
 use script_lines::{
@@ -227,15 +227,15 @@ pub(crate) fn say_told<K: Sink>(
 pub(crate) fn say_notice<K: Sink>(
     line: &mut Line,
     names: &Names,
-    notifier: NotifierId,
+    watcher: WatcherId,
     notice: Notice,
     sink: &mut K,
 ) -> Result<(), RunFault>
-    ensures { Writes K.written K.holds K.faults sink.old sink.new (notice_line (printed_names names.now) (notifier, notice))
+    ensures { Writes K.written K.holds K.faults sink.old sink.new (notice_line (printed_names names.now) (watcher, notice))
         RunFault.Write result }
 {
     line.clear();
-    add_notice_line(line, names, notifier, notice)?;
+    add_notice_line(line, names, watcher, notice)?;
     write_all(sink, line.as_bytes())?;
     Ok(())
 }

@@ -11,7 +11,7 @@ use crate::faults::RunFault;
 use crate::machine::Machine;
 use crate::output::{say_taken, say_unknown};
 use iommu_notify::Notices;
-use mem_base::{ListenerId, Name, NotifierId, RegionId, SpaceId};
+use mem_base::{ListenerId, Name, RegionId, SpaceId, WatcherId};
 use outside::Sink;
 use script_lines::Line;
 use script_names::Names;
@@ -66,7 +66,7 @@ impl<M: Machine> Session<M> {
     }
 
     // The watcher that a name stands for.
-    pub(crate) fn watcher(&self, name: &Name) -> Option<NotifierId>
+    pub(crate) fn watcher(&self, name: &Name) -> Option<WatcherId>
         requires { IsReady self.now.names (M.world self.now.machine) (watchers_of self.now.notices) }
         ensures named { result ≡ watcher_named (state_of self.now.names (M.world self.now.machine) (watchers_of self.now.notices))
             name.now }
@@ -75,7 +75,7 @@ impl<M: Machine> Session<M> {
         self.names
             .notifiers()
             .number_of(name.as_bytes())
-            .map(NotifierId)
+            .map(WatcherId)
     }
 
     // The refusal of a command that names something which is not there.

@@ -17,7 +17,7 @@ use crate::machine::Machine;
 use crate::makers::next_number;
 use crate::output::say_refused;
 use crate::session::Session;
-use mem_base::{Name, NotifierId, Refusal, RegionId};
+use mem_base::{Name, Refusal, RegionId, WatcherId};
 use outside::Sink;
 use script_lines::Line;
 use script_names::Names;
@@ -63,14 +63,14 @@ impl<M: Machine> Session<M> {
         let Some(number_made) = next_number(self.names.notifiers()) else {
             return Err(RunFault::Memory);
         };
-        let id = NotifierId(number_made);
+        let id = WatcherId(number_made);
         let from = self.notices.journal().len();
         match self
             .notices
             .watch(id, region, first, last, self.machine.current())
         {
             Ok(()) => {
-                let Ok(_) = self.names.add_notifier(self.alloc, name.as_bytes()) else {
+                let Ok(_) = self.names.add_watcher(self.alloc, name.as_bytes()) else {
                     return Err(RunFault::Memory);
                 };
                 say_notices(
@@ -132,7 +132,7 @@ impl<M: Machine> Session<M> {
     fn unwatch_named<K: Sink>(
         &mut self,
         name: &Name,
-        id: NotifierId,
+        id: WatcherId,
         sink: &mut K,
     ) -> Result<(), RunFault>
         requires ready { IsReady self.old.names (M.world self.old.machine) (watchers_of self.old.notices) }
@@ -146,7 +146,7 @@ impl<M: Machine> Session<M> {
         let Ok(()) = self.notices.unwatch(id) else {
             return Err(RunFault::Memory);
         };
-        self.names.drop_notifier(name.as_bytes());
+        self.names.drop_watcher(name.as_bytes());
         say_notices(
             &mut self.line,
             &self.names,

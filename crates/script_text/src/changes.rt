@@ -1,10 +1,11 @@
 // The lines that change the map: one function for one form.
+ghost use Rattle.std.specs.Prelude.{drop};
 ghost use Rattle.mem_base.specs.script.Operands.{value_in};
 ghost use Rattle.mem_base.specs.script.ChangeForms.{add, change, change_forms, del, disable, enable, event, global, log, map_page, move};
 ghost use Rattle.mem_base.specs.script.ChangeForms.{nonvolatile, readonly, resize, retarget, romd, unevent, unmap, unmergeable};
 ghost use Rattle.script_text.specs.Reads.{Reads, tried};
 
-use crate::stops::LineStop;
+use crate::stops::{LineStop, found};
 use crate::tokens::{Tokens, new_name};
 use mem_base::{Cause, MapChange};
 use std::alloc::Global;
@@ -255,39 +256,65 @@ pub fn change_named(
     ensures { Reads result (tried (value_in change_forms word.now) tokens.old) }
 {
     if word == b"add".as_slice() {
-        Ok(Some(add(alloc, tokens)?))
+        found(add(alloc, tokens))
     } else if word == b"del".as_slice() {
-        Ok(Some(del(alloc, tokens)?))
+        found(del(alloc, tokens))
     } else if word == b"move".as_slice() {
-        Ok(Some(move_child(alloc, tokens)?))
+        found(move_child(alloc, tokens))
     } else if word == b"resize".as_slice() {
-        Ok(Some(resize(alloc, tokens)?))
+        found(resize(alloc, tokens))
     } else if word == b"retarget".as_slice() {
-        Ok(Some(retarget(alloc, tokens)?))
-    } else if word == b"enable".as_slice() {
-        Ok(Some(enable(alloc, tokens)?))
+        found(retarget(alloc, tokens))
+    } else {
+        flag_named(alloc, word, tokens)
+    }
+}
+
+// The same of the words after the first five: the flags of a region.
+fn flag_named(
+    alloc: Global,
+    word: &[u8],
+    tokens: &mut Tokens,
+) -> Result<Option<MapChange>, LineStop>
+    ensures { Reads result (tried (value_in (drop 5 change_forms) word.now) tokens.old) }
+{
+    if word == b"enable".as_slice() {
+        found(enable(alloc, tokens))
     } else if word == b"disable".as_slice() {
-        Ok(Some(disable(alloc, tokens)?))
+        found(disable(alloc, tokens))
     } else if word == b"readonly".as_slice() {
-        Ok(Some(readonly(alloc, tokens)?))
+        found(readonly(alloc, tokens))
     } else if word == b"nonvolatile".as_slice() {
-        Ok(Some(nonvolatile(alloc, tokens)?))
+        found(nonvolatile(alloc, tokens))
     } else if word == b"unmergeable".as_slice() {
-        Ok(Some(unmergeable(alloc, tokens)?))
+        found(unmergeable(alloc, tokens))
     } else if word == b"romd".as_slice() {
-        Ok(Some(romd(alloc, tokens)?))
-    } else if word == b"log".as_slice() {
-        Ok(Some(log(alloc, tokens)?))
+        found(romd(alloc, tokens))
+    } else {
+        table_named(alloc, word, tokens)
+    }
+}
+
+// The same of the words after those: dirty logs, translations and ioeventfds.
+fn table_named(
+    alloc: Global,
+    word: &[u8],
+    tokens: &mut Tokens,
+) -> Result<Option<MapChange>, LineStop>
+    ensures { Reads result (tried (value_in (drop 11 change_forms) word.now) tokens.old) }
+{
+    if word == b"log".as_slice() {
+        found(log(alloc, tokens))
     } else if word == b"global".as_slice() {
-        Ok(Some(global(tokens)?))
+        found(global(tokens))
     } else if word == b"map".as_slice() {
-        Ok(Some(map_page(alloc, tokens)?))
+        found(map_page(alloc, tokens))
     } else if word == b"unmap".as_slice() {
-        Ok(Some(unmap(alloc, tokens)?))
+        found(unmap(alloc, tokens))
     } else if word == b"event".as_slice() {
-        Ok(Some(event(alloc, tokens)?))
+        found(event(alloc, tokens))
     } else if word == b"unevent".as_slice() {
-        Ok(Some(unevent(alloc, tokens)?))
+        found(unevent(alloc, tokens))
     } else {
         Ok(None)
     }

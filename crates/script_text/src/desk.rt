@@ -1,14 +1,22 @@
 // The lines of the desk that change no map.
-ghost use Rattle.mem_base.specs.declared.script.commands.Command.TheVariants as commands;
+ghost use Rattle.std.specs.Prelude.{drop};
 ghost use Rattle.mem_base.specs.script.Operands.{ends, value_in};
 ghost use Rattle.mem_base.specs.script.DeskForms.{at, desk_forms, dirty, drop_region, listen, load, machine, notified, show, space, unlisten, unwatch, watch};
 ghost use Rattle.script_text.specs.Reads.{Reads, tried};
 
 use crate::regions::region;
-use crate::stops::LineStop;
+use crate::stops::{LineStop, found};
 use crate::tokens::{Tokens, new_name};
 use mem_base::Command;
 use std::alloc::Global;
+
+/// A command whose words were read, and nothing more: `begin`, `commit`, `reap`, `par`, `end`, `vN enter` and `vN leave`.
+pub fn bare(tokens: &mut Tokens, command: Command) -> Result<Command, LineStop>
+    ensures { Reads result (ends command tokens.old) }
+{
+    tokens.ends()?;
+    Ok(command)
+}
 
 // machine SIZE
 fn machine(tokens: &mut Tokens) -> Result<Command, LineStop>
@@ -56,30 +64,6 @@ fn drop_region(alloc: Global, tokens: &mut Tokens) -> Result<Command, LineStop>
     Ok(Command::Drop {
         region: new_name(alloc, region)?,
     })
-}
-
-// begin
-fn begin(tokens: &mut Tokens) -> Result<Command, LineStop>
-    ensures { Reads result (ends commands.Begin tokens.old) }
-{
-    tokens.ends()?;
-    Ok(Command::Begin)
-}
-
-// commit
-fn commit(tokens: &mut Tokens) -> Result<Command, LineStop>
-    ensures { Reads result (ends commands.Commit tokens.old) }
-{
-    tokens.ends()?;
-    Ok(Command::Commit)
-}
-
-// reap
-fn reap(tokens: &mut Tokens) -> Result<Command, LineStop>
-    ensures { Reads result (ends commands.Reap tokens.old) }
-{
-    tokens.ends()?;
-    Ok(Command::Reap)
 }
 
 // listen NAME SPACE [prio N]
@@ -182,22 +166,6 @@ fn dirty(alloc: Global, tokens: &mut Tokens) -> Result<Command, LineStop>
     })
 }
 
-// par
-fn par(tokens: &mut Tokens) -> Result<Command, LineStop>
-    ensures { Reads result (ends commands.Par tokens.old) }
-{
-    tokens.ends()?;
-    Ok(Command::Par)
-}
-
-// end
-fn end(tokens: &mut Tokens) -> Result<Command, LineStop>
-    ensures { Reads result (ends commands.End tokens.old) }
-{
-    tokens.ends()?;
-    Ok(Command::End)
-}
-
 /// The command that a word and the tokens after it say; none where the word is none of these.
 pub fn desk_named(
     alloc: Global,
@@ -207,41 +175,67 @@ pub fn desk_named(
     ensures { Reads result (tried (value_in desk_forms word.now) tokens.old) }
 {
     if word == b"machine".as_slice() {
-        Ok(Some(machine(tokens)?))
+        found(machine(tokens))
     } else if word == b"region".as_slice() {
-        Ok(Some(region(alloc, tokens)?))
+        found(region(alloc, tokens))
     } else if word == b"space".as_slice() {
-        Ok(Some(space(alloc, tokens)?))
+        found(space(alloc, tokens))
     } else if word == b"load".as_slice() {
-        Ok(Some(load(alloc, tokens)?))
+        found(load(alloc, tokens))
     } else if word == b"drop".as_slice() {
-        Ok(Some(drop_region(alloc, tokens)?))
-    } else if word == b"begin".as_slice() {
-        Ok(Some(begin(tokens)?))
+        found(drop_region(alloc, tokens))
+    } else {
+        transaction_named(alloc, word, tokens)
+    }
+}
+
+// The same of the words after the first five: transactions, listeners and watchers.
+fn transaction_named(
+    alloc: Global,
+    word: &[u8],
+    tokens: &mut Tokens,
+) -> Result<Option<Command>, LineStop>
+    ensures { Reads result (tried (value_in (drop 5 desk_forms) word.now) tokens.old) }
+{
+    if word == b"begin".as_slice() {
+        found(bare(tokens, Command::Begin))
     } else if word == b"commit".as_slice() {
-        Ok(Some(commit(tokens)?))
+        found(bare(tokens, Command::Commit))
     } else if word == b"reap".as_slice() {
-        Ok(Some(reap(tokens)?))
+        found(bare(tokens, Command::Reap))
     } else if word == b"listen".as_slice() {
-        Ok(Some(listen(alloc, tokens)?))
+        found(listen(alloc, tokens))
     } else if word == b"unlisten".as_slice() {
-        Ok(Some(unlisten(alloc, tokens)?))
+        found(unlisten(alloc, tokens))
     } else if word == b"watch".as_slice() {
-        Ok(Some(watch(alloc, tokens)?))
+        found(watch(alloc, tokens))
     } else if word == b"unwatch".as_slice() {
-        Ok(Some(unwatch(alloc, tokens)?))
-    } else if word == b"show".as_slice() {
-        Ok(Some(show(alloc, tokens)?))
+        found(unwatch(alloc, tokens))
+    } else {
+        question_named(alloc, word, tokens)
+    }
+}
+
+// The same of the words after those: what is asked, and blocks.
+fn question_named(
+    alloc: Global,
+    word: &[u8],
+    tokens: &mut Tokens,
+) -> Result<Option<Command>, LineStop>
+    ensures { Reads result (tried (value_in (drop 12 desk_forms) word.now) tokens.old) }
+{
+    if word == b"show".as_slice() {
+        found(show(alloc, tokens))
     } else if word == b"at".as_slice() {
-        Ok(Some(at(alloc, tokens)?))
+        found(at(alloc, tokens))
     } else if word == b"notified".as_slice() {
-        Ok(Some(notified(tokens)?))
+        found(notified(tokens))
     } else if word == b"dirty".as_slice() {
-        Ok(Some(dirty(alloc, tokens)?))
+        found(dirty(alloc, tokens))
     } else if word == b"par".as_slice() {
-        Ok(Some(par(tokens)?))
+        found(bare(tokens, Command::Par))
     } else if word == b"end".as_slice() {
-        Ok(Some(end(tokens)?))
+        found(bare(tokens, Command::End))
     } else {
         Ok(None)
     }

@@ -1,31 +1,15 @@
 // The lines of a pass.
 ghost use Rattle.std.specs.Prelude.{option_map};
-ghost use Rattle.mem_base.specs.declared.script.commands.Command.TheVariants as commands;
-ghost use Rattle.mem_base.specs.script.Operands.{ends, value_in};
+ghost use Rattle.mem_base.specs.script.Operands.{value_in};
 ghost use Rattle.mem_base.specs.script.PassForms.{pass_dma, pass_do, pass_forms, pass_line, pass_read, pass_write};
 ghost use Rattle.script_text.specs.Reads.{Reads, chosen};
 
 use crate::changes::change;
+use crate::desk::bare;
 use crate::stops::LineStop;
 use crate::tokens::{Tokens, new_name};
 use mem_base::{Cause, Command, PassId};
 use std::alloc::Global;
-
-// vN enter
-fn enter(pass: PassId, tokens: &mut Tokens) -> Result<Command, LineStop>
-    ensures { Reads result (ends (commands.PassEnter pass) tokens.old) }
-{
-    tokens.ends()?;
-    Ok(Command::PassEnter { pass })
-}
-
-// vN leave
-fn leave(pass: PassId, tokens: &mut Tokens) -> Result<Command, LineStop>
-    ensures { Reads result (ends (commands.PassLeave pass) tokens.old) }
-{
-    tokens.ends()?;
-    Ok(Command::PassLeave { pass })
-}
 
 // vN read SPACE ADDR LEN
 fn read(alloc: Global, pass: PassId, tokens: &mut Tokens) -> Result<Command, LineStop>
@@ -98,9 +82,9 @@ fn pass_named(
     ensures { Reads result (chosen (value_in (pass_forms pass) word.now) tokens.old) }
 {
     if word == b"enter".as_slice() {
-        enter(pass, tokens)
+        bare(tokens, Command::PassEnter { pass })
     } else if word == b"leave".as_slice() {
-        leave(pass, tokens)
+        bare(tokens, Command::PassLeave { pass })
     } else if word == b"read".as_slice() {
         read(alloc, pass, tokens)
     } else if word == b"write".as_slice() {

@@ -1,5 +1,5 @@
 // A script's text, line by line.
-ghost use Rattle.std.specs.Prelude.{◌≡◌, ◌<◌, ◌^◌, ◌==◌, ◌≤◌, Ok, Err, IfOk, OnOk, MatchResult, length, position, option_map, []};
+ghost use Rattle.std.specs.Prelude.{◌≡◌, ◌<◌, ◌^◌, ◌==◌, ◌≤◌, Ok, Err, Some, IfOk, OnOk, MatchResult, length, position, option_map, []};
 ghost use Rattle.std.specs.List.{slice_split};
 ghost use Rattle.mem_base.specs.declared.script.places.Section.TheVariants.{Start};
 ghost use Rattle.mem_base.specs.script.Lines.{line_of};
@@ -99,8 +99,29 @@ fn line_end(text: &[u8]) -> Option<usize>
     text.iter().position(|byte| *byte == b'\n')
 }
 
-// Reads one line onto the commands so far, and gives the section after it.
+// Puts the command of a line onto the commands so far, if it may stand there, and gives the section after it.
 #[tactic(auto, using(crate::proofs::Parts::prepend_more))]
+fn put(
+    section: Section,
+    line: u32,
+    command: Command,
+    lines: &mut Vec<(u32, Command)>,
+) -> Result<Section, ParseFault>
+    ensures { Steps result section line (Ok (Some command)) lines.old.items lines.new.items }
+{
+    match placed(line, section, rule_of(&command)) {
+        Some(next) => {
+            lines.push((line, command))?;
+            Ok(next)
+        }
+        None => Err(ParseFault::Bad(BadScript {
+            line,
+            cause: Cause::Place,
+        })),
+    }
+}
+
+// Reads one line onto the commands so far, and gives the section after it.
 fn step(
     alloc: Global,
     section: Section,
@@ -112,16 +133,7 @@ fn step(
 {
     match line_of(alloc, text) {
         Ok(None) => Ok(section),
-        Ok(Some(command)) => match placed(line, section, rule_of(&command)) {
-            Some(next) => {
-                lines.push((line, command))?;
-                Ok(next)
-            }
-            None => Err(ParseFault::Bad(BadScript {
-                line,
-                cause: Cause::Place,
-            })),
-        },
+        Ok(Some(command)) => put(section, line, command, lines),
         Err(LineStop::Bad(cause)) => Err(ParseFault::Bad(BadScript { line, cause })),
         Err(LineStop::Memory) => Err(ParseFault::Memory),
     }

@@ -1,5 +1,8 @@
 // Why a line gives no command.
-ghost use Rattle.std.specs.Prelude.{◌≡◌};
+ghost use Rattle.std.specs.Prelude.{◌≡◌, Result, Some};
+ghost use Rattle.mem_base.specs.declared.script.faults.Cause.{Cause};
+ghost use Rattle.mem_base.specs.script.Operands.{made_by};
+ghost use Rattle.script_text.specs.Reads.{Reads};
 ghost use Rattle.script_text.specs.declared.stops.LineStop.TheVariants.{Bad, Memory};
 
 use mem_base::Cause;
@@ -33,5 +36,15 @@ impl<T: Drop> From<AllocFailed<T>> for LineStop {
 
     fn from(_: AllocFailed<T>) -> Self {
         LineStop::Memory
+    }
+}
+
+/// What was read, as what was found.
+pub fn found<T>(read: Result<T, LineStop>) -> Result<Option<T>, LineStop>
+    ensures { (defined : Result T Cause) → Reads read defined → Reads result (made_by Some defined) }
+{
+    match read {
+        Ok(value) => Ok(Some(value)),
+        Err(stop) => Err(stop),
     }
 }

@@ -2,7 +2,7 @@
 ghost use Rattle.std.specs.Prelude.{◌≡◌, IfOk, None, false, Some, map, string_bytes, option_map, option_and_then, slice_get};
 ghost use Rattle.std.specs.List.{list_any};
 ghost use Rattle.mem_base.specs.declared.script.tasks.Task.TheVariants.{Make, Demo};
-ghost use Rattle.clap.specs.Words.{app_of, subcommand_rows_of};
+ghost use Rattle.clap.specs.Words.{app_of, subcommand_rows_of, with_subcommand};
 ghost use Rattle.clap.specs.declared.Command.TheViews.{out-Command};
 ghost use Rattle.script_words.specs.App.{task_in, task_named, mtree_app, plain_app, seeded_app, top_app};
 ghost use Rattle.mem_base.specs.script.Words.{seed_of, task_of};
@@ -44,14 +44,38 @@ fn top<'a>(alloc: Global) -> Command<'a>
         .subcommand_required(true)
 }
 
+// A command with one more word.
+fn with_plain<'a>(
+    alloc: Global,
+    command: Command<'a>,
+    name: &'a str,
+) -> Result<Command<'a>, AllocError>
+    ensures { IfOk result (λ c. app_of c ≡ with_subcommand (app_of command.entry) (plain_app name.entry.now).top) }
+{
+    command.subcommand(plain(alloc, name))
+}
+
+// A command with one more word that takes a seed.
+fn with_seeded<'a>(
+    alloc: Global,
+    command: Command<'a>,
+    name: &'a str,
+) -> Result<Command<'a>, AllocError>
+    ensures { IfOk result (λ c. app_of c ≡ with_subcommand (app_of command.entry) (seeded_app name.entry.now).top) }
+{
+    match seeded(alloc, name) {
+        Ok(word) => command.subcommand(word),
+        Err(e) => Err(e),
+    }
+}
+
 fn command<'a>(alloc: Global) -> Result<Command<'a>, AllocError>
     ensures { IfOk result (λ c. app_of c ≡ mtree_app) }
 {
-    top(alloc)
-        .subcommand(plain(alloc, "run"))?
-        .subcommand(plain(alloc, "race"))?
-        .subcommand(seeded(alloc, "make")?)?
-        .subcommand(seeded(alloc, "demo")?)
+    let run = with_plain(alloc, top(alloc), "run")?;
+    let race = with_plain(alloc, run, "race")?;
+    let make = with_seeded(alloc, race, "make")?;
+    with_seeded(alloc, make, "demo")
 }
 
 fn seed_of(text: Option<&str>) -> Option<u64>

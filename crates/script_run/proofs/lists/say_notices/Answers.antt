@@ -10,16 +10,16 @@ returns-in_err-say_notice g c =
     record {
       all = search rules;
       prefix = on_err c.from_residual.result _ (list_prefix (notice_lines names) (notice_line names) (λ x xs. refl)
-          c.args.notices.now c.loop-notifier.notifier-index _
-          c.loop-notifier-test.true g.K.Sink.written g.K.Sink.holds g.K.Sink.faults _ _ _ _ c.loop-notifier.invariant
+          c.args.notices.now c.loop-watcher.watcher-index _
+          c.loop-watcher-test.true g.K.Sink.written g.K.Sink.holds g.K.Sink.faults _ _ _ _ c.loop-watcher.invariant
           c.in_err-say_notice.ensures.prefix);
       failed = search rules;
       later = search rules;
     }
 
-pub loop-notifier-preserved : goal.loop-notifier-preserved
-loop-notifier-preserved g c =
+pub loop-watcher-preserved : goal.loop-watcher-preserved
+loop-watcher-preserved g c =
     let names = printed_names c.args.names.now in
-    list_next (notice_lines names) (notice_line names) (λ x xs. refl) c.args.notices.now c.loop-notifier.notifier-index _
-    c.loop-notifier-test.true g.K.Sink.written g.K.Sink.holds
-    g.K.Sink.faults _ _ _ _ c.loop-notifier.invariant c.in_ok-say_notice.ensures.all c.in_ok-say_notice.ensures.later
+    list_next (notice_lines names) (notice_line names) (λ x xs. refl) c.args.notices.now c.loop-watcher.watcher-index _
+    c.loop-watcher-test.true g.K.Sink.written g.K.Sink.holds
+    g.K.Sink.faults _ _ _ _ c.loop-watcher.invariant c.in_ok-say_notice.ensures.all c.in_ok-say_notice.ensures.later

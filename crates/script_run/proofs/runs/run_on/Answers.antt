@@ -1,4 +1,4 @@
-use Rattle.iommu_notify.specs.Watchers.{watchers_of}
+use Rattle.iommu_notify.specs.Watchers.{watchers_of, Joined}
 use Rattle.std.proofs.Common.{◌≡◌, ap, sym, ◌∙◌, refl, subst, List, rules, map}
 use Rattle.mem_base.specs.declared.script.places.Section.TheVariants.{Start}
 use Rattle.mem_base.specs.lists.Every.{Every}
@@ -7,10 +7,9 @@ use Rattle.mem_base.specs.machine.World.{opening}
 use Rattle.mem_base.specs.script.Run.{pool_words, text_from, text_of}
 use Rattle.mem_base.specs.script.Scripts.{Line}
 use Rattle.mem_base.specs.script.States.{State}
-use Rattle.script_run.specs.Bounds.{IsBounded}
-use Rattle.iommu_notify.specs.Watchers.{Joined}
+use Rattle.run_laws.specs.Fitting.{FitsCommand}
 use Rattle.script_run.specs.Ready.{state_of}
-use Rattle.script_run.proofs.BoundLaws.{lines_bounded}
+use Rattle.run_laws.proofs.FittingLaws.{sound_fits}
 use Rattle.script_run.proofs.Writing.{on_err, through_all, through_start}
 use Rattle.script_run.proofs.RunLaws.{each_here, each_later, script_next, script_prefix, starts_at, starts_ready}
 use Rattle.script_run.proofs.runs.run_on.Goals as goal
@@ -25,18 +24,18 @@ loop-number-init g c =
       through = through_start g.K.Sink.written g.K.Sink.holds g.K.Sink.faults _ _ _
           (λ i. text_from (sym is i) (sym c.lines-lines.ensures.value i));
       ready = starts_ready _ _ _ pool c.new.ensures c.requires none;
-      bounded = subst (λ (ls : List Line). Every (λ line. IsBounded line.1) ls) (sym c.lines-lines.ensures.value)
-          (lines_bounded Start script c.lines-lines.ensures.sound);
+      fits = subst (λ (ls : List Line). Every (λ line. FitsCommand line.1) ls) (sym c.lines-lines.ensures.value)
+          (sound_fits Start script c.lines-lines.ensures.sound);
     }
 
 pub step-requires-clause-ready : goal.step-requires-clause-ready
 step-requires-clause-ready g c = c.loop-number.invariant.ready
 
-pub step-requires-clause-bounded : goal.step-requires-clause-bounded
-step-requires-clause-bounded g c =
-    each_here (λ line. IsBounded line.1) c.lines-lines.result.now c.loop-number.number-index c.loop-number-item.result
+pub step-requires-clause-fits : goal.step-requires-clause-fits
+step-requires-clause-fits g c =
+    each_here (λ line. FitsCommand line.1) c.lines-lines.result.now c.loop-number.number-index c.loop-number-item.result
     c.loop-number-test.true
-    c.loop-number-item.is c.loop-number.invariant.bounded
+    c.loop-number-item.is c.loop-number.invariant.fits
 
 pub returns-in_err-step : goal.returns-in_err-step
 returns-in_err-step g c =
@@ -64,7 +63,7 @@ loop-number-preserved g c =
           c.loop-number.invariant.through
           own.wrote.all own.wrote.later own.left.is;
       ready = own.left.ready;
-      bounded = each_later (λ line. IsBounded line.1) c.lines-lines.result.now c.loop-number.number-index
+      fits = each_later (λ line. FitsCommand line.1) c.lines-lines.result.now c.loop-number.number-index
           c.loop-number-item.result
-          c.loop-number-test.true c.loop-number-item.is c.loop-number.invariant.bounded;
+          c.loop-number-test.true c.loop-number-item.is c.loop-number.invariant.fits;
     }

@@ -3,7 +3,7 @@ use Rattle.std.proofs.Common.{ap, length, sym, ◌∙◌}
 use Rattle.mem_base.specs.declared.map.calls.Config.TheVariants as configs
 use Rattle.mem_base.specs.machine.Orders.{configure, load}
 use Rattle.mem_base.specs.machine.Answers.{call_answer, commit_answer, plain_answer, finishes}
-use Rattle.script_run.proofs.WorldLaws.{begin_keeps, commit_keeps, load_keeps}
+use Rattle.run_laws.proofs.DeskLaws.{begin_keeps, commit_keeps, load_keeps}
 use Rattle.script_run.proofs.ReadyLaws.{change_there, same_there}
 use Rattle.script_run.proofs.OrderLaws.{call_refusal, commit_refusal, performs_kept, plain_performs, plain_refusal, refusal_with}
 use Rattle.script_run.proofs.session.Session.call.Goals as goal

@@ -1,5 +1,5 @@
 use Rattle.iommu_notify.specs.Watchers.{watchers_of}
-use Rattle.std.proofs.Common.{◌≡◌, ap, drop, length, sym, ◌∙◌, subst, List}
+use Rattle.std.proofs.Common.{◌≡◌, ap, drop, length, sym, ◌∙◌, subst, refl, List}
 use Rattle.outside.specs.Sink.{Writes}
 use Rattle.mem_base.specs.declared.map.forests.Forest.{Forest}
 use Rattle.mem_base.specs.machine.Publishing.{current_forest}
@@ -9,7 +9,8 @@ use Rattle.script_names.specs.Tables.{printed_names}
 use Rattle.script_run.specs.declared.faults.RunFault.TheVariants.{Write}
 use Rattle.script_run.specs.Ready.{state_of}
 use Rattle.script_run.proofs.OrderLaws.{always_ok}
-use Rattle.script_run.proofs.RunLaws.{caught_ready, drop_front}
+use Rattle.script_run.proofs.RunLaws.{caught_ready}
+use Rattle.std.proofs.lemmas.List.{drop_at}
 use Rattle.script_run.proofs.ShowLaws.{current_shown}
 use Rattle.script_run.proofs.session.Session.catch_up.Goals as goal
 
@@ -24,7 +25,7 @@ returns g c =
     let told : c.later.result.now ≡ notices_all shown watchers =
     c.later.ensures
     ∙ (λ i. drop (length (c.journal-from.ensures i)) ((c.journal.ensures ∙ c.in-Ok.ensures.journal) i))
-    ∙ drop_front c.args.self.now.notices.journal (notices_all c.deref.result.now.forest watchers)
+    ∙ drop_at c.args.self.now.notices.journal (notices_all c.deref.result.now.forest watchers) (length c.args.self.now.notices.journal) refl
     ∙ ap (λ (f : Forest). notices_all f watchers) forest in
     let caught = c.in-Ok.ensures.watchers ∙ ap (λ (f : Forest). caught_up f watchers) forest in
     record {

@@ -9,8 +9,8 @@ use Rattle.mem_base.specs.script.Output.{dma_line, enter_line, leave_line, read_
 use Rattle.mem_base.specs.script.States.{outcome}
 use Rattle.script_names.specs.Tables.{printed_names}
 use Rattle.script_run.specs.Ready.{state_of}
-use Rattle.script_run.proofs.PassLaws.{anew, copied, entered_as, in_after, keeps_self, keeps_then, may_leave, may_look, out_after}
-use Rattle.script_run.proofs.PassLaws.{pass_performs, still_entered}
+use Rattle.world_laws.proofs.PassKeeping.{keeps_itself, keeps_then}
+use Rattle.script_run.proofs.PassLaws.{anew, copied, entered_as, in_after, may_leave, may_look, out_after, pass_performs, still_entered}
 use Rattle.script_run.proofs.session.Session.copy_through.Goals as goal
 
 pub returns : goal.returns

@@ -1,7 +1,6 @@
-use Rattle.std.proofs.Common.{◌≡◌, ◌≢◌, ◌++◌, [], ◌∷◌, ap, drop, length, sym, ◌∙◌, subst, refl, List, ℕ, Option, None, Some}
-use Rattle.std.proofs.Common.{flat_map, arith, false, ◌≤◌}
+use Rattle.std.proofs.Common.{◌≡◌, ◌≢◌, ◌++◌, [], ◌∷◌, ap, drop, length, sym, ◌∙◌, subst, refl, List, ℕ, Option, None, Some, flat_map, arith, false, ◌≤◌}
 use Rattle.outside.specs.Sink.{Writes}
-use Rattle.mem_base.specs.declared.map.ids.NotifierId.{NotifierId}
+use Rattle.mem_base.specs.declared.map.ids.WatcherId.{WatcherId}
 use Rattle.mem_base.specs.declared.map.forests.Forest.{Forest}
 use Rattle.mem_base.specs.declared.map.refusals.Refusal.{Refusal}
 use Rattle.mem_base.specs.declared.map.refusals.Refusal.TheVariants as refusal
@@ -10,31 +9,30 @@ use Rattle.mem_base.specs.script.Named.{Names}
 use Rattle.mem_base.specs.script.Output.{notice_lines}
 use Rattle.mem_base.specs.script.Shows.{joins, joins_unless}
 use Rattle.mem_base.specs.script.States.{Outcome, State}
-use Rattle.mem_base.specs.script.Watching.{Noticed, Watcher, is_watcher, notices_of, parts_shown, watch_refusal, with_number}
-use Rattle.mem_base.specs.script.Watching.{with_parts, without_number}
+use Rattle.mem_base.specs.script.Watching.{Noticed, Watcher, is_watcher, notices_of, parts_shown, watch_refusal, with_number, with_parts, without_number}
 use Rattle.iommu_notify.specs.Watchers.{Joined, NoticesState, has_watcher, new_watcher, watchers_of}
 use Rattle.script_names.specs.Tables.{Rebinds, Table, printed_names, table}
 use Rattle.script_run.specs.declared.faults.RunFault.TheVariants.{Write}
 use Rattle.script_run.specs.Ready.{state_of, IsReady}
 use Rattle.script_run.proofs.OrderLaws.{always_ok, memory_performs, on_ok}
-use Rattle.script_run.proofs.RunLaws.{drop_front}
+use Rattle.std.proofs.lemmas.List.{drop_at}
 use Rattle.script_run.proofs.ShowLaws.{current_shown}
 use Rattle.script_run.proofs.WatchLaws.{any_map, none_later, not_taken, watcher_left, watcher_made}
 use Rattle.script_run.proofs.session.Session.join.Goals as goal
 
-pub returns-in_default-add_notifier : goal.returns-in_default-add_notifier
-returns-in_default-add_notifier g c = memory_performs g.K.Sink.written g.K.Sink.holds g.K.Sink.faults _ _ _ _ _
+pub returns-in_default-add_watcher : goal.returns-in_default-add_watcher
+returns-in_default-add_watcher g c = memory_performs g.K.Sink.written g.K.Sink.holds g.K.Sink.faults _ _ _ _ _
 
-pub returns-in-Ok-add_notifier : goal.returns-in-Ok-add_notifier
-returns-in-Ok-add_notifier g c =
+pub returns-in-Ok-add_watcher : goal.returns-in-Ok-add_watcher
+returns-in-Ok-add_watcher g c =
     let names = c.args.self.now.names in
     let w = g.M.Machine.world c.args.self.now.machine in
     let watchers = watchers_of c.args.self.now.notices in
     let s : State = state_of names w watchers in
     let shown = current_forest w.writer.generations in
     let name = c.args.name.now in
-    let after = c.add_notifier.new.self in
-    let made = c.in-Ok-add_notifier.ensures in
+    let after = c.add_watcher.new.self in
+    let made = c.in-Ok-add_watcher.ensures in
     let joined = c.in-Ok.ensures in
     let at : ℕ → Watcher = λ n. new_watcher (record { 0 = n }) c.args.region c.args.first c.args.last in
     let x : Watcher = at (length names.notifiers.made) in
@@ -51,7 +49,7 @@ returns-in-Ok-add_notifier g c =
     let told : c.later.result.now ≡ notices_of parts x =
     c.later.ensures
     ∙ (λ i. drop (length (c.journal-from.ensures i)) ((c.journal.ensures ∙ joined.journal) i))
-    ∙ drop_front c.args.self.now.notices.journal _
+    ∙ drop_at c.args.self.now.notices.journal _ (length c.args.self.now.notices.journal) refl
     ∙ (λ i. notices_of (parts_shown (forest i) (at (number i))) (at (number i))) in
     let more : watchers_of c.watch.new.self ≡ watchers ++ with_parts parts x ∷ [] =
     joined.watchers ∙ (λ i. watchers ++ with_parts (parts_shown (forest i) (at (number i))) (at (number i)) ∷ []) in

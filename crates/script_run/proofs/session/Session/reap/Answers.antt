@@ -7,7 +7,7 @@ use Rattle.mem_base.specs.script.Output.{dirty_line, do_line, notified_line, rel
 use Rattle.mem_base.specs.script.WriterSteps.{pages_in, published_in, refusal_in, released_in, value_in}
 use Rattle.script_names.specs.Tables.{printed_names}
 use Rattle.script_run.proofs.Writing.{writes_more}
-use Rattle.script_run.proofs.WorldLaws.{harvest_keeps, notified_keeps, reap_keeps}
+use Rattle.run_laws.proofs.DeskLaws.{harvest_keeps, notified_keeps, reap_keeps}
 use Rattle.script_run.proofs.ReadyLaws.{change_there, ready_by, same_there}
 use Rattle.script_run.proofs.OrderLaws.{accepted_performs, always_ok, not_err, performs_kept, refused_performs, same_err}
 use Rattle.script_run.proofs.session.Session.reap.Goals as goal
