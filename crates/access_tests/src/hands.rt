@@ -12,7 +12,7 @@ ghost use Rattle.access_tests.specs.Events.{AreAfter, after_event};
 use access_run::{Entered, Reads, Writes};
 use dirty_log::mark_of;
 use generation::Generation;
-use mem_base::{Client, Edition, Place, RegionId, WordStep};
+use mem_base::{Client, Place, RegionId, WordStep};
 use std::alloc::{AllocError, Global};
 use std::sync::Arc;
 
@@ -42,9 +42,6 @@ impl Count {
     }
 }
 
-/// The owner of the notifiers' words.
-const NOTIFIERS: RegionId = RegionId(u32::MAX);
-
 /// A hand over a plain list of words, entered in a generation.
 #[derive(Drop)]
 pub(crate) struct PlainHand {
@@ -66,16 +63,6 @@ impl PlainHand {
     /// Goes into another generation, and counts anew.
     pub(crate) fn enter(&mut self, generation: Arc<Generation, Global>) {
         self.generation = generation;
-        self.count = Count::default();
-    }
-
-    /// The number of the generation.
-    pub(crate) fn number(&self) -> u64 {
-        self.generation.number()
-    }
-
-    /// Counts anew.
-    pub(crate) fn count_anew(&mut self) {
         self.count = Count::default();
     }
 
@@ -153,7 +140,7 @@ impl Writes for PlainHand {
     ghost takes = { λ h step. Unit {0} };
 
     fn write_word(&mut self, place: &Place, word: usize, step: WordStep) {
-        if place.region == NOTIFIERS {
+        if place.region == RegionId::NOTIFIERS {
             self.count.notify();
         } else {
             self.count.step();

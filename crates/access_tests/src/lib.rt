@@ -1,13 +1,12 @@
-//! Tests of accesses, of the desk whose regions have their words in a pool, and of both together: worked maps with their
-//! accesses, and drawn accesses against a plain program that goes byte by byte.
+//! Tests of accesses over a desk whose regions have their words in a pool: drawn accesses against a plain program that goes
+//! byte by byte, and how many steps on words an access makes.
 //!
 //! No crate stands on this one. Its hand makes the steps of accesses on a plain list of words, and it is proved that the words
 //! are those after the events that it makes, and the replies the words before them. What is tested here is what no clause
-//! says: that the calls answer with ample memory, and that accesses give the bytes that a reader of the manual expects.
+//! says and no script reaches: that the calls answer with ample memory, and that drawn accesses give the bytes, the marks, the
+//! notifiers and the steps of the plain program. Worked accesses are the scripts of `examples`.
 #![tactic(auto)]
 
-#[cfg(test)]
-mod acts;
 #[cfg(test)]
 mod calls;
 #[cfg(test)]
@@ -27,6 +26,4 @@ mod plain_trails;
 #[cfg(test)]
 mod plain_words;
 #[cfg(test)]
-mod pools;
-#[cfg(test)]
-mod worked;
+mod steps;

@@ -1,8 +1,7 @@
 // A desk with a hand, as one machine.
 use crate::hands::PlainHand;
-use crate::plain_words::{mark_bit, mark_word, set_data_byte};
 use backed_desk::BackedDesk;
-use mem_base::{Applied, Call, Client, NOTIFIER_COUNT, Refusal, RegionId};
+use mem_base::{Applied, Call, NOTIFIER_COUNT, Refusal, RegionId};
 use std::alloc::Global;
 use std::sync::Arc;
 use std::sync::ledger::Ledger;
@@ -14,8 +13,6 @@ use transact::Step;
 pub(crate) struct Machine {
     pub(crate) desk: BackedDesk,
     pub(crate) hand: PlainHand,
-    /// Whether the hand stays in its generation.
-    stays: bool,
 }
 
 impl Machine {
@@ -27,7 +24,6 @@ impl Machine {
         Ok(Machine {
             desk,
             hand: PlainHand::new(generation, all),
-            stays: false,
         })
     }
 
@@ -66,71 +62,10 @@ impl Machine {
         Ok(())
     }
 
-    /// The hand goes into the current generation, and stays there from then on.
-    pub(crate) fn enter(&mut self) -> Result<(), Refusal> {
-        self.stays = false;
-        self.refresh()?;
-        self.stays = true;
-        Ok(())
-    }
-
-    /// From now on the hand goes into the current generation before each access.
-    pub(crate) fn leave(&mut self) {
-        self.stays = false;
-    }
-
-    /// Before an access: nothing is counted yet, and the hand is in the generation by which it is to go.
+    /// Before an access: the hand goes into the current generation, and nothing is counted yet.
     pub(crate) fn refresh(&mut self) -> Result<(), Refusal> {
-        if self.stays {
-            self.hand.count_anew();
-            return Ok(());
-        }
         let generation = Arc::try_clone(self.desk.desk().current())?;
         self.hand.enter(generation);
         Ok(())
-    }
-
-    /// Fills bytes of a region's data.
-    pub(crate) fn load(&mut self, region: RegionId, offset: u64, bytes: &[u8]) {
-        let Some(place) = self.desk.place_of(region) else {
-            return;
-        };
-        let mut at = offset;
-        for byte in bytes {
-            set_data_byte(self.hand.words_mut(), &place, at, *byte);
-            at = at.saturating_add(1);
-        }
-    }
-
-    /// What a notifier was set to; it is cleared.
-    pub(crate) fn take_notifier(&mut self, number: usize) -> u64 {
-        let start = match self.desk.places().last() {
-            Some(place) => place.start,
-            None => 0,
-        };
-        match self.hand.words_mut().get_mut(start.saturating_add(number)) {
-            Some(word) => std::mem::replace(word, 0),
-            None => 0,
-        }
-    }
-
-    /// Whether a page of a region is marked for a client; the mark is cleared.
-    pub(crate) fn take_mark(&mut self, region: RegionId, client: Client, page: u64) -> bool {
-        let Some(place) = self.desk.place_of(region) else {
-            return false;
-        };
-        let bit = mark_bit(page);
-        match self
-            .hand
-            .words_mut()
-            .get_mut(mark_word(&place, client, page))
-        {
-            Some(word) => {
-                let is_marked = *word & bit != 0;
-                *word &= !bit;
-                is_marked
-            }
-            None => false,
-        }
     }
 }

@@ -1,3 +1,2 @@
 pub mod BoardLaws
-pub mod FitLaws
 pub mod ReadyLaws

@@ -1,3 +1,2 @@
 pub mod Boards
-pub mod Fits
 pub mod Ready

@@ -1,25 +1,24 @@
 // How long it takes to make a cabinet, to enter a generation and leave it, and to load a word.
-ghost use Rattle.std.specs.Prelude.{◌≡◌, ◌+◌, ◌*◌, ◌^◌, ◌<◌, ◌≤◌, IfOk, IfSome, None, replicate, false};
+ghost use Rattle.std.specs.Prelude.{◌≡◌, ◌*◌, ◌+◌, ◌^◌, ◌<◌, ◌≤◌, IfOk, IfSome, None};
 ghost use Rattle.mem_base.specs.machine.Actors.{number_seen};
 
 use crate::boards::{Board, DATA_WORDS, ram};
-use crate::rounds::{Failed, nanos};
+use crate::times::{Failed, Least, begin, drawn};
 use epoch_rule::{Batch, Cabinet, Pass, WriterSeat};
-use rand_core::utils::NextWord;
-use rand_pcg::Lcg64Xsh32;
 use shared_words::load;
 use std::alloc::{AllocError, Global};
 use std::sync::Arc;
-use std::time::Instant;
 
 /// The passes of a cabinet.
 const PASSES: u32 = 16;
 
-/// Times, in nanoseconds: of all visits, and of all loads.
+/// The least times of making a cabinet, of all visits and of all loads, and what these found, added up.
 #[derive(Clone, Copy)]
-struct Times {
-    visits: u64,
-    loads: u64,
+struct Figures {
+    made: Least,
+    visits: Least,
+    loads: Least,
+    sum: u64,
 }
 
 /// Makes a cabinet of 16 passes and `words` words, enters and leaves by one pass `count` times, and loads as many drawn words
@@ -32,66 +31,65 @@ pub(crate) fn run_cabinet(
 ) -> Result<(), Failed>
     requires { (32771 ≤ words) × (words ≤ 2 ^ 26 + 64) }
 {
-    let drawn = drawn_words(rt.alloc(), count)?;
-    let start = Instant::now(&rt)?;
-    let (cabinet, mut writer) = open(rt.alloc(), words)?;
-    let made = nanos(start.elapsed(&rt)?);
-    publish(rt.alloc(), &cabinet, &mut writer)?;
-    let Some(mut pass) = cabinet.pass(&mut writer) else {
-        return Err(Failed::Outside);
-    };
-    let (sum, least) = visits(rt, &cabinet, &mut pass, drawn.as_slice(), count, rounds)?;
-    println!(rt; "cabinet {PASSES} {words}: visits and loads {count}, sum {sum}")?;
+    let drawn = drawn(rt.alloc(), 5, count, DATA_WORDS)?;
+    let it = on_cabinet(rt, words, drawn.as_slice(), rounds)?;
+    println!(rt;
+        "cabinet {PASSES} {words}: visits and loads {count}, sum {}",
+        it.sum
+    )?;
     eprintln!(rt;
         "cabinet {PASSES} {words}: made in {} us, {count} visits {} us, {count} loads {} us",
-        made / 1000,
-        least.visits / 1000,
-        least.loads / 1000
+        it.made.micros(),
+        it.visits.micros(),
+        it.loads.micros()
     )?;
     Ok(())
 }
 
-/// The sum of what was found in the last of some rounds, and the least times of all.
-fn visits(
+fn on_cabinet(
+    rt: HostRuntime,
+    words: usize,
+    drawn: &[u32],
+    rounds: u32,
+) -> Result<Figures, AllocError>
+    requires { (32771 ≤ words) × (words ≤ 2 ^ 26 + 64) }
+{
+    let mut figures = Figures {
+        made: Least::new(),
+        visits: Least::new(),
+        loads: Least::new(),
+        sum: 0,
+    };
+    let start = begin(&rt);
+    let (cabinet, mut writer) = open(rt.alloc(), words)?;
+    figures.made.end(&rt, start);
+    let _ = publish(rt.alloc(), &cabinet, &mut writer);
+    if let Some(mut pass) = cabinet.pass(&mut writer) {
+        time_pass(rt, &cabinet, &mut pass, drawn, rounds, &mut figures);
+    }
+    Ok(figures)
+}
+
+fn time_pass(
     rt: HostRuntime,
     cabinet: &Cabinet<Board>,
     pass: &mut Pass<Board>,
     drawn: &[u32],
-    count: u32,
     rounds: u32,
-) -> Result<(u64, Times), Failed>
+    figures: &mut Figures,
+)
     requires own { pass.old.cabinet ≡ cabinet.now.id }
     requires out { pass.old.edition ≡ None }
 {
-    let mut sum = 0;
-    let mut least = Times {
-        visits: u64::MAX,
-        loads: u64::MAX,
-    };
     for _ in 0..rounds {
-        let start = Instant::now(&rt)?;
-        let numbers = visit(cabinet, pass, count);
-        let visits = nanos(start.elapsed(&rt)?);
-        let start = Instant::now(&rt)?;
+        let start = begin(&rt);
+        let numbers = visit(cabinet, pass, drawn.len());
+        figures.visits.end(&rt, start);
+        let start = begin(&rt);
         let found = load_all(cabinet, pass, drawn);
-        let loads = nanos(start.elapsed(&rt)?);
-        sum = numbers.wrapping_add(found);
-        least = Times {
-            visits: least.visits.min(visits),
-            loads: least.loads.min(loads),
-        };
+        figures.loads.end(&rt, start);
+        figures.sum = numbers.wrapping_add(found);
     }
-    Ok((sum, least))
-}
-
-/// Drawn numbers of words of the memory.
-fn drawn_words(alloc: Global, count: u32) -> Result<Vec<u32>, AllocError> {
-    let mut rng = Lcg64Xsh32::new(5, 54);
-    let mut words = Vec::new(alloc);
-    for _ in 0..count {
-        words.push(rng.next_word() % DATA_WORDS)?;
-    }
-    Ok(words)
 }
 
 /// A cabinet with the writer's seat.
@@ -126,7 +124,7 @@ fn publish(
 }
 
 /// Enters and leaves some times, and adds up the numbers.
-fn visit(cabinet: &Cabinet<Board>, pass: &mut Pass<Board>, count: u32) -> u64
+fn visit(cabinet: &Cabinet<Board>, pass: &mut Pass<Board>, count: usize) -> u64
     requires own { pass.old.cabinet ≡ cabinet.now.id }
     requires out { pass.old.edition ≡ None }
     ensures own { pass.new.cabinet ≡ pass.old.cabinet }

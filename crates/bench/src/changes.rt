@@ -1,167 +1,177 @@
 // How long a change takes that is published at once: in the space of a map, and in a small space beside it.
-use crate::desks::{change_all, desk_of};
 use crate::maps::Map;
-use crate::rounds::{Failed, nanos};
+use crate::times::{Failed, Least, begin};
 use backed_desk::BackedDesk;
-use mem_base::{Call, Kind, RegionId, Size, SpaceId};
+use mem_base::{Call, RegionId};
+use region_tree::Tree;
 use std::alloc::{AllocError, Global};
-use std::time::Instant;
+use std::sync::ledger::Ledger;
+use step_counter::Steps;
+use transact::Step;
 
-/// Times, in nanoseconds: of all changes in the space of the map, of all in the small one, and of one copy of the forest and of
-/// the tree.
+/// The words of a pool, enough for the memory and the registers of each map.
+pub(crate) const WORDS: usize = 1 << 21;
+
+/// The least times of all moves in the map, of as many in the small space, and of one copy of the forest and of the tree; and how many
+/// moves of a round were refused.
 #[derive(Clone, Copy)]
-struct Times {
-    large: u64,
-    small: u64,
-    forest: u64,
-    tree: u64,
-}
-
-/// The calls that are timed: moves of regions of the map, and of the region in the small space.
-#[derive(Debug, Drop)]
-struct Moves {
-    large: Vec<Call>,
-    small: Vec<Call>,
-}
-
-/// Makes a desk with a map, and beside its space a small one of two regions; moves regions of the map, and the one in the small
-/// space as often, and tells how long one move took with its commit: the mean of a round, the least of some rounds.
-pub(crate) fn run_changes(rt: HostRuntime, map: &Map, rounds: u32) -> Result<(), Failed> {
-    let mut desk = desk_of(rt.alloc(), map, &small_space(regions_of(map)))?;
-    let moves = moves_of(rt.alloc(), map)?;
-    let (refused, times) = least(rt, &mut desk, &moves, rounds)?;
-    tell(rt, map, &moves, refused, times)
-}
-
-/// The least times of some rounds, and how many moves of a round were refused.
-fn least(
-    rt: HostRuntime,
-    desk: &mut BackedDesk,
-    moves: &Moves,
-    rounds: u32,
-) -> Result<(u64, Times), Failed> {
-    let (refused, mut least) = round(rt, desk, moves)?;
-    for _ in 1..rounds.saturating_mul(4) {
-        let (_, times) = round(rt, desk, moves)?;
-        least = Times {
-            large: least.large.min(times.large),
-            small: least.small.min(times.small),
-            forest: least.forest.min(times.forest),
-            tree: least.tree.min(times.tree),
-        };
-    }
-    Ok((refused, least))
-}
-
-fn tell(
-    rt: HostRuntime,
-    map: &Map,
-    moves: &Moves,
+struct Figures {
+    large: Least,
+    small: Least,
+    forests: Least,
+    trees: Least,
     refused: u64,
-    times: Times,
+}
+
+/// Moves regions of a map, and one in a small space of two regions beside it as often, and tells how long one move took with its
+/// commit: the mean of a round, the least of four times as many rounds; and how long a copy of the forest and of the tree.
+pub(crate) fn run_changes<L: Ledger>(
+    rt: HostRuntime,
+    mut map: Map,
+    rounds: u32,
+    steps: &mut Steps<L>,
 ) -> Result<(), Failed> {
-    let count = moves.large.len().max(1) as u64;
-    println!(rt;
-        "{} {} changed: moves {count}, refused {refused}",
-        map.name, map.size
-    )?;
+    map.add_small_space()?;
+    let mut moves = Vec::new(rt.alloc());
+    push_moves(&mut moves, &map)?;
+    let it = on_desk(rt, &map, moves.as_slice(), rounds.saturating_mul(4), steps)?;
+    let count = moves.len();
+    println!(rt; "{map} changed: moves {count}, refused {}", it.refused)?;
     eprintln!(rt;
-        "{} {} changed: a move {} ns, in the small space {} ns, a copy of the forest {} ns, of the tree {} ns",
-        map.name,
-        map.size,
-        times.large / count,
-        times.small / count,
-        times.forest,
-        times.tree
+        "{map} changed: a move {} ns, in the small space {} ns, a copy of the forest {} ns, of the tree {} ns",
+        it.large.nanos_each(count),
+        it.small.nanos_each(count),
+        it.forests.nanos(),
+        it.trees.nanos()
     )?;
     Ok(())
 }
 
-/// How many regions the calls of a map make.
-fn regions_of(map: &Map) -> u32 {
-    let mut made: u32 = 0;
-    for call in &map.calls {
-        if let Call::Region { .. } = call {
-            made = made.saturating_add(1);
+fn on_desk<L: Ledger>(
+    rt: HostRuntime,
+    map: &Map,
+    moves: &[Call],
+    rounds: u32,
+    steps: &mut Steps<L>,
+) -> Result<Figures, Failed> {
+    let mut desk = BackedDesk::new(rt.alloc(), WORDS)?;
+    let figures = figures_of(rt, &mut desk, map, moves, rounds, steps);
+    figures
+}
+
+fn figures_of<L: Ledger>(
+    rt: HostRuntime,
+    desk: &mut BackedDesk,
+    map: &Map,
+    moves: &[Call],
+    rounds: u32,
+    steps: &mut Steps<L>,
+) -> Result<Figures, Failed> {
+    publish(desk, map, steps)?;
+    let small_moves = moves_of(map.latest(), 0);
+    let mut figures = Figures {
+        large: Least::new(),
+        small: Least::new(),
+        forests: Least::new(),
+        trees: Least::new(),
+        refused: 0,
+    };
+    for _ in 0..rounds {
+        let start = begin(&rt);
+        figures.refused = change_all(desk, moves, steps);
+        figures.large.end(&rt, start);
+        let start = begin(&rt);
+        for _ in 0..moves.len() / 2 {
+            change_all(desk, &small_moves, steps);
+        }
+        figures.small.end(&rt, start);
+        time_copies(rt, desk.desk().tree(), &mut figures)?;
+    }
+    Ok(figures)
+}
+
+fn time_copies(rt: HostRuntime, tree: &Tree, figures: &mut Figures) -> Result<(), AllocError> {
+    time_forest(rt, tree, &mut figures.forests)?;
+    let start = begin(&rt);
+    let _copy = tree.try_copy()?;
+    figures.trees.end(&rt, start);
+    Ok(())
+}
+
+fn time_forest(rt: HostRuntime, tree: &Tree, times: &mut Least) -> Result<(), AllocError> {
+    let start = begin(&rt);
+    let _copy = tree.forest()?;
+    times.end(&rt, start);
+    Ok(())
+}
+
+/// Makes a map at a new desk, all of it published in one generation. Some of its calls may be refused.
+pub(crate) fn publish<L: Ledger>(
+    desk: &mut BackedDesk,
+    map: &Map,
+    steps: &mut Steps<L>,
+) -> Result<(), Failed> {
+    desk.begin()?;
+    do_all(desk, map.calls.as_slice());
+    if let Step::Ready(prepared) = desk.commit_prepare(steps)? {
+        desk.done(prepared);
+    }
+    Ok(())
+}
+
+/// Does calls inside the transaction that is open.
+fn do_all(desk: &mut BackedDesk, calls: &[Call]) {
+    for call in calls {
+        if desk.desk().depth() != 0 {
+            let _ = desk.call(call);
         }
     }
-    made
 }
 
-/// A call that makes a region of this many bytes.
-fn region(kind: Kind, bytes: u64) -> Call {
-    let Some(size) = Size::new(u128::from(bytes)) else {
-        unreachable!();
-    };
-    Call::Region { kind, size }
+/// Does changes, each of which is published in a generation of its own, and counts those that are refused.
+fn change_all<L: Ledger>(desk: &mut BackedDesk, calls: &[Call], steps: &mut Steps<L>) -> u64 {
+    let mut refused: u64 = 0;
+    for call in calls {
+        if !change(desk, call, steps) {
+            refused = refused.saturating_add(1);
+        }
+    }
+    refused
 }
 
-/// The calls that make a space of two regions, a container and memory in it; `made` regions were made before.
-fn small_space(made: u32) -> [Call; 4] {
-    let (root, child) = (RegionId(made), RegionId(made.saturating_add(1)));
+/// Prepares a change and publishes it; whether it was accepted.
+fn change<L: Ledger>(desk: &mut BackedDesk, call: &Call, steps: &mut Steps<L>) -> bool {
+    if desk.desk().depth() != 0 || call.is_quiet() {
+        return false;
+    }
+    match desk.call_prepare(call, steps) {
+        Ok(prepared) => {
+            desk.done(prepared);
+            true
+        }
+        Err(_) => false,
+    }
+}
+
+/// A move of a region to a page after this offset, and one to it.
+fn moves_of(child: RegionId, offset: u64) -> [Call; 2] {
+    let on = offset.saturating_add(0x1000);
     [
-        region(Kind::Container, 0x10000),
-        region(Kind::Ram, 0x1000),
-        Call::Add {
-            parent: root,
-            offset: 0,
-            child,
-            priority: 0,
-        },
-        Call::Space {
-            space: SpaceId(1),
-            root,
-        },
+        Call::Move { child, offset: on },
+        Call::Move { child, offset },
     ]
 }
 
-/// For every sixteenth region that was placed, a move by a page and one back, and as many moves in the small space.
-fn moves_of(alloc: Global, map: &Map) -> Result<Moves, AllocError> {
-    let small_child = RegionId(regions_of(map).saturating_add(1));
-    let mut large = Vec::new(alloc);
-    let mut small = Vec::new(alloc);
+/// For every sixteenth region that was placed, a move by a page and one back.
+fn push_moves(moves: &mut Vec<Call>, map: &Map) -> Result<(), AllocError> {
     let mut placed: u32 = 0;
     for call in &map.calls {
         if let Call::Add { offset, child, .. } = *call {
             placed = placed.wrapping_add(1);
             if placed % 16 == 0 {
-                push_moves(&mut large, child, offset)?;
-                push_moves(&mut small, small_child, 0)?;
+                moves.extend_from_slice(&moves_of(child, offset))?;
             }
         }
     }
-    Ok(Moves { large, small })
-}
-
-/// A move to a page after this offset, and one to it.
-fn push_moves(moves: &mut Vec<Call>, child: RegionId, offset: u64) -> Result<(), AllocError> {
-    let on = offset.saturating_add(0x1000);
-    moves.push(Call::Move { child, offset: on })?;
-    moves.push(Call::Move { child, offset })?;
     Ok(())
-}
-
-/// Makes all moves once: how many were refused, and the times.
-fn round(rt: HostRuntime, desk: &mut BackedDesk, moves: &Moves) -> Result<(u64, Times), Failed> {
-    let start = Instant::now(&rt)?;
-    let in_large = change_all(desk, moves.large.as_slice());
-    let large = nanos(start.elapsed(&rt)?);
-    let start = Instant::now(&rt)?;
-    let in_small = change_all(desk, moves.small.as_slice());
-    let small = nanos(start.elapsed(&rt)?);
-    let start = Instant::now(&rt)?;
-    let forest = desk.desk().tree().forest()?;
-    let forest_time = nanos(start.elapsed(&rt)?);
-    drop(forest);
-    let start = Instant::now(&rt)?;
-    let tree = desk.desk().tree().try_copy()?;
-    let tree_time = nanos(start.elapsed(&rt)?);
-    drop(tree);
-    let times = Times {
-        large,
-        small,
-        forest: forest_time,
-        tree: tree_time,
-    };
-    Ok((in_large.saturating_add(in_small), times))
 }

@@ -10,45 +10,48 @@
 //! they are small.
 #![tactic(auto)]
 
-ghost use Rattle.std.specs.Prelude.{◌≤◌, ◌+◌, ◌^◌};
+ghost use Rattle.std.specs.Prelude.{◌≡◌, ◌≤◌, ◌<◌, ◌+◌, ◌^◌};
 
+mod accesses;
 mod boards;
 mod cabinets;
 mod changes;
-mod desks;
 mod maps;
 mod pools;
-mod rounds;
 mod routes;
 mod scripts;
+mod times;
+mod trees;
 mod vcpus;
 mod views;
 mod worlds;
 
 use crate::cabinets::run_cabinet;
-use crate::changes::run_changes;
-use crate::maps::{Map, aliases, chains, flat, generated, heavy, zigzag};
+use crate::changes::{WORDS, publish, run_changes};
+use crate::maps::{Map, Shape};
 use crate::pools::run_pool;
-use crate::rounds::{Failed, run};
-use crate::routes::run_routes;
+use crate::routes::{of_memory, run_routes};
+use crate::scripts::run_scripts;
+use crate::times::Failed;
+use crate::trees::run_tree;
 use crate::vcpus::run_vcpus;
 use crate::views::run_views;
 use crate::worlds::run_worlds;
-use std::alloc::AllocError;
+use backed_desk::BackedDesk;
+use std::marker::Brand;
 use std::process::ExitCode;
 use std::sync::Wait;
+use std::sync::ledger::{Blank, Ledger};
 use std::thread::Threads;
 use std::time::Clock;
+use step_counter::Steps;
 
-/// How large the maps are, how often each is built, and how often each is rendered then.
+/// How large the maps are, how often each is built, and how often each is rendered then. All that is timed beside them is timed over a
+/// generated map of the size `middle`.
 #[derive(Clone, Copy)]
 struct Sizes {
-    generated: [u32; 4],
-    flat: [u32; 2],
-    chains: u32,
-    zigzag: u32,
-    aliases: u32,
-    heavy: u32,
+    maps: [(Shape, u32); 11],
+    middle: u32,
     cabinet: usize,
     visits: u32,
     text: usize,
@@ -58,12 +61,20 @@ struct Sizes {
 
 /// Small maps, once each.
 static SMALL: Sizes = Sizes {
-    generated: [50, 100, 150, 200],
-    flat: [50, 100],
-    chains: 4,
-    zigzag: 100,
-    aliases: 100,
-    heavy: 20,
+    maps: [
+        (Shape::Generated, 50),
+        (Shape::Generated, 100),
+        (Shape::Generated, 150),
+        (Shape::Generated, 200),
+        (Shape::Flat, 50),
+        (Shape::Flat, 100),
+        (Shape::ChainsDown, 4),
+        (Shape::ChainsUp, 4),
+        (Shape::Zigzag, 100),
+        (Shape::Aliases, 100),
+        (Shape::Heavy, 20),
+    ],
+    middle: 150,
     cabinet: 32_835,
     visits: 1000,
     text: 1000,
@@ -73,12 +84,20 @@ static SMALL: Sizes = Sizes {
 
 /// The maps of docs/SPEED.md, the least of five rounds with 60 views each.
 static FULL: Sizes = Sizes {
-    generated: [500, 1000, 2000, 4000],
-    flat: [2000, 4000],
-    chains: 120,
-    zigzag: 2000,
-    aliases: 4000,
-    heavy: 1000,
+    maps: [
+        (Shape::Generated, 500),
+        (Shape::Generated, 1000),
+        (Shape::Generated, 2000),
+        (Shape::Generated, 4000),
+        (Shape::Flat, 2000),
+        (Shape::Flat, 4000),
+        (Shape::ChainsDown, 120),
+        (Shape::ChainsUp, 120),
+        (Shape::Zigzag, 2000),
+        (Shape::Aliases, 4000),
+        (Shape::Heavy, 1000),
+    ],
+    middle: 2000,
     cabinet: (1 << 26) + 64,
     visits: 1_000_000,
     text: 1_048_576,
@@ -92,63 +111,87 @@ fn main(rt: HostRuntime) -> ExitCode {
         Err(_) => false,
     };
     let sizes = if is_full { FULL } else { SMALL };
-    match all(rt, &rt, sizes) {
+    match uncounted(rt, &rt, sizes) {
         Ok(()) => ExitCode::from(0),
         Err(_) => ExitCode::from(1),
     }
 }
 
-fn all<R: Threads + Wait + Clock + Sync>(
+/// All of it, with steps that nobody counts.
+fn uncounted<R: Threads + Wait + Clock + Sync>(
     rt: HostRuntime,
     threads: &R,
     sizes: Sizes,
 ) -> Result<(), Failed>
     requires { (32771 ≤ sizes.cabinet) × (sizes.cabinet ≤ 2 ^ 26 + 64) }
 {
-    for n in sizes.generated {
-        run(rt, &generated(rt.alloc(), n)?, sizes.rounds, sizes.views)?;
-    }
-    for n in sizes.flat {
-        run(rt, &flat(rt.alloc(), n)?, sizes.rounds, sizes.views)?;
-    }
-    run(
-        rt,
-        &chains(rt.alloc(), sizes.chains, true)?,
-        sizes.rounds,
-        sizes.views,
-    )?;
-    run(
-        rt,
-        &chains(rt.alloc(), sizes.chains, false)?,
-        sizes.rounds,
-        sizes.views,
-    )?;
-    run(
-        rt,
-        &zigzag(rt.alloc(), sizes.zigzag)?,
-        sizes.rounds,
-        sizes.views,
-    )?;
-    run(
-        rt,
-        &aliases(rt.alloc(), sizes.aliases)?,
-        sizes.rounds,
-        sizes.views,
-    )?;
-    run(
-        rt,
-        &heavy(rt.alloc(), sizes.heavy)?,
-        sizes.rounds,
-        sizes.views,
-    )?;
-    let third = generated(rt.alloc(), sizes.generated[2])?;
-    run_views(rt, &third, sizes.rounds)?;
+    run_maps::<Brand, R>(rt, threads, sizes, Blank::new(1))?;
     run_pool(rt, sizes.rounds)?;
-    run_routes(rt, &third, sizes.rounds)?;
-    run_changes(rt, &third, sizes.rounds)?;
-    run_vcpus(rt, threads, &third, sizes.rounds)?;
-    run_worlds(rt, &third, sizes.rounds)?;
     run_cabinet(rt, sizes.cabinet, sizes.visits, sizes.rounds)?;
-    scripts::all(rt, sizes.text, sizes.rounds)?;
-    Ok(())
+    run_scripts(rt, sizes.text, sizes.rounds)
+}
+
+/// All that is timed over maps.
+fn run_maps<L: Ledger, R: Threads + Wait + Clock + Sync>(
+    rt: HostRuntime,
+    threads: &R,
+    sizes: Sizes,
+    blank: Blank,
+) -> Result<(), Failed>
+    requires name { blank.name ≡ L.name }
+    requires parts { blank.parts ≡ L.parts }
+    requires some { 0 < L.parts }
+{
+    let mut steps = Steps::<L>::new(blank);
+    for (shape, size) in sizes.maps {
+        let map = shape.map(rt.alloc(), size)?;
+        run_tree(rt, &map, sizes.rounds, sizes.views, &mut steps)?;
+    }
+    run_middle(rt, threads, sizes.middle, sizes.rounds, &mut steps)
+}
+
+/// All that is timed over a generated map of this size: views, routes, accesses and changes.
+fn run_middle<L: Ledger, R: Threads + Wait + Clock + Sync>(
+    rt: HostRuntime,
+    threads: &R,
+    size: u32,
+    rounds: u32,
+    steps: &mut Steps<L>,
+) -> Result<(), Failed> {
+    let map = Shape::Generated.map(rt.alloc(), size)?;
+    run_views(rt, &map, rounds, steps)?;
+    on_desk(rt, threads, &map, rounds, steps)?;
+    run_changes(rt, map, rounds, steps)
+}
+
+/// What is timed over a desk with the map.
+fn on_desk<L: Ledger, R: Threads + Wait + Clock + Sync>(
+    rt: HostRuntime,
+    threads: &R,
+    map: &Map,
+    rounds: u32,
+    steps: &mut Steps<L>,
+) -> Result<(), Failed> {
+    let mut desk = BackedDesk::new(rt.alloc(), WORDS)?;
+    let done = run_accesses(rt, threads, &mut desk, map, rounds, steps);
+    done
+}
+
+/// Routes, and reads and writes of the pure machine and of virtual CPUs, at drawn addresses of the map's memory: fifty times as many as
+/// its size, and a hundred times as many for virtual CPUs.
+fn run_accesses<L: Ledger, R: Threads + Wait + Clock + Sync>(
+    rt: HostRuntime,
+    threads: &R,
+    desk: &mut BackedDesk,
+    map: &Map,
+    rounds: u32,
+    steps: &mut Steps<L>,
+) -> Result<(), Failed> {
+    publish(desk, map, steps)?;
+    let generation = desk.desk().current();
+    let addrs = of_memory(rt.alloc(), generation, map.size.saturating_mul(50), steps)?;
+    run_routes(rt, map, generation, addrs.as_slice(), rounds, steps)?;
+    run_worlds(rt, threads, map, addrs.as_slice(), rounds)?;
+    let addrs = of_memory(rt.alloc(), generation, map.size.saturating_mul(100), steps)?;
+    run_vcpus(rt, threads, map, addrs.as_slice(), rounds)
 }

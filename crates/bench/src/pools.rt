@@ -2,13 +2,12 @@
 ghost use Rattle.std.specs.Prelude.{◌≡◌, ◌%◌, ◌<◌, ◌≤◌};
 ghost use Rattle.mem_base.specs.map.Limits.{page_size, most_bytes, most_registers};
 
-use crate::rounds::{Failed, nanos};
+use crate::times::{Failed, Least, begin};
 use backing_pool::Pool;
 use mem_base::RegionId;
 use rand_core::utils::NextWord;
 use rand_pcg::Lcg64Xsh32;
 use std::alloc::{AllocError, Global};
-use std::time::Instant;
 
 /// The words of the pool.
 const WORDS: usize = 4096;
@@ -19,16 +18,17 @@ const PLACES: u32 = 10_000;
 /// Takes 10,000 places of drawn sizes, each of the region of the next number, gives drawn ones back where there is no
 /// room, and all in the end; tells how long that took, the least of some rounds.
 pub(crate) fn run_pool(rt: HostRuntime, rounds: u32) -> Result<(), Failed> {
-    let (mut sum, mut least) = (0, u64::MAX);
-    for _ in 0..rounds.max(1) {
-        let start = Instant::now(&rt)?;
+    let mut times = Least::new();
+    let mut sum = 0;
+    for _ in 0..rounds {
+        let start = begin(&rt);
         sum = take_all(rt.alloc())?;
-        least = least.min(nanos(start.elapsed(&rt)?));
+        times.end(&rt, start);
     }
     println!(rt; "pool {WORDS}: places {PLACES}, sum of starts {sum}")?;
     eprintln!(rt;
         "pool {WORDS}: {PLACES} places taken and given back in {} us",
-        least / 1000
+        times.micros()
     )?;
     Ok(())
 }

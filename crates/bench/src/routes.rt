@@ -1,76 +1,58 @@
 // How long the route of an access takes, and the cutting of an access to a register.
-ghost use Rattle.std.specs.Prelude.{◌≡◌, ◌<◌, ◌≤◌, ◌+◌, ◌^◌};
+ghost use Rattle.std.specs.Prelude.{◌≤◌, ◌+◌, ◌^◌};
 ghost use Rattle.access_cut.specs.Conditions.{AreGood};
 
-use crate::desks::desk_of;
 use crate::maps::Map;
-use crate::rounds::{Failed, nanos};
+use crate::times::{Failed, Least, begin};
 use access_cut::{accesses, cut};
 use generation::Generation;
 use iommu::route;
-use mem_base::{Kind, Ops, RegionId, SpaceId, Target};
+use mem_base::{Kind, Ops, SpaceId, Target};
 use rand_core::utils::NextWord;
 use rand_pcg::Lcg64Xsh32;
 use std::alloc::{AllocError, Global};
-use std::marker::Brand;
-use std::sync::ledger::{Blank, Ledger};
-use std::time::Instant;
+use std::sync::ledger::Ledger;
 use step_counter::Steps;
 
 /// The bytes of an access whose route is timed.
 const BYTES: u64 = 8;
 
-/// Times, in nanoseconds: of all routes, and of cutting all accesses.
-#[derive(Clone, Copy)]
-struct Times {
-    routes: u64,
-    cuts: u64,
-}
-
-/// Makes routes of 8-byte reads of the memory of a map, fifty times as many drawn addresses as its size, and cuts as many
-/// accesses to a register; tells how long one took: the mean of a round, the least of twenty times as many rounds.
-pub(crate) fn run_routes(rt: HostRuntime, map: &Map, rounds: u32) -> Result<(), Failed> {
-    let desk = desk_of(rt.alloc(), map, &[])?;
-    let generation = desk.desk().current();
-    let drawn = map.size.saturating_mul(50);
-    let addrs = of_memory(rt.alloc(), generation, drawn)?;
+/// Makes routes of 8-byte reads at addresses of a map's memory, and cuts as many accesses to a register; tells how long all took: the
+/// least of twenty times as many rounds.
+pub(crate) fn run_routes<L: Ledger>(
+    rt: HostRuntime,
+    map: &Map,
+    generation: &Generation,
+    addrs: &[u32],
+    rounds: u32,
+    steps: &mut Steps<L>,
+) -> Result<(), Failed> {
     let (mut found, mut calls) = (0, 0);
-    let mut least = Times {
-        routes: u64::MAX,
-        cuts: u64::MAX,
-    };
+    let (mut routes, mut cuts) = (Least::new(), Least::new());
     for _ in 0..rounds.saturating_mul(20) {
-        let start = Instant::now(&rt)?;
-        found = uncounted(generation, addrs.as_slice());
-        let routes = nanos(start.elapsed(&rt)?);
-        let start = Instant::now(&rt)?;
-        calls = cut_all(&Ops::default(), addrs.as_slice());
-        let cuts = nanos(start.elapsed(&rt)?);
-        least = Times {
-            routes: least.routes.min(routes),
-            cuts: least.cuts.min(cuts),
-        };
+        let start = begin(&rt);
+        found = route_all(generation, addrs, steps);
+        routes.end(&rt, start);
+        let start = begin(&rt);
+        calls = cut_all(&Ops::default(), addrs);
+        cuts.end(&rt, start);
     }
-    let count = addrs.len() as u64;
-    println!(rt;
-        "{} {} routed: accesses {count}, found {found}, callbacks at {calls}",
-        map.name, map.size
-    )?;
+    let count = addrs.len();
+    println!(rt; "{map} routed: accesses {count}, found {found}, callbacks at {calls}")?;
     eprintln!(rt;
-        "{} {} routed: {count} routes {} us, {count} cuts {} us",
-        map.name,
-        map.size,
-        least.routes / 1000,
-        least.cuts / 1000
+        "{map} routed: {count} routes {} us, {count} cuts {} us",
+        routes.micros(),
+        cuts.micros()
     )?;
     Ok(())
 }
 
 /// At most this many addresses of memory in space 0, drawn from the multiples of 8 in the 16 megabytes of the generated maps.
-pub(crate) fn of_memory(
+pub(crate) fn of_memory<L: Ledger>(
     alloc: Global,
     generation: &Generation,
     count: u32,
+    steps: &mut Steps<L>,
 ) -> Result<Vec<u32>, AllocError> {
     let mut rng = Lcg64Xsh32::new(3, 54);
     let mut addrs = Vec::new(alloc);
@@ -79,7 +61,7 @@ pub(crate) fn of_memory(
             break;
         }
         let addr = rng.next_word() % 0x20_0000 * 8;
-        if is_memory(generation, addr) {
+        if is_memory(generation, addr, steps) {
             addrs.push(addr)?;
         }
     }
@@ -87,44 +69,19 @@ pub(crate) fn of_memory(
 }
 
 /// Whether an access to this address of space 0 leads to memory.
-fn is_memory(generation: &Generation, addr: u32) -> bool {
-    match leaf_of::<Brand>(generation, addr, Blank::new(1)) {
-        Some(leaf) => match generation.forest().nodes.get(leaf) {
+fn is_memory<L: Ledger>(generation: &Generation, addr: u32, steps: &mut Steps<L>) -> bool {
+    let way = route(generation, SpaceId(0), u64::from(addr), BYTES, false, steps);
+    match way.target {
+        Target::Leaf(spot) => match generation.forest().nodes.get(spot.leaf) {
             Some(node) => matches!(node.kind, Kind::Ram),
             None => false,
         },
-        None => false,
-    }
-}
-
-/// The leaf to which an access to this address of space 0 leads.
-fn leaf_of<L: Ledger>(generation: &Generation, addr: u32, blank: Blank) -> Option<RegionId>
-    requires name { blank.name ≡ L.name }
-    requires parts { blank.parts ≡ L.parts }
-    requires some { 0 < L.parts }
-{
-    let mut steps = Steps::<L>::new(blank);
-    let way = route(
-        generation,
-        SpaceId(0),
-        u64::from(addr),
-        BYTES,
-        false,
-        &mut steps,
-    );
-    match way.target {
-        Target::Leaf(spot) => Some(spot.leaf),
-        Target::Unassigned => None,
+        Target::Unassigned => false,
     }
 }
 
 /// Makes the route of an access to each address, and adds up what is found.
-fn route_all<L: Ledger>(generation: &Generation, addrs: &[u32], blank: Blank) -> u64
-    requires name { blank.name ≡ L.name }
-    requires parts { blank.parts ≡ L.parts }
-    requires some { 0 < L.parts }
-{
-    let mut steps = Steps::<L>::new(blank);
+fn route_all<L: Ledger>(generation: &Generation, addrs: &[u32], steps: &mut Steps<L>) -> u64 {
     let mut sum: u64 = 0;
     for addr in addrs {
         let way = route(
@@ -133,7 +90,7 @@ fn route_all<L: Ledger>(generation: &Generation, addrs: &[u32], blank: Blank) ->
             u64::from(*addr),
             BYTES,
             false,
-            &mut steps,
+            steps,
         );
         if let Target::Leaf(spot) = way.target {
             sum = sum
@@ -143,11 +100,6 @@ fn route_all<L: Ledger>(generation: &Generation, addrs: &[u32], blank: Blank) ->
         }
     }
     sum
-}
-
-/// The same, with steps that nobody counts.
-fn uncounted(generation: &Generation, addrs: &[u32]) -> u64 {
-    route_all::<Brand>(generation, addrs, Blank::new(1))
 }
 
 /// Cuts an access to a device at each of these offsets, and adds up where the callbacks are made and one for each. An access has
@@ -169,18 +121,15 @@ fn callbacks(ops: &Ops, offset: u64, len: u64) -> u64
     requires within { offset + len ≤ 2 ^ 64 }
 {
     let mut cuts = cut(ops, offset, len);
-    match cuts.next() {
-        Some(piece) => {
-            let mut sum: u64 = 0;
-            let mut places = accesses(ops, &piece);
-            for _ in 0..8 {
-                match places.next() {
-                    Some((at, _)) => sum = sum.wrapping_add(at).wrapping_add(1),
-                    None => break,
-                }
+    let mut sum: u64 = 0;
+    if let Some(piece) = cuts.next() {
+        let mut places = accesses(ops, &piece);
+        for _ in 0..8 {
+            match places.next() {
+                Some((at, _)) => sum = sum.wrapping_add(at).wrapping_add(1),
+                None => break,
             }
-            sum
         }
-        None => 0,
     }
+    sum
 }

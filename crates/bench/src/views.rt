@@ -1,124 +1,143 @@
 // How long an atlas of a view takes, a look-up in it, and a walk to the view after some moves.
-ghost use Rattle.std.specs.Prelude.{◌≡◌, ◌<◌};
-
 use crate::maps::Map;
-use crate::rounds::{Failed, build, nanos, view};
+use crate::times::{Failed, Least, begin, drawn};
+use crate::trees::{build, view};
 use flat_lookup::Atlas;
 use mem_base::{Call, View};
-use rand_core::utils::NextWord;
-use rand_pcg::Lcg64Xsh32;
 use region_tree::Tree;
 use std::alloc::{AllocError, Global};
-use std::marker::Brand;
-use std::sync::ledger::{Blank, Ledger};
-use std::time::Instant;
+use std::sync::ledger::Ledger;
 use step_counter::Steps;
 use view_walk::walk;
 
-/// Times, in nanoseconds: of an atlas, of all look-ups, and of a walk.
+/// The least times of an atlas, of all look-ups in it and of a walk, and what is the same in every round.
 #[derive(Clone, Copy)]
-struct Times {
-    atlas: u64,
-    looks: u64,
-    walk: u64,
-}
-
-/// What is the same in every run.
-#[derive(Clone, Copy)]
-struct Facts {
-    ranges: u64,
+struct Figures {
+    atlases: Least,
+    looks: Least,
+    walks: Least,
+    ranges: usize,
     found: u64,
-    steps: u64,
+    changes: usize,
 }
 
 /// Looks up drawn addresses in the view of a map, fifty times as many as its size, walks to the view after some of its
 /// regions were moved, and tells how long that took: the least of twenty times as many rounds.
-pub(crate) fn run_views(rt: HostRuntime, map: &Map, rounds: u32) -> Result<(), Failed> {
-    let mut tree = Tree::new(rt.alloc());
-    build(&mut tree, map.calls.as_slice());
-    let looks = map.size.saturating_mul(50);
-    let addrs = addresses(rt.alloc(), looks)?;
-    let (facts, mut least) = round(rt, &mut tree, map, addrs.as_slice())?;
-    for _ in 1..rounds.saturating_mul(20) {
-        let (_, times) = round(rt, &mut tree, map, addrs.as_slice())?;
-        least = Times {
-            atlas: least.atlas.min(times.atlas),
-            looks: least.looks.min(times.looks),
-            walk: least.walk.min(times.walk),
-        };
-    }
+pub(crate) fn run_views<L: Ledger>(
+    rt: HostRuntime,
+    map: &Map,
+    rounds: u32,
+    steps: &mut Steps<L>,
+) -> Result<(), Failed> {
+    let count = map.size.saturating_mul(50);
+    let it = on_tree(
+        rt,
+        map.calls.as_slice(),
+        count,
+        rounds.saturating_mul(20),
+        steps,
+    )?;
     println!(rt;
-        "{} {} looked up: ranges {}, found {}, steps of a walk {}",
-        map.name, map.size, facts.ranges, facts.found, facts.steps
+        "{map} looked up: ranges {}, found {}, steps of a walk {}",
+        it.ranges, it.found, it.changes
     )?;
     eprintln!(rt;
-        "{} {} looked up: an atlas {} ns, {looks} look-ups {} us, a walk {} ns",
-        map.name,
-        map.size,
-        least.atlas,
-        least.looks / 1000,
-        least.walk
+        "{map} looked up: an atlas {} ns, {count} look-ups {} us, a walk {} ns",
+        it.atlases.nanos(),
+        it.looks.micros(),
+        it.walks.nanos()
     )?;
     Ok(())
 }
 
-/// Drawn addresses in the 16 megabytes of the generated maps.
-fn addresses(alloc: Global, looks: u32) -> Result<Vec<u64>, AllocError> {
-    let mut rng = Lcg64Xsh32::new(2, 54);
-    let mut addrs = Vec::new(alloc);
-    for _ in 0..looks {
-        addrs.push(u64::from(rng.next_word() % 0x100_0000))?;
-    }
-    Ok(addrs)
+fn on_tree<L: Ledger>(
+    rt: HostRuntime,
+    calls: &[Call],
+    count: u32,
+    rounds: u32,
+    steps: &mut Steps<L>,
+) -> Result<Figures, Failed> {
+    let mut tree = Tree::new(rt.alloc());
+    build(&mut tree, calls);
+    let figures = figures_of(rt, &mut tree, calls, count, rounds, steps);
+    figures
 }
 
-fn round(
+fn figures_of<L: Ledger>(
     rt: HostRuntime,
     tree: &mut Tree,
-    map: &Map,
-    addrs: &[u64],
-) -> Result<(Facts, Times), Failed> {
-    let old = view(rt.alloc(), tree)?;
-    move_some(tree, map.calls.as_slice(), 0x1000);
-    let new = view(rt.alloc(), tree)?;
-    move_some(tree, map.calls.as_slice(), 0);
-    let start = Instant::now(&rt)?;
-    let steps = walk(rt.alloc(), &old, &new)?;
-    let walk = nanos(start.elapsed(&rt)?);
-    let start = Instant::now(&rt)?;
-    let atlas = atlas(rt.alloc(), old)?;
-    let atlas_time = nanos(start.elapsed(&rt)?);
-    let start = Instant::now(&rt)?;
-    let found = uncounted(&atlas, addrs);
-    let looks = nanos(start.elapsed(&rt)?);
-    let facts = Facts {
-        ranges: atlas.view().as_slice().len() as u64,
-        found,
-        steps: steps.as_slice().len() as u64,
+    calls: &[Call],
+    count: u32,
+    rounds: u32,
+    steps: &mut Steps<L>,
+) -> Result<Figures, Failed> {
+    let addrs = drawn(rt.alloc(), 2, count, 0x100_0000)?;
+    let mut figures = Figures {
+        atlases: Least::new(),
+        looks: Least::new(),
+        walks: Least::new(),
+        ranges: 0,
+        found: 0,
+        changes: 0,
     };
-    let times = Times {
-        atlas: atlas_time,
-        looks,
-        walk,
-    };
-    Ok((facts, times))
+    for _ in 0..rounds {
+        let view = view(rt.alloc(), tree, steps)?;
+        time_atlas(rt, view, addrs.as_slice(), &mut figures, steps)?;
+    }
+    let old = view(rt.alloc(), tree, steps)?;
+    move_some(tree, calls);
+    let new = view(rt.alloc(), tree, steps)?;
+    for _ in 0..rounds {
+        time_walk(rt, &old, &new, &mut figures)?;
+    }
+    Ok(figures)
 }
 
-/// Moves every sixteenth region that was placed to this many bytes after its first offset.
-fn move_some(tree: &mut Tree, calls: &[Call], bytes: u64) {
+fn time_atlas<L: Ledger>(
+    rt: HostRuntime,
+    view: View,
+    addrs: &[u32],
+    figures: &mut Figures,
+    steps: &mut Steps<L>,
+) -> Result<(), AllocError> {
+    figures.ranges = view.as_slice().len();
+    let start = begin(&rt);
+    let atlas = atlas_of(rt.alloc(), view)?;
+    figures.atlases.end(&rt, start);
+    let start = begin(&rt);
+    figures.found = look_up(&atlas, addrs, steps);
+    figures.looks.end(&rt, start);
+    Ok(())
+}
+
+fn time_walk(
+    rt: HostRuntime,
+    old: &View,
+    new: &View,
+    figures: &mut Figures,
+) -> Result<(), AllocError> {
+    let start = begin(&rt);
+    let steps = walk(rt.alloc(), old, new)?;
+    figures.walks.end(&rt, start);
+    figures.changes = steps.as_slice().len();
+    Ok(())
+}
+
+/// Moves every sixteenth region that was placed by a page.
+fn move_some(tree: &mut Tree, calls: &[Call]) {
     let mut placed: u32 = 0;
     for call in calls {
         if let Call::Add { offset, child, .. } = *call {
             placed = placed.wrapping_add(1);
             if placed % 16 == 0 {
-                let offset = offset.saturating_add(bytes);
+                let offset = offset.saturating_add(0x1000);
                 let _ = tree.apply(&Call::Move { child, offset });
             }
         }
     }
 }
 
-fn atlas(alloc: Global, view: View) -> Result<Atlas, AllocError> {
+fn atlas_of(alloc: Global, view: View) -> Result<Atlas, AllocError> {
     match Atlas::new(alloc, view) {
         Ok(atlas) => Ok(atlas),
         Err((error, _)) => Err(error),
@@ -126,24 +145,14 @@ fn atlas(alloc: Global, view: View) -> Result<Atlas, AllocError> {
 }
 
 /// Looks up addresses, and adds up what is found.
-fn look_up<L: Ledger>(atlas: &Atlas, addrs: &[u64], blank: Blank) -> u64
-    requires name { blank.name ≡ L.name }
-    requires parts { blank.parts ≡ L.parts }
-    requires some { 0 < L.parts }
-{
-    let mut steps = Steps::<L>::new(blank);
+fn look_up<L: Ledger>(atlas: &Atlas, addrs: &[u32], steps: &mut Steps<L>) -> u64 {
     let mut sum: u64 = 0;
     for addr in addrs {
-        if let Some(spot) = atlas.at(*addr, &mut steps) {
+        if let Some(spot) = atlas.at(u64::from(*addr), steps) {
             sum = sum
                 .wrapping_add(u64::from(spot.leaf.0))
                 .wrapping_add(spot.offset);
         }
     }
     sum
-}
-
-/// The same, with steps that nobody counts.
-fn uncounted(atlas: &Atlas, addrs: &[u64]) -> u64 {
-    look_up::<Brand>(atlas, addrs, Blank::new(1))
 }

@@ -1,8 +1,8 @@
-// Changes inside and outside transactions, by worked cases.
+// What generations share and name, by worked cases.
 ghost use Rattle.std.specs.Prelude.{◌≡◌, ◌<◌};
 
 use crate::calls::{add, region, run, space};
-use crate::desks::{Outcome, call, change, commit};
+use crate::desks::change;
 use generation::Generation;
 use mem_base::{Call, Edition, Kind, Refusal, RegionId, Size, SpaceId, What};
 use std::alloc::Global;
@@ -85,74 +85,6 @@ fn an_untouched_space_shares_its_atlas_with_the_generation_before(
 ) -> Result<(), Refusal> {
     let shared = sharing::<Brand>(rt.alloc(), Blank::new(1))?;
     assert_eq!(rt; shared, [(2, 1), (1, 1), (2, 2)]);
-    Ok(())
-}
-
-/// What comes of two commits in a row after a change within two transactions, with the number of the current generation after
-/// each.
-fn nested<L: Ledger>(alloc: Global, blank: Blank) -> Result<[(Outcome, u64); 2], Refusal>
-    requires name { blank.name ≡ L.name }
-    requires parts { blank.parts ≡ L.parts }
-    requires some { 0 < L.parts }
-{
-    let mut steps = Steps::<L>::new(blank);
-    let mut desk = Desk::new(alloc)?;
-    let first = run(&mut desk, &two_spaces(), &mut steps)?;
-    desk.begin()?;
-    desk.begin()?;
-    call(&mut desk, &space(SpaceId(7), 3))?;
-    let inner = commit(&mut desk, &mut steps)?;
-    let unseen = desk.current().atlas(SpaceId(7)).is_none();
-    let after_inner = desk.current().number();
-    let outer = commit(&mut desk, &mut steps)?;
-    let seen = desk.current().atlas(SpaceId(7)).is_some();
-    if !(unseen && seen) {
-        return Ok([(Outcome::Unfit, first), (Outcome::Unfit, first)]);
-    }
-    Ok([(inner, after_inner), (outer, desk.current().number())])
-}
-
-#[test]
-fn what_is_pending_is_published_by_the_outermost_commit(rt: HostRuntime) -> Result<(), Refusal> {
-    let came = nested::<Brand>(rt.alloc(), Blank::new(1))?;
-    assert_eq!(rt; came, [(Outcome::Closed, 5), (Outcome::Published, 6)]);
-    Ok(())
-}
-
-#[test]
-fn at_most_64_transactions_are_open(rt: HostRuntime) -> Result<(), Refusal> {
-    let mut desk = Desk::new(rt.alloc())?;
-    for _ in 0..64 {
-        desk.begin()?;
-    }
-    assert_eq!(rt; desk.begin().err(), Some(Refusal::TooNested));
-    assert_eq!(rt; desk.depth(), 64);
-    Ok(())
-}
-
-/// The ranges of two spaces on one root, and whether they are equal.
-fn one_root<L: Ledger>(alloc: Global, blank: Blank) -> Result<(usize, bool), Refusal>
-    requires name { blank.name ≡ L.name }
-    requires parts { blank.parts ≡ L.parts }
-    requires some { 0 < L.parts }
-{
-    let mut steps = Steps::<L>::new(blank);
-    let mut desk = Desk::new(alloc)?;
-    run(&mut desk, &two_spaces(), &mut steps)?;
-    run(&mut desk, &[space(SpaceId(9), 0)], &mut steps)?;
-    let generation = desk.current();
-    match (generation.atlas(FIRST), generation.atlas(SpaceId(9))) {
-        (Some(one), Some(other)) => {
-            let ranges = one.view().as_slice();
-            Ok((ranges.len(), ranges == other.view().as_slice()))
-        }
-        _ => Ok((0, false)),
-    }
-}
-
-#[test]
-fn two_spaces_on_one_root_show_the_same(rt: HostRuntime) -> Result<(), Refusal> {
-    assert_eq!(rt; one_root::<Brand>(rt.alloc(), Blank::new(1))?, (2, true));
     Ok(())
 }
 

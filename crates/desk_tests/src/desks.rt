@@ -15,13 +15,7 @@ use transact::{Desk, Step};
 fn places() -> [Place; 1]
     ensures { result ≡ notifiers_place 0 ∷ [] }
 {
-    [Place {
-        region: RegionId(u32::MAX),
-        start: 0,
-        words: 64,
-        bytes: 0,
-        regs: 64,
-    }]
+    [Place::notifiers(0)]
 }
 
 /// Whether a kind of region has neither bytes nor registers.
@@ -29,7 +23,7 @@ fn is_wordless(kind: &Kind) -> bool
     ensures { IsTrue result → (size : ℕ) → words_of (extent_of kind.now size) ≡ 0 }
 {
     match kind {
-        Kind::Container | Kind::Iommu | Kind::Alias { .. } | Kind::Reserve => true,
+        Kind::Container | Kind::Iommu | Kind::Alias { .. } | Kind::Reserve | Kind::Host => true,
         _ => false,
     }
 }

@@ -1,8 +1,9 @@
-//! Tests of transactions, generations and routes: worked changes and accesses, and drawn accesses against a plain program.
+//! Tests of generations and routes: what one generation shares with the one before, which spaces a change carves anew, and
+//! drawn routes against a plain program.
 //!
-//! No crate stands on this one. What is tested here is what no clause says: that the calls answer with ample memory, that an
-//! untouched space shares its atlas from one generation to the next, what listeners are told of spaces that come and change,
-//! and that routes are those that a reader expects.
+//! No crate stands on this one. What is tested here is what no clause says and no script reaches: that the calls answer with
+//! ample memory, that an untouched space shares its atlas from one generation to the next, and that routes are those of a
+//! program that follows each address by itself. Worked changes and routes are the scripts of `examples`.
 #![tactic(auto)]
 
 #[cfg(test)]

@@ -1,30 +1,31 @@
 -- The tables of IOMMU regions.
 use Rattle.std.proofs.Common.{◌≡◌, ◌+◌, ◌||◌, Bool, true, false, cond, List, [], ◌∷◌, Some, None, refl, sym, ap, ◌∙◌, subst}
 use Rattle.std.specs.List.{list_any}
+use Rattle.std.specs.Prelude.{unwrap_or, option_map}
 use Rattle.mem_base.specs.declared.map.ids.RegionId.{RegionId}
 use Rattle.mem_base.specs.declared.map.forests.Node.{Node}
 use Rattle.mem_base.specs.declared.map.forests.Forest.{Forest}
 use Rattle.mem_base.specs.lists.Every.{Every}
 use Rattle.mem_base.specs.map.Forest.{IsMade, IsRegion, IsClosedForest}
 use Rattle.mem_base.specs.map.Kinds.{is_iommu}
-use Rattle.mem_base.specs.map.Region.{has_id, node_of}
+use Rattle.mem_base.specs.map.Region.{has_id, node_of, of_region}
 use Rattle.mem_base.specs.map.TableRefusals.{bad_page}
-use Rattle.mem_base.specs.access.Translations.{translates_at, translates}
+use Rattle.mem_base.specs.access.Translations.{translates}
 use Rattle.map_laws.proofs.SoundCallLaws.{IsClosedForest-made}
 
 or_false : (a b : Bool) → a || b ≡ false → (a ≡ false) × (b ≡ false)
 or_false true b e = cc
 or_false false b e = (refl, e)
 
-none_there : (nodes : List Node) (r : RegionId) → list_any (λ n. is_iommu n.kind) nodes ≡ false → translates_at (node_of nodes r) ≡ false
+none_there : (nodes : List Node) (r : RegionId) → list_any (λ n. is_iommu n.kind) nodes ≡ false → of_region nodes r false (λ n. is_iommu n.kind) ≡ false
 none_there [] r h = refl
 none_there (x ∷ xs) r h =
     let k = or_false (is_iommu x.kind) (list_any (λ n. is_iommu n.kind) xs) h in
     by (has_id r x) refl k.0 (none_there xs r k.1)
   where
-    by : (b : Bool) → has_id r x ≡ b → is_iommu x.kind ≡ false → translates_at (node_of xs r) ≡ false → translates_at (node_of (x ∷ xs) r) ≡ false
-    by true c k ih = ap (λ (b : Bool). translates_at (cond b (Some x) (node_of xs r))) c ∙ k
-    by false c k ih = ap (λ (b : Bool). translates_at (cond b (Some x) (node_of xs r))) c ∙ ih
+    by : (b : Bool) → has_id r x ≡ b → is_iommu x.kind ≡ false → of_region xs r false (λ n. is_iommu n.kind) ≡ false → of_region (x ∷ xs) r false (λ n. is_iommu n.kind) ≡ false
+    by true c k ih = ap (λ (b : Bool). unwrap_or (option_map (λ (m : Node). is_iommu m.kind) (cond b (Some x) (node_of xs r))) false) c ∙ k
+    by false c k ih = ap (λ (b : Bool). unwrap_or (option_map (λ (m : Node). is_iommu m.kind) (cond b (Some x) (node_of xs r))) false) c ∙ ih
 
 -- where there is no IOMMU region, no region translates
 pub none_translates : (f : Forest) (r : RegionId) → list_any (λ n. is_iommu n.kind) f.nodes ≡ false → translates f r ≡ false

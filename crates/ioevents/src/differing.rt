@@ -1,7 +1,7 @@
 // What a change of views loses and gains.
 ghost use Rattle.std.specs.Prelude.{◌≡◌, IfOk};
 ghost use Rattle.mem_base.specs.lists.Sorting.{IsRising};
-ghost use Rattle.mem_base.specs.views.LiveEvents.{live_order, lost, gained, ShareNoLive};
+ghost use Rattle.mem_base.specs.views.LiveEvents.{live_order, ShareNoLive, without};
 
 use mem_base::{Differ, Live, Lives};
 use std::alloc::{AllocError, Global};
@@ -11,8 +11,8 @@ use std::cmp::Ordering;
 fn apart(alloc: Global, old: &[Live], new: &[Live]) -> Result<(Vec<Live>, Vec<Live>), AllocError>
     requires old { IsRising live_order old.now }
     requires new { IsRising live_order new.now }
-    ensures lost { IfOk result (λ d. d.0.items ≡ lost old.now new.now) }
-    ensures gained { IfOk result (λ d. d.1.items ≡ gained old.now new.now) }
+    ensures lost { IfOk result (λ d. d.0.items ≡ without old.now new.now) }
+    ensures gained { IfOk result (λ d. d.1.items ≡ without new.now old.now) }
 {
     let mut lost = Vec::new(alloc);
     let mut gained = Vec::new(alloc);
@@ -43,8 +43,8 @@ fn apart(alloc: Global, old: &[Live], new: &[Live]) -> Result<(Vec<Live>, Vec<Li
 pub fn differ(alloc: Global, old: &[Live], new: &[Live]) -> Result<Differ, AllocError>
     requires old { IsRising live_order old.now }
     requires new { IsRising live_order new.now }
-    ensures lost { IfOk result (λ d. d.lost ≡ lost old.now new.now) }
-    ensures gained { IfOk result (λ d. d.gained ≡ gained old.now new.now) }
+    ensures lost { IfOk result (λ d. d.lost ≡ without old.now new.now) }
+    ensures gained { IfOk result (λ d. d.gained ≡ without new.now old.now) }
     ensures apart { IfOk result (λ d. ShareNoLive d.lost d.gained) }
 {
     let (lost, gained) = apart(alloc, old, new)?;

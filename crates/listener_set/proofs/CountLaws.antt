@@ -1,6 +1,6 @@
 -- How many calls a publish makes.
 use Rattle.std.proofs.Common.{◌≡◌, ℕ, ◌+◌, ◌*◌, Bool, true, false, List, [], ◌∷◌, ◌++◌, map, length, length-append, refl, ◌∙◌, arith, if◌then◌else◌}
-use Rattle.std.specs.Prelude.{flat_map, filter, Option, Some, None, SomeIff, IfSome}
+use Rattle.std.specs.Prelude.{flat_map, filter, Option, Some, None, SomeIff, IfSome, reverse}
 use Rattle.std.proofs.lemmas.List.{length-reverse, length-map}
 use Rattle.std.specs.declared.cmp.Ordering.{Ordering}
 use Rattle.std.specs.Ordering.{is_lt}
@@ -9,15 +9,15 @@ use Rattle.mem_base.specs.declared.views.listening.Listener.{Listener}
 use Rattle.mem_base.specs.declared.views.listening.ListenerEvent.{ListenerEvent}
 use Rattle.mem_base.specs.declared.views.listening.ListenerEvent.TheVariants.{Begin, Range, Commit}
 use Rattle.mem_base.specs.lists.Sorting.{put_by, sorted_by}
-use Rattle.mem_base.specs.views.Listening.{switch, switch_order, switches, switched, in_direction, goes_down, hears, calls_of, deliver_each}
+use Rattle.mem_base.specs.views.Listening.{switch, switch_order, switches, switched, goes_down, hears, calls_of, deliver_each}
 use Rattle.mem_base.specs.views.Listening.{deliveries_of, deliveries_of_changes}
 
-length_directed : (down : Bool) (ls : List Listener) → length (in_direction down ls) ≡ length ls
+length_directed : (down : Bool) (ls : List Listener) → length (if down then reverse ls else ls) ≡ length ls
 length_directed true ls = length-reverse ls
 length_directed false ls = refl
 
 length_each : (ls : List Listener) (e : ListenerEvent) → length (deliver_each ls e) ≡ length ls
-length_each ls e = length-map (in_direction (goes_down e) ls) (λ l. (l.listener, e)) ∙ length_directed (goes_down e) ls
+length_each ls e = length-map (if goes_down e then reverse ls else ls) (λ l. (l.listener, e)) ∙ length_directed (goes_down e) ls
 
 length_told : (ls : List Listener) (es : List ListenerEvent) → length (flat_map (deliver_each ls) es) ≡ length ls * length es
 length_told ls [] = omega arith

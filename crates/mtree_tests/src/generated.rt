@@ -33,33 +33,48 @@ fn next_call(rng: &mut Lcg64Xsh32, case: &Case) -> Call {
     any_call(rng, made)
 }
 
+/// How many ranges a space of a map shows, where the tree, its view and the plain program agree on it.
+pub(crate) fn ranges_of(
+    alloc: Global,
+    case: &Case,
+    at: SpaceId,
+) -> Result<Option<usize>, AllocError> {
+    if differs(alloc, case, at)?.is_some() {
+        return Ok(None);
+    }
+    let view = viewed(alloc, &case.tree, at)?;
+    let want = plain_view(alloc, &case.plain, at)?;
+    if view.as_slice() != want.as_slice() {
+        return Ok(None);
+    }
+    Ok(Some(view.as_slice().len()))
+}
+
+/// The same of all three spaces of the map that a seed gives; the ranges are counted.
+fn agrees(alloc: Global, seed: u64, ranges: &mut usize) -> Result<bool, Refusal> {
+    let case = drawn(alloc, seed)?;
+    for at in [SpaceId(0), SpaceId(1), SpaceId(2)] {
+        match ranges_of(alloc, &case, at)? {
+            Some(count) => *ranges = ranges.saturating_add(count),
+            None => return Ok(false),
+        }
+    }
+    Ok(true)
+}
+
 #[test]
 fn drawn_maps_show_what_the_plain_program_finds(rt: HostRuntime) -> Result<(), Fail> {
     let mut ranges: usize = 0;
     for seed in 0..MAPS {
-        let case = drawn(rt.alloc(), seed)?;
-        for at in [SpaceId(0), SpaceId(1), SpaceId(2)] {
-            assert_eq!(rt;
-                differs(rt.alloc(), &case, at)?,
-                None,
-                "seed {seed} space {at:?}"
-            );
-            let view = viewed(rt.alloc(), &case.tree, at)?;
-            let want = plain_view(rt.alloc(), &case.plain, at)?;
-            assert_eq!(rt;
-                view.as_slice(),
-                want.as_slice(),
-                "seed {seed} space {at:?}"
-            );
-            ranges = ranges.saturating_add(view.as_slice().len());
-        }
+        let is_so = agrees(rt.alloc(), seed, &mut ranges)?;
+        assert!(rt; is_so, "seed {seed}");
     }
     assert!(rt; ranges > 25_000);
     Ok(())
 }
 
 /// All that is known of a forest, as text.
-fn text(alloc: Global, tree: &Tree) -> Result<String, AllocError> {
+pub(crate) fn text(alloc: Global, tree: &Tree) -> Result<String, AllocError> {
     format!(in alloc; "{:?}", tree.forest()?)
 }
 
@@ -70,24 +85,31 @@ fn is_refused(alloc: Global, tree: &mut Tree, call: &Call) -> Result<bool, Alloc
     Ok(refused && text(alloc, tree)? == before)
 }
 
+/// How many of a seed's calls are refused, where each of these leaves the forest as it was.
+fn refused_by(alloc: Global, seed: u64) -> Result<Option<u64>, Refusal> {
+    let mut refused: u64 = 0;
+    let mut rng = Lcg64Xsh32::new(seed, 54);
+    let mut case = Case::new(alloc);
+    for _ in 0..CALLS {
+        let call = next_call(&mut rng, &case);
+        if case.tree.refusal_of(&call)?.is_none() {
+            case.call(&call)?;
+        } else if is_refused(alloc, &mut case.tree, &call)? {
+            refused = refused.saturating_add(1);
+        } else {
+            return Ok(None);
+        }
+    }
+    Ok(Some(refused))
+}
+
 #[test]
 fn refused_calls_leave_the_forest_as_it_was(rt: HostRuntime) -> Result<(), Fail> {
     let mut refused: u64 = 0;
     for seed in 0..100 {
-        let mut rng = Lcg64Xsh32::new(seed, 54);
-        let mut case = Case::new(rt.alloc());
-        for _ in 0..CALLS {
-            let call = next_call(&mut rng, &case);
-            if case.tree.refusal_of(&call)?.is_some() {
-                assert!(rt;
-                    is_refused(rt.alloc(), &mut case.tree, &call)?,
-                    "seed {seed} {call:?}"
-                );
-                refused = refused.saturating_add(1);
-            } else {
-                case.call(&call)?;
-            }
-        }
+        let count = refused_by(rt.alloc(), seed)?;
+        assert!(rt; count.is_some(), "seed {seed}");
+        refused = refused.saturating_add(count.unwrap_or(0));
     }
     assert!(rt; refused > 500);
     Ok(())

@@ -1,8 +1,9 @@
 //! Tests that cross crates: the search, rendering and merging against plain programs.
 //!
-//! No crate stands on this one. What is tested here is what no clause says: that the definitions which the contracts
-//! cite mean what QEMU's manual says ("The memory API"), by worked maps with values from outside and by a plain
-//! program that keeps its own list of regions; and that the calls answer with ample memory.
+//! No crate stands on this one. What is tested here is what no clause says and no script reaches: that the definitions which
+//! the contracts cite find and show what a plain program does that keeps its own list of regions, in drawn maps; the paths of
+//! the manual's picture, copies, and limits in the thousands; and that the calls answer with ample memory. Worked maps are the
+//! scripts of `examples`.
 #![tactic(auto)]
 
 #[cfg(test)]
@@ -14,11 +15,11 @@ mod generated;
 #[cfg(test)]
 mod grid;
 #[cfg(test)]
+mod host;
+#[cfg(test)]
 mod kept;
 #[cfg(test)]
 mod limits;
-#[cfg(test)]
-mod listeners;
 #[cfg(test)]
 mod maps;
 #[cfg(test)]
@@ -29,5 +30,7 @@ mod paths;
 mod picture;
 #[cfg(test)]
 mod plain;
+#[cfg(test)]
+mod texts;
 #[cfg(test)]
 mod wide;

@@ -2,7 +2,7 @@
 use crate::cases::Case;
 use crate::generated::drawn;
 use mem_base::{Call, Refusal, RegionId};
-use std::alloc::AllocError;
+use std::alloc::{AllocError, Global};
 use std::test::Fail;
 
 /// How many regions were made, dropped ones included.
@@ -67,20 +67,27 @@ fn leading(case: &Case) -> u64 {
     count
 }
 
+/// How many regions of a seed's map lead to more than themselves, where all are judged as by the plain walk.
+fn judged(alloc: Global, seed: u64) -> Result<Option<u64>, Refusal> {
+    let case = drawn(alloc, seed)?;
+    if misjudged(&case).is_some() {
+        return Ok(None);
+    }
+    for number in 0..made(&case) {
+        if misplaced(&case, RegionId(number))?.is_some() {
+            return Ok(None);
+        }
+    }
+    Ok(Some(leading(&case)))
+}
+
 #[test]
 fn depth_weight_and_loops_by_a_plain_walk(rt: HostRuntime) -> Result<(), Fail> {
     let mut leading_in_all: u64 = 0;
     for seed in 0..200 {
-        let case = drawn(rt.alloc(), seed)?;
-        assert_eq!(rt; misjudged(&case), None, "seed {seed}");
-        for number in 0..made(&case) {
-            assert_eq!(rt;
-                misplaced(&case, RegionId(number))?,
-                None,
-                "seed {seed} parent {number}"
-            );
-        }
-        leading_in_all = leading_in_all.saturating_add(leading(&case));
+        let count = judged(rt.alloc(), seed)?;
+        assert!(rt; count.is_some(), "seed {seed}");
+        leading_in_all = leading_in_all.saturating_add(count.unwrap_or(0));
     }
     assert!(rt; leading_in_all > 400);
     Ok(())

@@ -1,12 +1,12 @@
-// The picture of QEMU's manual, "The memory API", "Overlapping regions and priority": what its addresses reach, and by which
-// paths, in the search and in the rendering.
+// The paths of the picture of QEMU's manual, "The memory API", "Overlapping regions and priority", in the search and in the
+// rendering.
 use crate::cases::rendered;
 use crate::maps::{add, latch, region, space};
-use mem_base::{Kind, Path, Refusal, SpaceId};
+use mem_base::{Kind, Path, Pieces, Refusal, SpaceId};
 use region_tree::Tree;
 use std::alloc::Global;
 use std::test::Fail;
-use tree_find::{find, find_path};
+use tree_find::find_path;
 
 /// Containers A and B and devices C, D and E, numbered from 0.
 fn picture(alloc: Global) -> Result<Tree, Refusal> {
@@ -34,56 +34,62 @@ fn ends(path: &Path) -> (u32, u32, u32) {
     (at(0), at(1), at(path.len().saturating_sub(1)))
 }
 
-#[test]
-fn what_addresses_of_the_picture_reach(rt: HostRuntime) -> Result<(), Fail> {
-    let tree = picture(rt.alloc())?;
-    let found = |addr: u64| find(&tree, SpaceId(0), addr).map(|spot| (spot.leaf.0, spot.offset));
-    for (addr, want) in [
-        (0x1fff, Some((2, 0x1fff))),
-        (0x2000, Some((3, 0))),
-        (0x3000, Some((2, 0x3000))),
-        (0x4abc, Some((4, 0xabc))),
-        (0x6000, None),
-    ] {
-        assert_eq!(rt; found(addr), want, "at {addr}");
+/// Addresses, and the ends of their paths.
+static FOUND: [(u64, Option<(u32, u32, u32)>); 4] = [
+    (0x1fff, Some((0, 2, 2))),
+    (0x2000, Some((0, 1, 3))),
+    (0x4abc, Some((0, 1, 4))),
+    (0x6000, None),
+];
+
+/// The first address that is found on another path.
+fn first_astray(tree: &Tree) -> Option<u64> {
+    for (addr, want) in &FOUND {
+        let found = match find_path(tree, SpaceId(0), *addr) {
+            Some((_, path)) => Some(ends(&path)),
+            None => None,
+        };
+        if found != *want {
+            return Some(*addr);
+        }
     }
-    assert!(rt; find(&tree, SpaceId(1), 0).is_none());
-    Ok(())
+    None
 }
 
 #[test]
 fn the_paths_of_the_picture(rt: HostRuntime) -> Result<(), Fail> {
     let tree = picture(rt.alloc())?;
-    for (addr, want) in [
-        (0x1fff, Some((0, 2, 2))),
-        (0x2000, Some((0, 1, 3))),
-        (0x4abc, Some((0, 1, 4))),
-        (0x6000, None),
-    ] {
-        let found = find_path(&tree, SpaceId(0), addr).map(|(_, path)| ends(&path));
-        assert_eq!(rt; found, want, "at {addr}");
-    }
+    assert_eq!(rt; first_astray(&tree), None);
     Ok(())
+}
+
+/// Pieces: first and last address, leaf, offset in it, and the second region of the path.
+static PIECES: [(u64, u64, u32, u64, u32); 5] = [
+    (0x0000, 0x1fff, 2, 0x0000, 2),
+    (0x2000, 0x2fff, 3, 0x0000, 1),
+    (0x3000, 0x3fff, 2, 0x3000, 2),
+    (0x4000, 0x4fff, 4, 0x0000, 1),
+    (0x5000, 0x5fff, 2, 0x5000, 2),
+];
+
+/// Whether the pieces are these, each with its path.
+fn are_pieces(pieces: &Pieces) -> bool {
+    for (i, (start, last, leaf, offset, second)) in PIECES.iter().enumerate() {
+        let (Some(range), Some(path)) = (pieces.ranges().get(i), pieces.path(i)) else {
+            return false;
+        };
+        let shape = (range.start, range.last, range.leaf.0, range.offset);
+        if shape != (*start, *last, *leaf, *offset) || ends(&path) != (0, *second, *leaf) {
+            return false;
+        }
+    }
+    pieces.ranges().len() == PIECES.len()
 }
 
 #[test]
 fn the_ranges_of_the_picture_with_their_paths(rt: HostRuntime) -> Result<(), Fail> {
     let tree = picture(rt.alloc())?;
     let pieces = rendered(rt.alloc(), &tree, SpaceId(0))?;
-    let want = [
-        (0x0000, 0x1fff, 2, 0x0000, 2),
-        (0x2000, 0x2fff, 3, 0x0000, 1),
-        (0x3000, 0x3fff, 2, 0x3000, 2),
-        (0x4000, 0x4fff, 4, 0x0000, 1),
-        (0x5000, 0x5fff, 2, 0x5000, 2),
-    ];
-    assert_eq!(rt; pieces.ranges().len(), want.len());
-    for (i, (start, last, leaf, offset, second)) in want.into_iter().enumerate() {
-        let range = pieces.ranges().get(i).copied();
-        let shape = range.map(|range| (range.start, range.last, range.leaf.0, range.offset));
-        assert_eq!(rt; shape, Some((start, last, leaf, offset)));
-        let path = pieces.path(i).map(|path| ends(&path));
-        assert_eq!(rt; path, Some((0, second, leaf)));
-    }
+    assert!(rt; are_pieces(&pieces));
     Ok(())
 }

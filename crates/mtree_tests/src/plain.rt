@@ -382,7 +382,7 @@ fn flagged(spot: Spot, region: &Region) -> Spot {
 fn own(region: &Region, global: bool, id: RegionId, at: u128) -> Option<Spot> {
     let bytes = match region.kind {
         Kind::Container | Kind::Alias { .. } => return None,
-        Kind::Ram | Kind::Rom | Kind::RomDevice(_) => true,
+        Kind::Ram | Kind::Rom | Kind::RomDevice(_) | Kind::Host => true,
         Kind::Io(_) | Kind::Iommu | Kind::Reserve => false,
     };
     Some(Spot {

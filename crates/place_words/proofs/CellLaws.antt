@@ -15,7 +15,8 @@ use Rattle.mem_base.specs.access.Cells.{has_block, cells_in, words_after, blocks
 use Rattle.mem_base.specs.access.EditionPlaces.{ArePlacesApart}
 use Rattle.mem_base.specs.machine.World.{block_for}
 use Rattle.mem_base.proofs.EveryLaws.{weaker, both, every_filter}
-use Rattle.place_words.specs.Blocks.{words_at, block_at, blocks_at, cleared}
+use Rattle.mem_base.specs.access.PlaceCells.{words_at, block_at, blocks_at}
+use Rattle.place_words.specs.Blocks.{cleared}
 use Rattle.place_words.specs.Laws.{StepsAreOnCells, NewPlacesAreCleared, PlacesKeepCells, FewerPlacesKeepCells, FirstCellsAreZero}
 use Rattle.place_words.proofs.PartLaws.{part_before, part_after, put_before, put_after, put_itself, part_replicate}
 

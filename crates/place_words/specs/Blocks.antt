@@ -1,21 +1,9 @@
--- A list of words seen as the cells of places.
+-- Words that places have in a list, and the list with some of them cleared.
 -- This project's own rule: all backing is one pool of words, and after it stand the words of the notifiers.
-use Rattle.std.specs.Prelude.{ℕ, ◌-◌, ◌≤◌, List, ◌++◌, map, take, drop, replicate}
+use Rattle.std.specs.Prelude.{ℕ, ◌-◌, ◌≤◌, List, ◌++◌, take, drop, replicate}
 use Rattle.mem_base.specs.declared.access.cells.Place.{Place}
 use Rattle.mem_base.specs.lists.Every.{Every}
 use Rattle.mem_base.specs.access.Places.{past}
-use Rattle.mem_base.specs.access.Cells.{Block}
-
--- the words of a place
-abbrev pub words_at : List ℕ → Place → List ℕ
-words_at ws p = take p.words (drop p.start ws)
-
-abbrev pub block_at : List ℕ → Place → Block
-block_at ws p = record { region = p.region; words = words_at ws p }
-
--- the cells of the regions of these places
-abbrev pub blocks_at : List ℕ → List Place → List Block
-blocks_at ws places = map (block_at ws) places
 
 -- no place ends past this number of words
 abbrev pub AreWithin : ℕ → List Place → Type 0

@@ -8,7 +8,8 @@ use Rattle.mem_base.specs.access.PlacesByRegion.{place_in}
 use Rattle.mem_base.specs.access.Cells.{cells_in, words_after, blocks_after}
 use Rattle.mem_base.specs.access.EditionPlaces.{ArePlacesApart}
 use Rattle.mem_base.specs.machine.World.{block_for}
-use Rattle.place_words.specs.Blocks.{AreWithin, blocks_at, cleared}
+use Rattle.mem_base.specs.access.PlaceCells.{blocks_at}
+use Rattle.place_words.specs.Blocks.{AreWithin, cleared}
 
 -- a word of the place of a region is the region's cell, and a step on it is a step on that cell alone
 abbrev pub StepsAreOnCells : Type 0

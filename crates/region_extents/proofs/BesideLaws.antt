@@ -19,7 +19,7 @@ use Rattle.mem_base.specs.map.Order.{children_of, ids_of}
 use Rattle.mem_base.specs.map.Region.{IsAscending}
 use Rattle.mem_base.specs.map.Forest.{IsOrderedForest, IsTargetBefore}
 use Rattle.mem_base.specs.map.Refusals.{targets, unknown_target, first_refusal, refuse_if, makes_loop, too_deep, too_wide, alias_parent}
-use Rattle.mem_base.specs.map.Refusals.{has_container, in_container, container_of}
+use Rattle.mem_base.specs.map.Refusals.{has_container}
 use Rattle.std.specs.Prelude.{not, ◌-◌}
 use Rattle.mem_base.specs.declared.map.calls.Call.{Call}
 use Rattle.mem_base.specs.map.Edits.{edited}
@@ -33,6 +33,7 @@ use Rattle.mem_base.proofs.StepLaws.{every_of}
 use Rattle.mem_base.proofs.ForestLaws.{id_of, node_of-itself, children_of-made, no_children}
 use Rattle.map_laws.proofs.LeadLaws.{KeepsSteps, depth_of-kept, weight_of-kept}
 use Rattle.map_laws.proofs.MadeLaws.{depth_made, weight_made, depth_alias, weight_alias}
+use Rattle.map_laws.proofs.RefusalLaws.{has_container-none}
 use Rattle.mem_base.proofs.JoinLaws.{steps_joined, depth_at_most, weight_at_most}
 use Rattle.mem_base.proofs.StepLaws.{depth_by-alike, weight_by-alike, Alike}
 use Rattle.region_slots.specs.declared.slots.Slot.{Slot}
@@ -48,7 +49,7 @@ use Rattle.region_extents.proofs.JoinedLaws.{map_changed_at, map_by, extents_new
 use Rattle.region_extents.proofs.ExtentsLaws.{steps_to_children}
 use Rattle.region_extents.proofs.StretchLaws.{known}
 use Rattle.region_slots.proofs.SlotsBasics.{some_element}
-use Rattle.region_extents.proofs.StretchLaws.{no_alias_of, no_parent_of, alias_parent_of}
+use Rattle.region_extents.proofs.StretchLaws.{no_alias_of, alias_parent_of}
 
 abbrev extent : ℕ → ℕ → Extent
 extent d w = record { depth = d; weight = w }
@@ -149,7 +150,7 @@ joined_extents f h slots seen parent child known here no_alias free es settled s
     let m = some_of (node_of f.nodes child) here in
     let plain : is_alias p.0.kind ≡ false = no_alias_of (node_of f.nodes parent) p.0 _ p.1 (is_alias p.0.kind)
     (sym (ap (alias_parent_of parent) p.1) ∙ no_alias) in
-    let loose : m.0.parent ≡ None = no_parent_of m.0.parent (sym (ap (λ o. in_container (container_of o)) m.1) ∙ free) in
+    let loose : m.0.parent ≡ None = has_container-none f child m.0 m.1 free in
     let alike = steps_joined f h parent offset child priority p.0 m.0 p.1 plain m.1 loose in
     let steps : Steps = steps_with f.nodes join in
     let here_settled : (v : RegionId) → IsSettledBy steps slots es v =
@@ -199,7 +200,7 @@ slow_extents f h slots seen parent child known here no_alias free es e offset pr
     let m = some_of (node_of f.nodes child) here in
     let plain : is_alias p.0.kind ≡ false = no_alias_of (node_of f.nodes parent) p.0 _ p.1 (is_alias p.0.kind)
     (sym (ap (alias_parent_of parent) p.1) ∙ no_alias) in
-    let loose : m.0.parent ≡ None = no_parent_of m.0.parent (sym (ap (λ o. in_container (container_of o)) m.1) ∙ free) in
+    let loose : m.0.parent ≡ None = has_container-none f child m.0 m.1 free in
     let alike = steps_joined f h parent offset child priority p.0 m.0 p.1 plain m.1 loose in
     let g = placed parent offset priority f.placings in
     let new = changed_at child g f.nodes in

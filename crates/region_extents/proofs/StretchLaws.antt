@@ -14,7 +14,7 @@ use Rattle.mem_base.specs.map.Kinds.{is_alias}
 use Rattle.mem_base.specs.map.Region.{node_of}
 use Rattle.mem_base.specs.map.Region.{IsAscending}
 use Rattle.mem_base.specs.map.Forest.{IsOrderedForest}
-use Rattle.mem_base.specs.map.Refusals.{unknown_region, alias_parent, has_container, refuse_if, refuse_where, in_container, container_of}
+use Rattle.mem_base.specs.map.Refusals.{unknown_region, alias_parent, has_container, refuse_if, refuse_where}
 use Rattle.mem_base.specs.map.Changes.{changed, changed_at, placed}
 use Rattle.mem_base.specs.map.Steps.{steps_of, greatest, depth_by, weight_by, depth_of, weight_of, greatest_depth, greatest_weight}
 use Rattle.mem_base.proofs.StepLaws.{joined_steps, depth_by-alike, weight_by-alike, map_agree, every_of}
@@ -28,6 +28,7 @@ use Rattle.region_extents.specs.Extents.{steps_with, extent_by, extents_by, HasI
 use Rattle.region_extents.specs.Room.{are_within, is_within}
 use Rattle.region_extents.proofs.ExtentsLaws.{steps_alias, steps_listed}
 use Rattle.region_extents.proofs.RoomLaws.{within_greatest}
+use Rattle.map_laws.proofs.RefusalLaws.{has_container-none}
 
 depths_seen : (nodes : List Node) (join : Join) (slots : List Slot) →
     map (λ (e : Extent). e.depth) (extents_by nodes join 64 slots) ≡ map (λ (n : Node). depth_by (steps_with nodes join) 64 n.id) (nodes_of slots)
@@ -44,10 +45,6 @@ weights_seen nodes join (s ∷ ss) = ap (λ l. weight_by (steps_with nodes join)
 pub no_alias_of : (o : Option Node) (n : Node) (why : Refusal) → o ≡ Some n → (b : Bool) → refuse_if b why ≡ None → b ≡ false
 no_alias_of o n why e true h = cc
 no_alias_of o n why e false h = refl
-
-pub no_parent_of : (p : Option RegionId) → in_container p ≡ None → p ≡ None
-no_parent_of None h = refl
-no_parent_of (Some p) h = cc
 
 abbrev pub alias_parent_of : RegionId → Option Node → Option Refusal
 alias_parent_of parent o = refuse_where (λ n. is_alias n.kind) (AliasParent parent) o
@@ -76,7 +73,7 @@ joined_greatest f h parent child known here no_alias free offset priority =
             | Some m ↦ λ at_child.
                 let plain : is_alias n.kind ≡ false = no_alias_of (node_of f.nodes parent) n _ at_parent (is_alias n.kind)
                 (sym (ap (alias_parent_of parent) at_parent) ∙ no_alias) in
-                let loose : m.parent ≡ None = no_parent_of m.parent (sym (ap (λ o. in_container (container_of o)) at_child) ∙ free) in
+                let loose : m.parent ≡ None = has_container-none f child m at_child free in
                 let alike = steps_joined f h parent offset child priority n m at_parent plain at_child loose in
                 let d = depth_by-alike (steps_of new) (joined_steps (steps_of f.nodes) parent child) alike 64 in
                 let w = weight_by-alike (steps_of new) (joined_steps (steps_of f.nodes) parent child) alike 64 in

@@ -10,13 +10,13 @@ use Rattle.mem_base.specs.declared.map.refusals.Refusal.{Refusal}
 use Rattle.mem_base.specs.declared.map.refusals.Refusal.TheVariants.{TooDeep, TooWide, Loop}
 use Rattle.mem_base.specs.declared.map.calls.Call.TheVariants as calls
 use Rattle.mem_base.specs.map.Region.{node_of}
-use Rattle.mem_base.specs.map.Refusals.{first_refusal, refuse_if, unknown_region, has_container, alias_parent, makes_loop, too_deep}
-use Rattle.mem_base.specs.map.Refusals.{too_wide, in_container, container_of}
+use Rattle.mem_base.specs.map.Refusals.{first_refusal, refuse_if, unknown_region, has_container, alias_parent, makes_loop, too_deep, or_refused}
+use Rattle.mem_base.specs.map.Refusals.{too_wide}
 use Rattle.mem_base.specs.map.TableRefusals.{no_more_calls}
 use Rattle.mem_base.specs.map.Changes.{changed}
 use Rattle.std.specs.Prelude.{Ok, Err}
 use Rattle.mem_base.specs.declared.map.calls.Call.{Call}
-use Rattle.mem_base.specs.map.Calls.{refusal_of, after, after_unless, counted}
+use Rattle.mem_base.specs.map.Calls.{refusal_of, after, counted}
 use Rattle.mem_base.specs.declared.map.forests.Node.{Node}
 use Rattle.mem_base.proofs.StepLaws.{reaches_by-apart}
 use Rattle.mem_base.specs.lists.Every.{Every}
@@ -28,6 +28,7 @@ use Rattle.region_extents.specs.Kept.{extents_in, steps_plus, IsSettledBy, IsSho
 use Rattle.region_extents.proofs.StretchLaws.{known}
 use Rattle.region_extents.proofs.BesideLaws.{joined_extents}
 use Rattle.mem_base.specs.map.Steps.{steps_of, reaches, greatest_depth, greatest_weight}
+use Rattle.map_laws.proofs.RefusalLaws.{has_container-none}
 
 pub none_or : (a b : Option Refusal) → option_or a b ≡ None → (a ≡ None) × (b ≡ None)
 none_or None b e = (refl, e)
@@ -145,23 +146,19 @@ allowed_of f parent offset child priority e =
 pub apart_of : (f : Forest) (parent child : RegionId) → IsFree f parent child → parent.0 ≢ child.0
 apart_of f parent child h e = reaches_by-apart (steps_of f.nodes) 64 child parent (omega arith) h.no_loop (sym e)
 
-no_parent : (p : Option RegionId) → in_container p ≡ None → p ≡ None
-no_parent None h = refl
-no_parent (Some p) h = cc
-
 pub loose_of : (f : Forest) (child : RegionId) (n : Node) → has_container f child ≡ None → node_of f.nodes child ≡ Some n → n.parent ≡ None
-loose_of f child n h e = no_parent n.parent (sym (ap (λ o. in_container (container_of o)) e) ∙ h)
+loose_of f child n h e = has_container-none f child n e h
 
 -- the forest after an accepted call
 pub after_free : (f g : Forest) (call : Call) → refusal_of f call ≡ None → g ≡ counted (changed f call) → after f call ≡ Ok g
 after_free f g call e h = answered (refusal_of f call) e
   where
-    answered : (o : Option Refusal) → o ≡ None → after_unless o f call ≡ Ok g
+    answered : (o : Option Refusal) → o ≡ None → or_refused o (counted (changed f call)) ≡ Ok g
     answered None k = ap Ok (sym h)
     answered (Some why) k = cc
 
 pub refused_after : (f : Forest) (call : Call) (why : Refusal) → refusal_of f call ≡ Some why → after f call ≡ Err why
-refused_after f call why h = ap (λ o. after_unless o f call) h
+refused_after f call why h = ap (λ o. or_refused o (counted (changed f call))) h
 
 -- what stands against an Add before loops and the lengths of paths
 abbrev pub early : Forest → RegionId → RegionId → Option Refusal

@@ -11,12 +11,16 @@ use Rattle.mem_base.specs.declared.map.refusals.Refusal.TheVariants.{EventTaken}
 use Rattle.mem_base.specs.map.Region.{node_of}
 use Rattle.mem_base.specs.map.Edits.{edits, edited}
 use Rattle.mem_base.specs.map.Events.{has_event}
-use Rattle.mem_base.specs.map.Changes.{changed, at_region, edited_in}
+use Rattle.mem_base.specs.map.Changes.{changed, at_region}
 use Rattle.mem_base.specs.map.TableRefusals.{no_more_calls}
 use Rattle.mem_base.specs.map.Calls.{refusal_of, refusals, answer_of}
 use Rattle.map_laws.proofs.RefusalLaws.{each_none, refuse_where-none}
 use Rattle.region_slots.specs.Edits.{Allows}
 use Rattle.region_tree.proofs.WholeLaws.{page_apart}
+
+abbrev edited_in : Forest → Call → Option RegionId → Forest
+edited_in f call None = f
+edited_in f call (Some region) = at_region f region (edited call)
 
 -- such a call changes the region and answers nothing
 pub edit_changes : (f : Forest) (call : Call) → is_some (edits call) ≡ true → changed f call ≡ edited_in f call (edits call)

@@ -7,7 +7,7 @@ use Rattle.mem_base.specs.declared.map.calls.Call.{Call}
 use Rattle.mem_base.specs.map.Forest.{FitsTypes, IsRegion, IsPlainRegion, HasPlainContainer, HasTarget}
 use Rattle.mem_base.specs.lists.Every.{Every}
 use Rattle.mem_base.specs.map.Kinds.{target_of}
-use Rattle.mem_base.specs.map.Refusals.{first_refusal, targets, in_container, container_of}
+use Rattle.mem_base.specs.map.Refusals.{first_refusal, targets}
 use Rattle.mem_base.specs.map.TableRefusals.{no_more_calls}
 use Rattle.mem_base.specs.map.Changes.{changed}
 use Rattle.mem_base.specs.map.Calls.{counted, refusal_of, refusals}
@@ -19,7 +19,7 @@ use Rattle.mem_base.specs.declared.map.forests.Node.{Node}
 use Rattle.mem_base.specs.declared.map.calls.Call.TheVariants as calls
 use Rattle.mem_base.specs.map.Region.{node_of}
 use Rattle.mem_base.specs.declared.map.refusals.Refusal.TheVariants.{NotChild}
-use Rattle.map_laws.proofs.RefusalLaws.{each_none, known_node, refuse_where-none, in_use-none}
+use Rattle.map_laws.proofs.RefusalLaws.{each_none, known_node, refuse_where-none, in_use-none, has_container-none}
 use Rattle.mem_base.proofs.ForestLaws.{every_node_of, id_of}
 use Rattle.std.specs.Prelude.{option_map, option_and_then}
 use Rattle.mem_base.specs.declared.map.refusals.Refusal.TheVariants.{PageOverlap}
@@ -68,10 +68,6 @@ pub none_of : {A : Type 0} (o : Option A) → is_some o ≡ false → o ≡ None
 none_of None e = refl
 none_of (Some x) e = cc
 
-no_container : (p : Option RegionId) → in_container p ≡ None → p ≡ None
-no_container None e = refl
-no_container (Some q) e = cc
-
 -- a region that may be dropped: it is in no container, and nobody's target
 pub record IsDroppable (f : Forest) (r : RegionId) : Type 0 where
   pub node : Node
@@ -86,7 +82,7 @@ dropped_region f r e =
     record {
       node = m.0;
       there = m.1;
-      free = no_container m.0.parent (sym (ap (λ o. in_container (container_of o)) m.1) ∙ each.1.0);
+      free = has_container-none f r m.0 m.1 each.1.0;
       unused = (in_use-none f r each.1.1.0).no_aliases;
     }
 

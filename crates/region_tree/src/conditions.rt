@@ -2,6 +2,8 @@
 
 ghost use Rattle.std.specs.Prelude.{◌≡◌, ◌∷◌, [], ℕ, ◌+◌, nat_lt, nat_le, not, find, filter, option_map, Option, Some, IsSome};
 ghost use Rattle.std.specs.Option.{option_or};
+ghost use Rattle.mem_base.specs.declared.map.refusals.Refusal.TheVariants.{InUse};
+ghost use Rattle.mem_base.specs.declared.map.refusals.User.TheVariants as users;
 ghost use Rattle.mem_base.specs.map.Refusals as conditions;
 ghost use Rattle.mem_base.specs.map.TableRefusals as tables;
 ghost use Rattle.mem_base.specs.map.Devices as devices;
@@ -73,8 +75,8 @@ pub(crate) fn bad_size(kind: Kind, size: Size) -> Option<Refusal>
     let bytes = size.get();
     refuse_if(
         bytes == 0
-            || kind.has_bytes()
-                && (!(bytes % u128::from(PAGE_SIZE) == 0) || bytes > u128::from(MOST_BYTES)),
+            || kind.is_memory() && !(bytes % u128::from(PAGE_SIZE) == 0)
+            || kind.has_bytes() && bytes > u128::from(MOST_BYTES),
         Refusal::BadSize,
     )
 }
@@ -230,22 +232,22 @@ pub(crate) fn not_in_container(tree: &Tree, child: RegionId) -> Option<Refusal>
     }
 }
 
-/// A region without memory, where the call is for memory.
-pub(crate) fn no_bytes(tree: &Tree, region: RegionId) -> Option<Refusal>
-    ensures { result ≡ conditions.wrong_kind kinds.has_bytes tree.now region }
+/// A region that is no memory, where the call is for memory.
+pub(crate) fn no_memory(tree: &Tree, region: RegionId) -> Option<Refusal>
+    ensures { result ≡ conditions.wrong_kind kinds.is_memory tree.now region }
 {
     match tree.node(region) {
-        Some(node) => refuse_if(!node.kind.has_bytes(), Refusal::WrongKind(region)),
+        Some(node) => refuse_if(!node.kind.is_memory(), Refusal::WrongKind(region)),
         None => None,
     }
 }
 
 /// Memory, which keeps its size.
-pub(crate) fn resizes_bytes(tree: &Tree, region: RegionId) -> Option<Refusal>
-    ensures { result ≡ conditions.wrong_kind (λ k. not (kinds.has_bytes k)) tree.now region }
+pub(crate) fn resizes_memory(tree: &Tree, region: RegionId) -> Option<Refusal>
+    ensures { result ≡ conditions.wrong_kind (λ k. not (kinds.is_memory k)) tree.now region }
 {
     match tree.node(region) {
-        Some(node) => refuse_if(node.kind.has_bytes(), Refusal::WrongKind(region)),
+        Some(node) => refuse_if(node.kind.is_memory(), Refusal::WrongKind(region)),
         None => None,
     }
 }
@@ -327,7 +329,7 @@ fn first_space(spaces: &[(SpaceId, RegionId)], region: RegionId) -> Option<Space
 }
 
 fn used_by_region(user: Option<RegionId>) -> Option<Refusal>
-    ensures { result ≡ conditions.in_use_by_region user }
+    ensures { result ≡ option_map (λ q. InUse (users.Region q)) user }
 {
     match user {
         Some(region) => Some(Refusal::InUse(User::Region(region))),
@@ -336,7 +338,7 @@ fn used_by_region(user: Option<RegionId>) -> Option<Refusal>
 }
 
 fn used_by_space(user: Option<SpaceId>) -> Option<Refusal>
-    ensures { result ≡ conditions.in_use_by_space user }
+    ensures { result ≡ option_map (λ s. InUse (users.Space s)) user }
 {
     match user {
         Some(space) => Some(Refusal::InUse(User::Space(space))),

@@ -12,9 +12,9 @@ ghost use Rattle.region_tree.specs.Calls.{IsAdd};
 
 use crate::conditions::{
     alias_too_long, bad_device, bad_event, bad_page, bad_size, event_taken, has_container, in_use,
-    makes_loop, no_bytes, no_more_calls, no_more_entries, no_more_events, no_more_regions,
+    makes_loop, no_memory, no_more_calls, no_more_entries, no_more_events, no_more_regions,
     no_more_spaces, no_place, not_alias, not_child_of, not_in_container, not_iommu, not_rom_device,
-    page_overlap, refuse_if, resizes_bytes, taken_space, takes_no_events, too_long, unknown_entry,
+    page_overlap, refuse_if, resizes_memory, taken_space, takes_no_events, too_long, unknown_entry,
     unknown_event, unknown_region, unknown_space, unknown_target,
 };
 use crate::tree::Tree;
@@ -201,7 +201,7 @@ impl Tree {
         ensures { result ≡ refusal_of self.now (Call.Resize region size) }
     {
         unknown_region(self, region)
-            .or(resizes_bytes(self, region))
+            .or(resizes_memory(self, region))
             .or(refuse_if(size.get() == 0, Refusal::BadSize))
             .or(no_more_calls(self))
     }
@@ -236,7 +236,7 @@ impl Tree {
         ensures { result ≡ refusal_of self.now (Call.Log region client on) }
     {
         unknown_region(self, region)
-            .or(no_bytes(self, region))
+            .or(no_memory(self, region))
             .or(no_more_calls(self))
     }
 

@@ -1,9 +1,12 @@
-//! Tests of the script language: texts at its edges, and the names that a script makes.
+//! Tests of the script language and of what a program reads and writes: texts at its edges, the names that a script makes, and
+//! the ends in memory and of the standard library.
 //!
 //! No crate stands on this one. What is tested here is what no clause says: that the rules which the contracts cite are those
 //! of the language, by texts whose commands or faults were worked out by hand, and that the calls answer with ample memory.
 #![tactic(auto)]
 
+#[cfg(test)]
+mod ends;
 #[cfg(test)]
 mod names;
 #[cfg(test)]

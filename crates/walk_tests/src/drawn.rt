@@ -4,10 +4,10 @@ use crate::draws::{any_call, building, draw};
 use crate::maps::{add, ioeventfds, latch, region, run, space, viewed};
 use crate::plain::{plain_ioeventfds, plain_walk, without};
 use ioevents::differ;
-use mem_base::{Applied, Call, Kind, Live, RangeEvent, Refusal};
+use mem_base::{Applied, Call, Kind, Live, Lives, RangeEvent, Refusal, View};
 use rand_pcg::Lcg64Xsh32;
 use region_tree::Tree;
-use std::alloc::Global;
+use std::alloc::{AllocError, Global};
 use std::test::Fail;
 use view_walk::walk;
 
@@ -94,22 +94,40 @@ fn tally(counts: &mut [u64; 5], steps: &[RangeEvent]) {
     }
 }
 
+/// Changes a map, and says whether that is told as by membership; the view becomes the one after.
+fn is_told(
+    alloc: Global,
+    map: &mut Map,
+    view: &mut View,
+    counts: &mut [u64; 5],
+) -> Result<bool, Refusal> {
+    map.change_some()?;
+    let next = viewed(alloc, &map.tree)?;
+    let told = walk(alloc, view, &next)?;
+    let want = plain_walk(alloc, view.as_slice(), next.as_slice())?;
+    tally(counts, told.as_slice());
+    *view = next;
+    Ok(told.as_slice() == want.as_slice())
+}
+
+/// Whether all changes of a drawn map are told as by membership.
+fn are_told(alloc: Global, seed: u64, counts: &mut [u64; 5]) -> Result<bool, Refusal> {
+    let mut map = Map::new(alloc, seed)?;
+    let mut view = viewed(alloc, &map.tree)?;
+    for _ in 0..CHANGES {
+        if !is_told(alloc, &mut map, &mut view, counts)? {
+            return Ok(false);
+        }
+    }
+    Ok(true)
+}
+
 #[test]
 fn changes_of_drawn_maps_are_told_as_by_membership(rt: HostRuntime) -> Result<(), Fail> {
-    let alloc = rt.alloc();
     let mut counts = [0; 5];
     for seed in 0..MAPS {
-        let mut map = Map::new(alloc, seed)?;
-        let mut view = viewed(alloc, &map.tree)?;
-        for step in 0..CHANGES {
-            map.change_some()?;
-            let next = viewed(alloc, &map.tree)?;
-            let told = walk(alloc, &view, &next)?;
-            let want = plain_walk(alloc, view.as_slice(), next.as_slice())?;
-            assert_eq!(rt; told.as_slice(), want.as_slice(), "seed {seed} step {step}");
-            tally(&mut counts, told.as_slice());
-            view = next;
-        }
+        let is_so = are_told(rt.alloc(), seed, &mut counts)?;
+        assert!(rt; is_so, "seed {seed}");
     }
     for count in counts {
         assert!(rt; count > 100, "{counts:?}");
@@ -124,42 +142,66 @@ fn are_same(list: &[Live], other: &[Live]) -> bool {
         && other.iter().all(|live| list.contains(live))
 }
 
-#[test]
-fn ioeventfds_of_drawn_maps_are_those_met_byte_by_byte(rt: HostRuntime) -> Result<(), Fail> {
-    let alloc = rt.alloc();
-    let mut lost: usize = 0;
-    let mut gained: usize = 0;
-    for seed in 0..MAPS {
-        let mut map = Map::new(alloc, seed)?;
-        let view = viewed(alloc, &map.tree)?;
-        let mut old = ioeventfds(alloc, &view, &map.tree)?;
-        for step in 0..CHANGES {
-            map.change_some()?;
-            let view = viewed(alloc, &map.tree)?;
-            let new = ioeventfds(alloc, &view, &map.tree)?;
-            let want = plain_ioeventfds(alloc, &map.tree, view.as_slice())?;
-            assert!(rt;
-                are_same(new.as_slice(), want.as_slice()),
-                "seed {seed} step {step}"
-            );
-            let change = differ(alloc, old.as_slice(), new.as_slice())?;
-            let gone = without(alloc, old.as_slice(), new.as_slice())?;
-            let come = without(alloc, new.as_slice(), old.as_slice())?;
-            assert_eq!(rt;
-                change.lost.as_slice(),
-                gone.as_slice(),
-                "seed {seed} step {step}"
-            );
-            assert_eq!(rt;
-                change.gained.as_slice(),
-                come.as_slice(),
-                "seed {seed} step {step}"
-            );
-            lost = lost.saturating_add(gone.len());
-            gained = gained.saturating_add(come.len());
-            old = new;
+/// How many ioeventfds were lost, and how many gained.
+#[derive(Clone, Copy, Debug)]
+struct Moves {
+    lost: usize,
+    gained: usize,
+}
+
+/// Whether what is lost and gained between two lists is what the one has and the other has not.
+fn is_difference(
+    alloc: Global,
+    old: &Lives,
+    new: &Lives,
+    moves: &mut Moves,
+) -> Result<bool, AllocError> {
+    let (old, new) = (old.as_slice(), new.as_slice());
+    let change = differ(alloc, old, new)?;
+    let gone = without(alloc, old, new)?;
+    let come = without(alloc, new, old)?;
+    moves.lost = moves.lost.saturating_add(gone.len());
+    moves.gained = moves.gained.saturating_add(come.len());
+    Ok(change.lost.as_slice() == gone.as_slice() && change.gained.as_slice() == come.as_slice())
+}
+
+/// Changes a map, and says whether it shows the ioeventfds that are met byte by byte, and the right ones are lost and gained.
+fn are_met(
+    alloc: Global,
+    map: &mut Map,
+    lives: &mut Lives,
+    moves: &mut Moves,
+) -> Result<bool, Refusal> {
+    map.change_some()?;
+    let view = viewed(alloc, &map.tree)?;
+    let new = ioeventfds(alloc, &view, &map.tree)?;
+    let want = plain_ioeventfds(alloc, &map.tree, view.as_slice())?;
+    let same = are_same(new.as_slice(), want.as_slice());
+    let differ = is_difference(alloc, lives, &new, moves)?;
+    *lives = new;
+    Ok(same && differ)
+}
+
+/// Whether that is so of all changes of a drawn map.
+fn are_all_met(alloc: Global, seed: u64, moves: &mut Moves) -> Result<bool, Refusal> {
+    let mut map = Map::new(alloc, seed)?;
+    let view = viewed(alloc, &map.tree)?;
+    let mut lives = ioeventfds(alloc, &view, &map.tree)?;
+    for _ in 0..CHANGES {
+        if !are_met(alloc, &mut map, &mut lives, moves)? {
+            return Ok(false);
         }
     }
-    assert!(rt; lost > 100 && gained > 100, "{lost} lost, {gained} gained");
+    Ok(true)
+}
+
+#[test]
+fn ioeventfds_of_drawn_maps_are_those_met_byte_by_byte(rt: HostRuntime) -> Result<(), Fail> {
+    let mut moves = Moves { lost: 0, gained: 0 };
+    for seed in 0..MAPS {
+        let is_so = are_all_met(rt.alloc(), seed, &mut moves)?;
+        assert!(rt; is_so, "seed {seed}");
+    }
+    assert!(rt; moves.lost > 100 && moves.gained > 100, "{moves:?}");
     Ok(())
 }

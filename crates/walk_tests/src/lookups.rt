@@ -92,39 +92,60 @@ fn pc(alloc: Global) -> Result<Tree, Refusal> {
     )
 }
 
-#[test]
-fn a_pc_is_looked_up(rt: HostRuntime) -> Result<(), Fail> {
-    let tree = pc(rt.alloc())?;
-    let atlas = atlas(rt.alloc(), viewed(rt.alloc(), &tree)?)?;
-    for (addr, spot, run) in [
-        (0, Some((1, 0)), 0x9_ffff),
-        (0x9_ffff, Some((1, 0x9_ffff)), 0x9_ffff),
-        (0xa_0000, Some((2, 0)), 0xb_ffff),
-        (0xb_ffff, Some((2, 0x1_ffff)), 0xb_ffff),
-        (0xc_0000, Some((1, 0xc_0000)), 0xd_ffff),
-        (0xe_1234, Some((3, 0x2_1234)), 0xf_ffff),
-        (0x10_0000, Some((1, 0x10_0000)), 0x7ff_ffff),
-        (0x800_0000, None, 0xfffb_ffff),
-        (0xfffb_ffff, None, 0xfffb_ffff),
-        (0xffff_ffff, Some((3, 0x3_ffff)), 0xffff_ffff),
-        (0x1_0000_0000, None, u64::MAX),
-        (u64::MAX, None, u64::MAX),
-    ] {
-        let (found, last) = look(&atlas, addr);
-        let shape = found.map(|spot| (spot.leaf.0, spot.offset));
-        assert_eq!(rt; (shape, last), (spot, run), "at {addr}");
+/// An address, what is found there as a leaf and an offset in it, and the last address of the run that holds it.
+type Row = (u64, Option<(u32, u64)>, u64);
+
+static PC: [Row; 12] = [
+    (0, Some((1, 0)), 0x9_ffff),
+    (0x9_ffff, Some((1, 0x9_ffff)), 0x9_ffff),
+    (0xa_0000, Some((2, 0)), 0xb_ffff),
+    (0xb_ffff, Some((2, 0x1_ffff)), 0xb_ffff),
+    (0xc_0000, Some((1, 0xc_0000)), 0xd_ffff),
+    (0xe_1234, Some((3, 0x2_1234)), 0xf_ffff),
+    (0x10_0000, Some((1, 0x10_0000)), 0x7ff_ffff),
+    (0x800_0000, None, 0xfffb_ffff),
+    (0xfffb_ffff, None, 0xfffb_ffff),
+    (0xffff_ffff, Some((3, 0x3_ffff)), 0xffff_ffff),
+    (0x1_0000_0000, None, u64::MAX),
+    (u64::MAX, None, u64::MAX),
+];
+
+static NOTHING: [Row; 3] = [
+    (0, None, u64::MAX),
+    (0xfff, None, u64::MAX),
+    (u64::MAX, None, u64::MAX),
+];
+
+/// The first address of these at which an atlas answers otherwise, or that of a range where it differs from the plain search.
+fn first_other(atlas: &Atlas, rows: &[Row]) -> Option<u64> {
+    for (addr, spot, run) in rows {
+        let (found, last) = look(atlas, *addr);
+        let shape = match found {
+            Some(spot) => Some((spot.leaf.0, spot.offset)),
+            None => None,
+        };
+        if shape != *spot || last != *run {
+            return Some(*addr);
+        }
     }
-    assert_eq!(rt; differs(&atlas), None);
-    Ok(())
+    differs(atlas)
+}
+
+/// The same of what space 0 of a tree shows.
+fn first_other_of(alloc: Global, tree: &Tree, rows: &[Row]) -> Result<Option<u64>, AllocError> {
+    let view = viewed(alloc, tree)?;
+    let atlas = atlas(alloc, view)?;
+    Ok(first_other(&atlas, rows))
 }
 
 #[test]
-fn nothing_is_found_where_there_is_nothing(rt: HostRuntime) -> Result<(), Fail> {
+fn runs_of_a_pc_and_of_an_empty_map(rt: HostRuntime) -> Result<(), Fail> {
+    let tree = pc(rt.alloc())?;
+    let other = first_other_of(rt.alloc(), &tree, &PC)?;
+    assert!(rt; other.is_none());
     let tree = made(rt.alloc(), &[region(Kind::Container, 0x1000), space()])?;
-    let atlas = atlas(rt.alloc(), viewed(rt.alloc(), &tree)?)?;
-    for addr in [0, 0xfff, u64::MAX] {
-        assert_eq!(rt; look(&atlas, addr), (None, u64::MAX), "at {addr}");
-    }
+    let other = first_other_of(rt.alloc(), &tree, &NOTHING)?;
+    assert!(rt; other.is_none());
     Ok(())
 }
 
@@ -150,6 +171,15 @@ fn crowded(alloc: Global, seed: u64, devices: u32) -> Result<Tree, Refusal> {
     Ok(tree)
 }
 
+/// Whether a crowded map has more than half of so many ranges and at most these, and is looked up as by halving.
+fn is_looked_up(alloc: Global, seed: u64, devices: u32, most: usize) -> Result<bool, Refusal> {
+    let tree = crowded(alloc, seed, devices)?;
+    let view = viewed(alloc, &tree)?;
+    let atlas = atlas(alloc, view)?;
+    let count = atlas.view().as_slice().len();
+    Ok(count <= most && count > most / 2 && differs(&atlas).is_none())
+}
+
 #[test]
 fn crowded_maps_are_looked_up_as_by_halving(rt: HostRuntime) -> Result<(), Fail> {
     for (seed, devices, most) in [
@@ -160,29 +190,35 @@ fn crowded_maps_are_looked_up_as_by_halving(rt: HostRuntime) -> Result<(), Fail>
         (4, 150, 301),
         (5, 300, 300),
     ] {
-        let tree = crowded(rt.alloc(), seed, devices)?;
-        let atlas = atlas(rt.alloc(), viewed(rt.alloc(), &tree)?)?;
-        let count = atlas.view().as_slice().len();
-        assert!(rt;
-            count <= most && count > most / 2,
-            "seed {seed}: {count} ranges"
-        );
-        assert_eq!(rt; differs(&atlas), None, "seed {seed}");
+        let is_so = is_looked_up(rt.alloc(), seed, devices, most)?;
+        assert!(rt; is_so, "seed {seed}");
     }
     Ok(())
+}
+
+/// How many ranges the maps of a seed have, five of them, where each is looked up as by halving.
+fn ranges_of(alloc: Global, seed: u64) -> Result<Option<usize>, Refusal> {
+    let mut map = Map::new(alloc, seed)?;
+    let mut ranges: usize = 0;
+    for _ in 0..5 {
+        map.change(8)?;
+        let view = viewed(alloc, &map.tree)?;
+        let atlas = atlas(alloc, view)?;
+        ranges = ranges.saturating_add(atlas.view().as_slice().len());
+        if differs(&atlas).is_some() {
+            return Ok(None);
+        }
+    }
+    Ok(Some(ranges))
 }
 
 #[test]
 fn drawn_maps_are_looked_up_as_by_halving(rt: HostRuntime) -> Result<(), Fail> {
     let mut ranges: usize = 0;
     for seed in 0..40 {
-        let mut map = Map::new(rt.alloc(), seed)?;
-        for _ in 0..5 {
-            map.change(8)?;
-            let atlas = atlas(rt.alloc(), viewed(rt.alloc(), &map.tree)?)?;
-            ranges = ranges.saturating_add(atlas.view().as_slice().len());
-            assert_eq!(rt; differs(&atlas), None, "seed {seed}");
-        }
+        let count = ranges_of(rt.alloc(), seed)?;
+        assert!(rt; count.is_some(), "seed {seed}");
+        ranges = ranges.saturating_add(count.unwrap_or(0));
     }
     assert!(rt; ranges > 400, "{ranges} ranges");
     Ok(())

@@ -20,78 +20,105 @@ fn all(alloc: Global, mut marks: Marks) -> Result<Vec<(u64, Client)>, AllocError
     Ok(list)
 }
 
-#[test]
-fn a_write_marks_each_page_for_each_client(rt: HostRuntime) -> Result<(), Fail> {
-    let (vga, code, migration) = (Client::Vga, Client::Code, Client::Migration);
-    for (name, log, offset, len, want) in [
-        ("one byte", 1, 5, 1, [(0, vga)].as_slice()),
-        ("nobody asks", 0, 5, 1, [].as_slice()),
-        ("no bytes", 7, 5, 0, [].as_slice()),
-        (
-            "over a boundary",
-            5,
-            4095,
-            2,
-            [(0, vga), (0, migration), (1, vga), (1, migration)].as_slice(),
-        ),
-        (
-            "a whole page and one byte",
-            2,
-            8192,
-            4097,
-            [(2, code), (3, code)].as_slice(),
-        ),
-        (
-            "past the last address",
-            2,
-            u64::MAX,
-            2,
-            [(0xf_ffff_ffff_ffff, code), (0x10_0000_0000_0000, code)].as_slice(),
-        ),
-    ] {
-        let list = all(rt.alloc(), marks_of(log, offset, len))?;
-        assert_eq!(rt; list.as_slice(), want, "{name}");
+/// A log, an offset, a length, and the pages that are marked, each for a client.
+type Row = (u8, u64, u64, &'static [(u64, Client)]);
+
+static WRITES: [Row; 6] = [
+    (1, 5, 1, &[(0, Client::Vga)]),
+    // Nobody asks.
+    (0, 5, 1, &[]),
+    // No bytes.
+    (7, 5, 0, &[]),
+    // Over a boundary.
+    (
+        5,
+        4095,
+        2,
+        &[
+            (0, Client::Vga),
+            (0, Client::Migration),
+            (1, Client::Vga),
+            (1, Client::Migration),
+        ],
+    ),
+    // A whole page and one byte.
+    (2, 8192, 4097, &[(2, Client::Code), (3, Client::Code)]),
+    // Past the last address.
+    (
+        2,
+        u64::MAX,
+        2,
+        &[
+            (0xf_ffff_ffff_ffff, Client::Code),
+            (0x10_0000_0000_0000, Client::Code),
+        ],
+    ),
+];
+
+/// The number of the first write that marks others.
+fn first_other(alloc: Global) -> Result<Option<usize>, AllocError> {
+    for (i, (log, offset, len, want)) in WRITES.iter().enumerate() {
+        let list = all(alloc, marks_of(*log, *offset, *len))?;
+        if list.as_slice() != *want {
+            return Ok(Some(i));
+        }
     }
-    Ok(())
+    Ok(None)
 }
 
 #[test]
-fn marks_stand_after_data_and_registers(rt: HostRuntime) -> Result<(), Fail> {
-    let small = Place {
-        region: RegionId(1),
-        start: 7,
-        words: 515,
-        bytes: 4096,
-        regs: 0,
-    };
-    let large = Place {
-        region: RegionId(2),
-        start: 0,
-        words: 65 * 512 + 3 + 6,
-        bytes: 65 * 4096,
-        regs: 3,
-    };
-    for (name, place, client, page, want) in [
-        ("one page", small, Client::Vga, 0, (512, 1)),
-        ("its code", small, Client::Code, 0, (513, 1)),
-        ("its migration", small, Client::Migration, 0, (514, 1)),
-        ("65 pages", large, Client::Vga, 0, (33_283, 1)),
-        (
-            "the last of a word",
-            large,
-            Client::Vga,
-            63,
-            (33_283, 1 << 63),
-        ),
-        ("a second word", large, Client::Vga, 64, (33_284, 1)),
-        ("the next client", large, Client::Code, 3, (33_285, 8)),
-        ("the last word", large, Client::Migration, 64, (33_288, 1)),
-    ] {
-        if page < place.bytes / 4096 {
-            assert_eq!(rt; mark_of(&place, client, page), want, "{name}");
+fn a_write_marks_each_page_for_each_client(rt: HostRuntime) -> Result<(), Fail> {
+    let other = first_other(rt.alloc())?;
+    assert!(rt; other.is_none());
+    Ok(())
+}
+
+static SMALL: Place = Place {
+    region: RegionId(1),
+    start: 7,
+    words: 515,
+    bytes: 4096,
+    regs: 0,
+};
+
+/// 65 pages and three registers.
+static LARGE: Place = Place {
+    region: RegionId(2),
+    start: 0,
+    words: 33_289,
+    bytes: 266_240,
+    regs: 3,
+};
+
+/// Clients and pages, each with the word and the bit of its mark.
+static OF_SMALL: [(Client, u64, (usize, u64)); 3] = [
+    (Client::Vga, 0, (512, 1)),
+    (Client::Code, 0, (513, 1)),
+    (Client::Migration, 0, (514, 1)),
+];
+
+static OF_LARGE: [(Client, u64, (usize, u64)); 5] = [
+    (Client::Vga, 0, (33_283, 1)),
+    // The last of a word, and the first of the next.
+    (Client::Vga, 63, (33_283, 0x8000_0000_0000_0000)),
+    (Client::Vga, 64, (33_284, 1)),
+    (Client::Code, 3, (33_285, 8)),
+    (Client::Migration, 64, (33_288, 1)),
+];
+
+/// Whether the marks of pages of a place are there.
+fn are_marks(place: &Place, rows: &[(Client, u64, (usize, u64))]) -> bool {
+    for (client, page, want) in rows {
+        if *page >= place.bytes / 4096 || mark_of(place, *client, *page) != *want {
+            return false;
         }
     }
-    Ok(())
+    true
+}
+
+#[test]
+fn marks_stand_after_data_and_registers(rt: HostRuntime) {
+    assert!(rt; are_marks(&SMALL, &OF_SMALL) && are_marks(&LARGE, &OF_LARGE));
 }
 
 /// The pages of a word as `pages_of` appends them to a list, and as a plain loop does.
@@ -113,16 +140,27 @@ fn are_same(alloc: Global, base: u64, bits: u64) -> Result<bool, AllocError> {
     Ok(told.as_slice() == plain.as_slice())
 }
 
-#[test]
-fn a_mark_word_tells_its_pages(rt: HostRuntime) -> Result<(), Fail> {
-    let mut rng = Lcg64Xsh32::new(3, 54);
+/// Whether 200 drawn words and some worked ones tell their pages.
+fn are_all_same(alloc: Global) -> Result<bool, AllocError> {
     for bits in [0, 1, 1 << 63, u64::MAX, 0x8000_0000_0000_0001] {
-        assert!(rt; are_same(rt.alloc(), 64, bits)?, "{bits}");
+        if !are_same(alloc, 64, bits)? {
+            return Ok(false);
+        }
     }
+    let mut rng = Lcg64Xsh32::new(3, 54);
     for _ in 0..200_u32 {
         let bits = u64::from(rng.next_word()) << 32 | u64::from(rng.next_word());
         let base = u64::from(draw(&mut rng, 1000)) * 64;
-        assert!(rt; are_same(rt.alloc(), base, bits)?, "{bits} from {base}");
+        if !are_same(alloc, base, bits)? {
+            return Ok(false);
+        }
     }
+    Ok(true)
+}
+
+#[test]
+fn a_mark_word_tells_its_pages(rt: HostRuntime) -> Result<(), Fail> {
+    let is_so = are_all_same(rt.alloc())?;
+    assert!(rt; is_so);
     Ok(())
 }

@@ -1,10 +1,10 @@
 // Composites that are drawn by a generator.
 ghost use Rattle.std.specs.Prelude.{◌<◌};
 
-use crate::calls::size;
 use crate::composites::{Composite, Outcome};
 use mem_base::{
-    Call, Client, Device, DeviceKind, Forest, Ioevent, Kind, ListenerId, Perm, RegionId, SpaceId,
+    Call, Client, Device, DeviceKind, Forest, Ioevent, Kind, ListenerId, Perm, RegionId, Size,
+    SpaceId,
 };
 use rand_core::utils::NextWord;
 use rand_pcg::Lcg64Xsh32;
@@ -44,6 +44,14 @@ fn once_in(rng: &mut Lcg64Xsh32, n: u32) -> bool
     requires { 0 < n }
 {
     draw(rng, n) == 0
+}
+
+/// This many bytes.
+fn size(bytes: u64) -> Size {
+    match Size::new(u128::from(bytes)) {
+        Some(size) => size,
+        None => unreachable!(),
+    }
 }
 
 /// A few whole pages from 0 on.

@@ -1,25 +1,19 @@
-//! Tests of the pure machine as its users call it: worked examples, and drawn calls after each of which what every listener
-//! has by its own calls is what the current generation shows.
+//! Tests of the pure machine: drawn calls after each of which what every listener has by its own calls is what the current
+//! generation shows, and single events, each asked for first.
 //!
-//! No crate stands on this one. What is tested here is what no clause says: that the calls answer with ample memory, that in
-//! worked cases they answer what QEMU's manual and this project's rules give, and that a listener that knows nothing but its
-//! calls has the ranges and the live ioeventfds of its space.
+//! No crate stands on this one. What is tested here is what no clause says and no script reaches: that a listener that knows
+//! nothing but its calls has the ranges and the live ioeventfds of its space; which events are possible, one by one; and that
+//! the calls answer with ample memory. Worked runs of the machine are the scripts of `examples`.
 #![tactic(auto)]
 
-#[cfg(test)]
-mod calls;
 #[cfg(test)]
 mod churn;
 #[cfg(test)]
 mod composites;
 #[cfg(test)]
-mod devices;
-#[cfg(test)]
 mod draws;
 #[cfg(test)]
 mod events;
-#[cfg(test)]
-mod lines;
 #[cfg(test)]
 mod machines;
 #[cfg(test)]
@@ -28,5 +22,3 @@ mod plain;
 mod replays;
 #[cfg(test)]
 mod tallies;
-#[cfg(test)]
-mod worked;

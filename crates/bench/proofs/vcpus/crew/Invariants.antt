@@ -2,4 +2,4 @@ use Rattle.std.proofs.Common.{◌≡◌}
 use Rattle.bench.proofs.vcpus.crew.Given as goal
 
 abbrev pub invariant-loop : goal.invariant-loop
-invariant-loop l = (l.writer.cabinet ≡ l.fn.writer.cabinet) × (l.writer.sizes ≡ l.fn.writer.sizes)
+invariant-loop l = l.config.seat.cabinet ≡ l.cabinet.id

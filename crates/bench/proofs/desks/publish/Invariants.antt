@@ -1,4 +1,0 @@
-use Rattle.bench.proofs.desks.publish.Given as goal
-
-abbrev pub ghosts-commit : goal.ghosts-commit
-ghosts-commit a = record { name = a.blank.name; parts = a.blank.parts }

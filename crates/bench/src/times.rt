@@ -1,0 +1,94 @@
+// The one way in which things are timed: the least time of some rounds.
+ghost use Rattle.std.specs.Prelude.{◌<◌};
+
+use mem_base::Refusal;
+use rand_core::utils::NextWord;
+use rand_pcg::Lcg64Xsh32;
+use std::alloc::{AllocError, Global};
+use std::io;
+use std::time::{Clock, Instant};
+
+/// Why a run ends early.
+#[derive(Debug, Drop)]
+pub(crate) enum Failed {
+    Memory,
+    /// A call that is not to be refused.
+    Refused,
+    /// A write.
+    Outside,
+}
+
+impl From<AllocError> for Failed {
+    fn from(_e: AllocError) -> Failed {
+        Failed::Memory
+    }
+}
+
+impl From<Refusal> for Failed {
+    fn from(_refusal: Refusal) -> Failed {
+        Failed::Refused
+    }
+}
+
+impl From<io::Error> for Failed {
+    fn from(_e: io::Error) -> Failed {
+        Failed::Outside
+    }
+}
+
+/// The least time of some rounds, in nanoseconds; none where no round was timed.
+#[derive(Clone, Copy)]
+pub(crate) struct Least(Option<u64>);
+
+/// When a round began; none where the clock fails.
+pub(crate) fn begin<R: Clock>(rt: &R) -> Option<Instant> {
+    Instant::now(rt).ok()
+}
+
+impl Least {
+    /// No round yet.
+    pub(crate) fn new() -> Least {
+        Least(None)
+    }
+
+    /// The end of a round that began then.
+    pub(crate) fn end<R: Clock>(&mut self, rt: &R, start: Option<Instant>) {
+        if let Some(start) = start {
+            if let Ok(time) = start.elapsed(rt) {
+                let nanos = u64::try_from(time.as_nanos()).unwrap_or(u64::MAX);
+                self.0 = Some(self.0.unwrap_or(u64::MAX).min(nanos));
+            }
+        }
+    }
+
+    /// In nanoseconds; 0 where no round was timed.
+    pub(crate) fn nanos(self) -> u64 {
+        self.0.unwrap_or(0)
+    }
+
+    pub(crate) fn micros(self) -> u64 {
+        self.nanos() / 1000
+    }
+
+    /// The nanoseconds of one of this many things that a round did.
+    pub(crate) fn nanos_each(self, things: usize) -> u64 {
+        self.nanos() / things.max(1) as u64
+    }
+}
+
+/// Drawn numbers below a limit.
+pub(crate) fn drawn(
+    alloc: Global,
+    seed: u64,
+    count: u32,
+    limit: u32,
+) -> Result<Vec<u32>, AllocError>
+    requires { 0 < limit }
+{
+    let mut rng = Lcg64Xsh32::new(seed, 54);
+    let mut numbers = Vec::new(alloc);
+    for _ in 0..count {
+        numbers.push(rng.next_word() % limit)?;
+    }
+    Ok(numbers)
+}
