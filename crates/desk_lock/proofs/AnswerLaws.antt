@@ -74,7 +74,8 @@ abbrev AnswersCall : Call → Result Applied Refusal → Type 0
 AnswersCall call (Ok x) = IsAppliedTo call x
 AnswersCall call (Err why) = Unit {0}
 
-published_right : (call : Call) (a : Applied) (d e : Desk) (o : Option Refusal) → IsAppliedTo call a → AnswersCall call (unless_refused o d (settled e a)).answer
+published_right : (call : Call) (a : Applied) (d e : Desk) (o : Option Refusal) → IsAppliedTo call a
+    → AnswersCall call (unless_refused o d (settled e a)).answer
 published_right call a d e None h = h
 published_right call a d e (Some why) h = tt
 
@@ -290,7 +291,8 @@ regions_bound w orders.Reap ns =
     let same : length u.desk.dropped ≡ length w.desk.dropped = ap (λ (d : Desk). length d.dropped) k.desk in
     omega (arith, few, same)
 regions_bound w (orders.Harvest region client) ns =
-    harvest_regions (or_refused (harvest_refusal w.desk.forest region) (pages_from 0 (replies_of (played w (events_after w (harvest region client)) ns).entries)))
+    let es : List Event = events_after w (harvest region client) in
+    harvest_regions (or_refused (harvest_refusal w.desk.forest region) (pages_from 0 (replies_of (played w es ns).entries)))
 regions_bound w (orders.Call call) ns = none_regions (turn_of w (orders.Call call) ns).answer tt
 regions_bound w orders.Begin ns = none_regions (turn_of w orders.Begin ns).answer tt
 regions_bound w orders.Commit ns = none_regions (turn_of w orders.Commit ns).answer tt

@@ -1,6 +1,6 @@
 -- Where a list and the entries with a number differ.
-use Rattle.std.proofs.Common.{◌≡◌, ◌≢◌, ℕ, ◌+◌, ◌<◌, ◌≤◌, eqb, cond, Bool, true, false, List, [], ◌∷◌, ◌++◌, length, take, drop, get_or, Some, None, Option, zero, suc}
-use Rattle.std.proofs.Common.{refl, sym, ap, subst, ◌∙◌, arith, inl, inr}
+use Rattle.std.proofs.Common.{◌≡◌, ◌≢◌, ℕ, zero, suc, ◌+◌, ◌<◌, ◌≤◌, eqb, cond, Bool, true, false, List, [], ◌∷◌, ◌++◌, length, take, drop, get_or}
+use Rattle.std.proofs.Common.{Some, None, Option, refl, sym, ap, subst, ◌∙◌, arith, inl, inr}
 use Rattle.std.specs.Prelude.{if◌then◌else◌, slice_get, MatchBool, not, option_map}
 use Rattle.std.specs.List.{list_any}
 use Rattle.std.proofs.lemmas.List.{take-append-drop, take-append-le, take_all, take_more, drop_more, get_or_at, length-append, length-take-le, get_or_default}
@@ -10,14 +10,15 @@ use Rattle.mem_base.specs.declared.machine.records.Differs.{Differs}
 use Rattle.mem_base.specs.lists.Every.{Every}
 use Rattle.mem_base.specs.machine.Records.{Clerk, DifferAt, HasDiffering, IsOfRecord, entries_by, first_stray}
 use Rattle.view_laws.proofs.Tests.{none_is_not_some}
-use Rattle.desk_lock.specs.Differing.{IsMissed, IsNext}
+use Rattle.desk_lock.specs.Differing.{IsNext}
 
 by_append : (who : ℕ) (xs ys : List DeskEntry) → entries_by who (xs ++ ys) ≡ entries_by who xs ++ entries_by who ys
 by_append who [] ys = refl
 by_append who (x ∷ xs) ys = go (eqb x.who who) (by_append who xs ys)
   where
     go : (b : Bool) → entries_by who (xs ++ ys) ≡ entries_by who xs ++ entries_by who ys
-        → (if b then x ∷ entries_by who (xs ++ ys) else entries_by who (xs ++ ys)) ≡ (if b then x ∷ entries_by who xs else entries_by who xs) ++ entries_by who ys
+        → (if b then x ∷ entries_by who (xs ++ ys) else entries_by who (xs ++ ys))
+        ≡ (if b then x ∷ entries_by who xs else entries_by who xs) ++ entries_by who ys
     go true h = ap (λ (l : List DeskEntry). x ∷ l) h
     go false h = h
 
@@ -54,24 +55,18 @@ pub differs_here : (who : ℕ) (mine entries : List DeskEntry) (at i : ℕ) (e :
     → i < length entries → e ≡ get_or entries i e → eqb e.who who ≡ true → slice_get mine at ≢ Some e → DifferAt at mine (entries_by who entries)
 differs_here who mine entries at i e short before room is own other =
     let rest : List DeskEntry = entries_by who (drop (i + 1) entries) in
-    let all : entries_by who entries ≡ take at mine ++ e ∷ rest = by_rest who entries i e room is own ∙ ap (λ (l : List DeskEntry). l ++ e ∷ rest) (sym before) in
+    let all : entries_by who entries ≡ take at mine ++ e ∷ rest =
+    by_rest who entries i e room is own ∙ ap (λ (l : List DeskEntry). l ++ e ∷ rest) (sym before) in
     let long : length (take at mine) ≡ at = length-take-le at mine short in
     let found : get_or (take at mine ++ e ∷ rest) at e ≡ e = get_or_at (take at mine) e rest e at long in
     let inside : at < length (take at mine ++ e ∷ rest) = let z = length-append (take at mine) (e ∷ rest) in omega arith in (
       sym (ap (take at) all ∙ take-append-le at (take at mine) (e ∷ rest) (omega arith) ∙ take_all at (take at mine) (omega arith)),
-      λ same. other (same ∙ ap (λ (l : List DeskEntry). slice_get l at) all ∙ slice_get-get_or (take at mine ++ e ∷ rest) at e inside ∙ ap (λ (x : DeskEntry). Some x) found),
+      λ same. other (same ∙ ap (λ (l : List DeskEntry). slice_get l at) all ∙ slice_get-get_or (take at mine ++ e ∷ rest) at e inside
+          ∙ ap (λ (x : DeskEntry). Some x) found),
     )
 
-pub past_end : (mine : List DeskEntry) (at : ℕ) (e : DeskEntry) → length mine ≤ at → slice_get mine at ≢ Some e
-past_end mine at e short same = none_is_not_some e (sym (slice_get_past mine at short) ∙ same)
-
-pub not_same : (mine : List DeskEntry) (at : ℕ) (m e : DeskEntry) → at < length mine → m ≡ get_or mine at m → (m ≡ e → ⊥) → slice_get mine at ≢ Some e
-not_same mine at m e inside found other same = other (found ∙ some_same (get_or mine at m) e (sym (slice_get-get_or mine at m inside) ∙ same))
-  where
-    some_same : (x y : DeskEntry) → Some x ≡ Some y → x ≡ y
-    some_same x y is = cc
-
-pub differs_after : (who : ℕ) (mine entries : List DeskEntry) (at : ℕ) → at < length mine → take at mine ≡ entries_by who entries → DifferAt at mine (entries_by who entries)
+pub differs_after : (who : ℕ) (mine entries : List DeskEntry) (at : ℕ) → at < length mine → take at mine ≡ entries_by who entries
+    → DifferAt at mine (entries_by who entries)
 differs_after who mine entries at inside before =
     let long : length (take at mine) ≡ at = length-take-le at mine (omega arith) in
     let whole : length (entries_by who entries) ≡ at = ap length (sym before) ∙ long in (
@@ -82,9 +77,6 @@ differs_after who mine entries at inside before =
     go : (xs : List DeskEntry) → at < length xs → slice_get xs at ≡ None → ⊥
     go [] room none = absurd (omega arith)
     go (x ∷ xs) room none = none_is_not_some (get_or (x ∷ xs) at x) (sym none ∙ slice_get-get_or (x ∷ xs) at x room)
-
-some_is : (x y : DeskEntry) → Some x ≡ Some y → x ≡ y
-some_is x y is = cc
 
 -- the first entries of a list are those with the number among the first entries
 abbrev KeptTo : ℕ → List DeskEntry → List DeskEntry → ℕ → ℕ → Type 0
@@ -101,16 +93,6 @@ goes_on who mine entries at i next e short before room is step = go (eqb e.who w
         let found : get_or mine at e ≡ e = get_or_from_slice_get mine at e e h.0 in
         subst (KeptTo who mine entries i) (sym h.1) (omega arith, by_same who mine entries at i e e room is own inside (sym found) refl before)
     go false own h = subst (KeptTo who mine entries i) (sym h) (short, before ∙ sym (by_other who entries i e room is own))
-
-pub goes_on_at : (who : ℕ) (mine entries : List DeskEntry) (at i next : ℕ) (d : DeskEntry) → at ≤ length mine → take at mine ≡ entries_by who (take i entries)
-    → i < length entries → IsNext mine at who (get_or entries i d) next → (next ≤ length mine) × (take next mine ≡ entries_by who (take (i + 1) entries))
-goes_on_at who mine entries at i next d short before room step =
-    let e : DeskEntry = get_or entries i d in goes_on who mine entries at i next e short before room (get_or_default entries i d e room) step
-
-pub differs_at : (who : ℕ) (mine entries : List DeskEntry) (at i : ℕ) (d : DeskEntry) → at ≤ length mine → take at mine ≡ entries_by who (take i entries)
-    → i < length entries → IsMissed mine at who (get_or entries i d) → DifferAt at mine (entries_by who entries)
-differs_at who mine entries at i d short before room missed =
-    let e : DeskEntry = get_or entries i d in differs_here who mine entries at i e short before room (get_or_default entries i d e room) missed.0 missed.1
 
 pub differs_last : (who : ℕ) (mine entries : List DeskEntry) (at i : ℕ) → at < length mine → length entries ≤ i → take at mine ≡ entries_by who (take i entries)
     → DifferAt at mine (entries_by who entries)
@@ -129,7 +111,8 @@ differing_in entries all clerks i x d room same who differ =
     let c : Clerk = get_or clerks i x in
     let is : c ≡ get_or clerks i c = get_or_default clerks i x c room in
     let whole : take i clerks ++ c ∷ drop (i + 1) clerks ≡ clerks =
-    ap (λ (l : List Clerk). take i clerks ++ l) (ap (λ (y : Clerk). y ∷ drop (i + 1) clerks) is ∙ sym (drop_more clerks i c room)) ∙ take-append-drop i clerks in
+    ap (λ (l : List Clerk). take i clerks ++ l) (ap (λ (y : Clerk). y ∷ drop (i + 1) clerks) is ∙ sym (drop_more clerks i c room))
+    ∙ take-append-drop i clerks in
     let P : List Clerk → Type 0 = λ cs. HasDiffering entries all cs d in
     subst P whole (differing_at entries all (take i clerks) c (drop (i + 1) clerks) d same (who, differ))
 
@@ -146,7 +129,8 @@ differing_read entries all clerks i c who at got room is who_is got_is same diff
     differing_in entries all clerks i c (record { who = who; at = at }) room same two.0 two.1
 
 -- one clerk more whose list is the record's
-every_end : (entries : List DeskEntry) (cs : List Clerk) (c : Clerk) → Every (IsOfRecord entries) cs → IsOfRecord entries c → Every (IsOfRecord entries) (cs ++ c ∷ [])
+every_end : (entries : List DeskEntry) (cs : List Clerk) (c : Clerk) → Every (IsOfRecord entries) cs → IsOfRecord entries c
+    → Every (IsOfRecord entries) (cs ++ c ∷ [])
 every_end entries [] c h k = (k, tt)
 every_end entries (x ∷ cs) c h k = (h.0, every_end entries cs c h.1 k)
 

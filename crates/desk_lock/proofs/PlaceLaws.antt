@@ -1,5 +1,6 @@
 -- The place of a region, among places that are looked at one after another.
-use Rattle.std.proofs.Common.{◌≡◌, ℕ, ◌+◌, ◌<◌, ◌≤◌, zero, suc, eqb, cond, Bool, true, false, List, [], ◌∷◌, length, drop, get_or, Some, None, sym, ap, refl, ◌∙◌, arith}
+use Rattle.std.proofs.Common.{◌≡◌, ℕ, ◌+◌, ◌<◌, ◌≤◌, zero, suc, eqb, cond, Bool, true, false, List, [], ◌∷◌, length, drop, get_or, Some, None}
+use Rattle.std.proofs.Common.{sym, ap, refl, ◌∙◌, arith}
 use Rattle.std.proofs.lemmas.List.{drop_more, get_or_default}
 use Rattle.mem_base.specs.declared.map.ids.RegionId.{RegionId}
 use Rattle.mem_base.specs.declared.access.cells.Place.{Place}

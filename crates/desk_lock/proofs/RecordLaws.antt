@@ -19,7 +19,7 @@ use Rattle.config_desk.specs.Configs.{ConfigState}
 use Rattle.desk_lock.specs.declared.orders.Receipt.{Receipt}
 use Rattle.desk_lock.specs.Laws.{MakesTurns}
 use Rattle.desk_lock.specs.Records.{RecordState, record_state, turns_given, AreFitting, IsUnused, IsOfOrders, IsRecord, GrewBy, IsLater}
-use Rattle.desk_lock.specs.Turned.{Takes, given_by, turn_of}
+use Rattle.desk_lock.specs.Turned.{IsTurned, Takes, entry_got, given_by, turn_of}
 
 -- lists of orders one after another
 
@@ -77,7 +77,8 @@ grew_on gs hs u v w a b = record {
   home = λ q e. b.home q (ap (λ (bs : List Bool). slice_index_or bs q false) a.out ∙ e) ∙ a.home q e;
   seen = prefix_trans u.seat.seen v.seat.seen w.seat.seen a.seen b.seen;
   fits = fits_append gs hs a.fits b.fits;
-  entries = b.entries ∙ (λ i. a.entries i ++ recorded (a.part i) hs) ∙ append_assoc u.entries (recorded u.part gs) (recorded (last_writer u.part (turns_given u.part gs)) hs)
+  entries = b.entries ∙ (λ i. a.entries i ++ recorded (a.part i) hs)
+      ∙ append_assoc u.entries (recorded u.part gs) (recorded (last_writer u.part (turns_given u.part gs)) hs)
       ∙ ap (λ (es : List DeskEntry). u.entries ++ es) (sym (recorded_append u.part gs hs));
   own = b.own ∙ (λ i. a.own i ++ flat_map entries_of_turn (turns_given (a.part i) hs))
       ∙ append_assoc (own_entries 0 u.seat.seen) (flat_map entries_of_turn (turns_given u.part gs))
@@ -115,6 +116,13 @@ grew_one v w who order r t fits =
 
 pub later_one : (v w : RecordState) (who : ℕ) (order : DeskOrder) (r : Receipt) → Takes v who order r w → FitsDeskOrder order → IsLater v w
 later_one v w who order r t fits = record { given = given_by who order t.turned.asked.replies ∷ []; grew = grew_one v w who order r t fits }
+
+-- by the entry that was written
+pub takes_by : (c d : ConfigState) (entries old items : List DeskEntry) (e : DeskEntry) (who : ℕ) (order o : DeskOrder) (r : Receipt)
+    → IsTurned c order r d → items ≡ old ++ e ∷ [] → old ≡ entries → e ≡ entry_got who o r → o ≡ order
+    → Takes (record_state c entries) who order r (record_state d items)
+takes_by c d entries old items e who order o r turned more same written is =
+    record { turned = turned; entries = more ∙ (λ i. same i ++ (written ∙ ap (λ (x : DeskOrder). entry_got who x r) is) i ∷ []) }
 
 -- what a record keeps
 

@@ -3,7 +3,8 @@ use Rattle.desk_lock.proofs.differing.first_difference.Goals as goal
 
 pub loop-i-preserved : goal.loop-i-preserved
 loop-i-preserved c =
-    goes_on c.args.who c.args.mine.now c.args.entries.now c.loop-i.at c.loop-i.i c.in-Some.next c.index-entries-i.result c.loop-i.invariant.0 c.loop-i.invariant.1
+    goes_on c.args.who c.args.mine.now c.args.entries.now c.loop-i.at c.loop-i.i c.in-Some.next c.index-entries-i.result c.loop-i.invariant.0
+    c.loop-i.invariant.1
     c.loop-i-test.true c.index-entries-i.is c.in-Some.ensures
 
 pub returns-in_default : goal.returns-in_default

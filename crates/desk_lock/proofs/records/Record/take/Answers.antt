@@ -1,10 +1,8 @@
-use Rattle.std.proofs.Common.{◌≡◌, List, [], ◌∷◌, ◌++◌, ap, subst, ◌∙◌}
+use Rattle.std.proofs.Common.{List, ap, subst, ◌∙◌}
 use Rattle.mem_base.specs.declared.machine.records.DeskEntry.{DeskEntry}
-use Rattle.mem_base.specs.declared.machine.records.DeskOrder.{DeskOrder}
 use Rattle.desk_lock.specs.Records.{RecordState, IsLater, record_state}
-use Rattle.desk_lock.specs.Turned.{Takes, entry_got}
 use Rattle.desk_lock.proofs.ReceiptLaws.{has_room}
-use Rattle.desk_lock.proofs.RecordLaws.{later_one, later_unmoved, still_record}
+use Rattle.desk_lock.proofs.RecordLaws.{later_one, later_unmoved, still_record, takes_by}
 use Rattle.desk_lock.proofs.records.Record.take.Goals as goal
 
 pub returns-in_err-reserve-clause-later : goal.returns-in_err-reserve-clause-later
@@ -34,22 +32,21 @@ written-entry-requires g c = record {
 pub invariant_of-self-2 : goal.invariant_of-self-2
 invariant_of-self-2 g c =
     let i = c.self.inside in
-    let v : RecordState = record_state i.config i.entries.items in
-    let w : RecordState = record_state c.turned.new.config c.push_reserved.new.self.items in
-    let entries : w.entries ≡ v.entries ++ entry_got c.args.who c.args.order.now c.in_ok-receipt.receipt ∷ [] =
-    c.push_reserved.ensures.items
-    ∙ (λ j. c.reserve.ensures.items j ++ (c.written.ensures ∙ ap (λ (o : DeskOrder). entry_got c.args.who o c.in_ok-receipt.receipt) c.in_ok-mine.ensures.order_is) j ∷ []) in
-    let takes : Takes v c.args.who c.args.order.now c.in_ok-receipt.receipt w = record { turned = c.in_ok-receipt.ensures.turn; entries = entries } in
-    still_record v w c.self.invariant (later_one v w c.args.who c.args.order.now c.in_ok-receipt.receipt takes c.fits_order.ensures)
+    let r = c.in_ok-receipt.receipt in
+    let takes = takes_by i.config c.turned.new.config i.entries.items c.reserve.new.self.items c.push_reserved.new.self.items c.written.result c.args.who
+    c.args.order.now c.in_ok-mine.mine.order r c.in_ok-receipt.ensures.turn c.push_reserved.ensures.items c.reserve.ensures.items c.written.ensures
+    c.in_ok-mine.ensures.order_is in
+    still_record (record_state i.config i.entries.items) (record_state c.turned.new.config c.push_reserved.new.self.items) c.self.invariant
+    (later_one (record_state i.config i.entries.items) (record_state c.turned.new.config c.push_reserved.new.self.items) c.args.who c.args.order.now r takes
+    c.fits_order.ensures)
 
 pub returns-clause-later : goal.returns-clause-later
 returns-clause-later g c =
     let i = c.self.inside in
-    let v : RecordState = record_state i.config i.entries.items in
+    let r = c.in_ok-receipt.receipt in
+    let takes = takes_by i.config c.turned.new.config i.entries.items c.reserve.new.self.items c.push_reserved.new.self.items c.written.result c.args.who
+    c.args.order.now c.in_ok-mine.mine.order r c.in_ok-receipt.ensures.turn c.push_reserved.ensures.items c.reserve.ensures.items c.written.ensures
+    c.in_ok-mine.ensures.order_is in
     let w : RecordState = record_state c.turned.new.config c.push_reserved.new.self.items in
-    let entries : w.entries ≡ v.entries ++ entry_got c.args.who c.args.order.now c.in_ok-receipt.receipt ∷ [] =
-    c.push_reserved.ensures.items
-    ∙ (λ j. c.reserve.ensures.items j ++ (c.written.ensures ∙ ap (λ (o : DeskOrder). entry_got c.args.who o c.in_ok-receipt.receipt) c.in_ok-mine.ensures.order_is) j ∷ []) in
-    let takes : Takes v c.args.who c.args.order.now c.in_ok-receipt.receipt w = record { turned = c.in_ok-receipt.ensures.turn; entries = entries } in
     let P : RecordState → Type 0 = λ z. IsLater z w in
-    subst P c.self.view_is (later_one v w c.args.who c.args.order.now c.in_ok-receipt.receipt takes c.fits_order.ensures)
+    subst P c.self.view_is (later_one (record_state i.config i.entries.items) w c.args.who c.args.order.now r takes c.fits_order.ensures)
