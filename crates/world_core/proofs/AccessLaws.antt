@@ -10,7 +10,8 @@ use Rattle.view_laws.proofs.Tests.{both_of, true_is_not_false}
 use Rattle.world_laws.specs.Entered.{EntersHeld}
 use Rattle.world_laws.proofs.Entering.{entered_generations_are_held}
 use Rattle.world_core.specs.Hands.{IsInside}
-use Rattle.world_core.specs.Worlds.{IsReached, after_events}
+use Rattle.world_core.specs.Worlds.{after_events}
+use Rattle.world_hand.specs.Reached.{IsReached}
 
 -- a pass that entered a number is in a generation that is kept
 pub inside_of : (w : World) (pass : PassId) → IsReached w → is_some (pass_of w.passes pass).entered ≡ true → IsInside w pass

@@ -39,34 +39,12 @@ use Rattle.place_words.proofs.CellLaws.{steps_on_cells}
 use Rattle.backed_desk.specs.Backed.{all_places}
 use Rattle.writer_desk.specs.Writers.{WriterState}
 use Rattle.world_core.specs.Hands.{published_as, shown_to, IsInside}
-use Rattle.world_core.specs.Worlds.{Aside, world_of, IsReached, IsWorld}
+use Rattle.world_core.specs.Worlds.{Aside, world_of, IsWorld}
+use Rattle.world_hand.specs.Reached.{IsReached}
+use Rattle.world_hand.proofs.Completing.{all_apart, all_within, backs, reached_holds}
 use Rattle.world_core.proofs.ReachedLaws.{reached_after}
 
-pub reached_holds : (w : World) → IsReached w → Holds w
-reached_holds w r = subst Holds r.leads (holds r.pool_words r.passes r.entries r.legal)
-
--- places of regions below a pool's end, and the notifiers' after it
-
-module _ (pool_words : ℕ) (places : List Place)
-    (inside : Every (λ p. (is_notifiers p.region ≡ false) × (0 < p.words) × (past p ≤ pool_words)) places) where
-  pub all_apart : EveryPair ArePlacesApart places → EveryPair ArePlacesApart (places ++ notifiers_place pool_words ∷ [])
-  all_apart apart = pairs_push ArePlacesApart places (notifiers_place pool_words)
-      (weaker (λ p. (is_notifiers p.region ≡ false) × (0 < p.words) × (past p ≤ pool_words)) (λ p. ArePlacesApart p (notifiers_place pool_words))
-      (λ p k. (eqb-false _ _ k.0, inl k.2)) places inside) apart
-
-  pub all_within : Every (λ p. past p ≤ pool_words + notifier_count) (places ++ notifiers_place pool_words ∷ [])
-  all_within = every_push (λ p. past p ≤ pool_words + notifier_count) places (notifiers_place pool_words)
-      (weaker (λ p. (is_notifiers p.region ≡ false) × (0 < p.words) × (past p ≤ pool_words)) (λ p. past p ≤ pool_words + notifier_count)
-      (λ p k. (let l : past p ≤ pool_words = k.2 in omega (arith, l))) places inside)
-      (let l : pool_words + notifier_count ≤ pool_words + notifier_count = omega arith in l)
-
--- what holds of the places of a world
-
-pub backs : (w : World) → IsReached w → BacksForest w.writer.desk.pool_words w.writer.desk.forest w.writer.desk.places
-backs w r =
-    let shown : ShowsOwnPlaces r.pool_words w.writer =
-    subst (λ (v : World). ShowsOwnPlaces r.pool_words v.writer) r.leads (generations_show_places r.pool_words r.passes r.entries r.legal) in
-    subst (λ (n : ℕ). BacksForest n w.writer.desk.forest w.writer.desk.places) (sym shown.pool) shown.backs
+-- steps on the words of places
 
 module _ (d : WriterState) (k : KeptState) (ws : List ℕ) (x : Aside) (h : IsWorld d k ws x) where
   abbrev here : World
@@ -124,6 +102,8 @@ module _ (d : WriterState) (k : KeptState) (ws : List ℕ) (x : Aside) (h : IsWo
   words_change vs e long may goes = record {
     reached = subst IsReached (sym goes) (reached_after here e h.reached may);
     current = h.current;
+    number = h.number;
+    ready = h.ready;
     wide = long ∙ h.wide;
   }
 
