@@ -1,8 +1,8 @@
 -- Laws of the words and pages that an access to memory touches.
-use Rattle.std.proofs.Common.{◌≡◌, ℕ, zero, suc, ◌+◌, ◌-◌, ◌/◌, ◌%◌, ◌<◌, ◌≤◌, min, Bool, true, false, List, [], ◌∷◌, ◌++◌, length, take}
+use Rattle.std.proofs.Common.{◌≡◌, ℕ, zero, suc, ◌+◌, ◌-◌, ◌*◌, ◌/◌, ◌%◌, ◌<◌, ◌≤◌, min, Bool, true, false, List, [], ◌∷◌, ◌++◌, length, take}
 use Rattle.std.proofs.Common.{drop, map, ap, subst, refl, Some, ◌∙◌, arith}
 use Rattle.std.specs.Prelude.{flat_map}
-use Rattle.std.proofs.lemmas.List.{length-take-le, length-drop}
+use Rattle.std.proofs.lemmas.List.{length-take-le, length-drop, map-append}
 use Rattle.std.proofs.Math.Seq.{take-length}
 use Rattle.mem_base.specs.declared.map.ids.RegionId.{RegionId}
 use Rattle.mem_base.specs.declared.map.kinds.Client.{Client}
@@ -16,7 +16,7 @@ use Rattle.mem_base.specs.access.Marks.{clients_of, marks_of}
 use Rattle.mem_base.specs.access.AccessSteps.{AccessStep, reading, writing, steps, nothing_shown}
 use Rattle.mem_base.specs.access.MemoryAccess.{on_word}
 use Rattle.dirty_log.specs.MarksLeft.{first_of}
-use Rattle.access_run.proofs.RunLaws.{first_word}
+use Rattle.access_run.proofs.RunLaws.{first_word, whole_words}
 
 -- the words of some bytes: the first of them, and those after it
 pub words_then : (f : Run → AccessStep) (offset done n c : ℕ) → done < n → c ≡ min (n - done) (8 - (offset + done) % 8)
@@ -26,6 +26,18 @@ words_then f offset done n c some is =
     let left : n - done - c ≡ n - (done + c) = omega arith in
     ap (map f) (first_word (offset + done) c (n - done) (omega (arith, some)) is)
     ∙ (λ i. f (run (offset + done) c) ∷ map f (touched 8 (at i) (left i)))
+
+-- whole words, and those after them
+pub whole_words_then : (f : Run → AccessStep) (offset done n c : ℕ) → (offset + done) % 8 ≡ 0 → c % 8 ≡ 0 → done + c ≤ n
+    → map f (touched 8 (offset + done) (n - done)) ≡ map f (touched 8 (offset + done) c) ++ map f (touched 8 (offset + (done + c)) (n - (done + c)))
+whole_words_then f offset done n c begins whole most =
+    let left : n - done ≡ c + (n - (done + c)) = omega (arith, most) in
+    let at : offset + done + c ≡ offset + (done + c) = omega arith in
+    let count : c ≡ 8 * (c / 8) = omega (arith, whole) in
+    ap (λ m. map f (touched 8 (offset + done) m)) left
+    ∙ ap (map f) (whole_words (offset + done) (c / 8) (n - (done + c)) c begins count)
+    ∙ map-append f (touched 8 (offset + done) c) (touched 8 (offset + done + c) (n - (done + c)))
+    ∙ (λ i. map f (touched 8 (offset + done) c) ++ map f (touched 8 (at i) (n - (done + c))))
 
 -- how many bytes a part of a list has
 pub part_length : (done c n k : ℕ) (bs : List ℕ) → length bs ≡ n → done + c ≤ n → k ≡ done + c - done → length (take k (drop done bs)) ≡ c

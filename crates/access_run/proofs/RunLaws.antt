@@ -1,5 +1,6 @@
 -- Laws of runs: the first run of some numbers, and the runs after it.
-use Rattle.std.proofs.Common.{◌≡◌, ℕ, zero, suc, ◌+◌, ◌-◌, ◌%◌, ◌<◌, ◌≤◌, min, not, ◌==◌, Bool, true, false, [], ◌∷◌, refl, sym, ap, ◌∙◌, arith}
+use Rattle.std.proofs.Common.{◌≡◌, ℕ, zero, suc, ◌+◌, ◌-◌, ◌*◌, ◌%◌, ◌<◌, ◌≤◌, min, not, ◌==◌, Bool, true, false, [], ◌∷◌, ◌++◌, refl, sym, ap, ◌∙◌}
+use Rattle.std.proofs.Common.{arith}
 use Rattle.std.proofs.lemmas.Bool.{eqb-true}
 use Rattle.mem_base.specs.lists.Runs.{run, runs, put_before, is_in_unit, touched}
 
@@ -54,3 +55,20 @@ first_word a c n some is = first_run (is_in_unit 8) a c n (omega (arith, some, i
 
     ends : c < n → is_in_unit 8 (a + (c - 1)) ≡ false
     ends l = is_zero (a + (c - 1) + 1) (omega (arith, is, l, some))
+
+-- the bytes of whole words, and those after them
+pub whole_words : (a k m c : ℕ) → a % 8 ≡ 0 → c ≡ 8 * k → touched 8 a (c + m) ≡ touched 8 a c ++ touched 8 (a + c) m
+whole_words a zero m c begins is =
+    let none : c ≡ 0 = omega (arith, is) in
+    let here : a ≡ a + c = omega (arith, none) in
+    let all : c + m ≡ m = omega (arith, none) in
+    (λ i. touched 8 (here i) (all i)) ∙ (λ i. touched 8 a (sym none i) ++ touched 8 (a + c) m)
+whole_words a (suc k) m c begins is =
+    let left : c - 8 ≡ 8 * k = omega (arith, is) in
+    let next : (a + 8) % 8 ≡ 0 = omega (arith, begins) in
+    let all = first_word a 8 (c + m) (omega (arith, is)) (omega (arith, is, begins)) in
+    let these = first_word a 8 c (omega (arith, is)) (omega (arith, is, begins)) in
+    let size : c + m - 8 ≡ c - 8 + m = omega (arith, is) in
+    let at : a + 8 + (c - 8) ≡ a + c = omega (arith, is) in
+    all ∙ (λ i. run a 8 ∷ touched 8 (a + 8) (size i)) ∙ ap (λ rs. run a 8 ∷ rs) (whole_words (a + 8) k m (c - 8) next left)
+    ∙ (λ i. run a 8 ∷ (touched 8 (a + 8) (c - 8) ++ touched 8 (at i) m)) ∙ ap (λ rs. rs ++ touched 8 (a + c) m) (sym these)
