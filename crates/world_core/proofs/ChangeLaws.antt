@@ -15,10 +15,10 @@ use Rattle.mem_base.specs.access.Places.{past}
 use Rattle.mem_base.specs.access.Cells.{Block}
 use Rattle.mem_base.specs.machine.Desk as desks
 use Rattle.mem_base.specs.machine.Desk.{Desk, places_of}
-use Rattle.mem_base.specs.machine.Publishing.{Settled, held_up, current_forest}
+use Rattle.mem_base.specs.machine.Publishing.{Settled, held_up}
 use Rattle.mem_base.specs.machine.Configs.{configured}
 use Rattle.mem_base.specs.machine.Reaps.{writer}
-use Rattle.mem_base.specs.machine.World.{World, world, possible, world_after, is_at_rest, block_for}
+use Rattle.mem_base.specs.machine.World.{World, world, possible, world_after, block_for}
 use Rattle.history_laws.specs.BackedForests.{BacksForest}
 use Rattle.generation.specs.Published.{Published}
 use Rattle.kept_generations.specs.KeptState.{KeptState, generations_of}
@@ -156,7 +156,8 @@ module _ (d : WriterState) (k : KeptState) (ws : List ℕ) (dropped : List Regio
         (made_only d.backed e.backed.backing.places c)) wide
 
     -- the parts as they are then
-    pub accepted : IfSome e.due (IsReady e.backed) → (ws_then : List ℕ) → ws_then ≡ cleared_at ws (made_place e.backed.backing.places a) → length ws_then ≡ length ws
+    pub accepted : IfSome e.due (IsReady e.backed) → (ws_then : List ℕ) → ws_then ≡ cleared_at ws (made_place e.backed.backing.places a)
+        → length ws_then ≡ length ws
         → (kept_then : KeptState) → kept_then ≡ unswept k → (dropped_then : List RegionId) → dropped_then ≡ dropped_with c dropped
         → (cells : List Cell) → cells ≡ cells_at (made_place e.backed.backing.places a)
         → ChangesWorld w c (Ok a) e kept_then ws_then (aside dropped_then cells)

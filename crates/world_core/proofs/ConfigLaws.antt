@@ -2,15 +2,12 @@
 use Rattle.std.proofs.Common.{◌≡◌, ◌≢◌, ◌⊎◌, ⊎_elim, ℕ, Bool, true, List, length, Option, Some, Ok, Err, refl, sym, ap, subst, ◌∙◌}
 use Rattle.std.specs.Prelude.{Result, IfErr, IfOk, OnErr}
 use Rattle.mem_base.specs.declared.map.calls.Applied.{Applied}
-use Rattle.mem_base.specs.declared.map.calls.Call.{Call}
 use Rattle.mem_base.specs.declared.map.calls.Config.{Config}
 use Rattle.mem_base.specs.declared.map.refusals.Refusal.{Refusal}
 use Rattle.mem_base.specs.declared.map.refusals.Refusal.TheVariants.{Memory}
 use Rattle.mem_base.specs.declared.access.cells.Cell.{Cell}
-use Rattle.mem_base.specs.machine.Answers.{Answer}
 use Rattle.mem_base.specs.machine.Desk as desks
 use Rattle.mem_base.specs.machine.Generations.{Generations}
-use Rattle.mem_base.specs.machine.Orders.{configure}
 use Rattle.mem_base.specs.machine.Publishing.{held_up, would_publish}
 use Rattle.mem_base.specs.machine.Reaps.{Writer}
 use Rattle.mem_base.specs.machine.World.{World}
@@ -19,7 +16,7 @@ use Rattle.transact.specs.Preparing.{Readied}
 use Rattle.writer_desk.specs.declared.idle.IdleDesk.{IdleDesk}
 use Rattle.writer_desk.specs.Writers.{is_held}
 use Rattle.writer_run.specs.Parts.{part_of}
-use Rattle.writer_run.specs.Turns.{answer_by, number_told}
+use Rattle.writer_run.specs.Turns.{number_told}
 use Rattle.world_hand.proofs.FlagLaws.{would_with}
 use Rattle.world_core.specs.Worlds.{aside, state_of, unswept, world_of}
 use Rattle.world_core.proofs.RestLaws.{Rested, left_so, told_so}

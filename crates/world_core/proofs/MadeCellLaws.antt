@@ -1,8 +1,7 @@
 -- The cells of a region that is made are 0, and those of the others stay.
 use Rattle.std.proofs.Common.{◌≡◌, ◌≢◌, ℕ, ◌+◌, ◌<◌, ◌≤◌, Bool, true, false, List, [], ◌∷◌, ◌++◌, map, length}
 use Rattle.std.proofs.Common.{Option, Some, None, refl, sym, ap, subst, ◌∙◌, arith, append-nil, inl, inr, ne_eqb, eq-eqb}
-use Rattle.std.specs.Prelude.{◌==◌, if◌then◌else◌, replicate, flat_map, IfSome}
-use Rattle.std.specs.List.{range_with_len}
+use Rattle.std.specs.Prelude.{◌==◌, if◌then◌else◌, flat_map, IfSome}
 use Rattle.mem_base.specs.declared.map.ids.RegionId.{RegionId}
 use Rattle.mem_base.specs.declared.map.forests.Forest.{Forest}
 use Rattle.mem_base.specs.declared.map.calls.Call.TheVariants as calls
@@ -12,16 +11,14 @@ use Rattle.mem_base.specs.declared.map.calls.Config.{Config}
 use Rattle.mem_base.specs.declared.map.calls.Config.TheVariants as configs
 use Rattle.mem_base.specs.declared.access.cells.Place.{Place}
 use Rattle.mem_base.specs.declared.access.cells.Cell.{Cell}
-use Rattle.mem_base.specs.declared.machine.events.Event.TheVariants as events
 use Rattle.mem_base.specs.lists.Every.{Every, HasElement}
 use Rattle.mem_base.specs.map.Limits.{notifier_count, most_made}
 use Rattle.mem_base.specs.access.Places.{Extent, extent_of, words_of, place_from, first_fit, notifiers_place, past, is_notifiers}
 use Rattle.mem_base.specs.access.PlacesByRegion.{place_in}
-use Rattle.mem_base.specs.access.Cells.{Block, has_block, cells_in}
+use Rattle.mem_base.specs.access.Cells.{Block}
 use Rattle.mem_base.specs.machine.Desk.{cells_of}
-use Rattle.mem_base.specs.machine.World.{World, block_for}
-use Rattle.mem_base.specs.machine.History.{run_events}
-use Rattle.mem_base.proofs.EveryLaws.{weaker, every_push}
+use Rattle.mem_base.specs.machine.World.{block_for}
+use Rattle.mem_base.proofs.EveryLaws.{weaker}
 use Rattle.history_laws.specs.BackedForests.{BacksForest}
 use Rattle.world_laws.proofs.Lists.{found_has}
 use Rattle.mem_base.specs.access.PlaceCells.{blocks_at}
@@ -29,7 +26,7 @@ use Rattle.place_words.specs.Blocks.{AreWithin}
 use Rattle.place_words.proofs.CellLaws.{new_cleared, places_keep}
 use Rattle.backing_pool.specs.Backing.{Backing}
 use Rattle.backed_desk.specs.Backed.{BackedState, all_places, backing_at, places_for, forest_at}
-use Rattle.writer_desk.specs.Writers.{unfilled_by, backing_by, applied_by}
+use Rattle.writer_desk.specs.Writers.{backing_by, applied_by}
 use Rattle.writer_desk.specs.Writers.{made_place}
 use Rattle.world_core.specs.Worlds.{cleared_at}
 use Rattle.world_core.specs.Events.{makes_region}

@@ -1,5 +1,5 @@
 -- Events of the writer that sweep a pass, hand it its copy, or make the next generation current.
-use Rattle.std.proofs.Common.{◌≡◌, ℕ, ◌+◌, ◌<◌, true, false, List, ◌∷◌, map, take, Option, Some, None, refl, sym, ap, subst, ◌∙◌, arith}
+use Rattle.std.proofs.Common.{◌≡◌, ℕ, ◌+◌, ◌<◌, true, false, List, ◌∷◌, map, take, Option, Some, refl, sym, ap, subst, ◌∙◌, arith}
 use Rattle.std.specs.Prelude.{◌^◌}
 use Rattle.std.proofs.lemmas.List.{take-map}
 use Rattle.mem_base.specs.declared.machine.events.Event.{Event}
@@ -7,7 +7,7 @@ use Rattle.mem_base.specs.declared.machine.events.Event.TheVariants as events
 use Rattle.mem_base.specs.map.Forest.{IsMade}
 use Rattle.mem_base.specs.declared.map.forests.Forest.{Forest}
 use Rattle.mem_base.specs.machine.Desk.{shown_places}
-use Rattle.mem_base.specs.machine.Generations.{generation, PassTrack, with_placed, generations_after}
+use Rattle.mem_base.specs.machine.Generations.{generation, with_placed, generations_after}
 use Rattle.mem_base.specs.declared.machine.events.Carried.TheVariants.{Nothing}
 use Rattle.mem_base.specs.declared.map.ids.PassId.{PassId}
 use Rattle.mem_base.specs.machine.Reaps.{writer}

@@ -1,6 +1,6 @@
 -- Worlds to which legal histories lead.
-use Rattle.std.proofs.Common.{◌≡◌, ℕ, ◌+◌, ◌<◌, ◌≤◌, true, Option, Some, None, arith, length-set, get_or-set_same, ltb-true}
-use Rattle.std.proofs.Common.{List, [], ◌∷◌, ◌++◌, refl, sym, ap, subst, ◌∙◌}
+use Rattle.std.proofs.Common.{◌≡◌, ℕ, ◌+◌, ◌<◌, ◌≤◌, true, arith, length-set, get_or-set_same, ltb-true}
+use Rattle.std.proofs.Common.{List, [], ◌∷◌, refl, sym, ap, subst, ◌∙◌}
 use Rattle.std.proofs.lemmas.List.{length-replicate}
 use Rattle.std.specs.Prelude.{length, replicate, nat_lt, is_some, is_none}
 use Rattle.mem_base.specs.declared.map.ids.PassId.{PassId}
@@ -8,14 +8,14 @@ use Rattle.mem_base.specs.declared.machine.events.Event.TheVariants as events
 use Rattle.mem_base.specs.declared.machine.events.Event.{Event}
 use Rattle.mem_base.specs.machine.Passes.{PassState, pass_of, pass_after, with_pass, idle}
 use Rattle.mem_base.specs.machine.World.{World, world, possible, reply, world_after, opening}
-use Rattle.mem_base.specs.machine.History.{PureEntry, pure_entry, after_entry, after_entries, IsLegalFrom, IsOrderly}
+use Rattle.mem_base.specs.machine.History.{pure_entry, IsOrderly}
 use Rattle.history_laws.proofs.OrderLaws.{order}
 use Rattle.mem_base.specs.access.Cells.{Block}
 use Rattle.mem_base.specs.access.Places.{notifiers_place}
 use Rattle.mem_base.specs.map.Calls.{empty}
 use Rattle.mem_base.specs.map.Limits.{notifier_count}
 use Rattle.mem_base.specs.machine.Reaps.{first_writer}
-use Rattle.view_laws.proofs.Tests.{both_of, both, true_is_not_false}
+use Rattle.view_laws.proofs.Tests.{both_of, both}
 use Rattle.generation.specs.Published.{published}
 use Rattle.place_words.specs.Blocks.{AreWithin}
 use Rattle.place_words.proofs.CellLaws.{first_zero}

@@ -1,8 +1,7 @@
 -- Steps on words are steps on cells, and passes that are entered may make them.
-use Rattle.std.proofs.Common.{◌≡◌, ℕ, ◌+◌, ◌<◌, ◌≤◌, true, false, List, [], ◌∷◌, ◌++◌, Option, Some, None, refl, sym, ap, subst, ◌∙◌}
-use Rattle.std.proofs.Common.{inl, arith, length, ltb-true}
+use Rattle.std.proofs.Common.{◌≡◌, ℕ, ◌+◌, ◌<◌, ◌≤◌, true, false, List, Option, Some, None, refl, sym, ap, subst, ◌∙◌}
+use Rattle.std.proofs.Common.{arith, length, ltb-true}
 use Rattle.std.specs.Prelude.{is_some, slice_index, unwrap_or}
-use Rattle.std.proofs.lemmas.Bool.{eqb-false}
 use Rattle.mem_base.specs.declared.map.ids.RegionId.{RegionId}
 use Rattle.mem_base.specs.declared.map.ids.PassId.{PassId}
 use Rattle.mem_base.specs.declared.map.kinds.Client.{Client}
@@ -14,22 +13,20 @@ use Rattle.mem_base.specs.declared.machine.events.Event.{Event}
 use Rattle.mem_base.specs.declared.machine.events.Event.TheVariants as events
 use Rattle.mem_base.specs.lists.Every.{Every, EveryPair}
 use Rattle.mem_base.specs.map.Limits.{notifier_count}
-use Rattle.mem_base.specs.access.Places.{notifiers_place, is_notifiers, past, is_data_or_register, data_words, word_of_page, bit_of_page}
+use Rattle.mem_base.specs.access.Places.{past, is_data_or_register, data_words, word_of_page, bit_of_page}
 use Rattle.mem_base.specs.access.PlacesByRegion.{place_in}
 use Rattle.mem_base.specs.access.EditionPlaces.{ArePlacesApart}
 use Rattle.mem_base.specs.access.Cells.{cell, Touch, touch, touch_of, Block, words_after}
-use Rattle.mem_base.proofs.EveryLaws.{weaker, every_push, every_element}
+use Rattle.mem_base.proofs.EveryLaws.{every_element}
 use Rattle.mem_base.specs.machine.Passes.{pass_of}
 use Rattle.mem_base.specs.machine.Generations.{Generation, entered_generation}
 use Rattle.mem_base.specs.machine.World.{World, world, possible, reply, number_in, world_after, touched_blocks, touch_at, old_at}
-use Rattle.map_laws.proofs.PairLaws.{pairs_push}
 use Rattle.view_laws.proofs.Tests.{true_is_not_false}
-use Rattle.history_laws.specs.BackedForests.{BacksForest, ShowsOwnPlaces}
-use Rattle.history_laws.proofs.ShownLaws.{generations_show_places}
+use Rattle.history_laws.specs.BackedForests.{BacksForest}
 use Rattle.turn_laws.proofs.PassSteps.{touch_there}
 use Rattle.world_laws.specs.Standing.{StandsIn}
 use Rattle.world_laws.specs.Entered.{EntersHeld, MayStep}
-use Rattle.world_laws.proofs.Keeping.{Holds, holds, all_stand}
+use Rattle.world_laws.proofs.Keeping.{all_stand}
 use Rattle.world_laws.proofs.Lists.{found_has}
 use Rattle.world_laws.proofs.Entering.{entered_generations_are_held, steps_possible}
 use Rattle.access_run.specs.Hands.{IsPlaceOf}

@@ -232,8 +232,9 @@ reap_turn : (bs : List Bool) (h : Writer) (ns : List ℕ) → length bs ≡ leng
 reap_turn bs h ns e =
     let p : Played = played h (sweeps h.generations) ns in
     let k : PlayedWith bs h (sweeps h.generations) ns = sweeps_with (pass_ids h.generations) bs h ns e in
-    let m : after_private (flagged k.flags p.writer) (events.Reap ∷ []) ≡ after_private p.writer (events.Reap ∷ []) =
-    (λ i. writer (with_swept (same_flags k.flags p.writer.desk.swept k.many i) (after_private p.writer (events.Reap ∷ [])).desk) p.writer.generations) in record {
+    let reaped_part : Writer = after_private p.writer (events.Reap ∷ []) in
+    let m : after_private (flagged k.flags p.writer) (events.Reap ∷ []) ≡ reaped_part =
+    (λ i. writer (with_swept (same_flags k.flags p.writer.desk.swept k.many i) reaped_part.desk) p.writer.generations) in record {
       entries = ap (λ (q : Played). q.entries ++ []) k.is;
       answer = ap (λ (q : Played). reap_answer (Ok (released q.writer))) k.is;
       writer = ap (λ (q : Played). after_private q.writer (events.Reap ∷ [])) k.is ∙ m;
@@ -248,7 +249,8 @@ record Steady (e : Event) : Type 0 where
 abbrev with_first : HistoryEntry → Played → Played
 with_first x p = record p { entries = x ∷ p.entries }
 
-steady_played : (es : List Event) → Every Steady es → (bs : List Bool) (h : Writer) (ns : List ℕ) → played (flagged bs h) es ns ≡ played_with bs (played h es ns)
+steady_played : (es : List Event) → Every Steady es → (bs : List Bool) (h : Writer) (ns : List ℕ) 
+    → played (flagged bs h) es ns ≡ played_with bs (played h es ns)
 steady_played [] k bs h ns = refl
 steady_played (e ∷ es) k bs h ns =
     let n : ℕ = first_or_zero ns in
@@ -279,7 +281,8 @@ module _ (bs : List Bool) (h : Writer) (ns : List ℕ) where
   harvest_turn region client =
       let is = steady_played (events_after h (harvest region client))
       (steady_unless (harvest_refusal h.desk.forest region) _
-      (steady_rows _ (range_with_len 0 (mark_words_at (place_in (places_of h.desk) region))) (λ i. record { carried = λ cs d. refl; after = λ cs w x n. refl })))
+      (steady_rows _ (range_with_len 0 (mark_words_at (place_in (places_of h.desk) region)))
+      (λ i. record { carried = λ cs d. refl; after = λ cs w x n. refl })))
       bs h ns in record {
         entries = ap (λ (p : Played). p.entries) is;
         answer = ap (λ (p : Played). answer_to h h (harvest region client) (replies_of p.entries)) is;

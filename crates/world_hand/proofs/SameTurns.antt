@@ -35,7 +35,8 @@ same_played (e ∷ es) h ns ms s a b =
     let same : n ≡ m = a.0 ∙ sym b.0 in
     let rest : SamePlayed (writer_after h e c n) es (drop 1 ns) (drop 1 ms) =
     same_played es (writer_after h e c n) (drop 1 ns) (drop 1 ms) (after_shared_entry s (history_entry e c n)) a.1
-    (subst (λ (z : ℕ). AreReplies (after_shared_entry s (history_entry e c z)) (played (writer_after h e c z) es (drop 1 ms)).entries) (sym same) b.1) in record {
+    (subst (λ (z : ℕ). AreReplies (after_shared_entry s (history_entry e c z)) (played (writer_after h e c z) es (drop 1 ms)).entries) (sym same)
+    b.1) in record {
       entries = ap (λ (xs : List HistoryEntry). history_entry e c n ∷ xs) rest.entries
           ∙ ap (λ (z : ℕ). history_entry e c z ∷ (played (writer_after h e c z) es (drop 1 ms)).entries) same;
       writer = rest.writer ∙ ap (λ (z : ℕ). (played (writer_after h e c z) es (drop 1 ms)).writer) same;

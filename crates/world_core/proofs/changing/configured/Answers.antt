@@ -1,12 +1,11 @@
 use Rattle.std.proofs.Common.{rules, ◌≡◌, ◌≢◌, Err, Some, None, Option, refl, sym, ap, subst, ◌∙◌}
-use Rattle.std.specs.Prelude.{Result, IfSome}
+use Rattle.std.specs.Prelude.{Result}
 use Rattle.mem_base.specs.declared.map.calls.Applied.{Applied}
 use Rattle.mem_base.specs.declared.map.refusals.Refusal.{Refusal}
 use Rattle.mem_base.specs.declared.map.refusals.Refusal.TheVariants.{Memory}
 use Rattle.mem_base.specs.views.Listening.{delivered}
-use Rattle.transact.specs.Preparing.{Readied}
 use Rattle.backed_desk.specs.Backed.{BackedState}
-use Rattle.writer_desk.specs.Writers.{writer_state, IsConfigured, IsReady, backing_by, applied_by}
+use Rattle.writer_desk.specs.Writers.{writer_state, IsConfigured, IsReady}
 use Rattle.writer_desk.specs.Listened.{ListenedState, IsDone, IsReadied, IsRefused, IsUnmoved}
 use Rattle.writer_desk.proofs.ListenedLaws.{refused_as, done_as, told_as}
 use Rattle.world_core.specs.Worlds.{state_with}

@@ -1,4 +1,4 @@
-use Rattle.std.proofs.Common.{rules, ◌≡◌, Ok, Err, ap, ◌∙◌, inl, inr, refl}
+use Rattle.std.proofs.Common.{rules, ◌≡◌, Ok, Err, inl, inr, refl}
 use Rattle.mem_base.specs.declared.map.refusals.Refusal.TheVariants.{Memory}
 use Rattle.world_core.proofs.settling.settled.Goals as goal
 

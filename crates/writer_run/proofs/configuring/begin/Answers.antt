@@ -23,7 +23,8 @@ returns-in_err-begun-clause-turn g c =
     let is : IsRefused c.args.desk.now.listened Begin why = c.in_err-begun.ensures.refused in
     let same : c.begin-begun.new.self ≡ c.args.desk.now.listened = c.in_err-begun.ensures.unchanged in
     subst (λ (r : Result (Unit {0}) Refusal). IsTurn (part_of c.args.desk.now gens) (configure Begin)
-    (λ xs. g.H.Writing.makes c.args.hand.now xs c.args.hand.now) (plain_answer r) (part_with c.begin-begun.new.self c.args.desk.now.dropped.items gens)) (sym said)
+    (λ xs. g.H.Writing.makes c.args.hand.now xs c.args.hand.now) (plain_answer r) (part_with c.begin-begun.new.self c.args.desk.now.dropped.items gens))
+    (sym said)
     (refused c.args.desk.now gens (g.H.Writing.words c.args.hand.now) c.requires.parts Begin why is c.begin-begun.new.self
     (ap (λ (x : ListenedState). x.backed) same, ap (λ (x : ListenedState). x.set.listening) same) c.args.desk.now.dropped.items refl
     (λ xs. g.H.Writing.makes c.args.hand.now xs c.args.hand.now) (g.met.H.Writing.begins c.args.hand.now))

@@ -1,4 +1,4 @@
-use Rattle.std.proofs.Common.{◌≡◌, refl, subst}
+use Rattle.std.proofs.Common.{refl, subst}
 use Rattle.mem_base.specs.declared.map.calls.Config.TheVariants.{Begin}
 use Rattle.mem_base.specs.machine.Answers.{plain_answer}
 use Rattle.mem_base.specs.machine.Orders.{configure}

@@ -1,4 +1,4 @@
-use Rattle.std.proofs.Common.{◌≡◌, ◌≢◌, ℕ, Bool, true, Option, Some, Err, refl, sym, ap, subst, ◌∙◌}
+use Rattle.std.proofs.Common.{◌≡◌, ◌≢◌, ℕ, true, Option, Some, Err, refl, sym, ap, subst, ◌∙◌}
 use Rattle.std.specs.Prelude.{Result, IfErr, IfOk}
 use Rattle.mem_base.specs.declared.map.calls.Applied.{Applied}
 use Rattle.mem_base.specs.declared.map.refusals.Refusal.{Refusal}
@@ -70,7 +70,8 @@ returns-clause-number c =
     rested s.desk s.due s.hand.kept s.hand.words s.unfilled.cells w c.self.invariant c.self.view_is c.requires.rest in
     let k = c.args.config.now in
     subst (λ (q : Result (Applied × Option ℕ) Refusal). IfOk q (λ x. x.1 ≡ number_told w.writer k)) (sym c.settled.ensures.same)
-    (number_is s.desk s.due s.hand.kept s.hand.words s.unfilled.cells w f k c.configure-answer.result c.configure-answer.new.desk c.configure-answer.new.hand.kept
+    (number_is s.desk s.due s.hand.kept s.hand.words s.unfilled.cells w f k c.configure-answer.result c.configure-answer.new.desk
+    c.configure-answer.new.hand.kept
     c.configure-answer.new.hand.words c.settled.new.kept c.settled.ensures.flags c.configure-answer.ensures.number)
 
 pub returns-clause-cause : goal.returns-clause-cause
@@ -80,8 +81,10 @@ returns-clause-cause c =
     let f : Rested s.desk s.due s.hand.kept s.hand.words s.unfilled.cells w =
     rested s.desk s.due s.hand.kept s.hand.words s.unfilled.cells w c.self.invariant c.self.view_is c.requires.rest in
     let k = c.args.config.now in
-    subst (λ (q : Result (Applied × Option ℕ) Refusal). IfErr q (λ why. why ≢ Memory → is_held why ≡ would_publish w.writer.desk k)) (sym c.settled.ensures.same)
-    (cause_is s.desk s.due s.hand.kept s.hand.words s.unfilled.cells w f k c.configure-answer.result c.configure-answer.new.desk c.configure-answer.new.hand.kept
+    subst (λ (q : Result (Applied × Option ℕ) Refusal). IfErr q (λ why. why ≢ Memory → is_held why ≡ would_publish w.writer.desk k)) (sym
+    c.settled.ensures.same)
+    (cause_is s.desk s.due s.hand.kept s.hand.words s.unfilled.cells w f k c.configure-answer.result c.configure-answer.new.desk
+    c.configure-answer.new.hand.kept
     c.configure-answer.new.hand.words c.settled.new.kept c.settled.ensures.flags c.configure-answer.ensures.cause)
 
 pub returns-clause-held : goal.returns-clause-held

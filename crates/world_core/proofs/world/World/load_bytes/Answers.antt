@@ -1,4 +1,4 @@
-use Rattle.std.proofs.Common.{rules, refl, ap, subst}
+use Rattle.std.proofs.Common.{rules, refl, subst}
 use Rattle.mem_base.specs.map.Forest.{IsMade}
 use Rattle.mem_base.specs.machine.Answers.{plain_answer}
 use Rattle.mem_base.specs.machine.Orders.{load}
@@ -30,8 +30,10 @@ invariant_of-self c =
     let answer = plain_answer c.load_bytes.result in
     let all : LeavesAll w (load c.args.region c.args.offset c.args.bytes.now) answer s.desk s.due l.kept l.words s.unfilled.cells =
     leaves_all s.desk s.due s.hand.kept s.hand.words s.unfilled.cells w f (load c.args.region c.args.offset c.args.bytes.now) answer s.desk l.kept l.words
-    (steady_leaves s.desk s.hand.kept s.hand.words f.world s.desk l.kept l.words (load c.args.region c.args.offset c.args.bytes.now) answer made c.load_bytes.ensures.turn c.load_bytes.ensures.parts
-    refl (c.load_bytes.ensures.turn.made.flags (load_sweeps_none (part_of s.desk (generations_of s.hand.kept)) c.load_bytes.ensures.turn.replies c.args.region c.args.offset c.args.bytes.now))) in
+    (steady_leaves s.desk s.hand.kept s.hand.words f.world s.desk l.kept l.words (load c.args.region c.args.offset c.args.bytes.now) answer made
+    c.load_bytes.ensures.turn c.load_bytes.ensures.parts
+    refl (c.load_bytes.ensures.turn.made.flags (load_sweeps_none (part_of s.desk (generations_of s.hand.kept)) c.load_bytes.ensures.turn.replies
+    c.args.region c.args.offset c.args.bytes.now))) in
     all.world
 
 pub returns-clause-completed : goal.returns-clause-completed
@@ -45,8 +47,10 @@ returns-clause-completed c =
     let answer = plain_answer c.load_bytes.result in
     let all : LeavesAll w (load c.args.region c.args.offset c.args.bytes.now) answer s.desk s.due l.kept l.words s.unfilled.cells =
     leaves_all s.desk s.due s.hand.kept s.hand.words s.unfilled.cells w f (load c.args.region c.args.offset c.args.bytes.now) answer s.desk l.kept l.words
-    (steady_leaves s.desk s.hand.kept s.hand.words f.world s.desk l.kept l.words (load c.args.region c.args.offset c.args.bytes.now) answer made c.load_bytes.ensures.turn c.load_bytes.ensures.parts
-    refl (c.load_bytes.ensures.turn.made.flags (load_sweeps_none (part_of s.desk (generations_of s.hand.kept)) c.load_bytes.ensures.turn.replies c.args.region c.args.offset c.args.bytes.now))) in
+    (steady_leaves s.desk s.hand.kept s.hand.words f.world s.desk l.kept l.words (load c.args.region c.args.offset c.args.bytes.now) answer made
+    c.load_bytes.ensures.turn c.load_bytes.ensures.parts
+    refl (c.load_bytes.ensures.turn.made.flags (load_sweeps_none (part_of s.desk (generations_of s.hand.kept)) c.load_bytes.ensures.turn.replies
+    c.args.region c.args.offset c.args.bytes.now))) in
     all.is
 
 pub returns-clause-legal : goal.returns-clause-legal

@@ -23,4 +23,5 @@ returns c =
     c.would_publish-publishes.ensures (beside x s.hand.kept.swept)
     ∙ ap (λ (o : Option Readied). would_publish (desk_of (state_of s.desk o) (beside x s.hand.kept.swept)) c.args.config.now) (sym none)
     ∙ ap (λ (v : World). would_publish v.writer.desk c.args.config.now) c.self.view_is in
-    by_sweeps (is_at_rest w.writer.desk) (is_all_swept w.writer.desk) c.would_publish-publishes.result (would_publish w.writer.desk c.args.config.now) rests swept told
+    by_sweeps (is_at_rest w.writer.desk) (is_all_swept w.writer.desk) c.would_publish-publishes.result (would_publish w.writer.desk c.args.config.now)
+    rests swept told

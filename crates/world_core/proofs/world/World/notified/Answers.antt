@@ -26,8 +26,10 @@ invariant_of-self c =
     let answer = notifier_answer c.notified.result in
     let all : LeavesAll w (notified c.args.number) answer s.desk s.due l.kept l.words s.unfilled.cells =
     leaves_all s.desk s.due s.hand.kept s.hand.words s.unfilled.cells w f (notified c.args.number) answer s.desk l.kept l.words
-    (steady_leaves s.desk s.hand.kept s.hand.words f.world s.desk l.kept l.words (notified c.args.number) answer c.requires.number c.notified.ensures.turn c.notified.ensures.parts
-    refl (c.notified.ensures.turn.made.flags (notified_sweeps_none (part_of s.desk (generations_of s.hand.kept)) c.notified.ensures.turn.replies c.args.number))) in
+    (steady_leaves s.desk s.hand.kept s.hand.words f.world s.desk l.kept l.words (notified c.args.number) answer c.requires.number c.notified.ensures.turn
+    c.notified.ensures.parts
+    refl (c.notified.ensures.turn.made.flags (notified_sweeps_none (part_of s.desk (generations_of s.hand.kept)) c.notified.ensures.turn.replies
+    c.args.number))) in
     all.world
 
 pub returns-clause-completed : goal.returns-clause-completed
@@ -40,8 +42,10 @@ returns-clause-completed c =
     let answer = notifier_answer c.notified.result in
     let all : LeavesAll w (notified c.args.number) answer s.desk s.due l.kept l.words s.unfilled.cells =
     leaves_all s.desk s.due s.hand.kept s.hand.words s.unfilled.cells w f (notified c.args.number) answer s.desk l.kept l.words
-    (steady_leaves s.desk s.hand.kept s.hand.words f.world s.desk l.kept l.words (notified c.args.number) answer c.requires.number c.notified.ensures.turn c.notified.ensures.parts
-    refl (c.notified.ensures.turn.made.flags (notified_sweeps_none (part_of s.desk (generations_of s.hand.kept)) c.notified.ensures.turn.replies c.args.number))) in
+    (steady_leaves s.desk s.hand.kept s.hand.words f.world s.desk l.kept l.words (notified c.args.number) answer c.requires.number c.notified.ensures.turn
+    c.notified.ensures.parts
+    refl (c.notified.ensures.turn.made.flags (notified_sweeps_none (part_of s.desk (generations_of s.hand.kept)) c.notified.ensures.turn.replies
+    c.args.number))) in
     all.is
 
 pub returns-clause-legal : goal.returns-clause-legal

@@ -1,4 +1,4 @@
-use Rattle.std.proofs.Common.{◌≡◌, ◌≢◌, List, Err, refl, sym, ap, subst, ◌∙◌}
+use Rattle.std.proofs.Common.{◌≡◌, ◌≢◌, Err, refl, sym, ap, subst, ◌∙◌}
 use Rattle.mem_base.specs.declared.map.refusals.Refusal.TheVariants.{Memory}
 use Rattle.mem_base.specs.machine.Answers.{answer_with, reap_answer}
 use Rattle.mem_base.specs.machine.Completions.{IsCompleted}
@@ -26,10 +26,12 @@ invariant_of-self c =
     let r = c.reap-answer.result in
     let e = c.reap-answer.new.desk in
     let l = c.reap-answer.new.hand in
-    let ends : Ends w (r ≡ Err Memory) (r ≢ Err Memory) (reap) (reap_answer (answer_with (λ v. v.items) r)) e s.due c.settled.new.kept l.words s.unfilled.cells =
+    let ends : Ends w (r ≡ Err Memory) (r ≢ Err Memory) (reap) (reap_answer (answer_with (λ v. v.items) r)) e s.due c.settled.new.kept l.words
+    s.unfilled.cells =
     private_ends s.desk s.due s.hand.kept s.hand.words s.unfilled.cells w f e l.kept l.words c.reap-answer.ensures.parts (r ≡ Err Memory) (r ≢ Err Memory)
     (λ memory. let u = c.reap-answer.ensures.unchanged memory in (u.0, ap (λ h. h.kept) u.1, ap (λ h. h.words) u.1))
-    (reap) (reap_answer (answer_with (λ v. v.items) r)) tt c.reap-answer.ensures.turn refl c.settled.ensures.kept.each_swept c.settled.new.kept c.settled.ensures.flags in
+    (reap) (reap_answer (answer_with (λ v. v.items) r)) tt c.reap-answer.ensures.turn refl c.settled.ensures.kept.each_swept c.settled.new.kept
+    c.settled.ensures.flags in
     ends.world
 
 pub returns-clause-completed : goal.returns-clause-completed
@@ -41,10 +43,12 @@ returns-clause-completed c =
     let r = c.reap-answer.result in
     let e = c.reap-answer.new.desk in
     let l = c.reap-answer.new.hand in
-    let ends : Ends w (r ≡ Err Memory) (r ≢ Err Memory) (reap) (reap_answer (answer_with (λ v. v.items) r)) e s.due c.settled.new.kept l.words s.unfilled.cells =
+    let ends : Ends w (r ≡ Err Memory) (r ≢ Err Memory) (reap) (reap_answer (answer_with (λ v. v.items) r)) e s.due c.settled.new.kept l.words
+    s.unfilled.cells =
     private_ends s.desk s.due s.hand.kept s.hand.words s.unfilled.cells w f e l.kept l.words c.reap-answer.ensures.parts (r ≡ Err Memory) (r ≢ Err Memory)
     (λ memory. let u = c.reap-answer.ensures.unchanged memory in (u.0, ap (λ h. h.kept) u.1, ap (λ h. h.words) u.1))
-    (reap) (reap_answer (answer_with (λ v. v.items) r)) tt c.reap-answer.ensures.turn refl c.settled.ensures.kept.each_swept c.settled.new.kept c.settled.ensures.flags in
+    (reap) (reap_answer (answer_with (λ v. v.items) r)) tt c.reap-answer.ensures.turn refl c.settled.ensures.kept.each_swept c.settled.new.kept
+    c.settled.ensures.flags in
     λ other. subst (λ q. IsCompleted w reap (reap_answer (answer_with (λ v. v.items) q))
     (world_of (state_of e s.due) c.settled.new.kept l.words (aside e.dropped.items s.unfilled.cells))) (sym c.settled.ensures.same)
     (completes_then ends.either (λ memory. other (c.settled.ensures.same ∙ memory)))
@@ -61,10 +65,12 @@ returns-clause-unchanged c =
     let r = c.reap-answer.result in
     let e = c.reap-answer.new.desk in
     let l = c.reap-answer.new.hand in
-    let ends : Ends w (r ≡ Err Memory) (r ≢ Err Memory) (reap) (reap_answer (answer_with (λ v. v.items) r)) e s.due c.settled.new.kept l.words s.unfilled.cells =
+    let ends : Ends w (r ≡ Err Memory) (r ≢ Err Memory) (reap) (reap_answer (answer_with (λ v. v.items) r)) e s.due c.settled.new.kept l.words
+    s.unfilled.cells =
     private_ends s.desk s.due s.hand.kept s.hand.words s.unfilled.cells w f e l.kept l.words c.reap-answer.ensures.parts (r ≡ Err Memory) (r ≢ Err Memory)
     (λ memory. let u = c.reap-answer.ensures.unchanged memory in (u.0, ap (λ h. h.kept) u.1, ap (λ h. h.words) u.1))
-    (reap) (reap_answer (answer_with (λ v. v.items) r)) tt c.reap-answer.ensures.turn refl c.settled.ensures.kept.each_swept c.settled.new.kept c.settled.ensures.flags in
+    (reap) (reap_answer (answer_with (λ v. v.items) r)) tt c.reap-answer.ensures.turn refl c.settled.ensures.kept.each_swept c.settled.new.kept
+    c.settled.ensures.flags in
     λ memory. stays_then ends.either (sym c.settled.ensures.same ∙ memory)
 
 pub returns-clause-rests : goal.returns-clause-rests
@@ -76,9 +82,12 @@ returns-clause-rests c =
     let r = c.reap-answer.result in
     let e = c.reap-answer.new.desk in
     let l = c.reap-answer.new.hand in
-    let ends : Ends w (r ≡ Err Memory) (r ≢ Err Memory) (reap) (reap_answer (answer_with (λ v. v.items) r)) e s.due c.settled.new.kept l.words s.unfilled.cells =
+    let ends : Ends w (r ≡ Err Memory) (r ≢ Err Memory) (reap) (reap_answer (answer_with (λ v. v.items) r)) e s.due c.settled.new.kept l.words
+    s.unfilled.cells =
     private_ends s.desk s.due s.hand.kept s.hand.words s.unfilled.cells w f e l.kept l.words c.reap-answer.ensures.parts (r ≡ Err Memory) (r ≢ Err Memory)
     (λ memory. let u = c.reap-answer.ensures.unchanged memory in (u.0, ap (λ h. h.kept) u.1, ap (λ h. h.words) u.1))
-    (reap) (reap_answer (answer_with (λ v. v.items) r)) tt c.reap-answer.ensures.turn refl c.settled.ensures.kept.each_swept c.settled.new.kept c.settled.ensures.flags in
-    stays w (world_of (state_of e s.due) c.settled.new.kept l.words (aside e.dropped.items s.unfilled.cells)) (reap) (reap_answer (answer_with (λ v. v.items) r))
+    (reap) (reap_answer (answer_with (λ v. v.items) r)) tt c.reap-answer.ensures.turn refl c.settled.ensures.kept.each_swept c.settled.new.kept
+    c.settled.ensures.flags in
+    stays w (world_of (state_of e s.due) c.settled.new.kept l.words (aside e.dropped.items s.unfilled.cells)) (reap) (reap_answer (answer_with (λ v.
+    v.items) r))
     c.requires.rest ends.either
