@@ -23,7 +23,7 @@ use Rattle.mem_base.specs.script.Shows.{catches_up, shown_forest}
 use Rattle.mem_base.specs.script.Run.{pool_words, start, step, text_from, text_of}
 use Rattle.script_names.specs.Tables.{AllNames, table}
 use Rattle.script_run.specs.Ready.{state_of, IsReady, is_listener, is_region, watches}
-use Rattle.script_run.proofs.NamedLaws.{named_none, named_same}
+use Rattle.race_lines.proofs.NamedLaws.{named_none, named_same}
 use Rattle.script_run.proofs.Writing.{Through, through_next, through_prefix}
 use Rattle.run_laws.proofs.EachCommand.{may_first}
 

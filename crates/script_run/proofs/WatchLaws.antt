@@ -16,8 +16,9 @@ use Rattle.mem_base.specs.script.Spelling.{Text}
 use Rattle.mem_base.specs.script.Named.{Names}
 use Rattle.mem_base.specs.script.Watching.{Watcher, is_watcher, without_number}
 use Rattle.script_names.specs.Tables.{AllNames, Rebinds, Table, number_of, printed_names, table}
-use Rattle.script_run.specs.Ready.{IsNamed, IsReady, is_listener, is_region, watches}
-use Rattle.script_run.proofs.NamedLaws.{named_drop, named_push}
+use Rattle.script_run.specs.Ready.{IsReady, is_listener, is_region, watches}
+use Rattle.race_lines.specs.NamedTables.{IsNamed}
+use Rattle.race_lines.proofs.NamedLaws.{named_drop, named_push}
 use Rattle.view_laws.proofs.Tests.{or_right}
 use Rattle.run_laws.proofs.DeskLaws.{any_push, or_false}
 

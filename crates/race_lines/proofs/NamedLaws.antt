@@ -10,7 +10,7 @@ use Rattle.mem_base.specs.script.Spelling.{Text}
 use Rattle.mem_base.specs.script.States.{number_from}
 use Rattle.view_laws.proofs.Tests.{none_is_not_some, same_some, both_of, both, true_is_not_false}
 use Rattle.script_names.specs.Tables.{Rebinds, Table, number_of, table}
-use Rattle.script_run.specs.Ready.{AreSingle, IsNamed}
+use Rattle.race_lines.specs.NamedTables.{AreSingle, IsNamed}
 use Rattle.run_laws.proofs.Naming.{from_agree}
 
 same_text : (x y : Text) → bytes_eq x y ≡ true → x ≡ y

@@ -1,0 +1,3 @@
+pub mod NamedTables
+pub mod KnownNames
+pub mod LineTasks
