@@ -1,2 +1,3 @@
 pub mod NamedLaws
 pub mod Keeping
+pub mod ShownLaws

@@ -1,5 +1,5 @@
 -- What the code says of a line: its task, or the refusal of one of its names, as the definitions have them.
-use Rattle.std.specs.Prelude.{◌≡◌, ℕ, List, [], ◌∷◌, ◌++◌, Option, Some, None, Result, Ok, Err}
+use Rattle.std.specs.Prelude.{◌≡◌, [], ◌∷◌, ◌++◌, Some, None, Result, Ok, Err, IfOk}
 use Rattle.mem_base.specs.declared.machine.records.DeskOrder.{DeskOrder}
 use Rattle.mem_base.specs.declared.map.kinds.Kind.{Kind}
 use Rattle.mem_base.specs.access.AccessSteps.{reading, writing}
@@ -54,6 +54,10 @@ named_by k (MakesListener name) = record k { names = record k.names { listeners 
 named_by k (DropsRegion name region) = record k { dropped = k.dropped ++ region ∷ [] }
 named_by k (DropsListener name listener) = record k { gone = k.gone ++ listener ∷ [] }
 
+-- an order that makes no name and lets none go, whatever is known
+abbrev pub NamesNothing : DeskOrder → Type 0
+NamesNothing order = (k : Known) (name : Text) → with_order k name order ≡ k
+
 -- the names stand for what they let go, or for nothing where they are to be made
 abbrev pub AreThere : Known → Naming → Type 0
 AreThere k Keeps = Unit {0}
@@ -74,3 +78,8 @@ HasItsNames k (Ordered order naming) = IsNaming k order naming
 HasItsNames k (Watched name region first last) = watcher_named k name.now ≡ None
 HasItsNames k (Unwatched name watcher) = watcher_named k name.now ≡ Some watcher
 HasItsNames k task = Unit {0}
+
+-- the code's answer is the definition's, and the names are there
+pub record Resolves (k : Known) (task : Result LineTask Refused) (r : Resolved Task) : Type 0 where
+  pub is : resolved task ≡ r
+  pub names : IfOk task (HasItsNames k)

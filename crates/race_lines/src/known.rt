@@ -123,8 +123,10 @@ impl KnownNames {
     /// One more region of this kind, whose name is free.
     pub fn make_region(&mut self, name: &Name, kind: Kind) -> Result<(), AllocError>
         requires { region_named self.old name.now ≡ None }
-        ensures known { OnOk result (self.new ≡ record self.old { names = record self.old.names
-            { regions = self.old.names.regions ++ name.now ∷ []; kinds = self.old.names.kinds ++ kind ∷ [] } }) }
+        ensures known { OnOk result (self.new ≡ record self.old {
+          names = record self.old.names
+              { regions = self.old.names.regions ++ name.now ∷ []; kinds = self.old.names.kinds ++ kind ∷ [] };
+        }) }
         ensures unchanged { OnErr result (self.new ≡ self.old) }
     {
         let Some(_) = next_number(self.names.regions()) else {
@@ -137,8 +139,10 @@ impl KnownNames {
     /// One more space, whose name is free.
     pub fn make_space(&mut self, name: &Name) -> Result<(), AllocError>
         requires { space_named self.old name.now ≡ None }
-        ensures known { OnOk result (self.new ≡ record self.old { names = record self.old.names
-            { spaces = self.old.names.spaces ++ name.now ∷ [] } }) }
+        ensures known { OnOk result (self.new ≡ record self.old {
+          names = record self.old.names
+              { spaces = self.old.names.spaces ++ name.now ∷ [] };
+        }) }
         ensures unchanged { OnErr result (self.new ≡ self.old) }
     {
         let Some(_) = next_number(self.names.spaces()) else {
@@ -151,8 +155,10 @@ impl KnownNames {
     /// One more listener, whose name is free.
     pub fn make_listener(&mut self, name: &Name) -> Result<(), AllocError>
         requires { listener_named self.old name.now ≡ None }
-        ensures known { OnOk result (self.new ≡ record self.old { names = record self.old.names
-            { listeners = self.old.names.listeners ++ name.now ∷ [] } }) }
+        ensures known { OnOk result (self.new ≡ record self.old {
+          names = record self.old.names
+              { listeners = self.old.names.listeners ++ name.now ∷ [] };
+        }) }
         ensures unchanged { OnErr result (self.new ≡ self.old) }
     {
         let Some(_) = next_number(self.names.listeners()) else {

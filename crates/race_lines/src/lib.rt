@@ -5,8 +5,23 @@
 //! a line and each line's text are those of the definitions of a race, whoever gives the answers.
 #![tactic(auto)]
 
+mod answers;
+mod changes;
+mod commands;
 mod known;
+mod lists;
+mod said;
+mod shown;
 mod tasks;
 
+pub use answers::{add_answer, add_do_answer};
+pub use changes::{call_of, ioevent};
+pub use commands::task_of;
 pub use known::{KnownNames, next_number};
+pub use lists::{
+    add_differs_line, add_notice_lines, add_range_lines, add_released_lines, add_told_lines,
+    delivered_between, later,
+};
+pub use said::LineSaid;
+pub use shown::{add_found, add_shown, found_in, ranges_in};
 pub use tasks::{LineTask, Naming, Refused, ResolvedTask};

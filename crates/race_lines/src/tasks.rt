@@ -1,8 +1,6 @@
 // What a line asks for.
 
-use mem_base::{
-    Bytes, DeskOrder, Kind, ListenerId, Name, RegionId, SpaceId, WatcherId,
-};
+use mem_base::{Bytes, DeskOrder, Kind, ListenerId, Name, RegionId, SpaceId, WatcherId};
 
 /// What an order does to the names that are known, once it is accepted.
 #[derive(Debug, Drop)]
@@ -10,13 +8,23 @@ pub enum Naming<'a> {
     /// It neither makes a name nor lets one go.
     Keeps,
     /// The name of a new region, and its kind.
-    MakesRegion { name: &'a Name, kind: Kind },
+    MakesRegion {
+        name: &'a Name,
+        kind: Kind,
+    },
     /// The name of a new space.
-    MakesSpace { name: &'a Name },
+    MakesSpace {
+        name: &'a Name,
+    },
     /// The name of a new listener.
-    MakesListener { name: &'a Name },
+    MakesListener {
+        name: &'a Name,
+    },
     /// The region that has this name is dropped.
-    DropsRegion { name: &'a Name, region: RegionId },
+    DropsRegion {
+        name: &'a Name,
+        region: RegionId,
+    },
     /// The listener that has this name leaves.
     DropsListener {
         name: &'a Name,
@@ -35,9 +43,14 @@ pub enum LineTask<'a> {
         naming: Naming<'a>,
     },
     /// The view of a space.
-    Shown { space: SpaceId },
+    Shown {
+        space: SpaceId,
+    },
     /// What is found at an address of a space.
-    Found { space: SpaceId, addr: u64 },
+    Found {
+        space: SpaceId,
+        addr: u64,
+    },
     /// A watcher of this name joins, for the offsets from `first` to `last` inclusive of a region's table.
     Watched {
         name: &'a Name,
