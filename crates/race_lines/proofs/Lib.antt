@@ -1,3 +1,4 @@
 pub mod NamedLaws
 pub mod Keeping
 pub mod ShownLaws
+pub mod WatchingLaws

@@ -195,6 +195,12 @@ bound_push (e ∷ es) x name n = go (bytes_eq name e.0) (bound_push es x name n)
     go true ih = refl
     go false ih = ih
 
+-- a name that was free, and is bound last
+pub found_last : (bound : List (Text × ℕ)) (name : Text) (n : ℕ) → number_of bound name ≡ None
+    → number_of (bound ++ (name, n) ∷ []) name ≡ Some n
+found_last bound name n free = bound_push bound name name n
+    ∙ (λ i. option_or (free i) (if text_same name name refl i then Some n else None))
+
 pub named_same : (t : Table) (p q : ℕ → Bool) → ((k : ℕ) → q k ≡ p k) → IsNamed t p → IsNamed t q
 named_same t p q same k = record {
   finds = λ name. k.finds name ∙ from_agree 0 t.made p q (λ n l m. sym (same n)) name;

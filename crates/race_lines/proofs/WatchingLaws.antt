@@ -18,7 +18,7 @@ use Rattle.view_laws.proofs.Tests.{or_right}
 use Rattle.run_laws.proofs.DeskLaws.{any_push, or_false}
 use Rattle.race_lines.specs.NamedTables.{IsNamed}
 use Rattle.race_lines.specs.KnownNames.{HoldsNames, is_kept, listens_on, watches}
-use Rattle.race_lines.proofs.NamedLaws.{named_drop, named_push, named_same}
+use Rattle.race_lines.proofs.NamedLaws.{found_last, named_drop, named_push, named_same}
 
 pub same_watchers : (f : Forest) (watchers : List Watcher) (n : ℕ) → watches (caught_up f watchers) n ≡ watches watchers n
 same_watchers f [] n = refl
@@ -84,21 +84,42 @@ module _ (names after : AllNames) (dropped : List RegionId) (gone : List Listene
       there : (n : ℕ) → watches new n ≡ (watches old n || (x.id.0 == n))
       there n = ap (list_any (is_watcher n)) joins ∙ any_push (is_watcher n) old x
 
-  -- one watcher fewer
-  pub watcher_left : (new : List Watcher) (number : ℕ) (name : Text) → new ≡ without_number number old
-      → number_of names.notifiers.bound name ≡ Some number → Rebinds names.notifiers.bound after.notifiers.bound name None
-      → printed_names after ≡ printed_names names → after ≡ record names { notifiers = after.notifiers } → HoldsNames after dropped gone new
-  watcher_left new number name leaves named binds same others =
+  -- a name let go, where another list of watchers has all others and not that one
+  pub name_left : (new : List Watcher) (number : ℕ) (name : Text) → ((n : ℕ) → n ≢ number → watches new n ≡ watches old n)
+      → watches new number ≡ false → number_of names.notifiers.bound name ≡ Some number
+      → Rebinds names.notifiers.bound after.notifiers.bound name None → printed_names after ≡ printed_names names
+      → after ≡ record names { notifiers = after.notifiers } → HoldsNames after dropped gone new
+  name_left new number name stay gone_now named binds same others =
       let made : after.notifiers.made ≡ names.notifiers.made = ap (λ (x : Names). x.notifiers) same in record {
         regions = subst (λ (t : Table). IsNamed t (is_kept dropped)) (sym (ap (λ (y : AllNames). y.regions) others)) h.regions;
         spaces = subst (λ (t : Table). IsNamed t (λ n. true)) (sym (ap (λ (y : AllNames). y.spaces) others)) h.spaces;
         listeners = subst (λ (t : Table). IsNamed t (listens_on gone)) (sym (ap (λ (y : AllNames). y.listeners) others)) h.listeners;
-        notifiers = named_drop names.notifiers after.notifiers (watches old) (watches new) name number h.notifiers named
-            (λ n ne. ap (λ (ws : List Watcher). watches ws n) leaves ∙ other_numbers number n ne old)
-            (ap (λ (ws : List Watcher). watches ws number) leaves ∙ gone_number number old) binds made;
+        notifiers = named_drop names.notifiers after.notifiers (watches old) (watches new) name number h.notifiers named stay gone_now binds made;
         made = λ n l. h.made n (subst (λ (t : Table). length t.made ≤ n) (ap (λ (y : AllNames). y.regions) others) l);
         left = λ n l. h.left n (subst (λ (t : Table). length t.made ≤ n) (ap (λ (y : AllNames). y.listeners) others) l);
-        fresh = λ n l. ap (λ (ws : List Watcher). watches ws n) leaves ∙ dite (ℕ_discrete n number)
-            (λ e. ap (λ (k : ℕ). watches (without_number number old) k) e ∙ gone_number number old)
-            (λ ne. other_numbers number n ne old ∙ h.fresh n (subst (λ (t : List Text). length t ≤ n) made l));
+        fresh = λ n l. dite (ℕ_discrete n number) (λ e. ap (watches new) e ∙ gone_now)
+            (λ ne. stay n ne ∙ h.fresh n (subst (λ (t : List Text). length t ≤ n) made l));
       }
+
+  -- one watcher fewer
+  pub watcher_left : (new : List Watcher) (number : ℕ) (name : Text) → new ≡ without_number number old
+      → number_of names.notifiers.bound name ≡ Some number → Rebinds names.notifiers.bound after.notifiers.bound name None
+      → printed_names after ≡ printed_names names → after ≡ record names { notifiers = after.notifiers } → HoldsNames after dropped gone new
+  watcher_left new number name leaves named binds same others = name_left new number name
+      (λ n ne. ap (λ (ws : List Watcher). watches ws n) leaves ∙ other_numbers number n ne old)
+      (ap (λ (ws : List Watcher). watches ws number) leaves ∙ gone_number number old) named binds same others
+
+-- a name that was made for a watcher, and let go since that did not join
+pub name_back : (names after back : AllNames) (dropped : List RegionId) (gone : List ListenerId) (watchers : List Watcher)
+    → HoldsNames names dropped gone watchers → (x : Watcher) (name : Text) → x.id.0 ≡ length names.notifiers.made
+    → number_of names.notifiers.bound name ≡ None
+    → after.notifiers ≡ table (names.notifiers.bound ++ (name, length names.notifiers.made) ∷ []) (names.notifiers.made ++ name ∷ [])
+    → after ≡ record names { notifiers = after.notifiers } → Rebinds after.notifiers.bound back.notifiers.bound name None
+    → printed_names back ≡ printed_names after → back ≡ record after { notifiers = back.notifiers } → HoldsNames back dropped gone watchers
+name_back names after back dropped gone watchers h x name is free notifiers others binds same others' =
+    let made = watcher_made names after dropped gone watchers h (watchers ++ x ∷ []) x name is refl free notifiers others in
+    name_left after back dropped gone (watchers ++ x ∷ []) made watchers (length names.notifiers.made) name
+    (λ n ne. sym (any_push (is_watcher n) watchers x ∙ or_false (watches watchers n) (x.id.0 == n) (ne_eqb x.id.0 n (λ s. ne (sym s ∙ is)))))
+    (h.fresh (length names.notifiers.made) (omega arith))
+    (ap (λ (t : Table). number_of t.bound name) notifiers ∙ found_last names.notifiers.bound name (length names.notifiers.made) free)
+    binds same others'

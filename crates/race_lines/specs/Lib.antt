@@ -1,3 +1,4 @@
 pub mod NamedTables
 pub mod KnownNames
 pub mod LineTasks
+pub mod DeskLines

@@ -5,15 +5,19 @@
 //! a line and each line's text are those of the definitions of a race, whoever gives the answers.
 #![tactic(auto)]
 
+mod answered;
 mod answers;
 mod changes;
 mod commands;
+mod desk;
 mod known;
 mod lists;
 mod said;
 mod shown;
 mod tasks;
+mod watching;
 
+pub use answered::Answered;
 pub use answers::{add_answer, add_do_answer};
 pub use changes::{call_of, ioevent};
 pub use commands::task_of;
