@@ -1,5 +1,5 @@
 -- A line of the desk, by what the desk answered to its order and by the current generation.
-use Rattle.std.specs.Prelude.{◌≡◌, ℕ, Option, Some, None, Result}
+use Rattle.std.specs.Prelude.{◌≡◌, ℕ, Option, Some, None}
 use Rattle.mem_base.specs.declared.map.forests.Forest.{Forest}
 use Rattle.mem_base.specs.declared.machine.records.DeskAnswer.{DeskAnswer}
 use Rattle.mem_base.specs.declared.machine.records.DeskEntry.{DeskEntry}

@@ -1,7 +1,6 @@
 -- What the code says of a line: its task, or the refusal of one of its names, as the definitions have them.
 use Rattle.std.specs.Prelude.{◌≡◌, [], ◌∷◌, ◌++◌, Some, None, Result, Ok, Err, IfOk}
 use Rattle.mem_base.specs.declared.machine.records.DeskOrder.{DeskOrder}
-use Rattle.mem_base.specs.declared.map.kinds.Kind.{Kind}
 use Rattle.mem_base.specs.access.AccessSteps.{reading, writing}
 use Rattle.mem_base.specs.script.Spelling.{Text}
 use Rattle.mem_base.specs.script.RefusalLines.{taken_text, unknown_text}

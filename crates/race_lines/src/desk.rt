@@ -10,12 +10,13 @@ ghost use Rattle.race_lines.specs.LineTasks.{AreThere, HasItsNames, IsNaming, na
 use crate::answered::Answered;
 use crate::answers::add_answer;
 use crate::known::KnownNames;
+use crate::passes::add_name_refused;
 use crate::said::LineSaid;
 use crate::shown::{add_found, add_shown};
 use crate::tasks::{LineTask, Naming, Refused, ResolvedTask};
 use generation::Generation;
 use mem_base::{DeskAnswer, DeskOrder, Edition, Name, RegionId, WatcherId};
-use script_lines::{add_refused_line, add_taken_line, add_unknown_line};
+use script_lines::add_refused_line;
 use std::alloc::AllocError;
 
 impl LineSaid {
@@ -24,10 +25,7 @@ impl LineSaid {
         ensures { OnOk result (self.new ≡ says (refused_line number (refused_text why.now))) }
     {
         self.clear();
-        match why {
-            Refused::Unknown(name) => add_unknown_line(&mut self.own, number, name.as_bytes()),
-            Refused::Taken(name) => add_taken_line(&mut self.own, number, name.as_bytes()),
-        }
+        add_name_refused(&mut self.own, number, why)
     }
 }
 
@@ -98,9 +96,9 @@ impl KnownNames {
         got: Option<Answered>,
     ) -> Result<(), AllocError>
         requires { IsNaming self.old order.now naming.now }
-        ensures known { OnOk result (self.new ≡ tasks.after_order self.old (name_made naming.now) order.now (entry_got got).answer) }
-        ensures said { OnOk result (said.new ≡ (order_line self.old number order.now (entry_got got)
-            (tasks.after_order self.old (name_made naming.now) order.now (entry_got got).answer)).said) }
+        ensures known { OnOk result (self.new ≡ tasks.after_order self.old (name_made naming.now) order.now (entry_got got.entry).answer) }
+        ensures said { OnOk result (said.new ≡ (order_line self.old number order.now (entry_got got.entry)
+            (tasks.after_order self.old (name_made naming.now) order.now (entry_got got.entry).answer)).said) }
     {
         match got {
             Some(got) => self.answered(said, number, order, naming, got.answer, got.from, got.to),
@@ -143,9 +141,9 @@ impl KnownNames {
     ) -> Result<(), AllocError>
         requires { HasItsNames self.old task.now }
         ensures known { OnOk result (self.new
-            ≡ (task_line self.old number (task_meant task.now) (entry_got got) generation.now.number generation.now.forest).known) }
+            ≡ (task_line self.old number (task_meant task.now) (entry_got got.entry) generation.now.number generation.now.forest).known) }
         ensures said { OnOk result (said.new
-            ≡ (task_line self.old number (task_meant task.now) (entry_got got) generation.now.number generation.now.forest).said) }
+            ≡ (task_line self.old number (task_meant task.now) (entry_got got.entry) generation.now.number generation.now.forest).said) }
     {
         said.clear();
         match task {
@@ -178,9 +176,9 @@ impl KnownNames {
     ) -> Result<(), AllocError>
         requires { IfOk task.now (HasItsNames self.old) }
         ensures known { OnOk result (self.new
-            ≡ (own_line self.old number (resolved task.now) (entry_got got) generation.now.number generation.now.forest).known) }
+            ≡ (own_line self.old number (resolved task.now) (entry_got got.entry) generation.now.number generation.now.forest).known) }
         ensures said { OnOk result (said.new
-            ≡ (own_line self.old number (resolved task.now) (entry_got got) generation.now.number generation.now.forest).said) }
+            ≡ (own_line self.old number (resolved task.now) (entry_got got.entry) generation.now.number generation.now.forest).said) }
     {
         match task {
             Ok(task) => self.take_task(said, number, task, got, generation),
@@ -204,9 +202,9 @@ impl KnownNames {
         generation: &Generation,
     ) -> Result<(), AllocError>
         requires { IfOk task.now (HasItsNames self.old) }
-        ensures known { OnOk result (self.new ≡ (desk_line_by self.old number (resolved task.now) (entry_got got)
+        ensures known { OnOk result (self.new ≡ (desk_line_by self.old number (resolved task.now) (entry_got got.entry)
             generation.now.number generation.now.forest).known) }
-        ensures said { OnOk result (said.new ≡ (desk_line_by self.old number (resolved task.now) (entry_got got)
+        ensures said { OnOk result (said.new ≡ (desk_line_by self.old number (resolved task.now) (entry_got got.entry)
             generation.now.number generation.now.forest).said) }
     {
         self.take_own(said, number, task, got, generation)?;

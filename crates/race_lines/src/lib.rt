@@ -11,7 +11,9 @@ mod changes;
 mod commands;
 mod desk;
 mod known;
+mod laws;
 mod lists;
+mod passes;
 mod said;
 mod shown;
 mod tasks;
@@ -22,10 +24,12 @@ pub use answers::{add_answer, add_do_answer};
 pub use changes::{call_of, ioevent};
 pub use commands::task_of;
 pub use known::{KnownNames, next_number};
+pub use laws::{lines_are_kept, lines_go_by_answers};
 pub use lists::{
     add_differs_line, add_notice_lines, add_range_lines, add_released_lines, add_told_lines,
     delivered_between, later,
 };
+pub use passes::{PassSaid, add_name_refused};
 pub use said::LineSaid;
 pub use shown::{add_found, add_shown, found_in, ranges_in};
 pub use tasks::{LineTask, Naming, Refused, ResolvedTask};

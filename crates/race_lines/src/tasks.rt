@@ -3,7 +3,7 @@
 use mem_base::{Bytes, DeskOrder, Kind, ListenerId, Name, RegionId, SpaceId, WatcherId};
 
 /// What an order does to the names that are known, once it is accepted.
-#[derive(Debug, Drop)]
+#[derive(Clone, Copy, Debug)]
 pub enum Naming<'a> {
     /// It neither makes a name nor lets one go.
     Keeps,
@@ -90,7 +90,7 @@ pub enum LineTask<'a> {
 }
 
 /// Why a line is refused before anything is asked for: by one of its names.
-#[derive(Debug, Drop)]
+#[derive(Clone, Copy, Debug)]
 pub enum Refused<'a> {
     /// The name stands for nothing.
     Unknown(&'a Name),

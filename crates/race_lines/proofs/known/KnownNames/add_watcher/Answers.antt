@@ -1,7 +1,6 @@
 use Rattle.std.proofs.Common.{◌≡◌, ◌++◌, [], ◌∷◌, ap, length, subst, sym, refl, ◌∙◌, None, List, ℕ}
 use Rattle.mem_base.specs.declared.map.ids.WatcherId.{WatcherId}
 use Rattle.mem_base.specs.script.Tasks.{Known, watcher_named}
-use Rattle.mem_base.specs.script.Watching.{Watcher}
 use Rattle.script_names.specs.Tables.{Rebinds, Table, number_of, table}
 use Rattle.iommu_notify.specs.Watchers.{NoticesState, new_watcher, watchers_of}
 use Rattle.race_lines.specs.KnownNames.{HoldsNames}

@@ -1,7 +1,7 @@
-use Rattle.std.proofs.Common.{◌≡◌, ap, subst, refl, ◌∙◌, None, Some, List, ℕ}
+use Rattle.std.proofs.Common.{◌≡◌, ap, refl, ◌∙◌, Some, ℕ}
 use Rattle.mem_base.specs.declared.map.ids.WatcherId.{WatcherId}
 use Rattle.mem_base.specs.script.Tasks.{Known, watcher_named}
-use Rattle.script_names.specs.Tables.{Rebinds, number_of}
+use Rattle.script_names.specs.Tables.{number_of}
 use Rattle.iommu_notify.specs.Watchers.{watchers_of}
 use Rattle.race_lines.proofs.Keeping.{some_named}
 use Rattle.race_lines.proofs.WatchingLaws.{watcher_left}
