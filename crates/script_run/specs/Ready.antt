@@ -1,13 +1,13 @@
 -- What the code keeps beside the state of a script: tables that find a number by its name, and a machine that is at rest.
+pub use Rattle.race_lines.specs.KnownNames.{watches}
 use Rattle.std.specs.Prelude.{◌≡◌, ◌<◌, ◌≤◌, ℕ, Bool, true, false, is_some, List, length}
-use Rattle.std.specs.List.{list_any}
 use Rattle.mem_base.specs.declared.map.ids.PassId.{PassId}
 use Rattle.mem_base.specs.map.Limits.{most_passes}
 use Rattle.mem_base.specs.map.Region.{node_of}
 use Rattle.mem_base.specs.views.Listening.{listens}
 use Rattle.mem_base.specs.machine.World.{World, is_at_rest}
 use Rattle.mem_base.specs.machine.Completions.{may_access}
-use Rattle.mem_base.specs.script.Watching.{Watcher, is_watcher}
+use Rattle.mem_base.specs.script.Watching.{Watcher}
 use Rattle.mem_base.specs.script.States.{State}
 use Rattle.script_names.specs.Tables.{AllNames, printed_names}
 use Rattle.race_lines.specs.NamedTables.{IsNamed}
@@ -21,9 +21,6 @@ is_region w n = is_some (node_of w.writer.desk.forest.nodes (record { 0 = n }))
 
 abbrev pub is_listener : World → ℕ → Bool
 is_listener w n = listens w.writer.desk.listening (record { 0 = n })
-
-abbrev pub watches : List Watcher → ℕ → Bool
-watches watchers n = list_any (is_watcher n) watchers
 
 -- the tables hold what is there; regions are numbered as the forest numbers them, and no watcher has a number to come; the
 -- machine is at rest, and each pass may make an access
