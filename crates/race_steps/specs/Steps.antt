@@ -1,15 +1,13 @@
 -- A line outside the block as one step of a race: what a runner has at hand when it is done, and what stands after it.
-use Rattle.std.specs.Prelude.{◌≡◌, ℕ, ◌+◌, ◌<◌, List, [], ◌∷◌, ◌++◌, length, map, Ok}
+use Rattle.std.specs.Prelude.{◌≡◌, ℕ, ◌+◌, ◌<◌, List, [], ◌∷◌, ◌++◌, map, Ok}
 use Rattle.mem_base.specs.declared.map.ids.PassId.{PassId}
 use Rattle.mem_base.specs.declared.map.forests.Forest.{Forest}
 use Rattle.mem_base.specs.declared.machine.events.HistoryEntry.{HistoryEntry}
-use Rattle.mem_base.specs.declared.machine.records.DeskEntry.{DeskEntry}
 use Rattle.mem_base.specs.declared.machine.records.DeskOrder.{DeskOrder}
 use Rattle.mem_base.specs.declared.machine.records.DeskOrder.TheVariants.{Look}
 use Rattle.mem_base.specs.lists.Every.{Every}
 use Rattle.mem_base.specs.map.Limits.{most_passes, notifier_count}
 use Rattle.mem_base.specs.machine.Actors.{generations_published, own_entries}
-use Rattle.mem_base.specs.machine.Generations.{Generation}
 use Rattle.mem_base.specs.machine.Reaps.{Writer}
 use Rattle.mem_base.specs.machine.Records.{FitsDeskOrder, Given, call_of, entry_of, recorded}
 use Rattle.mem_base.specs.machine.SharedHistory.{IsSharedLegal}

@@ -6,4 +6,4 @@
 
 mod laws;
 
-pub use laws::{desk_lines_step, orders_are_written, pass_lines_step};
+pub use laws::{actors_are_level, desk_lines_step, orders_are_written, pass_lines_step};
