@@ -4,6 +4,8 @@
 //! The layer above may rely on it that all have then seen one and the same history, to which nobody added anything on the way.
 #![tactic(auto)]
 
+mod laws;
 mod levels;
 
+pub use laws::{desk_settles, pass_settles};
 pub use levels::{hear_all, level, meet_all};
