@@ -1,8 +1,8 @@
 use Rattle.std.proofs.Common.{ap, ◌∙◌, List}
 use Rattle.mem_base.specs.declared.views.flat.FlatRange.{FlatRange}
 use Rattle.mem_base.specs.views.View.{shown}
-use Rattle.script_run.proofs.ShowLaws.{shown_look}
-use Rattle.script_run.proofs.shows.found_in.Goals as goal
+use Rattle.race_lines.proofs.ShownLaws.{shown_look}
+use Rattle.race_lines.proofs.shown.found_in.Goals as goal
 
 pub returns-in-Some : goal.returns-in-Some
 returns-in-Some g c =

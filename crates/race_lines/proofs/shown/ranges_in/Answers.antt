@@ -1,7 +1,7 @@
 use Rattle.std.proofs.Common.{rules, ◌≡◌, None, sym}
 use Rattle.mem_base.specs.map.Search.{root_of}
 use Rattle.map_laws.proofs.FlattenedLaws.{view_of-no_space}
-use Rattle.script_run.proofs.shows.ranges_in.Goals as goal
+use Rattle.race_lines.proofs.shown.ranges_in.Goals as goal
 
 pub returns-in-None : goal.returns-in-None
 returns-in-None c =

@@ -1,6 +1,6 @@
 -- Laws of a table of names, as what is there changes.
-use Rattle.std.proofs.Common.{◌≡◌, ◌≢◌, ◌<◌, ◌≤◌, ◌+◌, ℕ, suc, Bool, true, false, ◌&&◌, cond, if◌then◌else◌, List, [], ◌∷◌, ◌++◌, length, Option, Some, None}
-use Rattle.std.proofs.Common.{refl, sym, ap, subst, ◌∙◌, arith, eqb, eqb-true, ne_eqb, zero-add, add-zero, add-one, add_assoc}
+use Rattle.std.proofs.Common.{◌≡◌, ◌≢◌, ◌<◌, ◌≤◌, ◌+◌, ℕ, suc, Bool, true, false, ◌&&◌, if◌then◌else◌, List, [], ◌∷◌, ◌++◌, length, Option, Some, None}
+use Rattle.std.proofs.Common.{refl, sym, ap, subst, ◌∙◌, arith, zero-add, add-zero}
 use mathlib.Core.Logic.{dite}
 use native.Mathlib.Decide.{ℕ_discrete}
 use Rattle.std.specs.Option.{option_or}
@@ -10,7 +10,7 @@ use Rattle.mem_base.specs.script.Spelling.{Text}
 use Rattle.mem_base.specs.script.States.{number_from}
 use Rattle.view_laws.proofs.Tests.{none_is_not_some, same_some, both_of, both, true_is_not_false}
 use Rattle.script_names.specs.Tables.{Rebinds, Table, number_of, table}
-use Rattle.script_run.specs.Ready.{AreSingle, IsNamed}
+use Rattle.race_lines.specs.NamedTables.{AreSingle, IsNamed}
 use Rattle.run_laws.proofs.Naming.{from_agree}
 
 same_text : (x y : Text) → bytes_eq x y ≡ true → x ≡ y
@@ -194,6 +194,12 @@ bound_push (e ∷ es) x name n = go (bytes_eq name e.0) (bound_push es x name n)
         ≡ option_or (if b then Some e.1 else number_of es name) (if bytes_eq name x then Some n else None)
     go true ih = refl
     go false ih = ih
+
+-- a name that was free, and is bound last
+pub found_last : (bound : List (Text × ℕ)) (name : Text) (n : ℕ) → number_of bound name ≡ None
+    → number_of (bound ++ (name, n) ∷ []) name ≡ Some n
+found_last bound name n free = bound_push bound name name n
+    ∙ (λ i. option_or (free i) (if text_same name name refl i then Some n else None))
 
 pub named_same : (t : Table) (p q : ℕ → Bool) → ((k : ℕ) → q k ≡ p k) → IsNamed t p → IsNamed t q
 named_same t p q same k = record {
