@@ -70,7 +70,7 @@ if_then None p pass e = e
 if_then (Some g) p pass e = refl
 
 -- a pass that did nothing
-nothing_grew : (v w : PassValue Published) → w ≡ v → Grew v [] w
+pub nothing_grew : (v w : PassValue Published) → w ≡ v → Grew v [] w
 nothing_grew v w same = subst (λ (z : PassValue Published). Grew v [] z) (sym same) record {
   cabinet = refl;
   number = refl;
