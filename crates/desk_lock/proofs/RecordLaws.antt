@@ -1,11 +1,12 @@
 -- How a record grows.
-use Rattle.std.proofs.Common.{◌≡◌, ℕ, Bool, false, List, [], ◌∷◌, ◌++◌, length, drop, flat_map, refl, sym, ap, subst, ◌∙◌, append-nil, append_assoc}
+use Rattle.std.proofs.Common.{◌≡◌, ℕ, ◌+◌, Bool, false, List, [], ◌∷◌, ◌++◌, length, drop, flat_map, refl, sym, ap, subst, ◌∙◌, append-nil, append_assoc}
 use Rattle.std.specs.Prelude.{slice_index_or}
 use base.Growing.{prefix_trans}
 use Rattle.mem_base.specs.declared.machine.events.Hand.TheVariants.{Writer as WriterHand}
 use Rattle.mem_base.specs.declared.machine.events.HistoryEntry.{HistoryEntry}
 use Rattle.mem_base.specs.declared.machine.records.DeskEntry.{DeskEntry}
 use Rattle.mem_base.specs.declared.machine.records.DeskOrder.{DeskOrder}
+use Rattle.mem_base.specs.map.Limits.{notifier_count}
 use Rattle.mem_base.specs.machine.Actors.{own_entries}
 use Rattle.mem_base.specs.machine.Reaps.{Writer, first_writer}
 use Rattle.mem_base.specs.machine.Records.{Given, FitsDeskOrder, recorded, entry_of, call_of}
@@ -125,6 +126,16 @@ takes_by c d entries old items e who order o r turned more same written is =
     record { turned = turned; entries = more ∙ (λ i. same i ++ (written ∙ ap (λ (x : DeskOrder). entry_got who x r) is) i ∷ []) }
 
 -- what a record keeps
+
+-- a desk that was just made is unused
+pub unused : (c : ConfigState) (words passes : ℕ) → (c.seat.sizes.passes ≡ passes) × (c.seat.sizes.words ≡ words + notifier_count) → c.seat.seen ≡ []
+    → c.part ≡ first_writer words passes → IsUnused c
+unused c words passes sizes fresh part = record {
+  pool_words = words;
+  wide = sizes.1;
+  none = ap (own_entries 0) fresh;
+  part = part ∙ ap (first_writer words) (sym sizes.0);
+}
 
 -- at first
 pub is_first : (c : ConfigState) → IsUnused c → IsRecord (record_state c [])
