@@ -52,6 +52,13 @@ pub record Gives (cabinet : TableId) (order : DeskOrder) (c : Clerk) (notes : Li
   pub to : got.to ≡ receipt.to
   pub current : got.current ≡ receipt.current
 
+-- the notes are of this cabinet, and go on to be so
+abbrev pub AreNotesOf : TableId → List NoteValue → Type 0
+AreNotesOf cabinet notes = Every (λ n. n.cabinet ≡ cabinet) notes
+
+abbrev pub KeepsNotes : TableId → List NoteValue → List NoteValue → Type 0
+KeepsNotes cabinet notes more = AreNotesOf cabinet notes → AreNotesOf cabinet more
+
 -- what is asked of the order that a task has, if any
 abbrev pub OrderFits : Result LineTask Refused → Type 0
 OrderFits (Ok (Ordered order naming)) = HasNotifier order

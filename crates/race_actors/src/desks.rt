@@ -4,8 +4,8 @@ ghost use Rattle.mem_base.specs.script.RaceLines.{Said};
 ghost use Rattle.desk_lock.specs.Receipts.{HasNotifier};
 ghost use Rattle.race_lines.specs.DeskLines.{desk_line_by, entry_got};
 ghost use Rattle.race_lines.specs.LineTasks.{HasItsNames, resolved};
-ghost use Rattle.race_actors.specs.Desks.{DoesDeskLine, FitsLine, Gives, GivesOwn, HasRun, IsAsked, IsNotDone, IsReady, LeavesLine, OrderFits};
-ghost use Rattle.race_actors.specs.Desks.{StopsIn, entry_of, line_meant};
+ghost use Rattle.race_actors.specs.Desks.{AreNotesOf, DoesDeskLine, FitsLine, Gives, GivesOwn, HasRun, IsAsked, IsNotDone, IsReady, KeepsNotes};
+ghost use Rattle.race_actors.specs.Desks.{LeavesLine, OrderFits, StopsIn, entry_of, line_meant};
 
 use desk_lock::{Clerk, Orderly, Receipt};
 use epoch_rule::Note;
@@ -57,6 +57,7 @@ fn ask<O: Orderly, R: Wait>(
     requires notifier { HasNotifier order.now }
     ensures given { IfOk result (λ got. Gives (O.cabinet desk.old) order.now clerk.old notes.old.items got clerk.new notes.new.items) }
     ensures err { OnErr result ((clerk.new ≡ clerk.old) × (notes.new.items ≡ notes.old.items)) }
+    ensures own { KeepsNotes (O.cabinet desk.old) notes.old.items notes.new.items }
     ensures desk { O.cabinet desk.new ≡ O.cabinet desk.old }
 {
     notes.reserve(1)?;
@@ -87,6 +88,7 @@ fn ask_own<O: Orderly, R: Wait>(
     requires notifier { OrderFits task.now }
     ensures given { IfOk result (λ got. GivesOwn (O.cabinet desk.old) task.now clerk.old notes.old.items got clerk.new notes.new.items) }
     ensures err { OnErr result ((clerk.new ≡ clerk.old) × (notes.new.items ≡ notes.old.items)) }
+    ensures own { KeepsNotes (O.cabinet desk.old) notes.old.items notes.new.items }
     ensures desk { O.cabinet desk.new ≡ O.cabinet desk.old }
 {
     match task {
@@ -120,6 +122,7 @@ fn ask_line<'a, O: Orderly, R: Wait>(
     requires fits { FitsLine line.now }
     ensures asked { IfOk result (λ x. IsAsked known.now (line_meant line.now) clerk.old notes.old.items x clerk.new notes.new.items) }
     ensures stopped { OnErr result (StopsIn known.now (line_meant line.now) clerk.old notes.old.items clerk.new notes.new.items) }
+    ensures own { KeepsNotes (O.cabinet desk.old) notes.old.items notes.new.items }
     ensures desk { O.cabinet desk.new ≡ O.cabinet desk.old }
 {
     let task = task_of(alloc, known, line.command)?;
@@ -183,6 +186,7 @@ fn do_line<O: Orderly, G: Gate, R: Wait>(
     ensures done { result ≡ true → DoesDeskLine known.old (line_meant line.now) clerk.old notes.old.items said.old.items clerk.new notes.new.items
         known.new said.new.items }
     ensures stopped { result ≡ false → IsNotDone known.old (line_meant line.now) clerk.old notes.old.items clerk.new notes.new.items }
+    ensures own { KeepsNotes (O.cabinet desk.old) notes.old.items notes.new.items }
     ensures desk { O.cabinet desk.new ≡ O.cabinet desk.old }
 {
     gate.arrive(Actor::Desk, line.number);
@@ -209,6 +213,7 @@ impl<'a> DeskActor<'a> {
     ) -> DeskActor<'a>
         requires ready { IsReady self }
         ensures run { HasRun self.entry result }
+        ensures own { AreNotesOf (O.cabinet desk.old) result.notes.items }
         ensures desk { O.cabinet desk.new ≡ O.cabinet desk.old }
     {
         let DeskActor {

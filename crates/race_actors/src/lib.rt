@@ -6,11 +6,13 @@
 //! that published a generation stands after that in the history.
 #![tactic(auto)]
 
+mod blocks;
 mod desks;
 mod laws;
 mod passes;
 mod tasks;
 
+pub use blocks::{BlockActor, act_all};
 pub use desks::{DeskActor, DeskLine};
 pub use laws::passes_keep_lines;
 pub use passes::PassActor;

@@ -1,5 +1,8 @@
-use Rattle.std.proofs.Common.{rules, ◌≡◌, ◌<◌, ◌≤◌, ◌∙◌, true, false, length, refl, arith}
+use Rattle.std.proofs.Common.{rules, ◌≡◌, ◌<◌, ◌≤◌, ◌∙◌, true, false, length, refl, sym, subst, List, arith}
 use Rattle.std.specs.Prelude.{slice_index_or}
+use Rattle.atomic_table.specs.Seated.{TableId}
+use Rattle.epoch_rule.specs.Values.{NoteValue}
+use Rattle.race_actors.specs.Desks.{AreNotesOf}
 use Rattle.view_laws.proofs.Tests.{true_is_not_false}
 use Rattle.race_actors.proofs.DeskRunLaws.{all_done, first_done, step_done, step_stops}
 use Rattle.race_actors.proofs.desks.DeskActor.run.Goals as goal
@@ -7,8 +10,12 @@ use Rattle.race_actors.proofs.desks.DeskActor.run.Goals as goal
 pub loop-at-init : goal.loop-at-init
 loop-at-init g c =
     let a = c.args.self in
-    let end : c.len-at-end.result ≡ length a.lines.items = search rules in
-    (first_done a.known a.clerk a.notes.items a.said.items c.requires.ready.unheard c.requires.ready.silent, refl, end)
+    let end : c.len-at-end.result ≡ length a.lines.items = search rules in (
+      first_done a.known a.clerk a.notes.items a.said.items c.requires.ready.unheard c.requires.ready.silent,
+      refl,
+      end,
+      subst (λ (ns : List NoteValue). AreNotesOf (g.O.Orderly.cabinet c.args.desk.now) ns) (sym c.requires.ready.unheard) tt,
+    )
 
 pub returns-then-not-done-clause-run : goal.returns-then-not-done-clause-run
 returns-then-not-done-clause-run g c =
@@ -38,6 +45,8 @@ loop-at-preserved g c =
           l.known c.do_line-done.new.known l.said.items c.do_line-done.new.said.items room is was.0 (c.do_line-done.ensures.done done),
       c.do_line-done.ensures.desk ∙ was.1,
       was.2,
+      subst (λ (k : TableId). AreNotesOf k c.do_line-done.new.notes.items) was.1
+          (c.do_line-done.ensures.own (subst (λ (k : TableId). AreNotesOf k l.notes.items) (sym was.1) was.3)),
     )
 
 pub returns-clause-run : goal.returns-clause-run

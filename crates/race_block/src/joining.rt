@@ -1,0 +1,170 @@
+// A block, and the history that all have seen after it.
+ghost use Rattle.std.specs.Prelude.{◌≡◌, ℕ, ◌<◌, ◌≤◌, [], length, map, All, slice_index_or, vec_capacity};
+ghost use Rattle.mem_base.specs.machine.Records.{Closes};
+ghost use Rattle.epoch_rule.specs.Rule.{IsLegal};
+ghost use Rattle.desk_lock.specs.Records.{IsLater, later_entries};
+ghost use Rattle.race_actors.specs.Blocks.{CanAct};
+ghost use Rattle.race_actors.specs.Desks.{AreNotesOf, HasHeard};
+ghost use Rattle.race_block.specs.Joined.{HasJoined, HasMet, HasTold, IsHeard, IsNew, IsOf, IsVcpuOf, Noted, clerk_of, without_clerk};
+
+use desk_lock::{Clerk, DeskLock, Naming, Record};
+use epoch_rule::Note;
+use generation::Generation;
+use mem_base::Differs;
+use outside::Gate;
+use race_actors::{BlockActor, act_all};
+use std::alloc::Global;
+use std::mem;
+use std::sync::Wait;
+use std::thread::Threads;
+
+// The record hears all notes.
+#[tactic(auto, using(desk_lock::proofs::RecordLaws::later_same))]
+fn hear_notes(desk: &mut Record, notes: &mut Vec<Note<Generation>>)
+    requires own { AreNotesOf desk.old.seat.cabinet notes.old.items }
+    ensures heard { HasHeard notes.old.items desk.new.seat.seen }
+    ensures later { IsLater desk.old desk.new }
+    ensures entries { desk.new.entries ≡ desk.old.entries }
+{
+    if let Some(note) = notes.pop() {
+        desk.hear(note);
+        hear_notes(desk, notes);
+    }
+}
+
+// The record hears what an actor has seen: its virtual CPU, or the notes of its orders.
+#[tactic(auto, using(desk_lock::proofs::RecordLaws::later_same))]
+fn hear_one(desk: &mut Record, actor: &mut BlockActor<'_>)
+    requires own { IsOf desk.old.seat.cabinet actor.old }
+    ensures told { HasTold desk.new.seat.seen actor.old actor.new }
+    ensures later { IsLater desk.old desk.new }
+    ensures entries { desk.new.entries ≡ desk.old.entries }
+{
+    match actor {
+        BlockActor::Pass(pass) => {
+            let note = pass.vcpu.tell();
+            desk.hear(note);
+        }
+        BlockActor::Desk(lines) => hear_notes(desk, &mut lines.notes),
+        BlockActor::Gone => {}
+    }
+}
+
+// The record hears what all actors have seen.
+fn hear_all(desk: &mut Record, actors: &mut [BlockActor<'_>])
+    requires own { All (IsOf desk.old.seat.cabinet) actors.old }
+    ensures told { (i : ℕ) (d : BlockActor) → i < length actors.old
+        → HasTold desk.new.seat.seen (slice_index_or actors.old i d) (slice_index_or actors.new i d) }
+    ensures later { IsLater desk.old desk.new }
+    ensures entries { desk.new.entries ≡ desk.old.entries }
+{
+    for at in 0..actors.len() {
+        hear_one(desk, &mut actors[at]);
+    }
+}
+
+// The virtual CPU of an actor meets what the writer has seen.
+fn meet_one(desk: &mut Record, actor: &mut BlockActor<'_>)
+    requires own { IsVcpuOf desk.old.seat.cabinet actor.old }
+    requires heard { IsHeard desk.old.seat.seen actor.old }
+    ensures same { desk.new ≡ desk.old }
+    ensures met { HasMet desk.old.seat.seen actor.old actor.new }
+{
+    match actor {
+        BlockActor::Pass(pass) => {
+            let note = desk.note();
+            pass.vcpu.meet(note);
+        }
+        _ => {}
+    }
+}
+
+// All virtual CPUs meet what the writer has seen.
+fn meet_all(desk: &mut Record, actors: &mut [BlockActor<'_>])
+    requires own { All (IsVcpuOf desk.old.seat.cabinet) actors.old }
+    requires heard { All (IsHeard desk.old.seat.seen) actors.old }
+    ensures same { desk.new ≡ desk.old }
+    ensures met { (i : ℕ) (d : BlockActor) → i < length actors.old
+        → HasMet desk.old.seat.seen (slice_index_or actors.old i d) (slice_index_or actors.new i d) }
+{
+    for at in 0..actors.len() {
+        meet_one(desk, &mut actors[at]);
+    }
+}
+
+// A clerk; it begins anew.
+fn taken(alloc: Global, clerk: &mut Clerk) -> Clerk
+    ensures taken { result ≡ clerk.old }
+    ensures new { IsNew clerk.old.who clerk.new }
+{
+    let who = clerk.who();
+    mem::replace(clerk, Clerk::new(alloc, who))
+}
+
+// The record, beside how the clerks' lists differ from it.
+fn closed<J: Naming>(lock: DeskLock<J>, clerks: &[Clerk]) -> (Record, Option<Differs>)
+    ensures later { IsLater J.start result.0 }
+    ensures closes { Closes (later_entries J.start result.0) clerks.now result.1 }
+{
+    match lock.close(clerks) {
+        Ok(desk) => (desk, None),
+        Err((differs, desk)) => (desk, Some(differs)),
+    }
+}
+
+// The clerk of an actor.
+fn take_clerk(alloc: Global, actor: &mut BlockActor<'_>) -> Clerk
+    ensures clerk { result ≡ clerk_of actor.old }
+    ensures rest { actor.new ≡ without_clerk actor.old }
+{
+    match actor {
+        BlockActor::Desk(desk) => taken(alloc, &mut desk.clerk),
+        BlockActor::Pass(pass) => taken(alloc, &mut pass.clerk),
+        BlockActor::Gone => Clerk::new(alloc, 0),
+    }
+}
+
+// The clerks of all actors, into the room that was taken for them.
+fn take_clerks(alloc: Global, actors: &mut [BlockActor<'_>], clerks: &mut Vec<Clerk>)
+    requires empty { clerks.old.items ≡ [] }
+    requires room { length actors.old ≤ vec_capacity clerks.old }
+    ensures clerks { clerks.new.items ≡ map clerk_of actors.old }
+    ensures rest { (i : ℕ) (d : BlockActor) → i < length actors.old → slice_index_or actors.new i d ≡ without_clerk (slice_index_or actors.old i d) }
+{
+    for at in 0..actors.len() {
+        clerks.push_reserved(take_clerk(alloc, &mut actors[at]));
+    }
+}
+
+/// Lets the actors of a block do their lines beside one another, over one lock before the desk, and brings together what they have seen.
+///
+/// The desk's record and all virtual CPUs have then seen the same history. Each actor's clerk, which has what its orders got, goes
+/// into `clerks`, and it is told how these stand to the record: they are what it has, or the first difference. The virtual CPUs are of
+/// the desk's machine, and there is room for the clerks. Where memory runs out for an actor, it has done the first of its lines.
+pub fn run_block<J: Naming + Send + Sync, G: Gate, R: Threads + Wait + Sync>(
+    rt: &R,
+    alloc: Global,
+    gate: &G,
+    first: Record,
+    actors: &mut [BlockActor<'_>],
+    clerks: &mut Vec<Clerk>,
+) -> (Record, Option<Differs>)
+    requires start { first ≡ J.start }
+    requires ready { All (CanAct J.start.seat.cabinet) actors.old }
+    requires empty { clerks.old.items ≡ [] }
+    requires room { length actors.old ≤ vec_capacity clerks.old }
+    ensures later { IsLater first result.0 }
+    ensures legal { IsLegal result.0.seat.sizes result.0.seat.seen }
+    ensures closes { Closes (later_entries first result.0) clerks.new.items result.1 }
+    ensures joined { (i : ℕ) (d : BlockActor) (c : Noted) → i < length actors.old
+        → HasJoined result.0.seat.seen (slice_index_or actors.old i d) (slice_index_or actors.new i d) (slice_index_or clerks.new.items i c) }
+{
+    let lock = DeskLock::<J>::new(first);
+    act_all(rt, alloc, gate, &lock, actors);
+    take_clerks(alloc, actors, clerks);
+    let (mut desk, differs) = closed(lock, clerks.as_slice());
+    hear_all(&mut desk, actors);
+    meet_all(&mut desk, actors);
+    desk.has_seen_legal();
+    (desk, differs)
+}
