@@ -3,6 +3,7 @@ ghost use Rattle.std.specs.Prelude.{◌≡◌, ◌≢◌, ◌+◌, ◌<◌, ◌�
 ghost use Rattle.std.specs.Arc.{arc_value};
 ghost use Rattle.mem_base.specs.declared.map.calls.Config.TheVariants as configs;
 ghost use Rattle.mem_base.specs.map.Limits.{most_passes, notifier_count};
+ghost use Rattle.mem_base.specs.machine.Desk.{places_of};
 ghost use Rattle.mem_base.specs.machine.Answers.{answer_with, call_answer, commit_answer, harvest_answer, notifier_answer, plain_answer, reap_answer};
 ghost use Rattle.mem_base.specs.machine.Orders.{configure, harvest, load, notified, reap};
 ghost use Rattle.mem_base.specs.machine.Publishing.{current_forest, held_up, would_publish};
@@ -16,8 +17,8 @@ ghost use Rattle.config_desk.specs.Configs.{IsTurnOf};
 use epoch_rule::{Cabinet, WriterSeat};
 use generation::Generation;
 use mem_base::{
-    Applied, Call, Client, Config as Event, ListenerEvent, ListenerId, NOTIFIER_COUNT, Refusal,
-    RegionId, SpaceId,
+    Applied, Call, Client, Config as Event, ListenerEvent, ListenerId, NOTIFIER_COUNT, Place,
+    Refusal, RegionId, SpaceId,
 };
 use seat_run::{Recent, SeatHand};
 use std::alloc::{AllocError, Global};
@@ -294,5 +295,19 @@ impl Config {
         ensures forest { (arc_value result.now).forest ≡ current_forest self.now.part.generations }
     {
         self.desk.listened.backed().desk().current()
+    }
+
+    /// The regions that were dropped and are not released yet, ascending. A reap answers no others.
+    pub fn dropped(&self) -> &[RegionId]
+        ensures { result.now ≡ self.now.part.desk.dropped }
+    {
+        self.desk.dropped.as_slice()
+    }
+
+    /// The places in which there are words: those of regions, in order of making, and after the pool the notifiers'.
+    pub fn places(&self) -> &[Place]
+        ensures { result.now ≡ places_of self.now.part.desk }
+    {
+        self.desk.listened.backed().places()
     }
 }

@@ -1,4 +1,5 @@
 // What the laws of turns say of a desk, whatever calls were made on it.
+ghost use Rattle.epoch_rule.specs.Rule.{IsLegal};
 ghost use Rattle.config_desk.specs.Configs.{IsOfTurns};
 ghost use Rattle.config_desk.specs.SeenLaws.{IsSeenLegal, KeepsMarks, ReplaysToListeners, ReusesWords};
 
@@ -13,6 +14,13 @@ impl Config {
         ensures { IsOfTurns self.now.seat self.now.part }
     {
         let _ = &self.desk;
+    }
+
+    /// A law: what the seat has seen is a legal history of the running machine. It does nothing.
+    pub fn has_seen_shared(&self)
+        ensures { IsLegal self.now.seat.sizes self.now.seat.seen }
+    {
+        self.hand.seat.has_seen_legal();
     }
 
     /// A law: what the seat has seen, with the private events of the turns put in, is a legal history of the pure machine, and ends in

@@ -21,7 +21,7 @@ use Rattle.mem_base.specs.access.Windows.{is_direct, chunk_length, window_length
 use Rattle.io_window.specs.Calls.{Does}
 use Rattle.io_window.specs.Whole.{access_answer, HasRun}
 
-hand_laws : AreHandLaws HasMade (λ v. pass_id v.number) generation_in
+pub hand_laws : AreHandLaws HasMade (λ v. pass_id v.number) generation_in
 hand_laws = record {
   begins = made_none;
   goes_on = λ x y z es fs rs qs l m n. made_then x y z es fs rs qs l m n;

@@ -22,6 +22,6 @@ mod windows;
 pub use bounces::Bounce;
 pub use copies::copy;
 pub use laws::{access_is_cut, direct_puts_are_marked, whole_get_is_read, whole_put_is_write};
-pub use moves::{read_by_windows, write_by_windows};
+pub use moves::{joined, read_by_windows, write_by_windows};
 pub use openings::open;
 pub use windows::{Closed, NoBounce, Window};

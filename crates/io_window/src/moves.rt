@@ -25,7 +25,7 @@ struct Moved<'c> {
 }
 
 /// How two parts of one access ended together.
-pub(crate) fn joined(first: TxResult, second: TxResult) -> TxResult
+pub fn joined(first: TxResult, second: TxResult) -> TxResult
     ensures { result ≡ either first second }
 {
     TxResult {

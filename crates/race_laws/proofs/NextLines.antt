@@ -30,7 +30,7 @@ use Rattle.race_laws.proofs.MorePublished.{numbered_same}
 
 -- the desk
 
-desk_append : (gs : List Generation) (k : Known) (front back : List Line) (got : List DeskEntry) → let l = left_of_desk gs k front got in
+pub desk_append : (gs : List Generation) (k : Known) (front back : List Line) (got : List DeskEntry) → let l = left_of_desk gs k front got in
     lines_of_desk gs k (front ++ back) got ≡ lines_of_desk gs k front got ++ lines_of_desk gs l.known back l.got
 desk_append gs k [] back got = refl
 desk_append gs k (line ∷ front) back got =

@@ -35,7 +35,7 @@ use Rattle.std.proofs.lemmas.List.{drop_at}
 use Rattle.race_laws.proofs.Stages.{idle_after, inside_after}
 use Rattle.race_laws.proofs.PassRuns.{steps_stay}
 
-are_again : (places : List Place) (es : List Event) (ns : List ℕ) → AreEntries places es (entries_of places es ns)
+pub are_again : (places : List Place) (es : List Event) (ns : List ℕ) → AreEntries places es (entries_of places es ns)
 are_again places [] ns = refl
 are_again places (e ∷ es) [] = ap (λ (ys : List HistoryEntry). history_entry e (carried_among places e) 0 ∷ ys) (are_again places es [])
 are_again places (e ∷ es) (n ∷ ns) = ap (λ (ys : List HistoryEntry). history_entry e (carried_among places e) n ∷ ys) (are_again places es ns)

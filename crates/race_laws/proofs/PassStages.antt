@@ -47,14 +47,14 @@ makes_are places es p before ys ms h =
     let left : drop (length es) (replies_of ys ++ ms) ≡ ms = drop_counted (length es) (replies_of ys) ms count in
     (λ i. turn_at (pass_after_all p (same i)) (before ++ same i) (left i))
 
-abbrev transfer_with : PassState → List AccessStep → ℕ → PassTurn → List ℕ → Transferred
+abbrev pub transfer_with : PassState → List AccessStep → ℕ → PassTurn → List ℕ → Transferred
 transfer_with p steps count t ns = record {
   turn = t;
   answer = record { result = result_of steps; number = unwrap_or p.entered 0 };
   bytes = bytes_read steps ns;
 }
 
-transfer_are : (gs : List Generation) (pass : PassId) (s : SpaceId) (a : ℕ) (transfer : Transfer) (p : PassState) (before ys : List HistoryEntry)
+pub transfer_are : (gs : List Generation) (pass : PassId) (s : SpaceId) (a : ℕ) (transfer : Transfer) (p : PassState) (before ys : List HistoryEntry)
     (ms : List ℕ) → AreSteps (generation_in gs p) pass s a transfer ys
     → transferred gs pass s a transfer (turn_at p before (replies_of ys ++ ms))
     ≡ transfer_with p (access (generation_in gs p).forest s a transfer) (length before) (turn_at (pass_after_all p ys) (before ++ ys) ms) (replies_of ys)

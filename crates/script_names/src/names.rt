@@ -1,5 +1,5 @@
 // The names of all sorts.
-ghost use Rattle.std.specs.Prelude.{◌≡◌, ◌<◌, ◌^◌, ◌++◌, [], ◌∷◌, None, Some, IfOk, OnOk, length, option_map};
+ghost use Rattle.std.specs.Prelude.{◌≡◌, ◌<◌, ◌^◌, ◌++◌, [], ◌∷◌, None, Some, IfOk, OnOk, OnErr, length, option_map};
 ghost use Rattle.mem_base.specs.script.Named.{kind_named, listener_name, watcher_name, region_name, space_name};
 ghost use Rattle.script_names.specs.Tables.{AllNames, Rebinds, number_of, printed_names, table};
 
@@ -103,7 +103,7 @@ impl Names {
         self.notifiers.name_at(watcher.0)
     }
 
-    /// One more region: its name stands for it, and its id is the number of regions made before it.
+    /// One more region: its name stands for it, and its id is the number of regions made before it. Out of memory, nothing changes.
     pub fn add_region(
         &mut self,
         alloc: Global,
@@ -117,13 +117,15 @@ impl Names {
             ≡ table (self.old.regions.bound ++ (name.now, region.0) ∷ []) (self.old.regions.made ++ name.now ∷ [])) }
         ensures kinds { OnOk result (self.new.kinds ≡ self.old.kinds ++ kind ∷ []) }
         ensures others { OnOk result (self.new ≡ record self.old { regions = self.new.regions; kinds = self.new.kinds }) }
+        ensures unchanged { OnErr result (self.new ≡ self.old) }
     {
+        self.kinds.reserve(1)?;
         let number = self.regions.bind(alloc, name)?;
-        self.kinds.push(kind)?;
+        let _ = self.kinds.push(kind);
         Ok(RegionId(number))
     }
 
-    /// One more space.
+    /// One more space. Out of memory, nothing changes.
     pub fn add_space(&mut self, alloc: Global, name: &[u8]) -> Result<SpaceId, AllocError>
         requires free { number_of self.old.spaces.bound name.now ≡ None }
         requires room { length self.old.spaces.made < 2 ^ 32 }
@@ -131,12 +133,13 @@ impl Names {
         ensures spaces { IfOk result (λ space. self.new.spaces
             ≡ table (self.old.spaces.bound ++ (name.now, space.0) ∷ []) (self.old.spaces.made ++ name.now ∷ [])) }
         ensures others { OnOk result (self.new ≡ record self.old { spaces = self.new.spaces }) }
+        ensures unchanged { OnErr result (self.new ≡ self.old) }
     {
         let number = self.spaces.bind(alloc, name)?;
         Ok(SpaceId(number))
     }
 
-    /// One more listener.
+    /// One more listener. Out of memory, nothing changes.
     pub fn add_listener(&mut self, alloc: Global, name: &[u8]) -> Result<ListenerId, AllocError>
         requires free { number_of self.old.listeners.bound name.now ≡ None }
         requires room { length self.old.listeners.made < 2 ^ 32 }
@@ -144,12 +147,13 @@ impl Names {
         ensures listeners { IfOk result (λ listener. self.new.listeners
             ≡ table (self.old.listeners.bound ++ (name.now, listener.0) ∷ []) (self.old.listeners.made ++ name.now ∷ [])) }
         ensures others { OnOk result (self.new ≡ record self.old { listeners = self.new.listeners }) }
+        ensures unchanged { OnErr result (self.new ≡ self.old) }
     {
         let number = self.listeners.bind(alloc, name)?;
         Ok(ListenerId(number))
     }
 
-    /// One more watcher.
+    /// One more watcher. Out of memory, nothing changes.
     pub fn add_watcher(&mut self, alloc: Global, name: &[u8]) -> Result<WatcherId, AllocError>
         requires free { number_of self.old.notifiers.bound name.now ≡ None }
         requires room { length self.old.notifiers.made < 2 ^ 32 }
@@ -157,6 +161,7 @@ impl Names {
         ensures notifiers { IfOk result (λ watcher. self.new.notifiers
             ≡ table (self.old.notifiers.bound ++ (name.now, watcher.0) ∷ []) (self.old.notifiers.made ++ name.now ∷ [])) }
         ensures others { OnOk result (self.new ≡ record self.old { notifiers = self.new.notifiers }) }
+        ensures unchanged { OnErr result (self.new ≡ self.old) }
     {
         let number = self.notifiers.bind(alloc, name)?;
         Ok(WatcherId(number))

@@ -1,5 +1,5 @@
 // Names of one sort.
-ghost use Rattle.std.specs.Prelude.{◌≡◌, ◌<◌, ◌^◌, ◌++◌, [], ◌∷◌, None, Some, IfOk, OnOk, length, map};
+ghost use Rattle.std.specs.Prelude.{◌≡◌, ◌<◌, ◌^◌, ◌++◌, [], ◌∷◌, None, Some, IfOk, OnOk, OnErr, length, map};
 ghost use Rattle.mem_base.specs.script.Named.{name_at};
 ghost use Rattle.script_names.specs.Tables.{Rebinds, Table, number_of, table};
 
@@ -73,17 +73,21 @@ impl NameTable {
 
     /// Lets a name that is free stand for one more number, and gives that number.
     ///
-    /// A number has 32 bits, so there has to be room for it.
+    /// A number has 32 bits, so there has to be room for it. Out of memory, nothing changes.
     pub fn bind(&mut self, alloc: Global, name: &[u8]) -> Result<u32, AllocError>
         requires free { number_of self.old.bound name.now ≡ None }
         requires room { length self.old.made < 2 ^ 32 }
         ensures number { IfOk result (λ number. number ≡ length self.old.made) }
         ensures bound { IfOk result (λ number. self.new.bound ≡ self.old.bound ++ (name.now, number) ∷ []) }
         ensures made { OnOk result (self.new.made ≡ self.old.made ++ name.now ∷ []) }
+        ensures unchanged { OnErr result (self.new ≡ self.old) }
     {
         let number = self.made.len() as u32;
-        self.numbers.insert(key_of(alloc, name)?, number)?;
-        self.made.push(name_of(alloc, name)?)?;
+        let key = key_of(alloc, name)?;
+        let made = name_of(alloc, name)?;
+        self.made.reserve(1)?;
+        self.numbers.insert(key, number)?;
+        let _ = self.made.push(made);
         Ok(number)
     }
 

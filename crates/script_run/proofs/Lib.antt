@@ -1,4 +1,3 @@
-pub mod NamedLaws
 pub mod Writing
 pub mod ReadyLaws
 pub mod OrderLaws

@@ -31,7 +31,8 @@ use Rattle.script_names.specs.Tables.{AllNames, printed_names}
 use Rattle.script_run.specs.declared.faults.RunFault.{RunFault}
 use Rattle.script_run.specs.declared.faults.RunFault.TheVariants.{Write}
 use Rattle.script_run.specs.Performs.{IsLeft, Performs}
-use Rattle.script_run.specs.Ready.{state_of, IsNamed, IsReady}
+use Rattle.script_run.specs.Ready.{state_of, IsReady}
+use Rattle.race_lines.specs.NamedTables.{IsNamed}
 use Rattle.script_run.proofs.OrderLaws.{always_ok}
 use Rattle.world_laws.proofs.PassKeeping.{keeps_itself, keeps_then}
 use Rattle.run_laws.proofs.Lawful.{drop_all}

@@ -32,8 +32,9 @@ use Rattle.mem_base.specs.declared.map.kinds.Kind.{Kind}
 use Rattle.mem_base.specs.script.Spelling.{Text}
 use Rattle.mem_base.specs.script.Named.{Names}
 use Rattle.script_names.specs.Tables.{AllNames, Rebinds, Table, number_of, printed_names, table}
-use Rattle.script_run.specs.Ready.{IsNamed, IsReady, is_region, is_listener, watches}
-use Rattle.script_run.proofs.NamedLaws.{named_drop, named_push, named_same}
+use Rattle.script_run.specs.Ready.{IsReady, is_region, is_listener, watches}
+use Rattle.race_lines.specs.NamedTables.{IsNamed}
+use Rattle.race_lines.proofs.NamedLaws.{named_drop, named_push, named_same}
 use Rattle.run_laws.proofs.DeskLaws.{IsGone, LeavesCall, LeavesListen, LeavesUnlisten, SameMap, any_push, call_leaves, change_keeps, dropped_gone}
 use Rattle.view_laws.proofs.Tests.{or_right}
 use Rattle.run_laws.proofs.DeskLaws.{dropped_others, listen_leaves, made_others, made_there, or_false, unlisten_leaves}

@@ -23,7 +23,8 @@ use Rattle.mem_base.specs.script.Shows.{catches_up, shown_forest}
 use Rattle.mem_base.specs.script.Run.{pool_words, start, step, text_from, text_of}
 use Rattle.script_names.specs.Tables.{AllNames, table}
 use Rattle.script_run.specs.Ready.{state_of, IsReady, is_listener, is_region, watches}
-use Rattle.script_run.proofs.NamedLaws.{named_none, named_same}
+use Rattle.race_lines.proofs.NamedLaws.{named_none, named_same}
+use Rattle.race_lines.proofs.WatchingLaws.{same_watchers}
 use Rattle.script_run.proofs.Writing.{Through, through_next, through_prefix}
 use Rattle.run_laws.proofs.EachCommand.{may_first}
 
@@ -102,10 +103,6 @@ pub each_later : (P : Line → Type 0) (lines : List Line) (i : ℕ) (line : Lin
 each_later P lines i line l is h = (each_split P lines i line l is h).1
 
 -- Watchers
-
-same_watchers : (f : Forest) (watchers : List Watcher) (n : ℕ) → watches (caught_up f watchers) n ≡ watches watchers n
-same_watchers f [] n = refl
-same_watchers f (w ∷ ws) n = (λ i. is_watcher n w || same_watchers f ws n i)
 
 pub caught_ready : (names : AllNames) (w : World) (watchers after : List Watcher) (f : Forest) → after ≡ caught_up f watchers
     → IsReady names w watchers

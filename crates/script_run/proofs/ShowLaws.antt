@@ -1,25 +1,13 @@
 -- What the current generation shows.
-use Rattle.std.proofs.Common.{◌≡◌, ◌<◌, ◌^◌, ◌-◌, ℕ, Bool, true, false, List, [], ◌∷◌, Option, Some, None, refl, sym, ap, subst}
+use Rattle.std.proofs.Common.{◌≡◌, ◌-◌, ℕ, Bool, true, false, List, [], ◌∷◌, Option, Some, None, refl, sym, ap, subst}
 use Rattle.std.proofs.Common.{◌∙◌, arith, if◌then◌else◌}
 use Rattle.std.specs.Prelude.{nat_le}
 use Rattle.std.specs.List.{slice_get}
-use Rattle.mem_base.specs.declared.map.ids.SpaceId.{SpaceId}
 use Rattle.mem_base.specs.declared.map.forests.Forest.{Forest}
 use Rattle.mem_base.specs.declared.access.cells.Place.{Place}
-use Rattle.mem_base.specs.map.Forest.{IsMade}
-use Rattle.mem_base.specs.map.Search.{look}
-use Rattle.mem_base.specs.views.View.{IsView, shown}
-use Rattle.mem_base.specs.views.Flattened.{view_of}
 use Rattle.mem_base.specs.machine.Generations.{Generation, Generations, generation, generation_of}
 use Rattle.mem_base.specs.machine.Publishing.{current_forest, forest_in}
-use Rattle.map_laws.proofs.OffsetLaws.{IsView-made}
 use Rattle.view_laws.proofs.Tests.{none_is_not_some, same_some}
-
-pub shown_look : (f : Forest) (s : SpaceId) (addr : ℕ) → addr < 2 ^ 64 → IsMade f → shown (view_of f s) addr ≡ look f s addr
-shown_look f s addr l made =
-    let view : IsView f s (view_of f s) = subst (λ (g : Forest). IsView g s (view_of g s)) made.made
-    (IsView-made made.calls s made.fitting) in
-    view.agrees.shows addr l
 
 first_kept : (kept : List Generation) (n : ℕ) (f : Forest) (places : List Place) → n ≡ 0
     → slice_get kept n ≡ Some (generation f places) → forest_in kept ≡ f

@@ -16,8 +16,10 @@ use Rattle.mem_base.specs.script.Spelling.{Text}
 use Rattle.mem_base.specs.script.Named.{Names}
 use Rattle.mem_base.specs.script.Watching.{Watcher, is_watcher, without_number}
 use Rattle.script_names.specs.Tables.{AllNames, Rebinds, Table, number_of, printed_names, table}
-use Rattle.script_run.specs.Ready.{IsNamed, IsReady, is_listener, is_region, watches}
-use Rattle.script_run.proofs.NamedLaws.{named_drop, named_push}
+use Rattle.script_run.specs.Ready.{IsReady, is_listener, is_region, watches}
+use Rattle.race_lines.specs.NamedTables.{IsNamed}
+use Rattle.race_lines.proofs.NamedLaws.{named_drop, named_push}
+use Rattle.race_lines.proofs.WatchingLaws.{gone_number, other_numbers}
 use Rattle.view_laws.proofs.Tests.{or_right}
 use Rattle.run_laws.proofs.DeskLaws.{any_push, or_false}
 
@@ -48,27 +50,6 @@ watcher_made names after w old new x name r is joins free notifiers others = rec
   where
     there : (n : ℕ) → watches new n ≡ (watches old n || (x.id.0 == n))
     there n = ap (list_any (is_watcher n)) joins ∙ any_push (is_watcher n) old x
-
-gone_number : (n : ℕ) (ws : List Watcher) → watches (without_number n ws) n ≡ false
-gone_number n [] = refl
-gone_number n (w ∷ ws) = go (is_watcher n w) refl (gone_number n ws)
-  where
-    go : (b : Bool) → is_watcher n w ≡ b → watches (without_number n ws) n ≡ false
-        → watches (cond (not b) (w ∷ without_number n ws) (without_number n ws)) n ≡ false
-    go true e ih = ih
-    go false e ih = (λ i. e i || watches (without_number n ws) n) ∙ ih
-
-other_numbers : (n m : ℕ) → m ≢ n → (ws : List Watcher) → watches (without_number n ws) m ≡ watches ws m
-other_numbers n m ne [] = refl
-other_numbers n m ne (w ∷ ws) = go (is_watcher n w) refl (other_numbers n m ne ws)
-  where
-    other : w.id.0 ≡ n → is_watcher m w ≡ false
-    other e = ne_eqb w.id.0 m (λ same. ne (sym same ∙ e))
-
-    go : (b : Bool) → is_watcher n w ≡ b → watches (without_number n ws) m ≡ watches ws m
-        → watches (cond (not b) (w ∷ without_number n ws) (without_number n ws)) m ≡ (is_watcher m w || watches ws m)
-    go true e ih = ih ∙ (λ i. sym (other (eqb-true w.id.0 n e)) i || watches ws m)
-    go false e ih = (λ i. is_watcher m w || ih i)
 
 -- one watcher fewer
 pub watcher_left : (names after : AllNames) (w : World) (old new : List Watcher) (number : ℕ) (name : Text) → IsReady names w old

@@ -1,39 +1,26 @@
 -- What the code keeps beside the state of a script: tables that find a number by its name, and a machine that is at rest.
-use Rattle.std.specs.Prelude.{◌≡◌, ◌<◌, ◌≤◌, ◌+◌, ℕ, Bool, true, false, is_some, List, [], ◌∷◌, length, None}
-use Rattle.std.specs.List.{list_any}
+pub use Rattle.race_lines.specs.KnownNames.{watches}
+use Rattle.std.specs.Prelude.{◌≡◌, ◌<◌, ◌≤◌, ℕ, Bool, true, false, is_some, List, length}
 use Rattle.mem_base.specs.declared.map.ids.PassId.{PassId}
 use Rattle.mem_base.specs.map.Limits.{most_passes}
 use Rattle.mem_base.specs.map.Region.{node_of}
 use Rattle.mem_base.specs.views.Listening.{listens}
 use Rattle.mem_base.specs.machine.World.{World, is_at_rest}
 use Rattle.mem_base.specs.machine.Completions.{may_access}
-use Rattle.mem_base.specs.script.Spelling.{Text}
-use Rattle.mem_base.specs.script.Watching.{Watcher, is_watcher}
-use Rattle.mem_base.specs.script.States.{State, number_from}
-use Rattle.script_names.specs.Tables.{AllNames, Table, number_of, printed_names}
+use Rattle.mem_base.specs.script.Watching.{Watcher}
+use Rattle.mem_base.specs.script.States.{State}
+use Rattle.script_names.specs.Tables.{AllNames, printed_names}
+use Rattle.race_lines.specs.NamedTables.{IsNamed}
 
 -- the state of a script, by the parts that the code keeps
 abbrev pub state_of : AllNames → World → List Watcher → State
 state_of names world watchers = record { names = printed_names names; world = world; watchers = watchers }
-
--- of all that had a name, at most one is there
-abbrev pub AreSingle : ℕ → List Text → (ℕ → Bool) → Type 0
-AreSingle n [] test = Unit {0}
-AreSingle n (name ∷ names) test = (test n ≡ true → number_from (n + 1) names test name ≡ None) × AreSingle (n + 1) names test
-
--- a table finds what is there by its name, and no two that are there have one name
-pub record IsNamed (table : Table) (test : ℕ → Bool) : Type 0 where
-  pub finds : (name : Text) → number_of table.bound name ≡ number_from 0 table.made test name
-  pub single : AreSingle 0 table.made test
 
 abbrev pub is_region : World → ℕ → Bool
 is_region w n = is_some (node_of w.writer.desk.forest.nodes (record { 0 = n }))
 
 abbrev pub is_listener : World → ℕ → Bool
 is_listener w n = listens w.writer.desk.listening (record { 0 = n })
-
-abbrev pub watches : List Watcher → ℕ → Bool
-watches watchers n = list_any (is_watcher n) watchers
 
 -- the tables hold what is there; regions are numbered as the forest numbers them, and no watcher has a number to come; the
 -- machine is at rest, and each pass may make an access

@@ -16,16 +16,7 @@ use crate::output::say_refused;
 use crate::session::Session;
 use mem_base::Refusal;
 use outside::Sink;
-
-// The items after the first `from`.
-pub(crate) fn later<T>(items: &[T], from: usize) -> &[T]
-    ensures { result.now ≡ drop from items.now }
-{
-    match items.get(from..) {
-        Some(later) => later,
-        None => &[],
-    }
-}
+use race_lines::later;
 
 // An answer without its value.
 pub(crate) fn plain<T: Drop>(answer: Result<T, Refusal>) -> Result<(), Refusal>

@@ -4,13 +4,14 @@ ghost use Rattle.mem_base.specs.declared.map.calls.Call.{Call};
 ghost use Rattle.mem_base.specs.map.Calls.{is_quiet};
 ghost use Rattle.mem_base.specs.script.RefusalLines.{refused_line, unknown_text};
 ghost use Rattle.mem_base.specs.script.States.{Outcome, region_named, space_named, writes};
-ghost use Rattle.mem_base.specs.script.WriterSteps.{ioevent, with_call};
+ghost use Rattle.mem_base.specs.script.WriterSteps.{with_call};
 ghost use Rattle.iommu_notify.specs.Watchers.{watchers_of};
 ghost use Rattle.script_run.specs.Ready.{state_of, IsReady};
 
 use crate::machine::Machine;
 use crate::session::Session;
-use mem_base::{Call, Ioevent, MapChange, Name, RegionId, SpaceId};
+use mem_base::{Call, MapChange, Name, RegionId, SpaceId};
+use race_lines::ioevent;
 
 // The region that a name stands for, or the name itself.
 fn known_region<'a, M: Machine>(session: &Session<M>, name: &'a Name) -> Result<RegionId, &'a Name>
@@ -39,18 +40,6 @@ fn known_space<'a, M: Machine>(session: &Session<M>, name: &'a Name) -> Result<S
     match session.space(name) {
         Some(space) => Ok(space),
         None => Err(name),
-    }
-}
-
-fn ioevent(offset: u64, size: u8, value: Option<u64>, number: u32) -> Ioevent
-    ensures { result ≡ ioevent offset size value number }
-{
-    Ioevent {
-        offset,
-        size,
-        matched: value.is_some(),
-        value: value.unwrap_or(0),
-        number,
     }
 }
 

@@ -10,13 +10,13 @@ ghost use Rattle.script_run.specs.Groups.{changes_names, makes_region};
 ghost use Rattle.script_run.specs.Performs.{Performs};
 ghost use Rattle.script_run.specs.Ready.{state_of, IsReady};
 
-use crate::answers::later;
 use crate::faults::RunFault;
 use crate::lists::say_notices;
 use crate::machine::Machine;
 use crate::session::Session;
 use mem_base::{Command, Kind, Name, Size};
 use outside::Sink;
+use race_lines::later;
 
 // A command of the desk, and not of a pass.
 fn is_desk_line(command: &Command) -> bool

@@ -1,5 +1,5 @@
 // The commands that make a name or let one go.
-ghost use Rattle.std.specs.Prelude.{◌≡◌, ◌<◌, ◌^◌, ◌++◌, ◌∷◌, [], None, Some, IfSome, length};
+ghost use Rattle.std.specs.Prelude.{◌≡◌, ◌++◌, ◌∷◌, [], None, Some, length};
 ghost use Rattle.mem_base.specs.declared.map.calls.Call.TheVariants as calls;
 ghost use Rattle.mem_base.specs.declared.map.calls.Config.TheVariants as configs;
 ghost use Rattle.mem_base.specs.declared.map.kinds.Kind.TheVariants as kinds;
@@ -16,19 +16,7 @@ use crate::machine::Machine;
 use crate::session::Session;
 use mem_base::{Call, Kind, ListenerId, Name, RegionId, Size, SpaceId};
 use outside::Sink;
-use script_names::NameTable;
-
-// The number of what is named next; none where it has more than 32 bits, and so many names fit no memory.
-pub(crate) fn next_number(table: &NameTable) -> Option<u32>
-    ensures { IfSome result (λ number. (number ≡ length table.now.made) × (length table.now.made < 2 ^ 32)) }
-{
-    let made = table.made();
-    if made < 0x1_0000_0000 {
-        Some(made as u32)
-    } else {
-        None
-    }
-}
+use race_lines::next_number;
 
 impl<M: Machine> Session<M> {
     // A region whose name is free.

@@ -1,7 +1,4 @@
 // The commands that ask what the current generation shows.
-ghost use Rattle.std.specs.Prelude.{◌≡◌, ◌<◌};
-ghost use Rattle.mem_base.specs.map.Search.{look};
-ghost use Rattle.mem_base.specs.views.Flattened.{view_of};
 ghost use Rattle.mem_base.specs.script.Shows.{at, show};
 ghost use Rattle.mem_base.specs.script.States.{State, with_space};
 ghost use Rattle.iommu_notify.specs.Watchers.{watchers_of};
@@ -13,42 +10,11 @@ use crate::lists::say_ranges;
 use crate::machine::Machine;
 use crate::output::{say_at, say_view};
 use crate::session::Session;
-use generation::Generation;
-use mem_base::{Edition, FlatRange, Name, SpaceId, Spot};
+use mem_base::{Edition, Name, SpaceId};
 use outside::Sink;
+use race_lines::{found_in, ranges_in};
 use std::marker::Brand;
-use std::sync::ledger::{Blank, Ledger};
-use step_counter::Steps;
-
-// What a space shows in a generation; no range where it is not there.
-fn ranges_in(generation: &Generation, space: SpaceId) -> &[FlatRange]
-    ensures { result.now ≡ view_of generation.now.forest space }
-{
-    match generation.atlas(space) {
-        Some(atlas) => atlas.view().as_slice(),
-        None => &[],
-    }
-}
-
-// What is found at an address of a space; the probes are not counted.
-fn found_in<L: Ledger>(
-    generation: &Generation,
-    space: SpaceId,
-    addr: u64,
-    blank: Blank,
-) -> Option<Spot>
-    requires name { blank.name ≡ L.name }
-    requires parts { blank.parts ≡ L.parts }
-    requires counts { 0 < L.parts }
-    ensures { result ≡ look generation.now.forest space addr }
-{
-    // Its contract tells that accepted calls make the forest.
-    generation.forest();
-    match generation.atlas(space) {
-        Some(atlas) => atlas.at(addr, &mut Steps::<L>::new(blank)),
-        None => None,
-    }
-}
+use std::sync::ledger::Blank;
 
 impl<M: Machine> Session<M> {
     // What a space shows.

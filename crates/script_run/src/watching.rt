@@ -10,15 +10,14 @@ ghost use Rattle.iommu_notify.specs.Watchers.{new_watcher, watchers_of};
 ghost use Rattle.script_run.specs.Performs.{Performs};
 ghost use Rattle.script_run.specs.Ready.{state_of, IsReady};
 
-use crate::answers::later;
 use crate::faults::RunFault;
 use crate::lists::say_notices;
 use crate::machine::Machine;
-use crate::makers::next_number;
 use crate::output::say_refused;
 use crate::session::Session;
 use mem_base::{Name, Refusal, RegionId, WatcherId};
 use outside::Sink;
+use race_lines::{later, next_number};
 use script_lines::Line;
 use script_names::Names;
 

@@ -1,16 +1,14 @@
 -- What an access needs.
-use Rattle.std.proofs.Common.{◌≡◌, ℕ, ◌<◌, Bool, true, false, Option, Some, None, refl, ap, subst, arith, length, length-set, get_or-set_same, ltb-true}
-use Rattle.std.specs.Prelude.{◌||◌, is_some}
+use Rattle.std.proofs.Common.{◌≡◌, ℕ, true, false, Option, Some, None, refl, ap, subst}
+use Rattle.std.specs.Prelude.{is_some}
 use Rattle.mem_base.specs.declared.map.ids.PassId.{PassId}
-use Rattle.mem_base.specs.declared.machine.events.Event.TheVariants as events
-use Rattle.mem_base.specs.machine.Passes.{PassState, pass_of, pass_after, with_pass, idle}
-use Rattle.mem_base.specs.machine.World.{World, possible}
-use Rattle.mem_base.specs.machine.Composites.{enters}
-use Rattle.view_laws.proofs.Tests.{both_of, true_is_not_false}
+use Rattle.mem_base.specs.machine.Passes.{pass_of}
+use Rattle.mem_base.specs.machine.World.{World}
+use Rattle.view_laws.proofs.Tests.{true_is_not_false}
 use Rattle.world_laws.specs.Entered.{EntersHeld}
 use Rattle.world_laws.proofs.Entering.{entered_generations_are_held}
 use Rattle.world_core.specs.Hands.{IsInside}
-use Rattle.world_core.specs.Worlds.{IsReached, after_events}
+use Rattle.world_hand.specs.Reached.{IsReached}
 
 -- a pass that entered a number is in a generation that is kept
 pub inside_of : (w : World) (pass : PassId) → IsReached w → is_some (pass_of w.passes pass).entered ≡ true → IsInside w pass

@@ -28,11 +28,13 @@ use Rattle.kept_generations.specs.KeptState.{KeptState, generations_of}
 use Rattle.mem_base.specs.access.PlaceCells.{blocks_at}
 use Rattle.backed_desk.specs.Backed.{all_places}
 use Rattle.writer_desk.specs.Writers.{WriterState, desk_of}
-use Rattle.world_core.specs.Worlds.{Aside, aside, beside, world_of, IsReached, IsWorld}
+use Rattle.world_core.specs.Worlds.{Aside, aside, beside, world_of, IsWorld}
+use Rattle.world_hand.specs.Reached.{IsReached}
+use Rattle.world_hand.proofs.Completing.{reached_holds}
 use Rattle.world_core.specs.Cleared.{word_cleared}
 use Rattle.world_core.proofs.PlaceLaws.{own_region}
 use Rattle.world_core.proofs.ReachedLaws.{reached_after}
-use Rattle.world_core.proofs.WordLaws.{reached_holds, cells_change, far}
+use Rattle.world_core.proofs.WordLaws.{cells_change, far}
 
 -- a place that is found is whole
 whole_of : (w : World) → IsReached w → (r : RegionId) (p : Place) → place_in_world w r ≡ Some p → IsWhole (places_of w.writer.desk) p
@@ -84,7 +86,8 @@ module _ (w : World) (h : IsReached w) where
   pub mark_in : (r : RegionId) (client : Client) (page : ℕ) (p : Place) → place_in_world w r ≡ Some p → page < pages_in p → word_of_page p client page < p.words
   mark_in r client page p here l = (whole_of w h r p here).marks client page l
 
-  pub mark_placed : (pass : PassId) (r : RegionId) (client : Client) (page : ℕ) → place_in_world w r ≡ None → possible w (events.Mark pass r client page) ≡ true → ⊥
+  pub mark_placed : (pass : PassId) (r : RegionId) (client : Client) (page : ℕ) → place_in_world w r ≡ None 
+      → possible w (events.Mark pass r client page) ≡ true → ⊥
   mark_placed pass r client page none may =
       true_is_not_false false
       (ap (λ (o : Option Place). if_placed o (λ q. may_mark (entered_generation w.writer.generations w.passes pass) q r page)) (sym none) ∙ may) refl
@@ -157,5 +160,7 @@ module _ (d : WriterState) (k : KeptState) (ws : List ℕ) (x : Aside) (h : IsWo
       subst (λ (z : List ℕ × List Cell). IsWorld d k z.0 (aside x.dropped z.1)) (λ i. (sym is i, sym less i)) record {
         reached = subst IsReached (sym fill_is) (reached_after here (events.Fill c) h.reached may);
         current = h.current;
+        number = h.number;
+        ready = h.ready;
         wide = ap (λ (zs : List ℕ). length zs) (sym is) ∙ long ∙ h.wide;
       }

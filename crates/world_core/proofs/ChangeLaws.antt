@@ -15,10 +15,10 @@ use Rattle.mem_base.specs.access.Places.{past}
 use Rattle.mem_base.specs.access.Cells.{Block}
 use Rattle.mem_base.specs.machine.Desk as desks
 use Rattle.mem_base.specs.machine.Desk.{Desk, places_of}
-use Rattle.mem_base.specs.machine.Publishing.{Settled, held_up, current_forest}
+use Rattle.mem_base.specs.machine.Publishing.{Settled, held_up}
 use Rattle.mem_base.specs.machine.Configs.{configured}
 use Rattle.mem_base.specs.machine.Reaps.{writer}
-use Rattle.mem_base.specs.machine.World.{World, world, possible, world_after, is_at_rest, block_for}
+use Rattle.mem_base.specs.machine.World.{World, world, possible, world_after, block_for}
 use Rattle.history_laws.specs.BackedForests.{BacksForest}
 use Rattle.generation.specs.Published.{Published}
 use Rattle.kept_generations.specs.KeptState.{KeptState, generations_of}
@@ -26,18 +26,17 @@ use Rattle.mem_base.specs.access.PlaceCells.{blocks_at}
 use Rattle.transact.specs.Preparing.{Readied}
 use Rattle.backing_pool.specs.Backing.{Backing}
 use Rattle.backed_desk.specs.Backed.{all_places}
-use Rattle.writer_desk.specs.Writers.{WriterState, Beside, desk_of, settled_as, standing, IsConfigured, IsAccepted}
-use Rattle.world_core.specs.Worlds.{Aside, aside, beside, world_of, filled_beside, filled_world, IsReached, IsWorld, IsFilledWorld}
+use Rattle.writer_desk.specs.Writers.{WriterState, Beside, desk_of, settled_as, standing, IsConfigured, IsAccepted, IsReady}
+use Rattle.world_core.specs.Worlds.{Aside, aside, beside, world_of, filled_beside, filled_world, IsWorld, IsFilledWorld, cleared_at, unswept}
+use Rattle.world_hand.specs.Reached.{IsReached}
+use Rattle.world_hand.proofs.Completing.{backs, reached_holds}
+use Rattle.writer_run.proofs.MadeLaws.{kept_beside, pool_stays, unfilled_with}
 use Rattle.writer_desk.specs.Writers.{dropped_with, made_place}
-use Rattle.world_core.specs.Configuring.{cleared_at, unswept}
 use Rattle.world_core.specs.Events.{IsChanged, makes_region}
 use Rattle.world_core.specs.Unfilled.{cells_at}
-use Rattle.world_core.proofs.ConfiguringLaws.{current_is, kept_beside, pool_stays, none_due}
-use Rattle.world_core.proofs.MadeCellLaws.{unfilled_with, made_only}
+use Rattle.world_core.proofs.MadeCellLaws.{made_only}
 use Rattle.world_core.proofs.MadeCellLaws as made
 use Rattle.world_core.proofs.ReachedLaws.{reached_after}
-use Rattle.world_core.proofs.WordLaws.{backs}
-use Rattle.world_core.proofs.WriterCallLaws.{sound_of}
 
 -- the parts make a world, and the event leads there with this answer
 pub record ChangesWorld (w : World) (c : Config) (answer : Result Applied Refusal) (d : WriterState) (k : KeptState) (ws : List ℕ)
@@ -55,7 +54,7 @@ made_fits (Some p) n room makes near only wide =
     omega (arith, l, m)
 
 module _ (d : WriterState) (k : KeptState) (ws : List ℕ) (dropped : List RegionId) (h : IsFilledWorld d k ws dropped)
-    (rest : is_at_rest (filled_world d k ws dropped).writer.desk ≡ true) (c : Config)
+    (no_due : d.due ≡ None) (c : Config)
     (may : possible (filled_world d k ws dropped) (events.Config c) ≡ true) where
   abbrev w : World
   w = filled_world d k ws dropped
@@ -66,20 +65,14 @@ module _ (d : WriterState) (k : KeptState) (ws : List ℕ) (dropped : List Regio
   abbrev started : Desk
   started = desk_of d (filled_beside dropped k.swept)
 
-  no_due : d.due ≡ None
-  no_due = none_due d k ws dropped h rest c
-
-  current_here : current_forest (generations_of k) ≡ d.backed.desk.current.forest
-  current_here = current_is k d.backed.desk.current h.current
-
   same_forest : w.writer.desk.forest ≡ d.backed.desk.state.forest
   same_forest = ap (λ (o : Option Readied). (standing d.backed.desk o).forest) no_due
 
   few : d.backed.desk.state.forest.made ≤ most_made
-  few = subst (λ (f : Forest). f.made ≤ most_made) same_forest (sound_of w h.reached).holds.sound.few
+  few = subst (λ (f : Forest). f.made ≤ most_made) same_forest (reached_holds w h.reached).sound.few
 
   below : Every (λ p. p.region.0 < d.backed.desk.state.forest.made) d.backed.backing.places
-  below = subst (λ (f : Forest). Every (λ p. p.region.0 < f.made) d.backed.backing.places) same_forest (sound_of w h.reached).holds.sound.places
+  below = subst (λ (f : Forest). Every (λ p. p.region.0 < f.made) d.backed.backing.places) same_forest (reached_holds w h.reached).sound.places
 
   back : BacksForest d.backed.backing.pool_words w.writer.desk.forest d.backed.backing.places
   back = backs w h.reached
@@ -97,7 +90,8 @@ module _ (d : WriterState) (k : KeptState) (ws : List ℕ) (dropped : List Regio
         subst (λ (x : Desk). BacksForest x.pool_words x.forest x.places) same (backs _ (reached_after w (events.Config c) h.reached may))
 
     module _ (ws_then : List ℕ) (cells : map (block_for blocks) (all_places e.backed.backing) ≡ blocks_at ws_then (all_places e.backed.backing))
-        (wide : length ws_then ≡ e.backed.backing.pool_words + notifier_count) (current : e.backed.desk.current ≡ d.backed.desk.current) where
+        (wide : length ws_then ≡ e.backed.backing.pool_words + notifier_count) (current : e.backed.desk.current ≡ d.backed.desk.current)
+        (ready : IfSome e.due (IsReady e.backed)) where
       leads : world_after w (events.Config c) ≡ world_of e (unswept k) ws_then (aside dropped_then unfilled)
       leads =
           ap (λ (s : Settled). world (writer (desks.unswept s.desk) (generations_of k)) k.states (map (block_for blocks) (places_of
@@ -108,7 +102,9 @@ module _ (d : WriterState) (k : KeptState) (ws : List ℕ) (dropped : List Regio
       changes = record {
         world = record {
           reached = subst IsReached leads (reached_after w (events.Config c) h.reached may);
-          current = h.current ∙ ap (λ (p : Published). Some p) (sym current);
+          current = h.current ∙ ap (λ (p : Published). p.forest) (sym current);
+          number = ap (λ (p : Published). p.number) current ∙ h.number;
+          ready = ready;
           wide = wide;
         };
         changed = record {
@@ -126,16 +122,16 @@ module _ (d : WriterState) (k : KeptState) (ws : List ℕ) (dropped : List Regio
       (λ i. (sym same i, sym kept i, aside (sym drops i) (sym none i)))
       (changes d (Err why) dropped []
       (subst (λ (x : WriterState). configured (generations_of k) started c ≡ settled_as (desk_of x (filled_beside dropped k.swept)) (Err why)) same
-      (is (generations_of k) (filled_beside dropped k.swept) current_here (λ u. sym told)))
-      ws (made.same_cells ws d.backed h.wide w.writer.desk.forest back few below) h.wide refl)
+      (is (generations_of k) (filled_beside dropped k.swept) h.current (λ u. sym told)))
+      ws (made.same_cells ws d.backed h.wide w.writer.desk.forest back few below) h.wide refl h.ready)
 
   -- an accepted event
   module _ (e : WriterState) (held : Option Refusal) (a : Applied) (is : IsConfigured d c held e (Ok a))
       (told : held ≡ held_up (generations_of k)) (ok : IsAccepted d c e a) where
     settled_so : configured (generations_of k) started c
         ≡ settled_as (desk_of e (beside (aside (dropped_with c dropped) (unfilled_with d.backed c)) k.swept)) (Ok a)
-    settled_so = is (generations_of k) (filled_beside dropped k.swept) current_here (λ u. sym told)
-        ∙ ap (λ (x : Beside). settled_as (desk_of e x) (Ok a)) (kept_beside d (filled_beside dropped k.swept) c refl)
+    settled_so = is (generations_of k) (filled_beside dropped k.swept) h.current (λ u. sym told)
+        ∙ ap (λ (x : Beside). settled_as (desk_of e x) (Ok a)) (kept_beside d.backed (filled_beside dropped k.swept) c refl)
 
     abbrev Clears : Backing → Applied → Type 0
     Clears n x = made.Clears ws d.backed h.wide w.writer.desk.forest back few below n x (unfilled_with d.backed c)
@@ -160,16 +156,17 @@ module _ (d : WriterState) (k : KeptState) (ws : List ℕ) (dropped : List Regio
         (made_only d.backed e.backed.backing.places c)) wide
 
     -- the parts as they are then
-    pub accepted : (ws_then : List ℕ) → ws_then ≡ cleared_at ws (made_place e.backed.backing.places a) → length ws_then ≡ length ws
+    pub accepted : IfSome e.due (IsReady e.backed) → (ws_then : List ℕ) → ws_then ≡ cleared_at ws (made_place e.backed.backing.places a)
+        → length ws_then ≡ length ws
         → (kept_then : KeptState) → kept_then ≡ unswept k → (dropped_then : List RegionId) → dropped_then ≡ dropped_with c dropped
         → (cells : List Cell) → cells ≡ cells_at (made_place e.backed.backing.places a)
         → ChangesWorld w c (Ok a) e kept_then ws_then (aside dropped_then cells)
-    accepted ws_then cleared long kept_then kept dropped_then drops cells left =
+    accepted ready ws_then cleared long kept_then kept dropped_then drops cells left =
         subst (λ (z : KeptState × Aside). ChangesWorld w c (Ok a) e z.0 ws_then z.1)
         (λ i. (sym kept i, aside (sym drops i) (sym (left ∙ sym clears_so.left) i)))
         (changes e (Ok a) (dropped_with c dropped) (unfilled_with d.backed c) settled_so ws_then
         (clears_so.cells ∙ ap (λ (vs : List ℕ). blocks_at vs (all_places e.backed.backing)) (sym cleared))
-        (long ∙ h.wide ∙ ap (λ (n : ℕ). n + notifier_count) (sym (ap (λ (n : Backing). n.pool_words) ok.backing ∙ pool_stays d c))) ok.current)
+        (long ∙ h.wide ∙ ap (λ (n : ℕ). n + notifier_count) (sym (ap (λ (n : Backing). n.pool_words) ok.backing ∙ pool_stays d.backed c))) ok.current ready)
 
 -- where nothing is due or unfilled and not every pass was swept, only what publishes nothing may happen
 

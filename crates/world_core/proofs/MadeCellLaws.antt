@@ -1,8 +1,7 @@
 -- The cells of a region that is made are 0, and those of the others stay.
 use Rattle.std.proofs.Common.{◌≡◌, ◌≢◌, ℕ, ◌+◌, ◌<◌, ◌≤◌, Bool, true, false, List, [], ◌∷◌, ◌++◌, map, length}
 use Rattle.std.proofs.Common.{Option, Some, None, refl, sym, ap, subst, ◌∙◌, arith, append-nil, inl, inr, ne_eqb, eq-eqb}
-use Rattle.std.specs.Prelude.{◌==◌, if◌then◌else◌, replicate, flat_map, IfSome}
-use Rattle.std.specs.List.{range_with_len}
+use Rattle.std.specs.Prelude.{◌==◌, if◌then◌else◌, flat_map, IfSome}
 use Rattle.mem_base.specs.declared.map.ids.RegionId.{RegionId}
 use Rattle.mem_base.specs.declared.map.forests.Forest.{Forest}
 use Rattle.mem_base.specs.declared.map.calls.Call.TheVariants as calls
@@ -12,16 +11,14 @@ use Rattle.mem_base.specs.declared.map.calls.Config.{Config}
 use Rattle.mem_base.specs.declared.map.calls.Config.TheVariants as configs
 use Rattle.mem_base.specs.declared.access.cells.Place.{Place}
 use Rattle.mem_base.specs.declared.access.cells.Cell.{Cell}
-use Rattle.mem_base.specs.declared.machine.events.Event.TheVariants as events
 use Rattle.mem_base.specs.lists.Every.{Every, HasElement}
 use Rattle.mem_base.specs.map.Limits.{notifier_count, most_made}
 use Rattle.mem_base.specs.access.Places.{Extent, extent_of, words_of, place_from, first_fit, notifiers_place, past, is_notifiers}
 use Rattle.mem_base.specs.access.PlacesByRegion.{place_in}
-use Rattle.mem_base.specs.access.Cells.{Block, has_block, cells_in}
+use Rattle.mem_base.specs.access.Cells.{Block}
 use Rattle.mem_base.specs.machine.Desk.{cells_of}
-use Rattle.mem_base.specs.machine.World.{World, block_for}
-use Rattle.mem_base.specs.machine.History.{run_events}
-use Rattle.mem_base.proofs.EveryLaws.{weaker, every_push}
+use Rattle.mem_base.specs.machine.World.{block_for}
+use Rattle.mem_base.proofs.EveryLaws.{weaker}
 use Rattle.history_laws.specs.BackedForests.{BacksForest}
 use Rattle.world_laws.proofs.Lists.{found_has}
 use Rattle.mem_base.specs.access.PlaceCells.{blocks_at}
@@ -29,13 +26,13 @@ use Rattle.place_words.specs.Blocks.{AreWithin}
 use Rattle.place_words.proofs.CellLaws.{new_cleared, places_keep}
 use Rattle.backing_pool.specs.Backing.{Backing}
 use Rattle.backed_desk.specs.Backed.{BackedState, all_places, backing_at, places_for, forest_at}
-use Rattle.writer_desk.specs.Writers.{unfilled_by, backing_by, applied_by}
+use Rattle.writer_desk.specs.Writers.{backing_by, applied_by}
 use Rattle.writer_desk.specs.Writers.{made_place}
-use Rattle.world_core.specs.Configuring.{cleared_at}
+use Rattle.world_core.specs.Worlds.{cleared_at}
 use Rattle.world_core.specs.Events.{makes_region}
 use Rattle.world_core.specs.Unfilled.{cells_at}
-use Rattle.world_core.proofs.ComposedLaws.{fills_leave_blocks}
-use Rattle.world_core.proofs.WordLaws.{all_apart, all_within}
+use Rattle.world_hand.proofs.Completing.{all_apart, all_within}
+use Rattle.writer_run.proofs.MadeLaws.{unfilled_with}
 
 -- a region that none of these places is of
 abbrev AreOthers : RegionId → List Place → Type 0
@@ -49,23 +46,9 @@ last_place : (p : Place) (qs : List Place) → AreOthers p.region qs → place_i
 last_place p [] h = rw (eq-eqb p.region.0 p.region.0 refl) refl
 last_place p (q ∷ qs) h = rw (ne_eqb q.region.0 p.region.0 h.0) (last_place p qs h.1)
 
-no_block : (ws : List ℕ) (r : RegionId) (qs : List Place) → AreOthers r qs → has_block (blocks_at ws qs) r ≡ false
-no_block ws r [] h = refl
-no_block ws r (q ∷ qs) h = rw (ne_eqb q.region.0 r.0 h.0) (no_block ws r qs h.1)
-
-new_cells : (bs : List Block) (p : Place) (more qs : List Place) → AreOthers p.region qs → has_block bs p.region ≡ false
-    → cells_in (map (block_for bs) ((qs ++ p ∷ []) ++ more)) p.region ≡ replicate p.words 0
-new_cells bs p more [] h none = rw (eq-eqb p.region.0 p.region.0 refl) (ap (λ (b : Bool). if b then cells_in bs p.region else replicate p.words 0) none)
-new_cells bs p more (q ∷ qs) h none = rw (ne_eqb q.region.0 p.region.0 h.0) (new_cells bs p more qs h.1 none)
-
 pub all_have : {A : Type 0} (xs : List A) → Every (HasElement xs) xs
 all_have [] = tt
 all_have (x ∷ xs) = (inl refl, weaker (HasElement xs) (HasElement (x ∷ xs)) (λ y m. inr m) xs (all_have xs))
-
--- the cells that are not cleared yet after an accepted event, where all were before it
-abbrev pub unfilled_with : BackedState → Config → List Cell
-unfilled_with s (configs.Call call) = unfilled_by s call []
-unfilled_with s c = []
 
 module _ (ws : List ℕ) (s : BackedState) (wide : length ws ≡ s.backing.pool_words + notifier_count)
     (f : Forest) (back : BacksForest s.backing.pool_words f s.backing.places)
@@ -80,14 +63,10 @@ module _ (ws : List ℕ) (s : BackedState) (wide : length ws ≡ s.backing.pool_
   pub record Clears (n : Backing) (a : Applied) (unfilled : List Cell) : Type 0 where
     pub room : IfSome (made_place n.places a) (λ p. past p ≤ length ws)
     pub cells : map (block_for blocks) (all_places n) ≡ blocks_at (cleared_at ws (made_place n.places a)) (all_places n)
-    pub fills : (u : World) → u.blocks ≡ map (block_for blocks) (all_places n) → (run_events u (map (λ x. events.Fill x) unfilled)).world.blocks ≡ u.blocks
     pub left : unfilled ≡ cells_at (made_place n.places a)
 
   others : AreOthers made s.backing.places
   others = weaker (λ p. p.region.0 < (forest_at s).made) (λ p. p.region.0 ≢ made.0) (λ p l e. omega arith) s.backing.places below
-
-  all_others : AreOthers made (all_places s.backing)
-  all_others = every_push (λ p. p.region.0 ≢ made.0) s.backing.places (notifiers_place s.backing.pool_words) others (λ e. omega arith)
 
   pub same_cells : map (block_for blocks) (all_places s.backing) ≡ blocks
   same_cells = places_keep ws (all_places s.backing) (all_places s.backing)
@@ -98,7 +77,6 @@ module _ (ws : List ℕ) (s : BackedState) (wide : length ws ≡ s.backing.pool_
   none_made a none = record {
     room = subst (λ (o : Option Place). IfSome o (λ p. past p ≤ length ws)) (sym none) tt;
     cells = same_cells ∙ ap (λ (o : Option Place). blocks_at (cleared_at ws o) (all_places s.backing)) (sym none);
-    fills = λ u e. refl;
     left = ap (λ (o : Option Place). cells_at o) (sym none);
   }
 
@@ -110,7 +88,6 @@ module _ (ws : List ℕ) (s : BackedState) (wide : length ws ≡ s.backing.pool_
       → Clears (backing_at s.backing.pool_words (s.backing.places ++ p ∷ [])) (Made p.region) (cells_of p ++ [])
   with_words p is g new =
       let strange : AreOthers p.region s.backing.places = subst (λ (r : RegionId). AreOthers r s.backing.places) (sym is) others in
-      let all_strange : AreOthers p.region (all_places s.backing) = subst (λ (r : RegionId). AreOthers r (all_places s.backing)) (sym is) all_others in
       let found : place_in (s.backing.places ++ p ∷ []) p.region ≡ Some p = last_place p s.backing.places strange in
       let inside : past p ≤ s.backing.pool_words =
       found_has (λ q. past q ≤ s.backing.pool_words) (s.backing.places ++ p ∷ []) p.region p
@@ -124,10 +101,6 @@ module _ (ws : List ℕ) (s : BackedState) (wide : length ws ≡ s.backing.pool_
             (all_apart s.backing.pool_words (s.backing.places ++ p ∷ []) new.inside new.apart)
             ∙ ap (λ (o : Option Place). blocks_at (cleared_at ws o) ((s.backing.places ++ p ∷ []) ++ notifiers_place s.backing.pool_words ∷ []))
             (sym found);
-        fills = λ u e. ap (λ (cs : List Cell). (run_events u (map (λ x. events.Fill x) cs)).world.blocks) (append-nil (cells_of p))
-            ∙ fills_leave_blocks p.region p.words (range_with_len 0 p.words) u (ap (λ (bs : List Block). cells_in bs p.region) e
-            ∙ new_cells blocks p (notifiers_place s.backing.pool_words ∷ []) s.backing.places strange
-            (no_block ws p.region (all_places s.backing) all_strange));
         left = append-nil (cells_of p) ∙ ap (λ (o : Option Place). cells_at o) (sym found);
       }
 

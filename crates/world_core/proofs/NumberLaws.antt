@@ -21,8 +21,8 @@ use Rattle.view_laws.proofs.Tests.{both_of, not_true}
 use Rattle.history_laws.proofs.Outcomes.{Tells, outcome}
 use Rattle.world_laws.proofs.Running.{Sound, sound, sound_after}
 use Rattle.transact.proofs.MadeLaws.{counted_after, closed_made}
-use Rattle.world_core.specs.Worlds.{IsReached}
-use Rattle.world_core.proofs.WriterCallLaws.{nothing_left}
+use Rattle.world_hand.specs.Reached.{IsReached}
+use Rattle.world_hand.proofs.Completing.{nothing_left}
 
 -- a flag that is on counts as one
 abbrev pub one : Bool → ℕ

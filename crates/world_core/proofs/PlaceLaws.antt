@@ -22,7 +22,8 @@ use Rattle.world_laws.proofs.Lists.{found_has}
 use Rattle.kept_generations.specs.KeptState.{KeptState}
 use Rattle.writer_desk.specs.Writers.{WriterState}
 use Rattle.world_core.specs.Worlds.{Aside, world_of, IsWorld}
-use Rattle.world_core.proofs.WordLaws.{reached_holds, backing, cells_change, word_before}
+use Rattle.world_hand.proofs.Completing.{reached_holds}
+use Rattle.world_core.proofs.WordLaws.{backing, cells_change, word_before}
 
 -- the notifiers' place is the last one, and those of regions come before it
 

@@ -1,6 +1,6 @@
 -- Worlds to which legal histories lead.
-use Rattle.std.proofs.Common.{◌≡◌, ℕ, ◌+◌, ◌<◌, ◌≤◌, true, Option, Some, None, arith, length-set, get_or-set_same, ltb-true}
-use Rattle.std.proofs.Common.{List, [], ◌∷◌, ◌++◌, refl, sym, ap, subst, ◌∙◌}
+use Rattle.std.proofs.Common.{◌≡◌, ℕ, ◌+◌, ◌<◌, ◌≤◌, true, arith, length-set, get_or-set_same, ltb-true}
+use Rattle.std.proofs.Common.{List, [], ◌∷◌, refl, sym, ap, subst, ◌∙◌}
 use Rattle.std.proofs.lemmas.List.{length-replicate}
 use Rattle.std.specs.Prelude.{length, replicate, nat_lt, is_some, is_none}
 use Rattle.mem_base.specs.declared.map.ids.PassId.{PassId}
@@ -8,41 +8,28 @@ use Rattle.mem_base.specs.declared.machine.events.Event.TheVariants as events
 use Rattle.mem_base.specs.declared.machine.events.Event.{Event}
 use Rattle.mem_base.specs.machine.Passes.{PassState, pass_of, pass_after, with_pass, idle}
 use Rattle.mem_base.specs.machine.World.{World, world, possible, reply, world_after, opening}
-use Rattle.mem_base.specs.machine.History.{PureEntry, pure_entry, after_entry, after_entries, IsLegalFrom, IsOrderly}
+use Rattle.mem_base.specs.machine.History.{pure_entry, IsOrderly}
 use Rattle.history_laws.proofs.OrderLaws.{order}
 use Rattle.mem_base.specs.access.Cells.{Block}
 use Rattle.mem_base.specs.access.Places.{notifiers_place}
 use Rattle.mem_base.specs.map.Calls.{empty}
 use Rattle.mem_base.specs.map.Limits.{notifier_count}
 use Rattle.mem_base.specs.machine.Reaps.{first_writer}
-use Rattle.view_laws.proofs.Tests.{both_of, both, true_is_not_false}
+use Rattle.view_laws.proofs.Tests.{both_of, both}
 use Rattle.generation.specs.Published.{published}
 use Rattle.place_words.specs.Blocks.{AreWithin}
 use Rattle.place_words.proofs.CellLaws.{first_zero}
-use Rattle.kept_generations.specs.KeptState.{KeptState, first_kept, with_states, kept_at}
+use Rattle.mem_base.specs.machine.Publishing.{current_forest}
+use Rattle.kept_generations.specs.KeptState.{KeptState, first_kept, generations_of, with_states}
 use Rattle.writer_desk.specs.Writers.{WriterState, first_state}
-use Rattle.world_core.specs.Worlds.{Aside, aside, world_of, IsReached, IsWorld}
+use Rattle.world_core.specs.Worlds.{Aside, aside, world_of, IsWorld}
+use Rattle.world_hand.specs.Reached.{IsReached}
+use Rattle.world_hand.proofs.Completing.{reached_on}
 use Rattle.world_laws.proofs.PassKeeping.{not_entered}
-
-after_last : (w : World) (xs : List PureEntry) (x : PureEntry) → after_entries w (xs ++ x ∷ []) ≡ after_entry (after_entries w xs) x
-after_last w [] x = refl
-after_last w (y ∷ ys) x = after_last (after_entry w y) ys x
-
-legal_last : (w : World) (xs : List PureEntry) (x : PureEntry) → IsLegalFrom w xs → possible (after_entries w xs) x.event ≡ true
-    → x.reply ≡ reply (after_entries w xs) x.event → IsLegalFrom w (xs ++ x ∷ [])
-legal_last w [] x h may told = (may, told, tt)
-legal_last w (y ∷ ys) x h may told = (h.0, h.1, legal_last (after_entry w y) ys x h.2 may told)
 
 -- a possible event leads on
 pub reached_after : (w : World) (e : Event) → IsReached w → possible w e ≡ true → IsReached (world_after w e)
-reached_after w e r may = let x = pure_entry e (reply w e) in record {
-  pool_words = r.pool_words;
-  passes = r.passes;
-  entries = r.entries ++ x ∷ [];
-  legal = legal_last (opening r.pool_words r.passes) r.entries x r.legal
-      (subst (λ (v : World). possible v e ≡ true) (sym r.leads) may) (subst (λ (v : World). reply w e ≡ reply v e) (sym r.leads) refl);
-  leads = after_last (opening r.pool_words r.passes) r.entries x ∙ ap (λ (v : World). after_entry v x) r.leads;
-}
+reached_after w e r may = reached_on w (pure_entry e (reply w e) ∷ []) (world_after w e) r (may, refl, tt) refl
 
 pub reached_first : (pool_words passes : ℕ) → IsReached (opening pool_words passes)
 reached_first pool_words passes = record { pool_words = pool_words; passes = passes; entries = []; legal = tt; leads = refl }
@@ -55,7 +42,9 @@ pub passes_change : (d : WriterState) (k l : KeptState) (ws : List ℕ) (x : Asi
     → l ≡ with_states k states → possible (world_of d k ws x) e ≡ true → world_of d l ws x ≡ world_after (world_of d k ws x) e → IsWorld d l ws x
 passes_change d k l ws x states e h is may goes = record {
   reached = subst IsReached (sym goes) (reached_after (world_of d k ws x) e h.reached may);
-  current = ap (λ (m : KeptState). kept_at m m.current) is ∙ h.current;
+  current = ap (λ (m : KeptState). current_forest (generations_of m)) is ∙ h.current;
+  number = h.number ∙ sym (ap (λ (m : KeptState). m.current) is);
+  ready = h.ready;
   wide = h.wide;
 }
 
@@ -94,5 +83,7 @@ pub world_at_first : (pool_words passes : ℕ) → IsWorld (first_state pool_wor
 world_at_first pool_words passes = record {
   reached = subst IsReached (sym (parts_at_first pool_words passes)) (reached_first pool_words passes);
   current = refl;
+  number = refl;
+  ready = tt;
   wide = length-replicate (pool_words + notifier_count) 0;
 }

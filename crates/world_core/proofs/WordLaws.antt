@@ -1,8 +1,7 @@
 -- Steps on words are steps on cells, and passes that are entered may make them.
-use Rattle.std.proofs.Common.{◌≡◌, ℕ, ◌+◌, ◌<◌, ◌≤◌, true, false, List, [], ◌∷◌, ◌++◌, Option, Some, None, refl, sym, ap, subst, ◌∙◌}
-use Rattle.std.proofs.Common.{inl, arith, length, ltb-true}
+use Rattle.std.proofs.Common.{◌≡◌, ℕ, ◌+◌, ◌<◌, ◌≤◌, true, false, List, Option, Some, None, refl, sym, ap, subst, ◌∙◌}
+use Rattle.std.proofs.Common.{arith, length, ltb-true}
 use Rattle.std.specs.Prelude.{is_some, slice_index, unwrap_or}
-use Rattle.std.proofs.lemmas.Bool.{eqb-false}
 use Rattle.mem_base.specs.declared.map.ids.RegionId.{RegionId}
 use Rattle.mem_base.specs.declared.map.ids.PassId.{PassId}
 use Rattle.mem_base.specs.declared.map.kinds.Client.{Client}
@@ -14,22 +13,20 @@ use Rattle.mem_base.specs.declared.machine.events.Event.{Event}
 use Rattle.mem_base.specs.declared.machine.events.Event.TheVariants as events
 use Rattle.mem_base.specs.lists.Every.{Every, EveryPair}
 use Rattle.mem_base.specs.map.Limits.{notifier_count}
-use Rattle.mem_base.specs.access.Places.{notifiers_place, is_notifiers, past, is_data_or_register, data_words, word_of_page, bit_of_page}
+use Rattle.mem_base.specs.access.Places.{past, is_data_or_register, data_words, word_of_page, bit_of_page}
 use Rattle.mem_base.specs.access.PlacesByRegion.{place_in}
 use Rattle.mem_base.specs.access.EditionPlaces.{ArePlacesApart}
 use Rattle.mem_base.specs.access.Cells.{cell, Touch, touch, touch_of, Block, words_after}
-use Rattle.mem_base.proofs.EveryLaws.{weaker, every_push, every_element}
+use Rattle.mem_base.proofs.EveryLaws.{every_element}
 use Rattle.mem_base.specs.machine.Passes.{pass_of}
 use Rattle.mem_base.specs.machine.Generations.{Generation, entered_generation}
 use Rattle.mem_base.specs.machine.World.{World, world, possible, reply, number_in, world_after, touched_blocks, touch_at, old_at}
-use Rattle.map_laws.proofs.PairLaws.{pairs_push}
 use Rattle.view_laws.proofs.Tests.{true_is_not_false}
-use Rattle.history_laws.specs.BackedForests.{BacksForest, ShowsOwnPlaces}
-use Rattle.history_laws.proofs.ShownLaws.{generations_show_places}
+use Rattle.history_laws.specs.BackedForests.{BacksForest}
 use Rattle.turn_laws.proofs.PassSteps.{touch_there}
 use Rattle.world_laws.specs.Standing.{StandsIn}
 use Rattle.world_laws.specs.Entered.{EntersHeld, MayStep}
-use Rattle.world_laws.proofs.Keeping.{Holds, holds, all_stand}
+use Rattle.world_laws.proofs.Keeping.{all_stand}
 use Rattle.world_laws.proofs.Lists.{found_has}
 use Rattle.world_laws.proofs.Entering.{entered_generations_are_held, steps_possible}
 use Rattle.access_run.specs.Hands.{IsPlaceOf}
@@ -39,34 +36,12 @@ use Rattle.place_words.proofs.CellLaws.{steps_on_cells}
 use Rattle.backed_desk.specs.Backed.{all_places}
 use Rattle.writer_desk.specs.Writers.{WriterState}
 use Rattle.world_core.specs.Hands.{published_as, shown_to, IsInside}
-use Rattle.world_core.specs.Worlds.{Aside, world_of, IsReached, IsWorld}
+use Rattle.world_core.specs.Worlds.{Aside, world_of, IsWorld}
+use Rattle.world_hand.specs.Reached.{IsReached}
+use Rattle.world_hand.proofs.Completing.{all_apart, all_within, backs, reached_holds}
 use Rattle.world_core.proofs.ReachedLaws.{reached_after}
 
-pub reached_holds : (w : World) → IsReached w → Holds w
-reached_holds w r = subst Holds r.leads (holds r.pool_words r.passes r.entries r.legal)
-
--- places of regions below a pool's end, and the notifiers' after it
-
-module _ (pool_words : ℕ) (places : List Place)
-    (inside : Every (λ p. (is_notifiers p.region ≡ false) × (0 < p.words) × (past p ≤ pool_words)) places) where
-  pub all_apart : EveryPair ArePlacesApart places → EveryPair ArePlacesApart (places ++ notifiers_place pool_words ∷ [])
-  all_apart apart = pairs_push ArePlacesApart places (notifiers_place pool_words)
-      (weaker (λ p. (is_notifiers p.region ≡ false) × (0 < p.words) × (past p ≤ pool_words)) (λ p. ArePlacesApart p (notifiers_place pool_words))
-      (λ p k. (eqb-false _ _ k.0, inl k.2)) places inside) apart
-
-  pub all_within : Every (λ p. past p ≤ pool_words + notifier_count) (places ++ notifiers_place pool_words ∷ [])
-  all_within = every_push (λ p. past p ≤ pool_words + notifier_count) places (notifiers_place pool_words)
-      (weaker (λ p. (is_notifiers p.region ≡ false) × (0 < p.words) × (past p ≤ pool_words)) (λ p. past p ≤ pool_words + notifier_count)
-      (λ p k. (let l : past p ≤ pool_words = k.2 in omega (arith, l))) places inside)
-      (let l : pool_words + notifier_count ≤ pool_words + notifier_count = omega arith in l)
-
--- what holds of the places of a world
-
-pub backs : (w : World) → IsReached w → BacksForest w.writer.desk.pool_words w.writer.desk.forest w.writer.desk.places
-backs w r =
-    let shown : ShowsOwnPlaces r.pool_words w.writer =
-    subst (λ (v : World). ShowsOwnPlaces r.pool_words v.writer) r.leads (generations_show_places r.pool_words r.passes r.entries r.legal) in
-    subst (λ (n : ℕ). BacksForest n w.writer.desk.forest w.writer.desk.places) (sym shown.pool) shown.backs
+-- steps on the words of places
 
 module _ (d : WriterState) (k : KeptState) (ws : List ℕ) (x : Aside) (h : IsWorld d k ws x) where
   abbrev here : World
@@ -124,6 +99,8 @@ module _ (d : WriterState) (k : KeptState) (ws : List ℕ) (x : Aside) (h : IsWo
   words_change vs e long may goes = record {
     reached = subst IsReached (sym goes) (reached_after here e h.reached may);
     current = h.current;
+    number = h.number;
+    ready = h.ready;
     wide = long ∙ h.wide;
   }
 

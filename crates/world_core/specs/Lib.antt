@@ -1,9 +1,7 @@
 pub mod Cleared
-pub mod Configuring
 pub mod Events
 pub mod Hands
-pub mod Released
+pub mod Rests
 pub mod RunLaws
-pub mod Steps
 pub mod Unfilled
 pub mod Worlds

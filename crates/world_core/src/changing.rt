@@ -1,21 +1,71 @@
 // One private event of the writer: a call, a begin, a commit, a listener that joins or leaves.
-ghost use Rattle.std.specs.Prelude.{◌≡◌, ◌≢◌, ◌≤◌, true, [], IfSome, OnOk, Ok, Err};
+ghost use Rattle.std.specs.Prelude.{◌≡◌, ◌≢◌, ◌<◌, ◌≤◌, true, [], length, Some, None, IfSome, IfOk, OnErr, OnOk, Ok, Err};
 ghost use Rattle.mem_base.specs.declared.machine.events.Event.TheVariants as events;
 ghost use Rattle.mem_base.specs.machine.Configs.{answers};
 ghost use Rattle.mem_base.specs.machine.World.{possible};
-ghost use Rattle.writer_desk.specs.Writers.{made_place};
+ghost use Rattle.mem_base.specs.access.Places.{past};
+ghost use Rattle.writer_desk.specs.Listened.{IsUnmoved};
+ghost use Rattle.writer_desk.specs.Writers.{IsAccepted, IsConfigured, IsReady, made_place};
+ghost use Rattle.world_core.specs.Worlds.{cleared_at, state_with};
 ghost use Rattle.world_core.specs.Events.{IsChanged, makes_region};
 ghost use Rattle.world_core.specs.Unfilled.{cells_at};
 
-use crate::configuring::{clear_made, configured};
 use crate::unfilled::Unfilled;
 use crate::world::World;
 use backed_desk::BackedDesk;
 use mem_base::{Applied, Call, Config, Refusal, Reply};
+use place_words::Words;
 use std::alloc::AllocError;
 use std::marker::Brand;
-use std::sync::ledger::Blank;
-use writer_desk::note_drop;
+use std::sync::ledger::{Blank, Ledger};
+use step_counter::Steps;
+use writer_desk::{Due, ListenedDesk, Planned, note_drop};
+
+// The private event, with a counter of carves of its own. What it publishes is due then, unless `held` says that a pass holds it up.
+fn configured<L: Ledger>(
+    desk: &mut ListenedDesk,
+    due: &mut Option<Due>,
+    config: &Config,
+    held: Option<Refusal>,
+    blank: Blank,
+) -> Result<Applied, Refusal>
+    requires rest { due.old ≡ None }
+    requires held { held ≢ Some Refusal.Memory }
+    requires name { blank.name ≡ L.name }
+    requires parts { blank.parts ≡ L.parts }
+    requires some { 0 < L.parts }
+    ensures configured { result ≢ Err Refusal.Memory
+        → IsConfigured (state_with desk.old due.old) config.now held (state_with desk.new due.new) result }
+    ensures accepted { IfOk result (λ applied. IsAccepted (state_with desk.old due.old) config.now (state_with desk.new due.new) applied) }
+    ensures ready { IfSome due.new (IsReady desk.new.backed) }
+    ensures unchanged { OnErr result (IsUnmoved desk.old desk.new × (due.new ≡ None)) }
+{
+    let mut steps = Steps::<L>::new(blank);
+    match desk.prepare(config, &mut steps)? {
+        Planned::Done(applied) => Ok(applied),
+        Planned::Ready(ready) => {
+            if let Some(why) = held {
+                return Err(why);
+            }
+            desk.tell(&ready);
+            *due = Some(ready);
+            Ok(Applied::Done)
+        }
+    }
+}
+
+// The words of a region that was made are 0.
+fn clear_made(words: &mut Words, desk: &BackedDesk, applied: Applied)
+    requires within { IfSome (made_place desk.now.backing.places applied) (λ p. past p ≤ length words.old) }
+    ensures words { words.new ≡ cleared_at words.old (made_place desk.now.backing.places applied) }
+    ensures len { length words.new ≡ length words.old }
+{
+    if let Applied::Made(region) = applied {
+        if let Some(place) = desk.place_of(region) {
+            words.clear(&place);
+        }
+    }
+}
 
 // Makes room to note each word of a region that is to be made, which has at most `words`.
 fn room_for_made(unfilled: &mut Unfilled, config: &Config, words: usize) -> Result<(), AllocError>
@@ -61,23 +111,29 @@ impl World {
         ensures changed { result ≢ Err Refusal.Memory → IsChanged self.old config.now result self.new }
         ensures unchanged { result ≡ Err Refusal.Memory → self.new ≡ self.old }
     {
-        // It tells that the desk's current generation has the current number.
-        let _ = self.kept.current_generation();
-        let held = self.kept.held_up();
-        self.dropped.reserve(1)?;
-        room_for_made(&mut self.unfilled, config, self.words.len())?;
-        match configured::<Brand>(&mut self.desk, config, held, Blank::new(1)) {
+        // It tells that the generations and the passes belong together.
+        let _ = self.hand.kept.current_generation();
+        let held = self.hand.kept.held_up();
+        self.desk.dropped.reserve(1)?;
+        room_for_made(&mut self.unfilled, config, self.hand.words.len())?;
+        match configured::<Brand>(
+            &mut self.desk.listened,
+            &mut self.due,
+            config,
+            held,
+            Blank::new(1),
+        ) {
             Ok(applied) => {
-                note_drop(&mut self.dropped, config);
-                clear_made(&mut self.words, self.desk.backed(), applied);
-                note_made(&mut self.unfilled, self.desk.backed(), applied);
-                self.kept.unsweep();
+                note_drop(&mut self.desk.dropped, config);
+                clear_made(&mut self.hand.words, self.desk.listened.backed(), applied);
+                note_made(&mut self.unfilled, self.desk.listened.backed(), applied);
+                self.hand.kept.unsweep();
                 Ok(applied)
             }
             Err(why) => match why {
                 Refusal::Memory => Err(Refusal::Memory),
                 _ => {
-                    self.kept.unsweep();
+                    self.hand.kept.unsweep();
                     Err(why)
                 }
             },

@@ -1,99 +1,22 @@
 // The writer's calls that change the map, and the listeners that join and leave: private events, with what goes before and after.
-ghost use Rattle.std.specs.Prelude.{◌≡◌, ◌≢◌, ◌+◌, ◌^◌, ◌<◌, ◌≤◌, true, length, option_map};
-ghost use Rattle.std.specs.Prelude.{Option, Some, Ok, Err, IfSome, OnErr, OnOk, IfOk};
-ghost use Rattle.std.specs.Arc.{arc_value};
+ghost use Rattle.std.specs.Prelude.{◌≡◌, ◌≢◌, true, Some, Err, IfErr, IfOk};
 ghost use Rattle.mem_base.specs.declared.map.calls.Config.TheVariants as configs;
-ghost use Rattle.mem_base.specs.access.Places.{past};
-ghost use Rattle.mem_base.specs.machine.World.{is_at_rest};
-ghost use Rattle.mem_base.specs.machine.Orders.{configure};
 ghost use Rattle.mem_base.specs.machine.Answers.{call_answer, commit_answer, plain_answer};
 ghost use Rattle.mem_base.specs.machine.Completions.{IsCompleted};
-ghost use Rattle.writer_desk.specs.Writers.{IsAccepted, IsConfigured, is_held, made_place};
-ghost use Rattle.world_core.specs.Configuring.{answer_by, cleared_at, followed, swept_if, unswept};
+ghost use Rattle.mem_base.specs.machine.Composites.{completed};
+ghost use Rattle.mem_base.specs.machine.Desk.{unswept};
+ghost use Rattle.mem_base.specs.machine.History.{IsLegalFrom};
+ghost use Rattle.mem_base.specs.machine.Orders.{configure};
+ghost use Rattle.mem_base.specs.machine.Publishing.{held_up, would_publish};
+ghost use Rattle.mem_base.specs.machine.World.{is_at_rest};
+ghost use Rattle.writer_desk.specs.Writers.{is_held};
+ghost use Rattle.writer_run.specs.Turns.{answer_by, number_told};
+ghost use Rattle.world_core.specs.Rests.{StaysAtRest};
 
+use crate::settling::settled;
 use crate::world::World;
-use backed_desk::BackedDesk;
-use generation::Generation;
-use kept_generations::Kept;
 use mem_base::{Applied, Call, Config, ListenerId, Refusal, SpaceId};
-use place_words::Words;
-use std::alloc::Global;
-use std::marker::Brand;
-use std::sync::Arc;
-use std::sync::ledger::{Blank, Ledger};
-use step_counter::Steps;
-use writer_desk::{WriterDesk, note_drop};
-
-/// The private event, with a counter of carves of its own.
-pub(crate) fn configured<L: Ledger>(
-    desk: &mut WriterDesk,
-    config: &Config,
-    held: Option<Refusal>,
-    blank: Blank,
-) -> Result<Applied, Refusal>
-    requires rest { desk.old.due ≡ None }
-    requires held { held ≢ Some Refusal.Memory }
-    requires name { blank.name ≡ L.name }
-    requires parts { blank.parts ≡ L.parts }
-    requires some { 0 < L.parts }
-    ensures configured { result ≢ Err Refusal.Memory → IsConfigured desk.old config.now held desk.new result }
-    ensures accepted { IfOk result (λ applied. IsAccepted desk.old config.now desk.new applied) }
-    ensures unchanged { OnErr result (desk.new ≡ desk.old) }
-{
-    let mut steps = Steps::<L>::new(blank);
-    desk.configure(config, held, &mut steps)
-}
-
-/// The words of a region that was made are 0.
-pub(crate) fn clear_made(words: &mut Words, desk: &BackedDesk, applied: Applied)
-    requires within { IfSome (made_place desk.now.backing.places applied) (λ p. past p ≤ length words.old) }
-    ensures words { words.new ≡ cleared_at words.old (made_place desk.now.backing.places applied) }
-    ensures len { length words.new ≡ length words.old }
-{
-    if let Applied::Made(region) = applied {
-        if let Some(place) = desk.place_of(region) {
-            words.clear(&place);
-        }
-    }
-}
-
-// Whether a refusal says that a pass holds a publish up. Just an event that is refused so would have been a publish.
-fn is_held(why: Refusal) -> bool
-    ensures { result ≡ is_held why }
-{
-    matches!(why, Refusal::Held(..))
-}
-
-// After an event that was refused no pass is swept; each was, where it would have been a publish.
-fn refuse(kept: &mut Kept, publishes: bool)
-    ensures { kept.new ≡ unswept (swept_if publishes kept.old) }
-{
-    if publishes {
-        kept.sweep_all();
-    }
-    kept.unsweep();
-}
-
-// After an accepted event no pass is swept. The next generation is current then, where there is one; its number is answered.
-fn follow(kept: &mut Kept, next: Option<Arc<Generation, Global>>) -> Option<u64>
-    requires number { IfSome next (λ g. (arc_value g).number ≡ kept.old.current + 1) }
-    requires fits { IfSome next (λ g. (arc_value g).number + 1 < 2 ^ 64) }
-    ensures state { kept.new ≡ followed kept.old (option_map arc_value next) }
-    ensures number { result ≡ option_map (λ g. kept.old.current + 1) next }
-{
-    match next {
-        Some(next) => {
-            kept.sweep_all();
-            kept.unsweep();
-            kept.publish(next);
-            Some(kept.current())
-        }
-        None => {
-            kept.unsweep();
-            None
-        }
-    }
-}
+use writer_run::{begin, configure};
 
 impl World {
     /// A change of the map, or a region that is made or dropped. A change outside all transactions is published: the listeners are
@@ -104,7 +27,14 @@ impl World {
     pub fn call(&mut self, call: &Call) -> Result<(Applied, Option<u64>), Refusal>
         requires rest { is_at_rest self.old.writer.desk ≡ true }
         ensures completed { result ≢ Err Refusal.Memory → IsCompleted self.old (configure (configs.Call call.now)) (call_answer result) self.new }
+        ensures legal { IsLegalFrom self.old (completed self.old (configure (configs.Call call.now))).entries }
+        ensures number { IfOk result (λ x. x.1 ≡ number_told self.old.writer (configs.Call call.now)) }
+        ensures cause { IfErr result (λ why. why ≢ Refusal.Memory → is_held why ≡ would_publish self.old.writer.desk (configs.Call call.now)) }
+        ensures held { IfErr result (λ why. would_publish self.old.writer.desk (configs.Call call.now) ≡ true → why ≢ Refusal.Memory
+            → held_up self.new.writer.generations ≡ Some why) }
+        ensures left { IfErr result (λ why. why ≢ Refusal.Memory → self.new.writer.desk ≡ unswept self.old.writer.desk) }
         ensures unchanged { result ≡ Err Refusal.Memory → self.new ≡ self.old }
+        ensures rests { StaysAtRest self.old self.new }
     {
         self.configure(&Config::Call(*call))
     }
@@ -114,14 +44,14 @@ impl World {
     /// It is refused with `TooNested` where 64 are open; the bound is this project's own. It takes no memory.
     pub fn begin(&mut self) -> Result<(), Refusal>
         requires rest { is_at_rest self.old.writer.desk ≡ true }
-        ensures { IsCompleted self.old (configure configs.Begin) (plain_answer result) self.new }
+        ensures completed { IsCompleted self.old (configure configs.Begin) (plain_answer result) self.new }
+        ensures legal { IsLegalFrom self.old (completed self.old (configure configs.Begin)).entries }
     {
-        // It tells that a legal history leads here.
-        self.is_reached();
-        let begun = self.desk.begin();
-        self.kept.unsweep();
-        begun?;
-        Ok(())
+        // It tells that each pass has its flag.
+        let _ = self.hand.kept.current();
+        let begun = begin(&mut self.desk, &self.hand);
+        self.hand.kept.unsweep();
+        begun
     }
 
     /// Closes a transaction. The outermost one publishes what is pending, and answers the number of the generation that is current
@@ -132,7 +62,14 @@ impl World {
     pub fn commit(&mut self) -> Result<Option<u64>, Refusal>
         requires rest { is_at_rest self.old.writer.desk ≡ true }
         ensures completed { result ≢ Err Refusal.Memory → IsCompleted self.old (configure configs.Commit) (commit_answer result) self.new }
+        ensures legal { IsLegalFrom self.old (completed self.old (configure configs.Commit)).entries }
+        ensures number { IfOk result (λ number. number ≡ number_told self.old.writer configs.Commit) }
+        ensures cause { IfErr result (λ why. why ≢ Refusal.Memory → is_held why ≡ would_publish self.old.writer.desk configs.Commit) }
+        ensures held { IfErr result (λ why. would_publish self.old.writer.desk configs.Commit ≡ true → why ≢ Refusal.Memory
+            → held_up self.new.writer.generations ≡ Some why) }
+        ensures left { IfErr result (λ why. why ≢ Refusal.Memory → self.new.writer.desk ≡ unswept self.old.writer.desk) }
         ensures unchanged { result ≡ Err Refusal.Memory → self.new ≡ self.old }
+        ensures rests { StaysAtRest self.old self.new }
     {
         let (_, number) = self.configure(&Config::Commit)?;
         Ok(number)
@@ -151,7 +88,10 @@ impl World {
         requires rest { is_at_rest self.old.writer.desk ≡ true }
         ensures completed { result ≢ Err Refusal.Memory
             → IsCompleted self.old (configure (configs.Listen listener space priority)) (plain_answer result) self.new }
+        ensures legal { IsLegalFrom self.old (completed self.old (configure (configs.Listen listener space priority))).entries }
+        ensures left { IfErr result (λ why. why ≢ Refusal.Memory → self.new.writer.desk ≡ unswept self.old.writer.desk) }
         ensures unchanged { result ≡ Err Refusal.Memory → self.new ≡ self.old }
+        ensures rests { StaysAtRest self.old self.new }
     {
         self.configure(&Config::Listen {
             listener,
@@ -168,7 +108,10 @@ impl World {
     pub fn unlisten(&mut self, listener: ListenerId) -> Result<(), Refusal>
         requires rest { is_at_rest self.old.writer.desk ≡ true }
         ensures completed { result ≢ Err Refusal.Memory → IsCompleted self.old (configure (configs.Unlisten listener)) (plain_answer result) self.new }
+        ensures legal { IsLegalFrom self.old (completed self.old (configure (configs.Unlisten listener))).entries }
+        ensures left { IfErr result (λ why. why ≢ Refusal.Memory → self.new.writer.desk ≡ unswept self.old.writer.desk) }
         ensures unchanged { result ≡ Err Refusal.Memory → self.new ≡ self.old }
+        ensures rests { StaysAtRest self.old self.new }
     {
         self.configure(&Config::Unlisten(listener))?;
         Ok(())
@@ -179,27 +122,16 @@ impl World {
     fn configure(&mut self, config: &Config) -> Result<(Applied, Option<u64>), Refusal>
         requires rest { is_at_rest self.old.writer.desk ≡ true }
         ensures completed { result ≢ Err Refusal.Memory → IsCompleted self.old (configure config.now) (answer_by config.now result) self.new }
+        ensures legal { IsLegalFrom self.old (completed self.old (configure config.now)).entries }
+        ensures number { IfOk result (λ x. x.1 ≡ number_told self.old.writer config.now) }
+        ensures cause { IfErr result (λ why. why ≢ Refusal.Memory → is_held why ≡ would_publish self.old.writer.desk config.now) }
+        ensures held { IfErr result (λ why. would_publish self.old.writer.desk config.now ≡ true → why ≢ Refusal.Memory
+            → held_up self.new.writer.generations ≡ Some why) }
+        ensures left { IfErr result (λ why. why ≢ Refusal.Memory → self.new.writer.desk ≡ unswept self.old.writer.desk) }
         ensures unchanged { result ≡ Err Refusal.Memory → self.new ≡ self.old }
+        ensures rests { StaysAtRest self.old self.new }
     {
-        // It tells that the desk's current generation has the current number, and its forest, which bounds that number.
-        let _ = self.kept.current_generation();
-        let _ = self.desk.backed().desk().tree();
-        let held = self.kept.held_up_if_swept();
-        self.dropped.reserve(1)?;
-        match configured::<Brand>(&mut self.desk, config, held, Blank::new(1)) {
-            Ok(applied) => {
-                note_drop(&mut self.dropped, config);
-                clear_made(&mut self.words, self.desk.backed(), applied);
-                let number = follow(&mut self.kept, self.desk.publish());
-                Ok((applied, number))
-            }
-            Err(why) => match why {
-                Refusal::Memory => Err(Refusal::Memory),
-                _ => {
-                    refuse(&mut self.kept, is_held(why));
-                    Err(why)
-                }
-            },
-        }
+        let answer = configure(&mut self.desk, &mut self.hand, config);
+        settled(&mut self.hand.kept, answer)
     }
 }

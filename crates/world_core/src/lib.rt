@@ -15,6 +15,7 @@ mod numbers;
 mod possible;
 mod publishing;
 mod reaping;
+mod settling;
 mod shown;
 mod unfilled;
 mod words;

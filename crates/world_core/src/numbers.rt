@@ -17,7 +17,7 @@ impl World {
         ensures number { result ≡ number_in (reply self.old (events.Look pass)) }
         ensures world { self.new ≡ world_after self.old (events.Look pass) }
     {
-        self.kept.look(pass)
+        self.hand.kept.look(pass)
     }
 
     /// The pass announces the number that it looked at.
@@ -25,7 +25,7 @@ impl World {
         requires { possible self.old (events.Announce pass) ≡ true }
         ensures { self.new ≡ world_after self.old (events.Announce pass) }
     {
-        self.kept.announce(pass);
+        self.hand.kept.announce(pass);
     }
 
     /// The pass enters the current generation, whose number is answered.
@@ -34,7 +34,7 @@ impl World {
         ensures number { result ≡ number_in (reply self.old (events.Enter pass)) }
         ensures world { self.new ≡ world_after self.old (events.Enter pass) }
     {
-        self.kept.enter(pass)
+        self.hand.kept.enter(pass)
     }
 
     /// The pass leaves its generation.
@@ -45,7 +45,7 @@ impl World {
         ensures world { self.new ≡ after_events self.old (leaves pass) }
         ensures keeps { KeepsWriter self.old self.new }
     {
-        self.kept.leave(pass);
+        self.hand.kept.leave(pass);
     }
 
     /// The pass enters the current generation, whose number is answered: it looks at the number, announces it, and enters.

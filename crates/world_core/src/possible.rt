@@ -6,13 +6,13 @@ ghost use Rattle.mem_base.specs.machine.Generations.{generation};
 ghost use Rattle.mem_base.specs.machine.Guards.{is_notifier, may_mark, may_reach};
 ghost use Rattle.mem_base.specs.machine.World.{is_at_rest, possible};
 
-use crate::harvesting::mark_words;
 use crate::world::World;
 use generation::Generation;
 use mem_base::{
     Cell, Client, Config, Event, Hand, NOTIFIER_COUNT, PAGE_SIZE, PassId, Place, RegionId,
     WORD_SIZE, WordStep,
 };
+use writer_run::mark_words;
 
 // Whether a word is one of the data or registers of a place.
 fn is_data_or_register(place: &Place, word: usize) -> bool
@@ -57,7 +57,7 @@ impl World {
         match *event {
             Event::Place(_) | Event::Publish => {
                 let due = self.is_due();
-                due && self.kept.may(event)
+                due && self.hand.kept.may(event)
             }
             Event::Word { hand, cell, step } => self.may_step(hand, &cell, step),
             Event::Mark {
@@ -75,9 +75,9 @@ impl World {
             Event::Config(config) => self.may_change(&config),
             Event::Reap => {
                 let rests = self.is_at_rest();
-                rests && self.kept.is_all_swept()
+                rests && self.hand.kept.is_all_swept()
             }
-            _ => self.kept.may(event),
+            _ => self.hand.kept.may(event),
         }
     }
 
@@ -85,7 +85,7 @@ impl World {
     fn is_due(&self) -> bool
         ensures { result ≡ self.now.writer.desk.due }
     {
-        self.desk.due().is_some()
+        self.due.is_some()
     }
 
     // Whether nothing is due or unfilled.
@@ -104,7 +104,7 @@ impl World {
             return false;
         };
         match hand {
-            Hand::Pass(pass) => match self.kept.entered_generation(pass) {
+            Hand::Pass(pass) => match self.hand.kept.entered_generation(pass) {
                 Some(generation) => may_reach(generation, &place, cell),
                 None => false,
             },
@@ -119,7 +119,7 @@ impl World {
         let Some(place) = self.place_of(region) else {
             return false;
         };
-        match self.kept.entered_generation(pass) {
+        match self.hand.kept.entered_generation(pass) {
             Some(generation) => may_mark(generation, &place, region, page),
             None => false,
         }
@@ -142,10 +142,10 @@ impl World {
         if !self.is_at_rest() {
             return false;
         }
-        if self.kept.is_all_swept() {
+        if self.hand.kept.is_all_swept() {
             return true;
         }
-        let publishes = self.desk.would_publish(config);
+        let publishes = self.desk.listened.would_publish(config);
         !publishes
     }
 }

@@ -13,7 +13,7 @@ impl World {
         ensures number { result ≡ number_in (reply self.old (events.Sweep pass)) }
         ensures world { self.new ≡ world_after self.old (events.Sweep pass) }
     {
-        self.kept.sweep(pass)
+        self.hand.kept.sweep(pass)
     }
 
     /// A pass has its copy of the next generation.
@@ -21,7 +21,7 @@ impl World {
         requires { possible self.old (events.Place pass) ≡ true }
         ensures { self.new ≡ world_after self.old (events.Place pass) }
     {
-        self.kept.place(pass);
+        self.hand.kept.place(pass);
     }
 
     /// The generation that is due is current then, and its number is answered.
@@ -30,14 +30,13 @@ impl World {
         ensures number { result ≡ number_in (reply self.old events.Publish) }
         ensures world { self.new ≡ world_after self.old events.Publish }
     {
-        // It tells that the desk's current generation has the current number.
-        let _ = self.kept.current_generation();
-        match self.desk.publish() {
-            Some(next) => {
+        match self.due.take() {
+            Some(due) => {
+                let next = self.desk.listened.done(due);
                 // It tells that 64 bits hold the next number.
-                let _ = self.desk.backed().desk().tree();
-                self.kept.publish(next);
-                self.kept.current()
+                let _ = self.desk.listened.backed().desk().tree();
+                self.hand.kept.publish(next);
+                self.hand.kept.current()
             }
             None => unreachable!(),
         }

@@ -14,7 +14,7 @@ impl World {
     pub fn journal(&self) -> &[(ListenerId, ListenerEvent)]
         ensures { result.now ≡ self.now.writer.desk.listening.journal }
     {
-        self.desk.listeners().journal()
+        self.desk.listened.listeners().journal()
     }
 
     /// The current generation, with its number.
@@ -23,7 +23,7 @@ impl World {
         ensures generation { generation_of self.now.writer.generations self.now.writer.generations.current
             ≡ Some (generation (arc_value result.now).forest (arc_value result.now).places) }
     {
-        match self.kept.shared(self.kept.current()) {
+        match self.hand.kept.shared(self.hand.kept.current()) {
             Some(generation) => generation,
             None => unreachable!(),
         }

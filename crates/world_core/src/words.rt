@@ -27,8 +27,8 @@ impl World {
         ensures world { self.new ≡ world_after self.old (events.Word hand (cell place.now.region word) step) }
     {
         // It tells that 64 bits hold the number of words.
-        let _ = self.words.len();
-        self.words.step(place.start + word, step)
+        let _ = self.hand.words.len();
+        self.hand.words.step(place.start + word, step)
     }
 
     /// Marks a page of a place as written, for one client.
@@ -40,8 +40,10 @@ impl World {
         ensures { self.new ≡ world_after self.old (events.Mark pass place.now.region client page) }
     {
         // It tells that 64 bits hold the number of words.
-        let _ = self.words.len();
+        let _ = self.hand.words.len();
         let (word, bits) = mark_of(place, client, page);
-        self.words.step(place.start + word, WordStep::Or { bits });
+        self.hand
+            .words
+            .step(place.start + word, WordStep::Or { bits });
     }
 }

@@ -4,17 +4,18 @@ ghost use Rattle.mem_base.specs.map.Limits.{most_passes};
 ghost use Rattle.mem_base.specs.machine.World.{opening};
 ghost use Rattle.mem_base.specs.machine.Passes.{pass_of};
 ghost use Rattle.world_core.specs.Hands.{IsInside, shown_to};
-ghost use Rattle.world_core.specs.Worlds.{IsReached};
+ghost use Rattle.world_hand.specs.Reached.{IsReached};
 
 use crate::unfilled::Unfilled;
 use generation::Generation;
 use kept_generations::Kept;
-use mem_base::{NOTIFIER_COUNT, PassId, RegionId};
+use mem_base::{NOTIFIER_COUNT, PassId};
 use place_words::Words;
 use std::alloc::{AllocError, Global};
 use std::marker::Model;
 use std::sync::Arc;
-use writer_desk::WriterDesk;
+use world_hand::PureHand;
+use writer_desk::{Due, IdleDesk};
 
 /// The pure machine. It is seen as the world of the definitions: the writer's desk, the generations that are kept, the passes, and
 /// the cells of all places.
@@ -22,23 +23,22 @@ use writer_desk::WriterDesk;
 /// It goes on by one event at a time, or by a call of the writer or of a pass, which makes several.
 #[derive(Drop)]
 pub struct World {
-    pub(crate) desk: WriterDesk,
-    pub(crate) kept: Kept,
-    pub(crate) words: Words,
-    // ascending
-    pub(crate) dropped: Vec<RegionId>,
+    pub(crate) desk: IdleDesk,
+    // what is ready to be published
+    pub(crate) due: Option<Due>,
+    pub(crate) hand: PureHand,
     pub(crate) unfilled: Unfilled,
 }
 
 impl Model for World {
     ghost use Rattle.mem_base.specs.machine.World as machine;
-    ghost use Rattle.world_core.specs.Worlds.{aside, world_of, IsWorld};
+    ghost use Rattle.world_core.specs.Worlds.{aside, state_of, world_of, IsWorld};
 
     ghost Value = { machine.World };
 
-    ghost view = { λ w. world_of w.desk w.kept w.words (aside w.dropped.items w.unfilled.cells) };
+    ghost view = { λ w. world_of (state_of w.desk w.due) w.hand.kept w.hand.words (aside w.desk.dropped.items w.unfilled.cells) };
 
-    ghost invariant = { λ w. IsWorld w.desk w.kept w.words (aside w.dropped.items w.unfilled.cells) };
+    ghost invariant = { λ w. IsWorld (state_of w.desk w.due) w.hand.kept w.hand.words (aside w.desk.dropped.items w.unfilled.cells) };
 }
 
 impl World {
@@ -51,13 +51,16 @@ impl World {
         requires few { passes ≤ most_passes }
         ensures { IfOk result (λ world. world ≡ opening words passes) }
     {
-        let desk = WriterDesk::new(alloc, words)?;
-        let first = Arc::clone(desk.backed().desk().current())?;
-        Ok(World {
-            desk,
+        let desk = IdleDesk::new(alloc, words)?;
+        let first = Arc::clone(desk.listened.backed().desk().current())?;
+        let hand = PureHand {
             kept: Kept::new(alloc, passes, first)?,
             words: Words::new(alloc, words + NOTIFIER_COUNT)?,
-            dropped: Vec::new(alloc),
+        };
+        Ok(World {
+            desk,
+            due: None,
+            hand,
             unfilled: Unfilled::none(alloc),
         })
     }
@@ -66,21 +69,21 @@ impl World {
     pub fn is_reached(&self)
         ensures { IsReached self.now }
     {
-        let _ = &self.dropped;
+        let _ = &self.unfilled;
     }
 
     /// The number of the current generation.
     pub fn current_number(&self) -> u64
         ensures { result ≡ self.now.writer.generations.current }
     {
-        self.kept.current()
+        self.hand.kept.current()
     }
 
     /// The number of the generation in which a pass is entered; `None` of a pass that there is not, too.
     pub fn entered(&self, pass: PassId) -> Option<u64>
         ensures { result ≡ (pass_of self.now.passes pass).entered }
     {
-        self.kept.entered(pass)
+        self.hand.kept.entered(pass)
     }
 
     /// The generation in which a pass is entered.
@@ -88,8 +91,8 @@ impl World {
         requires { IsInside self.now pass }
         ensures { result.now ≡ shown_to self.now pass }
     {
-        match self.kept.entered(pass) {
-            Some(number) => match self.kept.generation_of(number) {
+        match self.hand.kept.entered(pass) {
+            Some(number) => match self.hand.kept.generation_of(number) {
                 Some(generation) => generation,
                 None => unreachable!(),
             },

@@ -6,13 +6,10 @@
 //! current without taking memory.
 #![tactic(auto)]
 
-mod desk;
 mod idle;
 mod listened;
 mod ready;
-mod releases;
 
-pub use desk::WriterDesk;
 pub use idle::{IdleDesk, note_drop};
 pub use listened::ListenedDesk;
 pub use ready::{Due, Planned};

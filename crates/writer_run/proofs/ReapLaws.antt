@@ -21,7 +21,7 @@ use Rattle.mem_base.specs.machine.Publishing.{forest_in}
 use Rattle.mem_base.specs.machine.Reaps.{Writer, writer, is_named, is_among, released, reaped}
 use Rattle.mem_base.specs.machine.Turns.{Played, WriterCall, turn, private_entries, entries_of_turn}
 use Rattle.view_laws.proofs.Tests.{length_map}
-use Rattle.view_laws.proofs.SortedLaws.{every_filter}
+use Rattle.mem_base.proofs.EveryLaws.{weaker}
 use Rattle.history_laws.proofs.DroppedLaws.{IsGone}
 use Rattle.history_laws.proofs.Idles.{Idle}
 use Rattle.turn_laws.proofs.Rows.{flags_after, with_swept, swept_length}
@@ -39,7 +39,7 @@ use Rattle.writer_run.proofs.EntryLaws.{Keeps, same_flags, sweeps_keep, after_sw
 
 -- places without those of some regions
 
-same_either_way : (a b : ℕ) → (a == b) ≡ (b == a)
+pub same_either_way : (a b : ℕ) → (a == b) ≡ (b == a)
 same_either_way a b = go (a == b) refl
   where
     go : (c : Bool) → (a == b) ≡ c → c ≡ (b == a)
@@ -72,20 +72,36 @@ without_next r rs (p ∷ ps) = go (p.region.0 == r.0) (r.0 == p.region.0) (same_
 abbrev with_places : ListenedState → List Place → ListenedState
 with_places s places = with_backed (backed_state s.backed.desk (backing_at s.backed.backing.pool_words places)) s
 
-pub release_one : (rs : List RegionId) (i : ℕ) (other : RegionId) (s t : ListenedState) → i < length rs
-    → t ≡ with_backed (backed_state s.backed.desk (backing_without s.backed.backing (get_or rs i other))) s
-    → without_regions t (drop (i + 1) rs) ≡ without_regions s (drop i rs)
-release_one rs i other s t l is =
-    let next : suc i ≡ i + 1 = omega arith in
-    let later : List RegionId = drop (i + 1) rs in
-    ap (λ (x : ListenedState). without_regions x later) is
-    ∙ ap (with_places s) (without_next (get_or rs i other) later s.backed.backing.places)
-    ∙ ap (λ (qs : List RegionId). without_regions s qs) (sym (drop-cons rs i other l ∙ (λ j. get_or rs i other ∷ drop (next j) rs)))
+-- a list from one element on
+from_one : (rs : List RegionId) (i : ℕ) (other : RegionId) → i < length rs → drop i rs ≡ get_or rs i other ∷ drop (i + 1) rs
+from_one rs i other l = let next : suc i ≡ i + 1 = omega arith in drop-cons rs i other l ∙ (λ j. get_or rs i other ∷ drop (next j) rs)
 
-pub release_last : (rs : List RegionId) (i : ℕ) (s t : ListenedState) → length rs ≤ i → without_regions t (drop i rs) ≡ without_regions s rs
-    → t ≡ without_regions s rs
-release_last rs i s t all k =
-    sym (ap (with_places t) (all_stay t.backed.backing.places)) ∙ ap (λ (qs : List RegionId). without_regions t qs) (sym (drop_all i rs all)) ∙ k
+module _ (test : RegionId → Bool) (rs : List RegionId) (i : ℕ) (other : RegionId) (l : i < length rs) (s : ListenedState) where
+  abbrev r : RegionId
+  r = get_or rs i other
+
+  -- one that is not released
+  pub pass_one : test r ≡ false → without_regions s (filter test (drop (i + 1) rs)) ≡ without_regions s (filter test (drop i rs))
+  pass_one fails =
+      ap (λ (b : Bool). without_regions s (if b then r ∷ filter test (drop (i + 1) rs) else filter test (drop (i + 1) rs))) (sym fails)
+      ∙ ap (λ (qs : List RegionId). without_regions s (filter test qs)) (sym (from_one rs i other l))
+
+  -- one that is
+  pub release_one : (t : ListenedState) → test r ≡ true → t ≡ with_backed (backed_state s.backed.desk (backing_without s.backed.backing r)) s
+      → without_regions t (filter test (drop (i + 1) rs)) ≡ without_regions s (filter test (drop i rs))
+  release_one t passes released =
+      let later : List RegionId = filter test (drop (i + 1) rs) in
+      ap (λ (x : ListenedState). without_regions x later) released
+      ∙ ap (with_places s) (without_next r later s.backed.backing.places)
+      ∙ ap (λ (b : Bool). without_regions s (if b then r ∷ later else later)) (sym passes)
+      ∙ ap (λ (qs : List RegionId). without_regions s (filter test qs)) (sym (from_one rs i other l))
+
+-- when none is left, all that were to be released are
+pub release_last : (test : RegionId → Bool) (rs : List RegionId) (i : ℕ) (s t : ListenedState) → length rs ≤ i
+    → without_regions t (filter test (drop i rs)) ≡ without_regions s (filter test rs) → t ≡ without_regions s (filter test rs)
+release_last test rs i s t all k =
+    sym (ap (with_places t) (all_stay t.backed.backing.places))
+    ∙ ap (λ (qs : List RegionId). without_regions t (filter test qs)) (sym (drop_all i rs all)) ∙ k
 
 -- it is a turn, and the parts belong together after it
 pub record LeavesReaped (w : Writer) (makes : List HistoryEntry → Type 0) (words : ℕ) (g : Generations) (rs : List RegionId) (s : ListenedState)
@@ -112,11 +128,9 @@ module _ (from : IdleDesk) (g : Generations) (words : ℕ) (parts : AreParts fro
   abbrev named_by : Generations → List RegionId
   named_by h = filter (is_named h) dropped
 
-  -- a region that is released is not in the forest
-  pub none_there : (h : Generations) (rs : List RegionId) → rs ≡ unnamed_by h → Every (λ r. node_of (forest_at s.backed).nodes r ≡ None) rs
-  none_there h rs e = subst (λ (qs : List RegionId). Every (λ r. node_of (forest_at s.backed).nodes r ≡ None) qs) (sym e)
-      (every_filter (IsGone (forest_at s.backed)) (λ r. node_of (forest_at s.backed).nodes r ≡ None) (λ r. not (is_named h r)) dropped
-      (λ r t k. k.0) parts.gone.gone)
+  -- a dropped region is not in the forest
+  pub none_there : Every (λ r. node_of (forest_at s.backed).nodes r ≡ None) dropped
+  none_there = weaker (IsGone (forest_at s.backed)) (λ r. node_of (forest_at s.backed).nodes r ≡ None) (λ r t. t.0) dropped parts.gone.gone
 
   module _ (found : List ℕ) (each : length found ≡ length (sweeps g)) (makes : List HistoryEntry → Type 0) (made : makes (swept g found)) where
     abbrev g1 : Generations

@@ -70,7 +70,7 @@ call_answered call (Ok x) = refl
 call_answered call (Err why) = refl
 
 -- what holds a publish up is no want of memory
-held_tells : (current first : ℕ) (ks : List PassTrack) → held_from current first ks ≡ Some Memory → ⊥
+pub held_tells : (current first : ℕ) (ks : List PassTrack) → held_from current first ks ≡ Some Memory → ⊥
 held_tells current first [] e = none_is_not_some Memory e
 held_tells current first (k ∷ ks) e = go k.found (holds_up current k.found) e (held_tells current (first + 1) ks)
   where

@@ -1,5 +1,7 @@
 // The writer's calls that change the map, and the listeners that join and leave: a private event, with what goes before and after.
 ghost use Rattle.std.specs.Prelude.{◌≡◌, ◌≢◌, ◌<◌, true, Some, Err, IfOk, IfErr, OnErr};
+ghost use Rattle.mem_base.specs.declared.map.calls.Config.TheVariants as configs;
+ghost use Rattle.mem_base.specs.machine.Answers.{plain_answer};
 ghost use Rattle.mem_base.specs.machine.Orders.{configure};
 ghost use Rattle.mem_base.specs.machine.Publishing.{held_up, would_publish};
 ghost use Rattle.writer_desk.specs.Listened.{IsPlanned, IsRefused, IsUnmoved};
@@ -75,4 +77,19 @@ pub fn configure<H: WriterHand>(
             Ok((Applied::Done, Some(number)))
         }
     }
+}
+
+/// Opens a transaction, inside of those that are open: the turn of that. It takes no memory.
+///
+/// It is refused as the machine's definitions say, and leaves the desk as it was.
+pub fn begin<H: WriterHand>(desk: &mut IdleDesk, hand: &H) -> Result<(), Refusal>
+    requires parts { AreParts desk.old (H.Writing.generations hand.now) (H.Writing.words hand.now) }
+    ensures turn { IsTurn (part_of desk.old (H.Writing.generations hand.now)) (configure configs.Begin)
+        (λ xs. H.Writing.makes hand.now xs hand.now) (plain_answer result) (part_of desk.new (H.Writing.generations hand.now)) }
+    ensures parts { AreParts desk.new (H.Writing.generations hand.now) (H.Writing.words hand.now) }
+{
+    let _ = hand;
+    let begun = desk.listened.begin();
+    begun?;
+    Ok(())
 }

@@ -29,16 +29,16 @@ fn harvest_refusal(tree: &Tree, region: RegionId) -> Option<Refusal>
     None
 }
 
-// How many mark words each client has of a place.
-fn mark_words(place: &Place) -> usize
+/// How many mark words each client has of a place.
+pub fn mark_words(place: &Place) -> usize
     ensures value { result ≡ mark_words place.now.bytes }
     ensures fits { result * pages_per_word < 2 ^ 64 }
 {
     ((place.bytes / PAGE_SIZE + (PAGES_PER_WORD - 1)) / PAGES_PER_WORD) as usize
 }
 
-// The first page of a mark word of a place.
-fn first_page(place: &Place, index: usize) -> u64
+/// The first page of a mark word of a place.
+pub fn first_page(place: &Place, index: usize) -> u64
     requires { index < mark_words place.now.bytes }
     ensures value { result ≡ index * pages_per_word }
     ensures page { result < pages_in place.now }

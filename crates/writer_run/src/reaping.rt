@@ -30,20 +30,30 @@ fn unnamed<H: Names>(hand: &H, lowest: u64, regions: &[RegionId], out: &mut Vec<
     }
 }
 
-// Leaves only those of some regions that such a generation names.
-fn keep_named<H: Names>(hand: &H, lowest: u64, regions: &mut Vec<RegionId>)
+/// Leaves only those of some regions that a kept generation of at least this number names.
+pub fn keep_named<H: Names>(hand: &H, lowest: u64, regions: &mut Vec<RegionId>)
     ensures { regions.new.items ≡ filter (is_named_from (H.Writing.generations hand.now) lowest) regions.old.items }
 {
     regions.retain(|region| hand.is_named(*region, lowest));
 }
 
-// Gives the places of some regions back, none of which is in the forest any more. It takes no memory.
-fn release_each(desk: &mut ListenedDesk, regions: &[RegionId])
+/// Gives the places of those of some regions back that no kept generation of at least this number names. None of them is in the
+/// forest any more. It takes no memory.
+pub fn release_unnamed<H: Names>(
+    desk: &mut ListenedDesk,
+    hand: &H,
+    lowest: u64,
+    regions: &[RegionId],
+)
     requires gone { Every (λ r. node_of (forest_at desk.old.backed).nodes r ≡ None) regions.now }
-    ensures { desk.new ≡ without_regions desk.old regions.now }
+    ensures { desk.new ≡ without_regions desk.old
+        (filter (λ r. not (is_named_from (H.Writing.generations hand.now) lowest r)) regions.now) }
 {
     for region in regions.iter() {
-        desk.release(*region);
+        let held = hand.is_named(*region, lowest);
+        if !held {
+            desk.release(*region);
+        }
     }
 }
 
@@ -68,7 +78,7 @@ pub fn reap<H: Names>(
     let mut released = Vec::with_capacity(alloc, desk.dropped.len())?;
     let lowest = hand.sweep();
     unnamed(hand, lowest, desk.dropped.as_slice(), &mut released);
-    release_each(&mut desk.listened, released.as_slice());
+    release_unnamed(&mut desk.listened, hand, lowest, desk.dropped.as_slice());
     keep_named(hand, lowest, &mut desk.dropped);
     Ok(released)
 }

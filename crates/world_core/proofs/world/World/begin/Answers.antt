@@ -1,55 +1,47 @@
-use Rattle.std.proofs.Common.{rules, ◌≡◌, Ok, Err, None}
+use Rattle.std.proofs.Common.{refl, subst}
 use Rattle.mem_base.specs.declared.map.calls.Config.TheVariants.{Begin}
-use Rattle.mem_base.specs.machine.Answers.{answer_of_config}
-use Rattle.world_core.proofs.ConfiguringLaws.{begun, not_begun}
-use Rattle.world_core.proofs.FilledLaws.{Filled, filled_as, LeavesAll, leaves}
+use Rattle.mem_base.specs.machine.Answers.{plain_answer}
+use Rattle.mem_base.specs.machine.Orders.{configure}
+use Rattle.mem_base.specs.machine.World.{World}
+use Rattle.world_hand.specs.Reached.{IsReached}
+use Rattle.world_hand.proofs.Completing.{is_legal}
+use Rattle.world_core.proofs.RestLaws.{LeavesAll, Rested, leaves_all, parts, private_leaves, rested}
 use Rattle.world_core.proofs.world.World.begin.Goals as goal
+
+pub begin-begun-requires : goal.begin-begun-requires
+begin-begun-requires c =
+    let s = c.self.inside in record {
+      parts = parts s.desk s.hand.kept s.hand.words
+          (rested s.desk s.due s.hand.kept s.hand.words s.unfilled.cells c.args.self.now c.self.invariant c.self.view_is c.requires.rest).world;
+    }
 
 pub invariant_of-self : goal.invariant_of-self
 invariant_of-self c =
     let s = c.self.inside in
-    let f : Filled s.desk s.kept s.words s.dropped.items s.unfilled.cells c.args.self.now =
-    filled_as s.desk s.kept s.words s.dropped.items s.unfilled.cells c.args.self.now c.self.invariant c.self.view_is c.requires.rest in
-    let all : LeavesAll c.args.self.now Begin (answer_of_config Begin (Err c.in_err-begun.field-0.0) None)
-    c.begin-begun.new.self c.unsweep.new.self s.words s.dropped.items s.unfilled.cells =
-    leaves s.desk s.kept s.words s.dropped.items s.unfilled.cells c.args.self.now f Begin _ _ _ _ _
-    (not_begun s.desk s.kept s.words s.dropped.items f.world f.rest c.begin-begun.new.self c.in_err-begun.ensures.unchanged c.in_err-begun.field-0.0
-    c.in_err-begun.ensures.configured c.unsweep.new.self c.unsweep.ensures) in
+    let w : World = c.args.self.now in
+    let f : Rested s.desk s.due s.hand.kept s.hand.words s.unfilled.cells w =
+    rested s.desk s.due s.hand.kept s.hand.words s.unfilled.cells w c.self.invariant c.self.view_is c.requires.rest in
+    let answer = plain_answer c.begin-begun.result in
+    let e = c.begin-begun.new.desk in
+    let all : LeavesAll w (configure Begin) answer e s.due c.unsweep.new.self s.hand.words s.unfilled.cells =
+    leaves_all s.desk s.due s.hand.kept s.hand.words s.unfilled.cells w f (configure Begin) answer e c.unsweep.new.self s.hand.words
+    (private_leaves s.desk s.hand.kept s.hand.words f.world e s.hand.kept s.hand.words (configure Begin) answer tt c.begin-begun.ensures.turn
+    c.begin-begun.ensures.parts refl c.current.ensures.kept.each_swept c.unsweep.new.self c.unsweep.ensures) in
     all.world
 
-pub returns-in_err-begun : goal.returns-in_err-begun
-returns-in_err-begun c =
+pub returns-clause-completed : goal.returns-clause-completed
+returns-clause-completed c =
     let s = c.self.inside in
-    let f : Filled s.desk s.kept s.words s.dropped.items s.unfilled.cells c.args.self.now =
-    filled_as s.desk s.kept s.words s.dropped.items s.unfilled.cells c.args.self.now c.self.invariant c.self.view_is c.requires.rest in
-    let all : LeavesAll c.args.self.now Begin (answer_of_config Begin (Err c.in_err-begun.field-0.0) None)
-    c.begin-begun.new.self c.unsweep.new.self s.words s.dropped.items s.unfilled.cells =
-    leaves s.desk s.kept s.words s.dropped.items s.unfilled.cells c.args.self.now f Begin _ _ _ _ _
-    (not_begun s.desk s.kept s.words s.dropped.items f.world f.rest c.begin-begun.new.self c.in_err-begun.ensures.unchanged c.in_err-begun.field-0.0
-    c.in_err-begun.ensures.configured c.unsweep.new.self c.unsweep.ensures) in
-    let told : c.from_residual.result ≡ Err c.in_err-begun.field-0.0 = search rules in
-    rw told all.completed
+    let w : World = c.args.self.now in
+    let f : Rested s.desk s.due s.hand.kept s.hand.words s.unfilled.cells w =
+    rested s.desk s.due s.hand.kept s.hand.words s.unfilled.cells w c.self.invariant c.self.view_is c.requires.rest in
+    let answer = plain_answer c.begin-begun.result in
+    let e = c.begin-begun.new.desk in
+    let all : LeavesAll w (configure Begin) answer e s.due c.unsweep.new.self s.hand.words s.unfilled.cells =
+    leaves_all s.desk s.due s.hand.kept s.hand.words s.unfilled.cells w f (configure Begin) answer e c.unsweep.new.self s.hand.words
+    (private_leaves s.desk s.hand.kept s.hand.words f.world e s.hand.kept s.hand.words (configure Begin) answer tt c.begin-begun.ensures.turn
+    c.begin-begun.ensures.parts refl c.current.ensures.kept.each_swept c.unsweep.new.self c.unsweep.ensures) in
+    all.is
 
-pub invariant_of-self-2 : goal.invariant_of-self-2
-invariant_of-self-2 c =
-    let s = c.self.inside in
-    let f : Filled s.desk s.kept s.words s.dropped.items s.unfilled.cells c.args.self.now =
-    filled_as s.desk s.kept s.words s.dropped.items s.unfilled.cells c.args.self.now c.self.invariant c.self.view_is c.requires.rest in
-    let all : LeavesAll c.args.self.now Begin (answer_of_config Begin (Ok c.in_ok-begun.field-0) None)
-    c.begin-begun.new.self c.unsweep.new.self s.words s.dropped.items s.unfilled.cells =
-    leaves s.desk s.kept s.words s.dropped.items s.unfilled.cells c.args.self.now f Begin _ _ _ _ _
-    (begun s.desk s.kept s.words s.dropped.items f.world f.rest c.begin-begun.new.self c.in_ok-begun.field-0 c.in_ok-begun.ensures.configured
-    c.in_ok-begun.ensures.accepted c.unsweep.new.self c.unsweep.ensures) in
-    all.world
-
-pub returns : goal.returns
-returns c =
-    let s = c.self.inside in
-    let f : Filled s.desk s.kept s.words s.dropped.items s.unfilled.cells c.args.self.now =
-    filled_as s.desk s.kept s.words s.dropped.items s.unfilled.cells c.args.self.now c.self.invariant c.self.view_is c.requires.rest in
-    let all : LeavesAll c.args.self.now Begin (answer_of_config Begin (Ok c.in_ok-begun.field-0) None)
-    c.begin-begun.new.self c.unsweep.new.self s.words s.dropped.items s.unfilled.cells =
-    leaves s.desk s.kept s.words s.dropped.items s.unfilled.cells c.args.self.now f Begin _ _ _ _ _
-    (begun s.desk s.kept s.words s.dropped.items f.world f.rest c.begin-begun.new.self c.in_ok-begun.field-0 c.in_ok-begun.ensures.configured
-    c.in_ok-begun.ensures.accepted c.unsweep.new.self c.unsweep.ensures) in
-    all.completed
+pub returns-clause-legal : goal.returns-clause-legal
+returns-clause-legal c = (is_legal c.args.self.now (configure Begin) (subst IsReached c.self.view_is c.self.invariant.reached) c.requires.rest tt).legal

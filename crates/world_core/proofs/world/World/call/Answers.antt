@@ -3,7 +3,7 @@ use Rattle.mem_base.specs.declared.map.calls.Config.TheVariants.{Call}
 use Rattle.mem_base.specs.machine.Orders.{configure}
 use Rattle.mem_base.specs.machine.Answers.{Answer}
 use Rattle.mem_base.specs.machine.Completions.{IsCompleted}
-use Rattle.world_core.proofs.ConfiguringLaws.{call_answered}
+use Rattle.writer_run.proofs.TurnLaws.{call_answered}
 use Rattle.world_core.proofs.world.World.call.Goals as goal
 
 pub returns-clause-completed : goal.returns-clause-completed

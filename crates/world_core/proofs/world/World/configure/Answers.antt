@@ -1,157 +1,148 @@
-use Rattle.std.proofs.Common.{rules, ◌≡◌, ◌≤◌, List, None, Ok, Err, sym, ap, subst, ◌∙◌, length}
-use Rattle.std.specs.Prelude.{IfSome}
-use Rattle.std.specs.Arc.{arc_value}
-use Rattle.mem_base.specs.declared.map.ids.RegionId.{RegionId}
+use Rattle.std.proofs.Common.{◌≡◌, ◌≢◌, ℕ, true, Option, Some, Err, refl, sym, ap, subst, ◌∙◌}
+use Rattle.std.specs.Prelude.{Result, IfErr, IfOk}
+use Rattle.mem_base.specs.declared.map.calls.Applied.{Applied}
+use Rattle.mem_base.specs.declared.map.refusals.Refusal.{Refusal}
 use Rattle.mem_base.specs.declared.map.refusals.Refusal.TheVariants.{Memory}
-use Rattle.mem_base.specs.map.Forest.{IsMade}
-use Rattle.mem_base.specs.access.Places.{past}
+use Rattle.mem_base.specs.machine.Completions.{IsCompleted}
+use Rattle.mem_base.specs.machine.Desk.{unswept}
+use Rattle.mem_base.specs.machine.Orders.{configure}
 use Rattle.mem_base.specs.machine.Publishing.{held_up, would_publish}
-use Rattle.mem_base.specs.machine.Answers.{answer_of_config}
-use Rattle.view_laws.proofs.Tests.{same_some}
-use Rattle.generation.specs.Published.{Published}
-use Rattle.kept_generations.specs.KeptState.{generations_of}
-use Rattle.kept_generations.specs.Sweeping.{all_swept}
-use Rattle.backed_desk.specs.Backed.{BackedState}
-use Rattle.writer_desk.specs.Writers.{WriterState, desk_of, IsConfigured, IsAccepted}
-use Rattle.world_core.specs.Worlds.{filled_beside}
-use Rattle.writer_desk.specs.Writers.{dropped_with, made_place}
-use Rattle.world_core.specs.Configuring.{cleared_at}
-use Rattle.world_core.proofs.ConfiguringLaws.{held_is_told, has_room, next_number, next_fits, accepted, refused, refused_as_held}
-use Rattle.world_core.proofs.FilledLaws.{Filled, filled_as, LeavesAll, leaves}
+use Rattle.mem_base.specs.machine.World.{World}
+use Rattle.writer_desk.specs.Writers.{is_held}
+use Rattle.writer_run.specs.Turns.{answer_by, number_told}
+use Rattle.world_hand.specs.Reached.{IsReached}
+use Rattle.world_hand.proofs.Completing.{is_legal}
+use Rattle.world_core.specs.Worlds.{aside, state_of, world_of}
+use Rattle.world_core.proofs.ConfigLaws.{cause_is, held_is, left_is, number_is}
+use Rattle.world_core.proofs.RestLaws.{Ends, Rested, completes_then, parts, private_ends, rested, stays, stays_then}
 use Rattle.world_core.proofs.world.World.configure.Goals as goal
 
-pub configured-requires-clause-held : goal.configured-requires-clause-held
-configured-requires-clause-held c =
-    let told : c.held_up_if_swept-held.result ≡ held_up (generations_of (all_swept c.self.inside.kept)) = c.held_up_if_swept-held.ensures in
-    held_is_told (generations_of (all_swept c.self.inside.kept)) c.held_up_if_swept-held.result told
-
-pub clear_made-requires : goal.clear_made-requires
-clear_made-requires c =
-    let s = c.self.inside in
-    let f : Filled s.desk s.kept s.words s.dropped.items s.unfilled.cells c.args.self.now =
-    filled_as s.desk s.kept s.words s.dropped.items s.unfilled.cells c.args.self.now c.self.invariant c.self.view_is c.requires.rest in
-    let told : c.held_up_if_swept-held.result ≡ held_up (generations_of (all_swept s.kept)) = c.held_up_if_swept-held.ensures in
-    let is : IsConfigured s.desk c.args.config.now c.held_up_if_swept-held.result c.configured.new.desk (Ok c.in-Ok.applied) =
-    c.in-Ok.ensures.configured (λ q. cc) in
-    let ok : IsAccepted s.desk c.args.config.now c.configured.new.desk c.in-Ok.applied = c.in-Ok.ensures.accepted in record {
-      within = subst (λ (b : BackedState). IfSome (made_place b.backing.places c.in-Ok.applied) (λ p. past p ≤ length s.words)) (sym c.backed-in-Ok.ensures)
-          (has_room s.desk s.kept s.words s.dropped.items f.world f.rest c.args.config.now c.configured.new.desk c.held_up_if_swept-held.result
-          c.in-Ok.applied is told ok);
+pub configure-answer-requires : goal.configure-answer-requires
+configure-answer-requires c =
+    let s = c.self.inside in record {
+      parts = parts s.desk s.hand.kept s.hand.words
+          (rested s.desk s.due s.hand.kept s.hand.words s.unfilled.cells c.args.self.now c.self.invariant c.self.view_is c.requires.rest).world;
     }
 
-pub follow-number-requires-clause-number : goal.follow-number-requires-clause-number
-follow-number-requires-clause-number c =
+pub invariant_of-self : goal.invariant_of-self
+invariant_of-self c =
     let s = c.self.inside in
-    let f : Filled s.desk s.kept s.words s.dropped.items s.unfilled.cells c.args.self.now =
-    filled_as s.desk s.kept s.words s.dropped.items s.unfilled.cells c.args.self.now c.self.invariant c.self.view_is c.requires.rest in
-    let told : c.held_up_if_swept-held.result ≡ held_up (generations_of (all_swept s.kept)) = c.held_up_if_swept-held.ensures in
-    let is : IsConfigured s.desk c.args.config.now c.held_up_if_swept-held.result c.configured.new.desk (Ok c.in-Ok.applied) =
-    c.in-Ok.ensures.configured (λ q. cc) in
-    let ok : IsAccepted s.desk c.args.config.now c.configured.new.desk c.in-Ok.applied = c.in-Ok.ensures.accepted in
-    let number : s.desk.backed.desk.current.number ≡ s.kept.current =
-    ap (λ (p : Published). p.number) (same_some _ _ (sym c.self.invariant.current ∙ c.current_generation.ensures.kept))
-    ∙ c.current_generation.ensures.number in
-    next_number s.desk s.kept s.words s.dropped.items f.world f.rest c.args.config.now c.configured.new.desk c.held_up_if_swept-held.result
-    c.in-Ok.applied is told ok number c.publish.ensures.ready _ arc_value c.publish.result c.publish.ensures.generation
+    let w : World = c.args.self.now in
+    let f : Rested s.desk s.due s.hand.kept s.hand.words s.unfilled.cells w =
+    rested s.desk s.due s.hand.kept s.hand.words s.unfilled.cells w c.self.invariant c.self.view_is c.requires.rest in
+    let k = c.args.config.now in
+    let r = c.configure-answer.result in
+    let e = c.configure-answer.new.desk in
+    let l = c.configure-answer.new.hand in
+    let ends : Ends w (r ≡ Err Memory) (r ≢ Err Memory) (configure k) (answer_by k r) e s.due c.settled.new.kept l.words s.unfilled.cells =
+    private_ends s.desk s.due s.hand.kept s.hand.words s.unfilled.cells w f e l.kept l.words c.configure-answer.ensures.parts (r ≡ Err Memory) (r ≢ Err Memory)
+    (λ memory. let u = c.configure-answer.ensures.unchanged memory in (u.0, ap (λ h. h.kept) u.1, ap (λ h. h.words) u.1))
+    (configure k) (answer_by k r) tt c.configure-answer.ensures.turn refl c.settled.ensures.kept.each_swept c.settled.new.kept c.settled.ensures.flags in
+    ends.world
 
-pub follow-number-requires-clause-fits : goal.follow-number-requires-clause-fits
-follow-number-requires-clause-fits c =
+pub returns-clause-completed : goal.returns-clause-completed
+returns-clause-completed c =
     let s = c.self.inside in
-    let f : Filled s.desk s.kept s.words s.dropped.items s.unfilled.cells c.args.self.now =
-    filled_as s.desk s.kept s.words s.dropped.items s.unfilled.cells c.args.self.now c.self.invariant c.self.view_is c.requires.rest in
-    let told : c.held_up_if_swept-held.result ≡ held_up (generations_of (all_swept s.kept)) = c.held_up_if_swept-held.ensures in
-    let is : IsConfigured s.desk c.args.config.now c.held_up_if_swept-held.result c.configured.new.desk (Ok c.in-Ok.applied) =
-    c.in-Ok.ensures.configured (λ q. cc) in
-    let ok : IsAccepted s.desk c.args.config.now c.configured.new.desk c.in-Ok.applied = c.in-Ok.ensures.accepted in
-    let number : s.desk.backed.desk.current.number ≡ s.kept.current =
-    ap (λ (p : Published). p.number) (same_some _ _ (sym c.self.invariant.current ∙ c.current_generation.ensures.kept))
-    ∙ c.current_generation.ensures.number in
-    let made : IsMade s.desk.backed.desk.state.forest = search rules in
-    next_fits s.desk s.kept s.words s.dropped.items f.world f.rest c.args.config.now made _ arc_value c.publish.result
-    (next_number s.desk s.kept s.words s.dropped.items f.world f.rest c.args.config.now c.configured.new.desk c.held_up_if_swept-held.result
-    c.in-Ok.applied is told ok number c.publish.ensures.ready _ arc_value c.publish.result c.publish.ensures.generation)
+    let w : World = c.args.self.now in
+    let f : Rested s.desk s.due s.hand.kept s.hand.words s.unfilled.cells w =
+    rested s.desk s.due s.hand.kept s.hand.words s.unfilled.cells w c.self.invariant c.self.view_is c.requires.rest in
+    let k = c.args.config.now in
+    let r = c.configure-answer.result in
+    let e = c.configure-answer.new.desk in
+    let l = c.configure-answer.new.hand in
+    let ends : Ends w (r ≡ Err Memory) (r ≢ Err Memory) (configure k) (answer_by k r) e s.due c.settled.new.kept l.words s.unfilled.cells =
+    private_ends s.desk s.due s.hand.kept s.hand.words s.unfilled.cells w f e l.kept l.words c.configure-answer.ensures.parts (r ≡ Err Memory) (r ≢ Err Memory)
+    (λ memory. let u = c.configure-answer.ensures.unchanged memory in (u.0, ap (λ h. h.kept) u.1, ap (λ h. h.words) u.1))
+    (configure k) (answer_by k r) tt c.configure-answer.ensures.turn refl c.settled.ensures.kept.each_swept c.settled.new.kept c.settled.ensures.flags in
+    λ other. subst (λ (q : Result (Applied × Option ℕ) Refusal). IsCompleted w (configure k) (answer_by k q)
+    (world_of (state_of e s.due) c.settled.new.kept l.words (aside e.dropped.items s.unfilled.cells))) (sym c.settled.ensures.same)
+    (completes_then ends.either (λ memory. other (c.settled.ensures.same ∙ memory)))
 
-pub invariant_of-self-in-Ok : goal.invariant_of-self-in-Ok
-invariant_of-self-in-Ok c =
-    let s = c.self.inside in
-    let e : WriterState = c.configured.new.desk in
-    let f : Filled s.desk s.kept s.words s.dropped.items s.unfilled.cells c.args.self.now =
-    filled_as s.desk s.kept s.words s.dropped.items s.unfilled.cells c.args.self.now c.self.invariant c.self.view_is c.requires.rest in
-    let told : c.held_up_if_swept-held.result ≡ held_up (generations_of (all_swept s.kept)) = c.held_up_if_swept-held.ensures in
-    let is : IsConfigured s.desk c.args.config.now c.held_up_if_swept-held.result e (Ok c.in-Ok.applied) = c.in-Ok.ensures.configured (λ q. cc) in
-    let ok : IsAccepted s.desk c.args.config.now e c.in-Ok.applied = c.in-Ok.ensures.accepted in
-    let cleared : c.clear_made.new.words ≡ cleared_at s.words (made_place e.backed.backing.places c.in-Ok.applied) =
-    c.clear_made.ensures.words ∙ ap (λ (b : BackedState). cleared_at s.words (made_place b.backing.places c.in-Ok.applied)) c.backed-in-Ok.ensures in
-    let drops : c.note_drop.new.dropped.items ≡ dropped_with c.args.config.now s.dropped.items =
-    c.note_drop.ensures ∙ ap (λ (rs : List RegionId). dropped_with c.args.config.now rs) c.reserve.ensures.items in
-    let all : LeavesAll c.args.self.now c.args.config.now (answer_of_config c.args.config.now (Ok c.in-Ok.applied) c.follow-number.result)
-    c.publish.new.self c.follow-number.new.kept c.clear_made.new.words c.note_drop.new.dropped.items s.unfilled.cells =
-    leaves s.desk s.kept s.words s.dropped.items s.unfilled.cells c.args.self.now f c.args.config.now _ _ _ _ _
-    (accepted s.desk s.kept s.words s.dropped.items f.world f.rest c.args.config.now e c.held_up_if_swept-held.result c.in-Ok.applied is told ok
-    c.clear_made.new.words cleared c.clear_made.ensures.len c.publish.ensures.ready _ arc_value c.publish.result c.publish.ensures.generation
-    c.publish.new.self c.publish.ensures.desk c.follow-number.new.kept c.follow-number.ensures.state c.note_drop.new.dropped.items drops
-    c.follow-number.result c.follow-number.ensures.number) in
-    all.world
+pub returns-clause-legal : goal.returns-clause-legal
+returns-clause-legal c =
+    (is_legal c.args.self.now (configure c.args.config.now) (subst IsReached c.self.view_is c.self.invariant.reached) c.requires.rest tt).legal
 
-pub returns-in-Ok-clause-completed : goal.returns-in-Ok-clause-completed
-returns-in-Ok-clause-completed c =
+pub returns-clause-number : goal.returns-clause-number
+returns-clause-number c =
     let s = c.self.inside in
-    let e : WriterState = c.configured.new.desk in
-    let f : Filled s.desk s.kept s.words s.dropped.items s.unfilled.cells c.args.self.now =
-    filled_as s.desk s.kept s.words s.dropped.items s.unfilled.cells c.args.self.now c.self.invariant c.self.view_is c.requires.rest in
-    let told : c.held_up_if_swept-held.result ≡ held_up (generations_of (all_swept s.kept)) = c.held_up_if_swept-held.ensures in
-    let is : IsConfigured s.desk c.args.config.now c.held_up_if_swept-held.result e (Ok c.in-Ok.applied) = c.in-Ok.ensures.configured (λ q. cc) in
-    let ok : IsAccepted s.desk c.args.config.now e c.in-Ok.applied = c.in-Ok.ensures.accepted in
-    let cleared : c.clear_made.new.words ≡ cleared_at s.words (made_place e.backed.backing.places c.in-Ok.applied) =
-    c.clear_made.ensures.words ∙ ap (λ (b : BackedState). cleared_at s.words (made_place b.backing.places c.in-Ok.applied)) c.backed-in-Ok.ensures in
-    let drops : c.note_drop.new.dropped.items ≡ dropped_with c.args.config.now s.dropped.items =
-    c.note_drop.ensures ∙ ap (λ (rs : List RegionId). dropped_with c.args.config.now rs) c.reserve.ensures.items in
-    let all : LeavesAll c.args.self.now c.args.config.now (answer_of_config c.args.config.now (Ok c.in-Ok.applied) c.follow-number.result)
-    c.publish.new.self c.follow-number.new.kept c.clear_made.new.words c.note_drop.new.dropped.items s.unfilled.cells =
-    leaves s.desk s.kept s.words s.dropped.items s.unfilled.cells c.args.self.now f c.args.config.now _ _ _ _ _
-    (accepted s.desk s.kept s.words s.dropped.items f.world f.rest c.args.config.now e c.held_up_if_swept-held.result c.in-Ok.applied is told ok
-    c.clear_made.new.words cleared c.clear_made.ensures.len c.publish.ensures.ready _ arc_value c.publish.result c.publish.ensures.generation
-    c.publish.new.self c.publish.ensures.desk c.follow-number.new.kept c.follow-number.ensures.state c.note_drop.new.dropped.items drops
-    c.follow-number.result c.follow-number.ensures.number) in
-    λ other. all.completed
+    let w : World = c.args.self.now in
+    let f : Rested s.desk s.due s.hand.kept s.hand.words s.unfilled.cells w =
+    rested s.desk s.due s.hand.kept s.hand.words s.unfilled.cells w c.self.invariant c.self.view_is c.requires.rest in
+    let k = c.args.config.now in
+    subst (λ (q : Result (Applied × Option ℕ) Refusal). IfOk q (λ x. x.1 ≡ number_told w.writer k)) (sym c.settled.ensures.same)
+    (number_is s.desk s.due s.hand.kept s.hand.words s.unfilled.cells w f k c.configure-answer.result c.configure-answer.new.desk
+    c.configure-answer.new.hand.kept
+    c.configure-answer.new.hand.words c.settled.new.kept c.settled.ensures.flags c.configure-answer.ensures.number)
 
-pub invariant_of-self-in_default : goal.invariant_of-self-in_default
-invariant_of-self-in_default c =
+pub returns-clause-cause : goal.returns-clause-cause
+returns-clause-cause c =
     let s = c.self.inside in
-    let e : WriterState = c.configured.new.desk in
-    let f : Filled s.desk s.kept s.words s.dropped.items s.unfilled.cells c.args.self.now =
-    filled_as s.desk s.kept s.words s.dropped.items s.unfilled.cells c.args.self.now c.self.invariant c.self.view_is c.requires.rest in
-    let told : c.held_up_if_swept-held.result ≡ held_up (generations_of (all_swept s.kept)) = c.held_up_if_swept-held.ensures in
-    let is : IsConfigured s.desk c.args.config.now c.held_up_if_swept-held.result e (Err c.in-Err.why) =
-    c.in-Err.ensures.configured (λ q. let memory : c.in-Err.why ≡ Memory = cc in c.in_default.not-Memory memory) in
-    let would : c.is_held.result ≡ would_publish (desk_of e (filled_beside s.dropped.items s.kept.swept)) c.args.config.now =
-    c.is_held.ensures ∙ refused_as_held s.desk s.kept s.words s.dropped.items f.world f.rest c.args.config.now e c.in-Err.ensures.unchanged
-    c.held_up_if_swept-held.result c.in-Err.why is told (filled_beside s.dropped.items s.kept.swept) in
-    let all : LeavesAll c.args.self.now c.args.config.now (answer_of_config c.args.config.now (Err c.in-Err.why) None)
-    e c.refuse.new.kept s.words c.reserve.new.self.items s.unfilled.cells =
-    leaves s.desk s.kept s.words s.dropped.items s.unfilled.cells c.args.self.now f c.args.config.now _ _ _ _ _
-    (refused s.desk s.kept s.words s.dropped.items f.world f.rest c.args.config.now e c.in-Err.ensures.unchanged c.held_up_if_swept-held.result
-    c.in-Err.why is told c.is_held.result would c.refuse.new.kept c.refuse.ensures c.reserve.new.self.items c.reserve.ensures.items) in
-    all.world
+    let w : World = c.args.self.now in
+    let f : Rested s.desk s.due s.hand.kept s.hand.words s.unfilled.cells w =
+    rested s.desk s.due s.hand.kept s.hand.words s.unfilled.cells w c.self.invariant c.self.view_is c.requires.rest in
+    let k = c.args.config.now in
+    subst (λ (q : Result (Applied × Option ℕ) Refusal). IfErr q (λ why. why ≢ Memory → is_held why ≡ would_publish w.writer.desk k)) (sym
+    c.settled.ensures.same)
+    (cause_is s.desk s.due s.hand.kept s.hand.words s.unfilled.cells w f k c.configure-answer.result c.configure-answer.new.desk
+    c.configure-answer.new.hand.kept
+    c.configure-answer.new.hand.words c.settled.new.kept c.settled.ensures.flags c.configure-answer.ensures.cause)
 
-pub returns-in_default : goal.returns-in_default
-returns-in_default c =
+pub returns-clause-held : goal.returns-clause-held
+returns-clause-held c =
     let s = c.self.inside in
-    let e : WriterState = c.configured.new.desk in
-    let f : Filled s.desk s.kept s.words s.dropped.items s.unfilled.cells c.args.self.now =
-    filled_as s.desk s.kept s.words s.dropped.items s.unfilled.cells c.args.self.now c.self.invariant c.self.view_is c.requires.rest in
-    let told : c.held_up_if_swept-held.result ≡ held_up (generations_of (all_swept s.kept)) = c.held_up_if_swept-held.ensures in
-    let is : IsConfigured s.desk c.args.config.now c.held_up_if_swept-held.result e (Err c.in-Err.why) =
-    c.in-Err.ensures.configured (λ q. let memory : c.in-Err.why ≡ Memory = cc in c.in_default.not-Memory memory) in
-    let would : c.is_held.result ≡ would_publish (desk_of e (filled_beside s.dropped.items s.kept.swept)) c.args.config.now =
-    c.is_held.ensures ∙ refused_as_held s.desk s.kept s.words s.dropped.items f.world f.rest c.args.config.now e c.in-Err.ensures.unchanged
-    c.held_up_if_swept-held.result c.in-Err.why is told (filled_beside s.dropped.items s.kept.swept) in
-    let all : LeavesAll c.args.self.now c.args.config.now (answer_of_config c.args.config.now (Err c.in-Err.why) None)
-    e c.refuse.new.kept s.words c.reserve.new.self.items s.unfilled.cells =
-    leaves s.desk s.kept s.words s.dropped.items s.unfilled.cells c.args.self.now f c.args.config.now _ _ _ _ _
-    (refused s.desk s.kept s.words s.dropped.items f.world f.rest c.args.config.now e c.in-Err.ensures.unchanged c.held_up_if_swept-held.result
-    c.in-Err.why is told c.is_held.result would c.refuse.new.kept c.refuse.ensures c.reserve.new.self.items c.reserve.ensures.items) in
-    record {
-      completed = λ other. all.completed;
-      unchanged = λ q. let memory : c.in-Err.why ≡ Memory = cc in absurd (c.in_default.not-Memory memory);
-    }
+    let w : World = c.args.self.now in
+    let f : Rested s.desk s.due s.hand.kept s.hand.words s.unfilled.cells w =
+    rested s.desk s.due s.hand.kept s.hand.words s.unfilled.cells w c.self.invariant c.self.view_is c.requires.rest in
+    let k = c.args.config.now in
+    let v : World = world_of (state_of c.configure-answer.new.desk s.due) c.settled.new.kept c.configure-answer.new.hand.words
+    (aside c.configure-answer.new.desk.dropped.items s.unfilled.cells) in
+    subst (λ (q : Result (Applied × Option ℕ) Refusal). IfErr q (λ why. would_publish w.writer.desk k ≡ true → why ≢ Memory
+    → held_up v.writer.generations ≡ Some why)) (sym c.settled.ensures.same)
+    (held_is s.desk s.due s.hand.kept s.hand.words s.unfilled.cells w f k c.configure-answer.result c.configure-answer.new.desk c.configure-answer.new.hand.kept
+    c.configure-answer.new.hand.words c.settled.new.kept c.settled.ensures.flags c.configure-answer.ensures.held)
+
+pub returns-clause-left : goal.returns-clause-left
+returns-clause-left c =
+    let s = c.self.inside in
+    let w : World = c.args.self.now in
+    let f : Rested s.desk s.due s.hand.kept s.hand.words s.unfilled.cells w =
+    rested s.desk s.due s.hand.kept s.hand.words s.unfilled.cells w c.self.invariant c.self.view_is c.requires.rest in
+    let k = c.args.config.now in
+    let v : World = world_of (state_of c.configure-answer.new.desk s.due) c.settled.new.kept c.configure-answer.new.hand.words
+    (aside c.configure-answer.new.desk.dropped.items s.unfilled.cells) in
+    subst (λ (q : Result (Applied × Option ℕ) Refusal). IfErr q (λ why. why ≢ Memory → v.writer.desk ≡ unswept w.writer.desk)) (sym c.settled.ensures.same)
+    (left_is s.desk s.due s.hand.kept s.hand.words s.unfilled.cells w f k c.configure-answer.result c.configure-answer.new.desk c.configure-answer.new.hand.kept
+    c.configure-answer.new.hand.words c.settled.new.kept c.settled.ensures.flags c.settled.ensures.kept.each_swept c.configure-answer.ensures.left)
+
+pub returns-clause-unchanged : goal.returns-clause-unchanged
+returns-clause-unchanged c =
+    let s = c.self.inside in
+    let w : World = c.args.self.now in
+    let f : Rested s.desk s.due s.hand.kept s.hand.words s.unfilled.cells w =
+    rested s.desk s.due s.hand.kept s.hand.words s.unfilled.cells w c.self.invariant c.self.view_is c.requires.rest in
+    let k = c.args.config.now in
+    let r = c.configure-answer.result in
+    let e = c.configure-answer.new.desk in
+    let l = c.configure-answer.new.hand in
+    let ends : Ends w (r ≡ Err Memory) (r ≢ Err Memory) (configure k) (answer_by k r) e s.due c.settled.new.kept l.words s.unfilled.cells =
+    private_ends s.desk s.due s.hand.kept s.hand.words s.unfilled.cells w f e l.kept l.words c.configure-answer.ensures.parts (r ≡ Err Memory) (r ≢ Err Memory)
+    (λ memory. let u = c.configure-answer.ensures.unchanged memory in (u.0, ap (λ h. h.kept) u.1, ap (λ h. h.words) u.1))
+    (configure k) (answer_by k r) tt c.configure-answer.ensures.turn refl c.settled.ensures.kept.each_swept c.settled.new.kept c.settled.ensures.flags in
+    λ memory. stays_then ends.either (sym c.settled.ensures.same ∙ memory)
+
+pub returns-clause-rests : goal.returns-clause-rests
+returns-clause-rests c =
+    let s = c.self.inside in
+    let w : World = c.args.self.now in
+    let f : Rested s.desk s.due s.hand.kept s.hand.words s.unfilled.cells w =
+    rested s.desk s.due s.hand.kept s.hand.words s.unfilled.cells w c.self.invariant c.self.view_is c.requires.rest in
+    let k = c.args.config.now in
+    let r = c.configure-answer.result in
+    let e = c.configure-answer.new.desk in
+    let l = c.configure-answer.new.hand in
+    let ends : Ends w (r ≡ Err Memory) (r ≢ Err Memory) (configure k) (answer_by k r) e s.due c.settled.new.kept l.words s.unfilled.cells =
+    private_ends s.desk s.due s.hand.kept s.hand.words s.unfilled.cells w f e l.kept l.words c.configure-answer.ensures.parts (r ≡ Err Memory) (r ≢ Err Memory)
+    (λ memory. let u = c.configure-answer.ensures.unchanged memory in (u.0, ap (λ h. h.kept) u.1, ap (λ h. h.words) u.1))
+    (configure k) (answer_by k r) tt c.configure-answer.ensures.turn refl c.settled.ensures.kept.each_swept c.settled.new.kept c.settled.ensures.flags in
+    stays w (world_of (state_of e s.due) c.settled.new.kept l.words (aside e.dropped.items s.unfilled.cells)) (configure k) (answer_by k r)
+    c.requires.rest ends.either

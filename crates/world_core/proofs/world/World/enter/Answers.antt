@@ -2,7 +2,8 @@ use Rattle.std.proofs.Common.{◌≡◌, true, sym, ap, subst, ◌∙◌, rules}
 use Rattle.mem_base.specs.declared.machine.events.Event.TheVariants as events
 use Rattle.mem_base.specs.machine.World.{World, possible, world_after}
 use Rattle.world_core.proofs.ReachedLaws.{may_enter}
-use Rattle.world_core.specs.Worlds.{IsReached, after_events}
+use Rattle.world_core.specs.Worlds.{after_events}
+use Rattle.world_hand.specs.Reached.{IsReached}
 use Rattle.mem_base.specs.machine.Composites.{enters}
 use Rattle.world_laws.proofs.PassKeeping.{enter_keeps}
 use Rattle.world_core.proofs.world.World.enter.Goals as goal

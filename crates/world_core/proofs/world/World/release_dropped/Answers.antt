@@ -1,52 +1,52 @@
-use Rattle.std.proofs.Common.{rules, ◌≡◌, true, None, List, ap, sym, subst, ◌∙◌}
+use Rattle.std.proofs.Common.{rules, ◌≡◌, None, List, Option, sym, ap, subst, ◌∙◌, length}
 use Rattle.mem_base.specs.declared.map.ids.RegionId.{RegionId}
+use Rattle.mem_base.specs.declared.access.cells.Cell.{Cell}
 use Rattle.mem_base.specs.declared.machine.events.Event.TheVariants as events
 use Rattle.mem_base.specs.lists.Every.{Every}
 use Rattle.mem_base.specs.map.Region.{node_of}
-use Rattle.mem_base.specs.machine.World.{World, possible, world_after, is_at_rest}
+use Rattle.mem_base.specs.machine.World.{World, possible, world_after}
 use Rattle.view_laws.proofs.Tests.{both_of}
-use Rattle.kept_generations.specs.KeptState.{KeptState}
+use Rattle.kept_generations.specs.KeptState.{generations_of}
+use Rattle.transact.specs.Preparing.{Readied}
 use Rattle.backed_desk.specs.Backed.{forest_at}
-use Rattle.writer_desk.specs.Writers.{WriterState}
-use Rattle.world_core.specs.Released.{without_regions}
-use Rattle.world_core.specs.Worlds.{Aside, aside, world_of}
-use Rattle.world_core.proofs.CallLaws.{none_due}
-use Rattle.world_core.proofs.ReapLaws.{none_there, released_by, gone, stays, unswept_by}
+use Rattle.writer_run.proofs.ReapLaws.{none_there}
+use Rattle.world_core.specs.Worlds.{aside, state_with, world_of, IsWorld}
+use Rattle.world_core.proofs.ReapLaws.{IsReleased, released_by}
+use Rattle.world_core.proofs.RestLaws.{Rested, parts, rested}
 use Rattle.world_core.proofs.world.World.release_dropped.Goals as goal
 
-pub release_unnamed-requires-clause-gone : goal.release_unnamed-requires-clause-gone
-release_unnamed-requires-clause-gone c =
+pub release_unnamed-requires : goal.release_unnamed-requires
+release_unnamed-requires c =
     let s = c.self.inside in
-    let x : Aside = aside s.dropped.items s.unfilled.cells in
-    let may : possible (world_of s.desk s.kept s.words x) events.Reap ≡ true = ap (λ (w : World). possible w events.Reap) c.self.view_is ∙ c.requires in
-    let rest : is_at_rest (world_of s.desk s.kept s.words x).writer.desk ≡ true = (both_of _ _ may).0 in
-    subst (λ (rs : List RegionId). Every (λ r. node_of (forest_at s.desk.backed).nodes r ≡ None) rs) (sym c.as_slice.ensures.value)
-    (none_there s.desk s.kept s.words x c.self.invariant (none_due s.desk s.kept s.words x rest))
+    let f : Rested s.desk s.due s.hand.kept s.hand.words s.unfilled.cells c.args.self.now =
+    rested s.desk s.due s.hand.kept s.hand.words s.unfilled.cells c.args.self.now c.self.invariant c.self.view_is (both_of _ _ c.requires).0 in record {
+      gone = subst (λ (rs : List RegionId). Every (λ r. node_of (forest_at s.desk.listened.backed).nodes r ≡ None) rs) (sym c.as_slice.ensures.value)
+          (none_there s.desk (generations_of s.hand.kept) (length s.hand.words) (parts s.desk s.hand.kept s.hand.words f.world));
+    }
 
 pub invariant_of-self : goal.invariant_of-self
 invariant_of-self c =
     let s = c.self.inside in
-    let x : Aside = aside s.dropped.items s.unfilled.cells in
-    let h = c.self.invariant in
-    let l : KeptState = c.unsweep.new.self in
-    let d : WriterState = c.release_unnamed.new.desk in
-    let dropped : List RegionId = c.keep_named.new.regions.items in
-    let may : possible (world_of s.desk s.kept s.words x) events.Reap ≡ true = ap (λ (w : World). possible w events.Reap) c.self.view_is ∙ c.requires in
-    let places : d ≡ without_regions s.desk (gone s.desk s.kept s.words x h s.kept) = search rules in
-    let dropped_is : dropped ≡ stays s.desk s.kept s.words x h s.kept = search rules in
-    let unswept : l ≡ unswept_by s.desk s.kept s.words x h s.kept = search rules in
-    (released_by s.desk s.kept s.words x h l d dropped may places dropped_is unswept).world
+    let f : Rested s.desk s.due s.hand.kept s.hand.words s.unfilled.cells c.args.self.now =
+    rested s.desk s.due s.hand.kept s.hand.words s.unfilled.cells c.args.self.now c.self.invariant c.self.view_is (both_of _ _ c.requires).0 in
+    let r : IsReleased s.desk.listened s.hand.kept s.hand.words s.desk.dropped.items f.world c.release_unnamed.new.desk c.unsweep.new.self
+    c.keep_named.new.regions.items =
+    released_by s.desk.listened s.hand.kept s.hand.words s.desk.dropped.items f.world
+    (ap (λ (w : World). possible w events.Reap) f.view ∙ c.requires) c.lowest-lowest.result c.lowest-lowest.ensures
+    c.release_unnamed.new.desk (search rules) c.keep_named.new.regions.items (search rules) c.unsweep.new.self c.unsweep.ensures in
+    subst (λ (z : Option Readied × List Cell). IsWorld (state_with c.release_unnamed.new.desk z.0) c.unsweep.new.self s.hand.words
+    (aside c.keep_named.new.regions.items z.1)) (λ i. (sym f.none_due i, sym f.none_left i)) r.world
 
 pub returns : goal.returns
 returns c =
     let s = c.self.inside in
-    let x : Aside = aside s.dropped.items s.unfilled.cells in
-    let h = c.self.invariant in
-    let l : KeptState = c.unsweep.new.self in
-    let d : WriterState = c.release_unnamed.new.desk in
-    let dropped : List RegionId = c.keep_named.new.regions.items in
-    let may : possible (world_of s.desk s.kept s.words x) events.Reap ≡ true = ap (λ (w : World). possible w events.Reap) c.self.view_is ∙ c.requires in
-    let places : d ≡ without_regions s.desk (gone s.desk s.kept s.words x h s.kept) = search rules in
-    let dropped_is : dropped ≡ stays s.desk s.kept s.words x h s.kept = search rules in
-    let unswept : l ≡ unswept_by s.desk s.kept s.words x h s.kept = search rules in
-    (released_by s.desk s.kept s.words x h l d dropped may places dropped_is unswept).is ∙ ap (λ (w : World). world_after w events.Reap) c.self.view_is
+    let f : Rested s.desk s.due s.hand.kept s.hand.words s.unfilled.cells c.args.self.now =
+    rested s.desk s.due s.hand.kept s.hand.words s.unfilled.cells c.args.self.now c.self.invariant c.self.view_is (both_of _ _ c.requires).0 in
+    let r : IsReleased s.desk.listened s.hand.kept s.hand.words s.desk.dropped.items f.world c.release_unnamed.new.desk c.unsweep.new.self
+    c.keep_named.new.regions.items =
+    released_by s.desk.listened s.hand.kept s.hand.words s.desk.dropped.items f.world
+    (ap (λ (w : World). possible w events.Reap) f.view ∙ c.requires) c.lowest-lowest.result c.lowest-lowest.ensures
+    c.release_unnamed.new.desk (search rules) c.keep_named.new.regions.items (search rules) c.unsweep.new.self c.unsweep.ensures in
+    (λ i. world_of (state_with c.release_unnamed.new.desk (f.none_due i)) c.unsweep.new.self s.hand.words
+    (aside c.keep_named.new.regions.items (f.none_left i)))
+    ∙ r.is ∙ ap (λ (w : World). world_after w events.Reap) f.view

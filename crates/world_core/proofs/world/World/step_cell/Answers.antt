@@ -12,7 +12,8 @@ step_word-requires-clause-may c =
     let w : World = c.args.self.now in
     let x = c.args.cell.now in
     let here : place_in_world w x.region ≡ Some c.in-Some.place = search rules in
-    subst (λ (r : RegionId). possible w (events.Word c.args.hand (cell r x.word) c.args.step) ≡ true) (sym (own_region w x.region c.in-Some.place here)) c.requires
+    subst (λ (r : RegionId). possible w (events.Word c.args.hand (cell r x.word) c.args.step) ≡ true) (sym (own_region w x.region c.in-Some.place here))
+    c.requires
 
 pub step_word-requires-clause-placed : goal.step_word-requires-clause-placed
 step_word-requires-clause-placed c =

@@ -1,0 +1,9 @@
+pub mod ShownCalls
+pub mod PublishedLaws
+pub mod AnswerLaws
+pub mod SeenLaws
+pub mod ReceiptLaws
+pub mod RecordLaws
+pub mod StayLaws
+pub mod PlaceLaws
+pub mod DifferLaws

@@ -1,0 +1,83 @@
+// One way to order, of a record by itself and of a lock that threads share.
+ghost use Rattle.std.specs.Prelude.{◌≡◌, IfOk, OnErr};
+ghost use Rattle.desk_lock.specs.Clerks.{wrote_down};
+ghost use Rattle.desk_lock.specs.Receipts.{HasNotifier, IsReceipt};
+
+use crate::clerks::Clerk;
+use crate::locks::{DeskLock, Naming};
+use crate::orders::Receipt;
+use crate::records::Record;
+use mem_base::DeskOrder;
+use std::alloc::AllocError;
+use std::sync::Wait;
+
+/// What takes orders.
+pub trait Orderly {
+    ghost use Rattle.std.specs.Prelude.{ℕ};
+    ghost use Rattle.atomic_table.specs.Seated.{TableId};
+    ghost use Rattle.mem_base.specs.declared.machine.records.DeskOrder.{DeskOrder};
+    ghost use Rattle.desk_lock.specs.declared.orders.Receipt.{Receipt};
+
+    /// The cabinet whose writer it asks.
+    ghost cabinet: { Self → TableId };
+
+    /// What is known of it after an order of someone, by the receipt: of a record all, and of a lock nothing.
+    ghost takes: { Self → ℕ → DeskOrder → Receipt → Self → Type 0 };
+
+    /// Gives an order, and appends it with what it got to the clerk's list. Out of memory nothing is other than before. A notifier that is
+    /// taken is one of those that there are.
+    fn give<R: Wait>(
+        &mut self,
+        rt: &R,
+        clerk: &mut Clerk,
+        order: &DeskOrder,
+    ) -> Result<Receipt, AllocError>
+        requires notifier { HasNotifier order.now }
+        ensures receipt { IfOk result (IsReceipt (cabinet self.old) order.now) }
+        ensures same { cabinet self.new ≡ cabinet self.old }
+        ensures takes { IfOk result (λ r. takes self.old clerk.old.who order.now r self.new) }
+        ensures clerk { IfOk result (λ r. clerk.new ≡ wrote_down clerk.old order.now r) }
+        ensures unchanged { OnErr result (self.new ≡ self.old) }
+        ensures err { OnErr result (clerk.new ≡ clerk.old) };
+}
+
+/// A lock, by one of the threads that share it.
+pub struct Shared<'a, J: Naming> {
+    pub lock: &'a DeskLock<J>,
+}
+
+impl<'a, J: Naming> Orderly for Shared<'a, J> {
+    ghost cabinet = { λ s. J.start.seat.cabinet };
+
+    ghost takes = { λ s who order r t. Unit {0} };
+
+    fn give<R: Wait>(
+        &mut self,
+        rt: &R,
+        clerk: &mut Clerk,
+        order: &DeskOrder,
+    ) -> Result<Receipt, AllocError> {
+        let receipt = self.lock.order(rt, clerk, order)?;
+        Ok(receipt)
+    }
+}
+
+impl Orderly for Record {
+    ghost use Rattle.desk_lock.specs.Turned.{Takes};
+
+    ghost cabinet = { λ r. r.seat.cabinet };
+
+    ghost takes = { Takes };
+
+    fn give<R: Wait>(
+        &mut self,
+        rt: &R,
+        clerk: &mut Clerk,
+        order: &DeskOrder,
+    ) -> Result<Receipt, AllocError> {
+        clerk.got.reserve(1)?;
+        let (receipt, entry) = self.take(rt, clerk.who, order)?;
+        clerk.got.push_reserved(entry);
+        Ok(receipt)
+    }
+}

@@ -1,0 +1,11 @@
+-- The pure machine between whole calls.
+use Rattle.std.specs.Prelude.{◌≡◌, ◌<◌, true}
+use Rattle.mem_base.specs.declared.map.ids.PassId.{PassId}
+use Rattle.mem_base.specs.map.Limits.{most_passes}
+use Rattle.mem_base.specs.machine.Completions.{may_access}
+use Rattle.mem_base.specs.machine.World.{World, is_at_rest}
+
+-- nothing is due or unfilled, and each pass may make an access
+pub record IsMachine (w : World) : Type 0 where
+  pub rests : is_at_rest w.writer.desk ≡ true
+  pub passes : (pass : PassId) → pass.0 < most_passes → may_access w pass ≡ true

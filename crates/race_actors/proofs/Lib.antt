@@ -1,0 +1,4 @@
+pub mod StepLaws
+pub mod KeptLaws
+pub mod DeskLaws
+pub mod DeskRunLaws

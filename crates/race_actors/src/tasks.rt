@@ -1,0 +1,55 @@
+// The lines of a pass in a block, and what they got.
+
+use mem_base::{Bytes, DeskOrder, SpaceId};
+use pass_lines::LineAnswer;
+
+/// What a line asks of a pass, once its names are resolved.
+#[derive(Debug, Drop)]
+pub enum PassTask<'a> {
+    /// Nothing: one of its names refuses the line.
+    Refused,
+    /// An order to the desk.
+    Order(DeskOrder),
+    /// To enter the current generation, and to leave first where it is entered.
+    Enter,
+    /// To leave.
+    Leave,
+    /// To read `len` bytes of a space from an address on.
+    Read {
+        space: SpaceId,
+        addr: u64,
+        len: u8,
+    },
+    /// To write bytes to a space from an address on.
+    Write {
+        space: SpaceId,
+        addr: u64,
+        bytes: &'a Bytes,
+    },
+    /// To read `len` bytes of a space from an address on, and to write them to a space from another address on.
+    Copy {
+        from: SpaceId,
+        addr: u64,
+        len: u8,
+        to: SpaceId,
+        to_addr: u64,
+    },
+}
+
+/// A line of a pass in a block: its number in the script, and its task.
+#[derive(Debug, Drop)]
+pub struct BlockLine<'a> {
+    pub number: u32,
+    pub task: PassTask<'a>,
+}
+
+/// What a line of a pass got.
+#[derive(Debug, Drop)]
+pub enum LineGot {
+    /// One of its names refused the line.
+    Refused,
+    /// Its order was answered: what it got is the next entry of the clerk's list.
+    Ordered,
+    /// The pass did what was asked, and this is the answer.
+    Answered(LineAnswer),
+}

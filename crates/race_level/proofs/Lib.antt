@@ -1,0 +1,2 @@
+pub mod LevelLists
+pub mod SettlingLaws

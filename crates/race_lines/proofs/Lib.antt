@@ -1,0 +1,5 @@
+pub mod NamedLaws
+pub mod Keeping
+pub mod ShownLaws
+pub mod WatchingLaws
+pub mod SaidLaws

@@ -1,0 +1,5 @@
+pub mod NamedTables
+pub mod KnownNames
+pub mod LineTasks
+pub mod DeskLines
+pub mod PassLines

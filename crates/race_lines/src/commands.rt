@@ -1,0 +1,443 @@
+// What each line asks for: its names are resolved from left to right, and then a new name is tried.
+ghost use Rattle.std.specs.Prelude.{◌≡◌, IfOk, false, true};
+ghost use Rattle.mem_base.specs.declared.script.commands.Command.TheVariants as commands;
+ghost use Rattle.mem_base.specs.script.Run.{is_desk_line};
+ghost use Rattle.mem_base.specs.script.Tasks.{listened, region_made, space_made, task_of, unless_taken};
+ghost use Rattle.mem_base.specs.script.Tasks as tasks;
+ghost use Rattle.script_lines.specs.Groups.{is_region_line};
+ghost use Rattle.race_lines.specs.LineTasks.{Resolves};
+
+use crate::changes::{call_of, known_region, known_space};
+use crate::known::KnownNames;
+use crate::tasks::{LineTask, Naming, Refused, ResolvedTask};
+use mem_base::{
+    Bytes, Call, Client, Command, DeskOrder, Kind, ListenerId, MapChange, Name, RegionId, Size,
+    SpaceId,
+};
+use std::alloc::{AllocError, Global};
+
+// A region of a new name.
+fn made_region<'a>(known: &KnownNames, name: &'a Name, kind: Kind, size: Size) -> ResolvedTask<'a>
+    ensures { Resolves known.now result (region_made known.now name.now kind size) }
+{
+    match known.region(name) {
+        Some(_) => Err(Refused::Taken(name)),
+        None => Ok(LineTask::Ordered {
+            order: DeskOrder::Call(Call::Region { kind, size }),
+            naming: Naming::MakesRegion { name, kind },
+        }),
+    }
+}
+
+// `region NAME alias SIZE REGION OFFSET`
+fn made_alias<'a>(
+    known: &KnownNames,
+    name: &'a Name,
+    size: Size,
+    target: &'a Name,
+    offset: u64,
+) -> ResolvedTask<'a>
+    ensures { Resolves known.now result (task_of known.now (commands.RegionAlias name.now size target.now offset)) }
+{
+    match known_region(known, target) {
+        Ok(target) => made_region(known, name, Kind::Alias { target, offset }, size),
+        Err(unknown) => Err(Refused::Unknown(unknown)),
+    }
+}
+
+// A line that makes a region.
+fn region_task<'a>(known: &KnownNames, command: &'a Command) -> ResolvedTask<'a>
+    requires { is_region_line command.now ≡ true }
+    ensures { Resolves known.now result (task_of known.now command.now) }
+{
+    match command {
+        Command::RegionContainer { name, size } => made_region(known, name, Kind::Container, *size),
+        Command::RegionRam { name, size } => made_region(known, name, Kind::Ram, *size),
+        Command::RegionRom { name, size } => made_region(known, name, Kind::Rom, *size),
+        Command::RegionRomDevice { name, size, device } => {
+            made_region(known, name, Kind::RomDevice(*device), *size)
+        }
+        Command::RegionIo { name, size, device } => {
+            made_region(known, name, Kind::Io(*device), *size)
+        }
+        Command::RegionIommu { name, size } => made_region(known, name, Kind::Iommu, *size),
+        Command::RegionAlias {
+            name,
+            size,
+            target,
+            offset,
+        } => made_alias(known, name, *size, target, *offset),
+        Command::RegionReserve { name, size } => made_region(known, name, Kind::Reserve, *size),
+        _ => unreachable!(),
+    }
+}
+
+// A space of a new name, where its root is known.
+fn made_space<'a>(
+    known: &KnownNames,
+    name: &'a Name,
+    root: RegionId,
+) -> Result<ResolvedTask<'a>, AllocError>
+    ensures { IfOk result (λ task. Resolves known.now task (space_made known.now name.now root)) }
+{
+    if known.space(name).is_some() {
+        return Ok(Err(Refused::Taken(name)));
+    }
+    let Some(space) = known.next_space() else {
+        return Err(AllocError);
+    };
+    Ok(Ok(LineTask::Ordered {
+        order: DeskOrder::Call(Call::Space { space, root }),
+        naming: Naming::MakesSpace { name },
+    }))
+}
+
+// `space NAME REGION`
+fn space_task<'a>(
+    known: &KnownNames,
+    name: &'a Name,
+    root: &'a Name,
+) -> Result<ResolvedTask<'a>, AllocError>
+    ensures { IfOk result (λ task. Resolves known.now task (task_of known.now (commands.Space name.now root.now))) }
+{
+    match known_region(known, root) {
+        Ok(root) => made_space(known, name, root),
+        Err(unknown) => Ok(Err(Refused::Unknown(unknown))),
+    }
+}
+
+// A line that changes the map.
+fn change_task<'a>(known: &KnownNames, change: &'a MapChange) -> ResolvedTask<'a>
+    ensures { Resolves known.now result (task_of known.now (commands.Change change.now)) }
+{
+    match call_of(known, change) {
+        Ok(call) => Ok(LineTask::Ordered {
+            order: DeskOrder::Call(call),
+            naming: Naming::Keeps,
+        }),
+        Err(unknown) => Err(Refused::Unknown(unknown)),
+    }
+}
+
+// `load REGION OFFSET BYTES`; the bytes are copied.
+fn load_task<'a>(
+    alloc: Global,
+    known: &KnownNames,
+    region: &'a Name,
+    offset: u64,
+    bytes: &Bytes,
+) -> Result<ResolvedTask<'a>, AllocError>
+    ensures { IfOk result (λ task. Resolves known.now task (task_of known.now (commands.Load region.now offset bytes.now))) }
+{
+    match known_region(known, region) {
+        Ok(region) => {
+            let bytes = Bytes::new(bytes.as_slice().to_vec(alloc)?);
+            let order = DeskOrder::Load {
+                region,
+                offset,
+                bytes,
+            };
+            Ok(Ok(LineTask::Ordered {
+                order,
+                naming: Naming::Keeps,
+            }))
+        }
+        Err(unknown) => Ok(Err(Refused::Unknown(unknown))),
+    }
+}
+
+// `drop REGION`
+fn drop_task<'a>(known: &KnownNames, name: &'a Name) -> ResolvedTask<'a>
+    ensures { Resolves known.now result (task_of known.now (commands.Drop name.now)) }
+{
+    match known.region(name) {
+        Some(region) => Ok(LineTask::Ordered {
+            order: DeskOrder::Call(Call::Drop { region }),
+            naming: Naming::DropsRegion { name, region },
+        }),
+        None => Err(Refused::Unknown(name)),
+    }
+}
+
+// A listener of a new name, where its space is known.
+fn made_listener<'a>(
+    known: &KnownNames,
+    name: &'a Name,
+    space: SpaceId,
+    priority: i32,
+) -> Result<ResolvedTask<'a>, AllocError>
+    ensures { IfOk result (λ task. Resolves known.now task (listened known.now name.now space priority)) }
+{
+    if known.listener(name).is_some() {
+        return Ok(Err(Refused::Taken(name)));
+    }
+    let Some(listener) = known.next_listener() else {
+        return Err(AllocError);
+    };
+    Ok(Ok(LineTask::Ordered {
+        order: DeskOrder::Listen {
+            listener,
+            space,
+            priority,
+        },
+        naming: Naming::MakesListener { name },
+    }))
+}
+
+// `listen NAME SPACE [prio N]`
+fn listen_task<'a>(
+    known: &KnownNames,
+    name: &'a Name,
+    space: &'a Name,
+    priority: i32,
+) -> Result<ResolvedTask<'a>, AllocError>
+    ensures { IfOk result (λ task. Resolves known.now task (task_of known.now (commands.Listen name.now space.now priority))) }
+{
+    match known_space(known, space) {
+        Ok(space) => made_listener(known, name, space, priority),
+        Err(unknown) => Ok(Err(Refused::Unknown(unknown))),
+    }
+}
+
+// `unlisten NAME`
+fn unlisten_task<'a>(known: &KnownNames, name: &'a Name) -> ResolvedTask<'a>
+    ensures { Resolves known.now result (task_of known.now (commands.Unlisten name.now)) }
+{
+    match known.listener(name) {
+        Some(listener) => Ok(LineTask::Ordered {
+            order: DeskOrder::Unlisten(listener),
+            naming: Naming::DropsListener { name, listener },
+        }),
+        None => Err(Refused::Unknown(name)),
+    }
+}
+
+// A watcher of a new name, where its region is known.
+fn made_watcher<'a>(
+    known: &KnownNames,
+    name: &'a Name,
+    region: RegionId,
+    first: u64,
+    last: u64,
+) -> ResolvedTask<'a>
+    ensures { Resolves known.now result (unless_taken name.now (tasks.watcher_named known.now name.now)
+        (tasks.watched name.now region first last)) }
+{
+    match known.watcher(name) {
+        Some(_) => Err(Refused::Taken(name)),
+        None => Ok(LineTask::Watched {
+            name,
+            region,
+            first,
+            last,
+        }),
+    }
+}
+
+// `watch NAME REGION FIRST LAST`
+fn watch_task<'a>(
+    known: &KnownNames,
+    name: &'a Name,
+    region: &'a Name,
+    first: u64,
+    last: u64,
+) -> ResolvedTask<'a>
+    ensures { Resolves known.now result (task_of known.now (commands.Watch name.now region.now first last)) }
+{
+    match known_region(known, region) {
+        Ok(region) => made_watcher(known, name, region, first, last),
+        Err(unknown) => Err(Refused::Unknown(unknown)),
+    }
+}
+
+// `unwatch NAME`
+fn unwatch_task<'a>(known: &KnownNames, name: &'a Name) -> ResolvedTask<'a>
+    ensures { Resolves known.now result (task_of known.now (commands.Unwatch name.now)) }
+{
+    match known.watcher(name) {
+        Some(watcher) => Ok(LineTask::Unwatched { name, watcher }),
+        None => Err(Refused::Unknown(name)),
+    }
+}
+
+// `show SPACE`
+fn show_task<'a>(known: &KnownNames, space: &'a Name) -> ResolvedTask<'a>
+    ensures { Resolves known.now result (task_of known.now (commands.Show space.now)) }
+{
+    match known_space(known, space) {
+        Ok(space) => Ok(LineTask::Shown { space }),
+        Err(unknown) => Err(Refused::Unknown(unknown)),
+    }
+}
+
+// `at SPACE ADDR`
+fn find_task<'a>(known: &KnownNames, space: &'a Name, addr: u64) -> ResolvedTask<'a>
+    ensures { Resolves known.now result (task_of known.now (commands.At space.now addr)) }
+{
+    match known_space(known, space) {
+        Ok(space) => Ok(LineTask::Found { space, addr }),
+        Err(unknown) => Err(Refused::Unknown(unknown)),
+    }
+}
+
+// `dirty REGION CLIENT`
+fn dirty_task<'a>(known: &KnownNames, region: &'a Name, client: Client) -> ResolvedTask<'a>
+    ensures { Resolves known.now result (task_of known.now (commands.Dirty region.now client)) }
+{
+    match known_region(known, region) {
+        Ok(region) => Ok(LineTask::Ordered {
+            order: DeskOrder::Harvest { region, client },
+            naming: Naming::Keeps,
+        }),
+        Err(unknown) => Err(Refused::Unknown(unknown)),
+    }
+}
+
+// `vN read SPACE ADDR LEN`
+fn read_task<'a>(known: &KnownNames, space: &'a Name, addr: u64, len: u8) -> ResolvedTask<'a>
+    ensures { Resolves known.now result (task_of known.now (commands.PassRead (record { 0 = 0 }) space.now addr len)) }
+{
+    match known_space(known, space) {
+        Ok(space) => Ok(LineTask::Read { space, addr, len }),
+        Err(unknown) => Err(Refused::Unknown(unknown)),
+    }
+}
+
+// `vN write SPACE ADDR BYTES`
+fn write_task<'a>(
+    known: &KnownNames,
+    space: &'a Name,
+    addr: u64,
+    bytes: &'a Bytes,
+) -> ResolvedTask<'a>
+    ensures { Resolves known.now result (task_of known.now (commands.PassWrite (record { 0 = 0 }) space.now addr bytes.now)) }
+{
+    match known_space(known, space) {
+        Ok(space) => Ok(LineTask::Written { space, addr, bytes }),
+        Err(unknown) => Err(Refused::Unknown(unknown)),
+    }
+}
+
+// `vN dma SPACE ADDR LEN to SPACE ADDR`
+fn copy_task<'a>(
+    known: &KnownNames,
+    space: &'a Name,
+    addr: u64,
+    len: u8,
+    to_space: &'a Name,
+    to_addr: u64,
+) -> ResolvedTask<'a>
+    ensures { Resolves known.now result
+        (task_of known.now (commands.PassDma (record { 0 = 0 }) space.now addr len to_space.now to_addr)) }
+{
+    match (known_space(known, space), known_space(known, to_space)) {
+        (Ok(space), Ok(to_space)) => Ok(LineTask::Copied {
+            space,
+            addr,
+            len,
+            to_space,
+            to_addr,
+        }),
+        (Err(unknown), _) => Err(Refused::Unknown(unknown)),
+        (Ok(_), Err(unknown)) => Err(Refused::Unknown(unknown)),
+    }
+}
+
+// A line of a pass, or an end of a block of such lines.
+fn pass_task<'a>(known: &KnownNames, command: &'a Command) -> ResolvedTask<'a>
+    requires { is_desk_line command.now ≡ false }
+    ensures { Resolves known.now result (task_of known.now command.now) }
+{
+    match command {
+        Command::PassEnter { pass: _ } => Ok(LineTask::Entered),
+        Command::PassLeave { pass: _ } => Ok(LineTask::Left),
+        Command::PassRead {
+            pass: _,
+            space,
+            addr,
+            len,
+        } => read_task(known, space, *addr, *len),
+        Command::PassWrite {
+            pass: _,
+            space,
+            addr,
+            bytes,
+        } => write_task(known, space, *addr, bytes),
+        Command::PassDo { pass: _, change } => change_task(known, change),
+        Command::PassDma {
+            pass: _,
+            space,
+            addr,
+            len,
+            to_space,
+            to_addr,
+        } => copy_task(known, space, *addr, *len, to_space, *to_addr),
+        Command::Par | Command::End => Ok(LineTask::Idle),
+        _ => unreachable!(),
+    }
+}
+
+/// What a line asks for by what is known, or the refusal of one of its names.
+///
+/// Memory is taken for the bytes of a `load` alone; also where more spaces or listeners were made than have numbers, the
+/// answer is out of memory.
+pub fn task_of<'a>(
+    alloc: Global,
+    known: &KnownNames,
+    command: &'a Command,
+) -> Result<ResolvedTask<'a>, AllocError>
+    ensures { IfOk result (λ task. Resolves known.now task (task_of known.now command.now)) }
+{
+    match command {
+        Command::Machine { size: _ } => Ok(Ok(LineTask::Idle)),
+        Command::Space { name, root } => space_task(known, name, root),
+        Command::Change(change) => Ok(change_task(known, change)),
+        Command::Load {
+            region,
+            offset,
+            bytes,
+        } => load_task(alloc, known, region, *offset, bytes),
+        Command::Drop { region } => Ok(drop_task(known, region)),
+        Command::Begin => Ok(Ok(LineTask::Ordered {
+            order: DeskOrder::Begin,
+            naming: Naming::Keeps,
+        })),
+        Command::Commit => Ok(Ok(LineTask::Ordered {
+            order: DeskOrder::Commit,
+            naming: Naming::Keeps,
+        })),
+        Command::Reap => Ok(Ok(LineTask::Ordered {
+            order: DeskOrder::Reap,
+            naming: Naming::Keeps,
+        })),
+        Command::Listen {
+            name,
+            space,
+            priority,
+        } => listen_task(known, name, space, *priority),
+        Command::Unlisten { name } => Ok(unlisten_task(known, name)),
+        Command::Watch {
+            name,
+            region,
+            first,
+            last,
+        } => Ok(watch_task(known, name, region, *first, *last)),
+        Command::Unwatch { name } => Ok(unwatch_task(known, name)),
+        Command::Show { space } => Ok(show_task(known, space)),
+        Command::At { space, addr } => Ok(find_task(known, space, *addr)),
+        Command::Notified { number } => Ok(Ok(LineTask::Ordered {
+            order: DeskOrder::Notified(*number),
+            naming: Naming::Keeps,
+        })),
+        Command::Dirty { region, client } => Ok(dirty_task(known, region, *client)),
+        Command::PassEnter { .. }
+        | Command::PassLeave { .. }
+        | Command::PassRead { .. }
+        | Command::PassWrite { .. }
+        | Command::PassDo { .. }
+        | Command::PassDma { .. }
+        | Command::Par
+        | Command::End => Ok(pass_task(known, command)),
+        _ => Ok(region_task(known, command)),
+    }
+}
