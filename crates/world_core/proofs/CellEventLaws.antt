@@ -86,7 +86,7 @@ module _ (w : World) (h : IsReached w) where
   pub mark_in : (r : RegionId) (client : Client) (page : ℕ) (p : Place) → place_in_world w r ≡ Some p → page < pages_in p → word_of_page p client page < p.words
   mark_in r client page p here l = (whole_of w h r p here).marks client page l
 
-  pub mark_placed : (pass : PassId) (r : RegionId) (client : Client) (page : ℕ) → place_in_world w r ≡ None 
+  pub mark_placed : (pass : PassId) (r : RegionId) (client : Client) (page : ℕ) → place_in_world w r ≡ None
       → possible w (events.Mark pass r client page) ≡ true → ⊥
   mark_placed pass r client page none may =
       true_is_not_false false

@@ -249,7 +249,7 @@ record Steady (e : Event) : Type 0 where
 abbrev with_first : HistoryEntry → Played → Played
 with_first x p = record p { entries = x ∷ p.entries }
 
-steady_played : (es : List Event) → Every Steady es → (bs : List Bool) (h : Writer) (ns : List ℕ) 
+steady_played : (es : List Event) → Every Steady es → (bs : List Bool) (h : Writer) (ns : List ℕ)
     → played (flagged bs h) es ns ≡ played_with bs (played h es ns)
 steady_played [] k bs h ns = refl
 steady_played (e ∷ es) k bs h ns =
