@@ -58,9 +58,12 @@ fn entries_of_crowd<J: Naming + Send + Sync, R: Threads + Wait + Sync>(
     requires start { first ≡ J.start }
 {
     let lock = DeskLock::<J>::new(first);
-    thread::for_each_mut(rt, clerks, 8, &|_, clerk: &mut Clerk| {
-        give_all(rt, &lock, clerk)
-    });
+    thread::for_each_mut(
+        rt,
+        clerks,
+        8,
+        &|_, clerk: &mut Clerk| { give_all(rt, &lock, clerk) },
+    );
     match lock.close(clerks) {
         Ok(record) => Some(record.entries().len()),
         Err(_) => None,
@@ -79,17 +82,17 @@ fn entries_of_a_crowd<R: Threads + Wait + Sync>(
     for who in 0..8u32 {
         clerks.push(Clerk::new(alloc, who))?;
     }
-    Ok(entries_of_crowd::<Brand, R>(
-        rt,
-        record,
-        clerks.as_mut_slice(),
-    ))
+    Ok(entries_of_crowd::<Brand, R>(rt, record, clerks.as_mut_slice()))
 }
 
 #[test]
 fn no_order_is_dropped(rt: HostRuntime) -> Result<(), Fail> {
     for time in 0..5u32 {
-        assert_eq!(rt; entries_of_a_crowd(&rt, rt.alloc())?, Some(800), "at time {time}");
+        assert_eq!(rt;
+            entries_of_a_crowd(&rt, rt.alloc())?,
+            Some(800),
+            "at time {time}"
+        );
     }
     Ok(())
 }

@@ -4,9 +4,7 @@ ghost use Rattle.desk_lock.specs.Receipts.{HasNotifier};
 
 use config_desk::Config;
 use desk_lock::{Answer, Clerk, Order, Orderly, Record};
-use mem_base::{
-    Applied, Bytes, Call, Client, Kind, ListenerId, Refusal, RegionId, Size, SpaceId,
-};
+use mem_base::{Applied, Bytes, Call, Client, Kind, ListenerId, Refusal, RegionId, Size, SpaceId};
 use std::alloc::{AllocError, Global};
 use std::sync::Wait;
 use std::test::Fail;
@@ -137,12 +135,7 @@ fn is_last(i: u32, answer: &Answer) -> bool {
 }
 
 // Gives an order; where memory runs out, once more. `None` where it changed something then, or memory runs out again.
-fn given<R: Wait>(
-    rt: &R,
-    record: &mut Record,
-    clerk: &mut Clerk,
-    order: &Order,
-) -> Option<Answer>
+fn given<R: Wait>(rt: &R, record: &mut Record, clerk: &mut Clerk, order: &Order) -> Option<Answer>
     requires notifier { HasNotifier order.now }
 {
     let before = sizes(record, clerk);
