@@ -1,0 +1,5 @@
+pub mod ListLaws
+pub mod StartLaws
+pub mod DeskLaws
+pub mod PassLaws
+pub mod EndLaws
