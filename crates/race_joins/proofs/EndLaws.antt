@@ -42,7 +42,7 @@ Ended k lines before seen who Gone c = ⊥
 abbrev pub LastsWith : List BlockActor → ℕ → BlockActor → Clerk → Type 0
 LastsWith all n x c = list_any is_out_of_memory all ≡ false → is_out_of_memory x ≡ false
 
--- the desk after the block, by its lines and what it got, also where it had no lines; where memory lasted, this is known
+-- the desk after the block, by its lines and what it got, also where it had out lines; where memory lasted, this is known
 pub record DeskStays (k : Known) (seen : List HistoryEntry) (lasted : Type 0) (lines : List Line) (got : List DeskEntry) (now : Known) : Type 0 where
   pub began : DeskBegan k lines seen got
   pub said : List Said
@@ -104,15 +104,15 @@ module _ (k : Known) (lines : List Line) (before seen : List HistoryEntry) where
         go false e t rest = let f = rest t in record { desk = f.desk; clerk = f.clerk; is = f.is; known = f.known }
 
     no_desk : (ns : List ℕ) (xs : List BlockActor) (cs : List Clerk) → Each IsEnded ns xs cs → is_in desk_number ns ≡ false → known_after_block k xs ≡ k
-    no_desk [] [] [] h no = refl
-    no_desk [] [] (c ∷ cs) h no = absurd h
-    no_desk [] (x ∷ xs) cs h no = absurd h
-    no_desk (n ∷ ns) [] cs h no = absurd h
-    no_desk (n ∷ ns) (x ∷ xs) [] h no = absurd h
-    no_desk (n ∷ ns) (Gone ∷ xs) (c ∷ cs) h no = absurd h.0.ended
-    no_desk (n ∷ ns) (Desk b ∷ xs) (c ∷ cs) h no =
-        true_is_not_false (n == desk_number) (ap (λ (m : ℕ). m == desk_number) h.0.ended.0) (or_first (n == desk_number) (is_in desk_number ns) no)
-    no_desk (n ∷ ns) (Pass b ∷ xs) (c ∷ cs) h no = no_desk ns xs cs h.1 (or_second (n == desk_number) (is_in desk_number ns) no)
+    no_desk [] [] [] h out = refl
+    no_desk [] [] (c ∷ cs) h out = absurd h
+    no_desk [] (x ∷ xs) cs h out = absurd h
+    no_desk (n ∷ ns) [] cs h out = absurd h
+    no_desk (n ∷ ns) (x ∷ xs) [] h out = absurd h
+    no_desk (n ∷ ns) (Gone ∷ xs) (c ∷ cs) h out = absurd h.0.ended
+    no_desk (n ∷ ns) (Desk b ∷ xs) (c ∷ cs) h out =
+        true_is_not_false (n == desk_number) (ap (λ (m : ℕ). m == desk_number) h.0.ended.0) (or_first (n == desk_number) (is_in desk_number ns) out)
+    no_desk (n ∷ ns) (Pass b ∷ xs) (c ∷ cs) h out = no_desk ns xs cs h.1 (or_second (n == desk_number) (is_in desk_number ns) out)
 
     abbrev Lasted : Type 0
     Lasted = list_any is_out_of_memory news ≡ false

@@ -26,7 +26,7 @@ or_second false y h = h
 abbrev pub is_in : ℕ → List ℕ → Bool
 is_in n ns = list_any (λ m. m == n) ns
 
--- no number stands twice
+-- out number stands twice
 abbrev pub Apart : List ℕ → Type 0
 Apart [] = Unit {0}
 Apart (n ∷ ns) = (is_in n ns ≡ false) × Apart ns
@@ -57,16 +57,16 @@ fewer p n [] h = refl
 fewer p n (x ∷ xs) h = go (p x) (or_first (x == n) (is_in n xs) h) (fewer p n xs (or_second (x == n) (is_in n xs) h))
   where
     go : (b : Bool) → (x == n) ≡ false → is_in n (filter p xs) ≡ false → is_in n (if b then x ∷ filter p xs else filter p xs) ≡ false
-    go true no rest = or_from (x == n) (is_in n (filter p xs)) no rest
-    go false no rest = rest
+    go true out rest = or_from (x == n) (is_in n (filter p xs)) out rest
+    go false out rest = rest
 
 apart_filter : (p : ℕ → Bool) (xs : List ℕ) → Apart xs → Apart (filter p xs)
 apart_filter p [] h = tt
 apart_filter p (x ∷ xs) h = go (p x) (fewer p x xs h.0) (apart_filter p xs h.1)
   where
     go : (b : Bool) → is_in x (filter p xs) ≡ false → Apart (filter p xs) → Apart (if b then x ∷ filter p xs else filter p xs)
-    go true no rest = (no, rest)
-    go false no rest = rest
+    go true out rest = (out, rest)
+    go false out rest = rest
 
 -- those of a phase stand apart
 pub actors_apart : (phase : Phase) → Apart (actors_in phase)
@@ -172,29 +172,29 @@ module _ {X : Type 0} where
 
   -- who is not among them got nothing
   pub got_nothing : (who : ℕ) (ns : List ℕ) (xs : List X) (cs : List Clerk) → Each IsItsClerk ns xs cs → is_in who ns ≡ false → got_by who cs ≡ []
-  got_nothing who [] [] [] h no = refl
-  got_nothing who (n ∷ ns) (x ∷ xs) (c ∷ cs) h no =
-      ap (λ (b : Bool). if b then c.got else got_by who cs) (ap (λ (m : ℕ). m == who) h.0 ∙ or_first (n == who) (is_in who ns) no)
-      ∙ got_nothing who ns xs cs h.1 (or_second (n == who) (is_in who ns) no)
-  got_nothing who [] [] (c ∷ cs) h no = absurd h
-  got_nothing who [] (x ∷ xs) cs h no = absurd h
-  got_nothing who (n ∷ ns) [] cs h no = absurd h
-  got_nothing who (n ∷ ns) (x ∷ xs) [] h no = absurd h
+  got_nothing who [] [] [] h out = refl
+  got_nothing who (n ∷ ns) (x ∷ xs) (c ∷ cs) h out =
+      ap (λ (b : Bool). if b then c.got else got_by who cs) (ap (λ (m : ℕ). m == who) h.0 ∙ or_first (n == who) (is_in who ns) out)
+      ∙ got_nothing who ns xs cs h.1 (or_second (n == who) (is_in who ns) out)
+  got_nothing who [] [] (c ∷ cs) h out = absurd h
+  got_nothing who [] (x ∷ xs) cs h out = absurd h
+  got_nothing who (n ∷ ns) [] cs h out = absurd h
+  got_nothing who (n ∷ ns) (x ∷ xs) [] h out = absurd h
 
   abbrev pub GotIs : List Clerk → ℕ → X → Clerk → Type 0
   GotIs all n x c = got_by n all ≡ c.got
 
   got_past : (c : Clerk) (all : List Clerk) (n : ℕ) (ns : List ℕ) (xs : List X) (cs : List Clerk) → c.who ≡ n → is_in n ns ≡ false
       → Each (GotIs all) ns xs cs → Each (GotIs (c ∷ all)) ns xs cs
-  got_past c all n [] [] [] is no h = tt
-  got_past c all n (m ∷ ns) (x ∷ xs) (d ∷ cs) is no h =
-      let other : m ≡ n → ⊥ = eqb-false m n (or_first (m == n) (is_in n ns) no) in
+  got_past c all n [] [] [] is out h = tt
+  got_past c all n (m ∷ ns) (x ∷ xs) (d ∷ cs) is out h =
+      let other : m ≡ n → ⊥ = eqb-false m n (or_first (m == n) (is_in n ns) out) in
       (ap (λ (b : Bool). if b then c.got else got_by m all) (ne_eqb c.who m (λ e. other (sym e ∙ is))) ∙ h.0,
-      got_past c all n ns xs cs is (or_second (m == n) (is_in n ns) no) h.1)
-  got_past c all n [] [] (d ∷ cs) is no h = absurd h
-  got_past c all n [] (x ∷ xs) cs is no h = absurd h
-  got_past c all n (m ∷ ns) [] cs is no h = absurd h
-  got_past c all n (m ∷ ns) (x ∷ xs) [] is no h = absurd h
+      got_past c all n ns xs cs is (or_second (m == n) (is_in n ns) out) h.1)
+  got_past c all n [] [] (d ∷ cs) is out h = absurd h
+  got_past c all n [] (x ∷ xs) cs is out h = absurd h
+  got_past c all n (m ∷ ns) [] cs is out h = absurd h
+  got_past c all n (m ∷ ns) (x ∷ xs) [] is out h = absurd h
 
   -- what an actor got is its own clerk's list
   pub got_each : (ns : List ℕ) (xs : List X) (cs : List Clerk) → Apart ns → Each IsItsClerk ns xs cs → Each (GotIs cs) ns xs cs
