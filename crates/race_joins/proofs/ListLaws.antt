@@ -13,11 +13,11 @@ use Rattle.mem_base.specs.script.Scripts.{Line}
 use Rattle.mem_base.specs.script.Race.{Phase, actors_in, desk_number, lines_by}
 use Rattle.view_laws.proofs.Tests.{true_is_not_false}
 
-or_first : (x y : Bool) → (x || y) ≡ false → x ≡ false
+pub or_first : (x y : Bool) → (x || y) ≡ false → x ≡ false
 or_first true y h = h
 or_first false y h = refl
 
-or_second : (x y : Bool) → (x || y) ≡ false → y ≡ false
+pub or_second : (x y : Bool) → (x || y) ≡ false → y ≡ false
 or_second true y h = true_is_not_false true refl h
 or_second false y h = h
 
