@@ -66,10 +66,11 @@ module _ (k : Known) (lines : List Line) (before seen : List HistoryEntry) where
 
   lasting : (E : ℕ → BlockActor → Clerk → Type 0) (ns : List ℕ) (xs : List BlockActor) (cs : List Clerk) → Each E ns xs cs → Each (LastsWith xs) ns xs cs
   lasting E [] [] [] h = tt
-  lasting E (n ∷ ns) (x ∷ xs) (c ∷ cs) h =
-      (λ none. or_first (is_out_of_memory x) (list_any is_out_of_memory xs) none,
-      each_weaker (LastsWith xs) (LastsWith (x ∷ xs)) (λ m y d f none. f (or_second (is_out_of_memory x) (list_any is_out_of_memory xs) none)) ns xs cs
-      (lasting E ns xs cs h.1))
+  lasting E (n ∷ ns) (x ∷ xs) (c ∷ cs) h = (
+    λ none. or_first (is_out_of_memory x) (list_any is_out_of_memory xs) none,
+    each_weaker (LastsWith xs) (LastsWith (x ∷ xs)) (λ m y d f none. f (or_second (is_out_of_memory x) (list_any is_out_of_memory xs) none)) ns xs cs
+        (lasting E ns xs cs h.1),
+  )
   lasting E [] [] (c ∷ cs) h = absurd h
   lasting E [] (x ∷ xs) cs h = absurd h
   lasting E (n ∷ ns) [] cs h = absurd h

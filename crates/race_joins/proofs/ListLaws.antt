@@ -188,9 +188,10 @@ module _ {X : Type 0} where
       → Each (GotIs all) ns xs cs → Each (GotIs (c ∷ all)) ns xs cs
   got_past c all n [] [] [] is out h = tt
   got_past c all n (m ∷ ns) (x ∷ xs) (d ∷ cs) is out h =
-      let other : m ≡ n → ⊥ = eqb-false m n (or_first (m == n) (is_in n ns) out) in
-      (ap (λ (b : Bool). if b then c.got else got_by m all) (ne_eqb c.who m (λ e. other (sym e ∙ is))) ∙ h.0,
-      got_past c all n ns xs cs is (or_second (m == n) (is_in n ns) out) h.1)
+      let other : m ≡ n → ⊥ = eqb-false m n (or_first (m == n) (is_in n ns) out) in (
+        ap (λ (b : Bool). if b then c.got else got_by m all) (ne_eqb c.who m (λ e. other (sym e ∙ is))) ∙ h.0,
+        got_past c all n ns xs cs is (or_second (m == n) (is_in n ns) out) h.1,
+      )
   got_past c all n [] [] (d ∷ cs) is out h = absurd h
   got_past c all n [] (x ∷ xs) cs is out h = absurd h
   got_past c all n (m ∷ ns) [] cs is out h = absurd h
@@ -199,9 +200,10 @@ module _ {X : Type 0} where
   -- what an actor got is its own clerk's list
   pub got_each : (ns : List ℕ) (xs : List X) (cs : List Clerk) → Apart ns → Each IsItsClerk ns xs cs → Each (GotIs cs) ns xs cs
   got_each [] [] [] apart h = tt
-  got_each (n ∷ ns) (x ∷ xs) (c ∷ cs) apart h =
-      (ap (λ (b : Bool). if b then c.got else got_by n cs) (eq-eqb c.who n h.0),
-      got_past c cs n ns xs cs h.0 apart.0 (got_each ns xs cs apart.1 h.1))
+  got_each (n ∷ ns) (x ∷ xs) (c ∷ cs) apart h = (
+    ap (λ (b : Bool). if b then c.got else got_by n cs) (eq-eqb c.who n h.0),
+    got_past c cs n ns xs cs h.0 apart.0 (got_each ns xs cs apart.1 h.1),
+  )
   got_each [] [] (c ∷ cs) apart h = absurd h
   got_each [] (x ∷ xs) cs apart h = absurd h
   got_each (n ∷ ns) [] cs apart h = absurd h

@@ -91,7 +91,8 @@ module _ (k : Known) (lines : List Line) (v w : RecordState) (olds news : List B
   desk_told : Every (IsTold (length (published_by before came))) (got_by desk_number clerks)
   desk_told = subst (λ (xs : List HistoryEntry). Every (IsTold (length (generations_published xs))) (got_by desk_number clerks)) cut desk.began.told
 
-  pub desk_did : Lasted → DeskKeeps (published_by before came) k (lines_by desk_number (block lines)) (got_by desk_number clerks) (known_after_block k news) desk.said
+  pub desk_did : Lasted → DeskKeeps (published_by before came) k (lines_by desk_number (block lines)) (got_by desk_number clerks)
+      (known_after_block k news) desk.said
   desk_did lasts = subst (λ (xs : List HistoryEntry). DeskKeeps (generations_published xs) k (lines_by desk_number (block lines)) (got_by desk_number clerks)
       (known_after_block k news) desk.said) cut (desk.whole lasts)
 

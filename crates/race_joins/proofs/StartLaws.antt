@@ -26,10 +26,11 @@ module _ (k : Known) (lines : List Line) (cabinet : TableId) (before seen : List
       → ((i : ℕ) (d : BlockActor) (c : Clerk) → i < length olds → HasJoined seen (get_or olds i d) (get_or news i d) (get_or clerks i c))
       → Each WasActor whos news clerks
   were_actors [] [] [] [] start long wide can joined = tt
-  were_actors (who ∷ whos) (a ∷ olds) (b ∷ news) (c ∷ clerks) start long wide can joined =
-      (record { was = a; starts = start.0; can = can 0 a (omega arith); joined = joined 0 a c (omega arith) },
-      were_actors whos olds news clerks start.1 (omega (arith, long)) (omega (arith, wide)) (λ i d l. can (suc i) d (omega (arith, l)))
-      (λ i d e l. joined (suc i) d e (omega (arith, l))))
+  were_actors (who ∷ whos) (a ∷ olds) (b ∷ news) (c ∷ clerks) start long wide can joined = (
+    record { was = a; starts = start.0; can = can 0 a (omega arith); joined = joined 0 a c (omega arith) },
+    were_actors whos olds news clerks start.1 (omega (arith, long)) (omega (arith, wide)) (λ i d l. can (suc i) d (omega (arith, l)))
+        (λ i d e l. joined (suc i) d e (omega (arith, l))),
+  )
   were_actors [] (a ∷ olds) news clerks start long wide can joined = absurd start
   were_actors (who ∷ whos) [] news clerks start long wide can joined = absurd start
   were_actors [] [] (b ∷ news) clerks start long wide can joined = absurd (omega (arith, long))
