@@ -18,6 +18,7 @@ use Rattle.pass_lines.specs.Doing.{IsInItsGeneration, state_seen}
 use Rattle.desk_lock.specs.Records.{IsLater, RecordState}
 use Rattle.race_level.specs.Levels.{HasMet, IsHeard, IsOfCabinet}
 use Rattle.race_level.specs.Ready.{AreReady}
+use Rattle.view_laws.proofs.Tests.{true_is_not_false}
 use Rattle.race_phases.specs.Plain.{has_lines}
 use Rattle.race_actors.specs.declared.blocks.BlockActor.{BlockActor}
 use Rattle.race_actors.specs.declared.blocks.BlockActor.TheVariants.{Desk, Pass, Gone}
@@ -73,7 +74,7 @@ pub one_back : (acts : Bool) (lines : List Line) (n m : ℕ) (olds mid rest : Li
 one_back true lines n m olds mid rest waiting fewer before between after got more is takes comes puts v w front passes all acts waits =
     let l = last_actor w (acting lines n) n passes
     (subst (λ (whos : List ℕ). AreActorsOf w whos passes) (one_acts lines n m more is) acts) in
-    go l.last l.seat (all ∙ ap (λ (xs : List BlockActor). front ++ xs) l.is ∙ sym (append_assoc front l.front (l.last ∷ []))) l.front l.actors
+    go l.last l.seat l.front (all ∙ ap (λ (xs : List BlockActor). front ++ xs) l.is ∙ sym (append_assoc front l.front (l.last ∷ []))) l.actors
   where
     go : (a : BlockActor) → HaveSeatOf w n a → (first : List BlockActor) → olds ≡ (front ++ first) ++ a ∷ [] → AreActorsOf w (acting lines n) first
         → AreBack lines v w m front rest before after
@@ -167,8 +168,8 @@ nobody w = record { cabinet = w.seat.cabinet; number = 0; sizes = w.seat.sizes; 
 -- a pass without lines made nothing
 idle_rests : (lines : List Line) (v w : RecordState) (p : ℕ) (x y : PassValue Published) (b : Bool) → has_lines (block lines) p ≡ b → b ≡ false
     → IsBack b v w p x → HasMet w.seat.seen x y → own_entries (p + 1) w.seat.seen ≡ own_entries (p + 1) v.seat.seen
-idle_rests lines v w p x y true is no h m = absurd (grind (arith, no))
-idle_rests lines v w p x y false is no h m =
+idle_rests lines v w p x y true is none h m = true_is_not_false true refl none
+idle_rests lines v w p x y false is none h m =
     (λ i. own_entries (sym h.number i + 1) w.seat.seen) ∙ m.own ∙ (λ i. own_entries (h.number i + 1) (h.level i))
 
 pub all_rest : (lines : List Line) (v w : RecordState) (cpus after : List (PassValue Published)) → AllBack lines v w cpus

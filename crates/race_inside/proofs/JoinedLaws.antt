@@ -1,5 +1,5 @@
 -- The actors of a block after it: their virtual CPUs, what is known, and what they write.
-use Rattle.std.proofs.Common.{◌≡◌, ℕ, ◌+◌, suc, ◌<◌, List, [], ◌∷◌, ◌++◌, length, take, get_or, append-nil, refl, sym, ap, subst, ◌∙◌, arith}
+use Rattle.std.proofs.Common.{◌≡◌, ℕ, ◌+◌, zero, suc, ◌<◌, List, [], ◌∷◌, ◌++◌, length, take, get_or, append-nil, refl, sym, ap, subst, ◌∙◌, arith}
 use Rattle.std.proofs.Common.{Option, Some, None, option_map, ◌⊎◌, inl, inr}
 use Rattle.std.specs.Prelude.{flat_map}
 use Rattle.mem_base.specs.lists.Every.{Every}
@@ -40,7 +40,7 @@ use Rattle.race_inside.proofs.TextLaws.{lines_same}
 
 -- the first of a pass's lines, with their tasks
 tasks_taken : (k : Known) (n : ℕ) (lines : List Line) (xs : List BlockLine) → AreTasksOf k lines xs → AreTasksOf k (take n lines) (take n xs)
-tasks_taken k 0 lines xs are = tt
+tasks_taken k zero lines xs are = tt
 tasks_taken k (suc n) [] [] are = tt
 tasks_taken k (suc n) [] (x ∷ xs) are = absurd are
 tasks_taken k (suc n) (line ∷ lines) [] are = absurd are

@@ -4,5 +4,6 @@ pub mod SeatLists
 pub mod SeatLaws
 pub mod BackLaws
 pub mod TextLaws
+pub mod TextLists
 pub mod JoinedLaws
 pub mod BlockLaws

@@ -1,6 +1,7 @@
 -- The virtual CPUs take their places before a block.
 use Rattle.std.proofs.Common.{◌≡◌, ℕ, ◌+◌, ◌<◌, ◌≤◌, Bool, true, false, List, [], ◌∷◌, ◌++◌, length, get_or, append-nil, append_assoc, length-append}
-use Rattle.std.proofs.Common.{refl, sym, ap, subst, ◌∙◌, arith, All, Option, Some, None}
+use Rattle.std.proofs.Common.{refl, sym, ap, subst, ◌∙◌, arith, All, Option, Some, None, if◌then◌else◌}
+use Rattle.std.specs.Prelude.{vec_capacity}
 use Rattle.std.proofs.lemmas.List.{get_or_append_left, get_or_push, length_push, nil_from_length}
 use Rattle.mem_base.specs.lists.Every.{Every}
 use Rattle.mem_base.proofs.EveryLaws.{every_push}
@@ -22,9 +23,11 @@ use Rattle.race_actors.specs.Blocks.{CanAct}
 use Rattle.race_actors.specs.Laws.{AreTasksOf}
 use Rattle.race_actors.specs.Lines.{FitsLine, IsReady}
 use Rattle.race_joins.specs.Starts.{AreAtStart, PassStarts}
-use Rattle.race_inside.specs.Rooms.{AreWorksOf, HasLines, IsWorkOf}
-use Rattle.race_inside.specs.Seats.{AreSeats, AreSeatsOf, HaveSeats, IsNewActor, IsSeatOf, SeatsDesk, SeatsPass, acting, idle}
+use Rattle.race_inside.specs.Rooms.{AreWorksOf, HasLines, IsRoomFor, IsWorkOf}
+use Rattle.race_inside.specs.Seats.{AreSeated, AreSeats, AreSeatsOf, HaveSeats, IsNewActor, IsSeatOf, SeatsDesk, SeatsPass, acting, idle}
 use Rattle.race_inside.specs.declared.rooms.PassWork.{PassWork}
+use Rattle.race_inside.specs.declared.rooms.Room.{Room}
+use Rattle.race_inside.specs.declared.seats.Seated.{Seated}
 use Rattle.race_inside.specs.declared.rooms.PassWork.TheVariants.{Nothing, Lines}
 use Rattle.race_inside.proofs.SeatLists.{one_acts, one_waits, others_act, others_wait, seats_push, starts_push}
 
@@ -43,17 +46,23 @@ ready_seats r cpus h p d near =
 new_starts : (k : Known) (lines : List Line) (r : RecordState) (who : ℕ) (cpu : PassValue Published) (own : List BlockLine) (bounce : ℕ) (a : PassActor)
     → who < most_passes → IsSeatOf r who cpu → HasLines k lines who own bounce → IsNewActor who cpu own bounce a
     → PassStarts k lines r.seat.seen who a × CanAct r.seat.cabinet (Pass a)
-new_starts k lines r who cpu own bounce a near s h n = (record {
-  near = near;
-  number = ap (λ (v : PassValue Published). v.number) n.cpu_is ∙ s.number;
-  level = ap (λ (v : PassValue Published). v.seen) n.cpu_is ∙ s.level;
-  clerk = n.clerk;
-  tasks = subst (λ (xs : List BlockLine). AreTasksOf k (lines_by who (block lines)) xs) (sym n.lines) h.tasks;
-}, (record {
-  inside = subst IsInItsGeneration (sym n.cpu_is) s.inside;
-  fits = subst (λ (z : ℕ × List BlockLine). All (FitsLine z.0) z.1) (λ i. (sym n.room i, sym n.lines i)) h.fits;
-  nothing = n.nothing;
-}, ap (λ (v : PassValue Published). v.cabinet) n.cpu_is ∙ s.own))
+new_starts k lines r who cpu own bounce a near s h n = (
+  record {
+    near = near;
+    number = ap (λ (v : PassValue Published). v.number) n.cpu_is ∙ s.number;
+    level = ap (λ (v : PassValue Published). v.seen) n.cpu_is ∙ s.level;
+    clerk = n.clerk;
+    tasks = subst (λ (xs : List BlockLine). AreTasksOf k (lines_by who (block lines)) xs) (sym n.lines) h.tasks;
+  },
+  (
+    record {
+      inside = subst IsInItsGeneration (sym n.cpu_is) s.inside;
+      fits = subst (λ (z : ℕ × List BlockLine). All (FitsLine z.0) z.1) (λ i. (sym n.room i, sym n.lines i)) h.fits;
+      nothing = n.nothing;
+    },
+    ap (λ (v : PassValue Published). v.cabinet) n.cpu_is ∙ s.own,
+  ),
+)
 
 pub none_seated : (k : Known) (lines : List Line) (r : RecordState) (n : ℕ) (olds : List BlockActor) (before : List (PassValue Published)) → n ≡ 0
     → HaveSeats k lines r n olds olds before before
@@ -83,9 +92,9 @@ by_work k lines r n m cpu Nothing olds mid news before between after more near s
 }
 by_work k lines r n m cpu (Lines own bounce) olds mid news before between after more near s has h p =
     let a : PassActor = p.1 in
-    let x = new_starts k lines r n cpu own.items bounce a near s has p.2.1 in record {
+    let x = new_starts k lines r n cpu own.items bounce a near s has p.3 in record {
       actors = h.actors ++ Pass a ∷ [];
-      put = p.2.0 ∙ ap (λ (xs : List BlockActor). xs ++ Pass a ∷ []) h.put ∙ append_assoc olds h.actors (Pass a ∷ []);
+      put = p.2 ∙ ap (λ (xs : List BlockActor). xs ++ Pass a ∷ []) h.put ∙ append_assoc olds h.actors (Pass a ∷ []);
       starts = subst (λ (whos : List ℕ). AreAtStart k lines r.seat.seen whos (h.actors ++ Pass a ∷ [])) (sym (one_acts lines n m more has.acts))
           (starts_push k lines r.seat.seen (acting lines n) h.actors n (Pass a) h.starts x.0);
       can = every_push (CanAct r.seat.cabinet) h.actors (Pass a) h.can x.1;
@@ -151,3 +160,25 @@ desk_alone k lines None [] h = absurd h
 desk_alone k lines None (Desk a ∷ b ∷ front) h = absurd h
 desk_alone k lines None (Pass a ∷ front) h = absurd h
 desk_alone k lines None (Gone ∷ front) h = absurd h
+
+-- all have their places
+pub all_seated : (k : Known) (lines : List Line) (r : RecordState) (cpus : List (PassValue Published)) (room : Room) (s : Seated)
+    (front : List BlockActor) → length cpus ≡ most_passes → IsRoomFor k lines room → SeatsDesk k lines s.known front
+    → HaveSeats k lines r (length cpus) front s.actors.items room.waiting.items s.waiting.items → length s.actors.items ≤ length front + length cpus
+    → s.cpus ≡ room.cpus → s.clerks ≡ room.clerks → AreSeated k lines r s
+all_seated k lines r cpus room s front all has desk h most same_cpus same_clerks =
+    let one = desk_alone k lines s.known front desk in
+    let fit = has.clerks_fit in
+    let is : s.waiting.items ≡ h.others = h.aside ∙ ap (λ (xs : List (PassValue Published)). xs ++ h.others) has.no_waiting in record {
+      front = front;
+      passes = h.actors;
+      actors = h.put;
+      desk = desk;
+      starts = subst (λ (n : ℕ). AreAtStart k lines r.seat.seen (acting lines n) h.actors) all h.starts;
+      can = h.can;
+      wait = subst (λ (z : ℕ × List (PassValue Published)). AreSeats r (idle lines z.0) z.1) (λ i. (all i, sym is i)) h.wait;
+      no_cpus = ap (λ v. v.items) same_cpus ∙ has.no_cpus;
+      cpus_fit = subst (λ v. most_passes ≤ vec_capacity v) (sym same_cpus) has.cpus_fit;
+      no_clerks = ap (λ v. v.items) same_clerks ∙ has.no_clerks;
+      clerks_fit = subst (λ v. length s.actors.items ≤ vec_capacity v) (sym same_clerks) (omega (arith, most, one, all, fit));
+    }

@@ -24,24 +24,24 @@ one_more : (n m : ℕ) → m ≡ n + 1 → range_with_len 0 m ≡ range_with_len
 one_more n m e = let is : m ≡ suc n = omega (arith, e) in ap (range_with_len 0) is ∙ last_number 0 n n (omega arith)
 
 kept : (p : ℕ → Bool) (n m : ℕ) → m ≡ n + 1 → p n ≡ true → filter p (range_with_len 0 m) ≡ filter p (range_with_len 0 n) ++ n ∷ []
-kept p n m e yes = ap (filter p) (one_more n m e) ∙ filter-append p (range_with_len 0 n) (n ∷ [])
-    ∙ ap (λ (b : Bool). filter p (range_with_len 0 n) ++ cond b (n ∷ []) []) yes
+kept p n m e kept_is = ap (filter p) (one_more n m e) ∙ filter-append p (range_with_len 0 n) (n ∷ [])
+    ∙ ap (λ (b : Bool). filter p (range_with_len 0 n) ++ cond b (n ∷ []) []) kept_is
 
 left_out : (p : ℕ → Bool) (n m : ℕ) → m ≡ n + 1 → p n ≡ false → filter p (range_with_len 0 m) ≡ filter p (range_with_len 0 n)
-left_out p n m e no = ap (filter p) (one_more n m e) ∙ filter-append p (range_with_len 0 n) (n ∷ [])
-    ∙ ap (λ (b : Bool). filter p (range_with_len 0 n) ++ cond b (n ∷ []) []) no ∙ append-nil (filter p (range_with_len 0 n))
+left_out p n m e out_is = ap (filter p) (one_more n m e) ∙ filter-append p (range_with_len 0 n) (n ∷ [])
+    ∙ ap (λ (b : Bool). filter p (range_with_len 0 n) ++ cond b (n ∷ []) []) out_is ∙ append-nil (filter p (range_with_len 0 n))
 
 pub one_acts : (lines : List Line) (n m : ℕ) → m ≡ n + 1 → has_lines (block lines) n ≡ true → acting lines m ≡ acting lines n ++ n ∷ []
-one_acts lines n m e yes = kept (has_lines (block lines)) n m e yes
+one_acts lines n m e kept_is = kept (has_lines (block lines)) n m e kept_is
 
 pub others_act : (lines : List Line) (n m : ℕ) → m ≡ n + 1 → has_lines (block lines) n ≡ false → acting lines m ≡ acting lines n
-others_act lines n m e no = left_out (has_lines (block lines)) n m e no
+others_act lines n m e out_is = left_out (has_lines (block lines)) n m e out_is
 
 pub one_waits : (lines : List Line) (n m : ℕ) → m ≡ n + 1 → has_lines (block lines) n ≡ false → idle lines m ≡ idle lines n ++ n ∷ []
-one_waits lines n m e no = kept (λ p. not (has_lines (block lines) p)) n m e (ap not no)
+one_waits lines n m e out_is = kept (λ p. not (has_lines (block lines) p)) n m e (ap not out_is)
 
 pub others_wait : (lines : List Line) (n m : ℕ) → m ≡ n + 1 → has_lines (block lines) n ≡ true → idle lines m ≡ idle lines n
-others_wait lines n m e yes = left_out (λ p. not (has_lines (block lines) p)) n m e (ap not yes)
+others_wait lines n m e kept_is = left_out (λ p. not (has_lines (block lines) p)) n m e (ap not kept_is)
 
 -- one more at the end
 
