@@ -1,4 +1,4 @@
--- A line of the desk outside the block, on the running machine.
+-- A line outside the block, on the running machine, and what a phase does to the race so far.
 use Rattle.std.specs.Prelude.{◌≡◌, ℕ, ◌+◌, List, [], ◌∷◌, ◌++◌, Option, Some, None, Result, Ok}
 use Rattle.mem_base.specs.declared.machine.records.DeskEntry.{DeskEntry}
 use Rattle.mem_base.specs.declared.machine.records.DeskOrder.TheVariants.{Look}
@@ -6,12 +6,15 @@ use Rattle.mem_base.specs.map.Limits.{most_passes, notifier_count}
 use Rattle.mem_base.specs.script.Spelling.{Text}
 use Rattle.mem_base.specs.script.Scripts.{Line}
 use Rattle.mem_base.specs.script.Tasks.{Known}
-use Rattle.mem_base.specs.script.RaceLines.{Said, no_entry, said_text}
-use Rattle.mem_base.specs.script.Race.{Phase, Stand, alone, desk_number}
+use Rattle.mem_base.specs.script.RaceLines.{no_entry}
+use Rattle.mem_base.specs.script.Race.{Phase, Stand, desk_number, phases_of}
+use Rattle.mem_base.specs.script.Run.{pool_words}
 use Rattle.generation.specs.Published.{Published}
 use Rattle.epoch_rule.specs.declared.views.Sizes.{Sizes}
 use Rattle.epoch_rule.specs.Copies.{value_in}
+use Rattle.run_laws.specs.Fitting.{AreFitting}
 use Rattle.race_laws.specs.SoFar.{IsRaceSoFar}
+use Rattle.race_laws.specs.Stopped.{GoesOn}
 use Rattle.desk_lock.specs.declared.orders.Receipt.{Receipt}
 use Rattle.desk_lock.specs.Receipts.{HasNotifier, IsReceipt}
 use Rattle.desk_lock.specs.Records.{RecordState}
@@ -53,7 +56,19 @@ abbrev pub entry_of_receipt : Option Receipt → DeskEntry
 entry_of_receipt None = no_entry
 entry_of_receipt (Some r) = entry_with r.answer r.from r.to
 
--- the race so far takes this line: what is known after it, and what it said, as a text
-abbrev pub StepsOn : RecordState → Known → Line → RecordState → Known → Said → Type 0
-StepsOn v k line w next said = (pool : ℕ) (done : List Phase) (text : Text) → v.seat.sizes ≡ sizes_of pool → IsRaceSoFar pool done (stand_of k v) text
-    → IsRaceSoFar pool (done ++ alone line ∷ []) (stand_of next w) (text ++ said_text next.names w.part.desk.listening.journal said)
+-- the race so far takes this phase, and this is known and written after it
+abbrev pub StepsOn : RecordState → Known → Phase → RecordState → Known → Text → Type 0
+StepsOn v k phase w next written = (pool : ℕ) (done : List Phase) (text : Text) → v.seat.sizes ≡ sizes_of pool → IsRaceSoFar pool done (stand_of k v) text
+    → IsRaceSoFar pool (done ++ phase ∷ []) (stand_of next w) (text ++ written)
+
+-- the same, where its text was put after what had been written
+pub record WritesOn (v : RecordState) (k : Known) (phase : Phase) (w : RecordState) (next : Known) (before after : Text) : Type 0 where
+  pub written : Text
+  pub text : after ≡ before ++ written
+  pub steps : StepsOn v k phase w next written
+
+-- The race stopped in this phase, or after it with its text lost, and could have gone on: for each script that has the phase next,
+-- there is a history that begins with what was seen then, and its text begins with the text before the phase
+abbrev pub StopsIn : RecordState → Known → Phase → RecordState → Type 0
+StopsIn v k phase w = (lines : List Line) (done left : List Phase) (text : Text) → v.seat.sizes ≡ sizes_of (pool_words lines) → AreFitting lines
+    → phases_of lines ≡ done ++ phase ∷ left → IsRaceSoFar (pool_words lines) done (stand_of k v) text → GoesOn lines w.seat.seen text
