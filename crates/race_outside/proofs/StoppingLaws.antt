@@ -1,5 +1,5 @@
 -- A race that stopped in a phase, or lost the text of one, could have gone on.
-use Rattle.std.proofs.Common.{◌≡◌, ℕ, ◌+◌, List, [], ◌∷◌, ◌++◌, Option, Some, None, Result, Ok, Err, refl, sym, subst, ◌∙◌, append_assoc}
+use Rattle.std.proofs.Common.{◌≡◌, ℕ, ◌+◌, List, [], ◌∷◌, ◌++◌, Option, Some, None, Result, Ok, Err, OnErr, refl, sym, subst, ◌∙◌, append_assoc}
 use Rattle.mem_base.specs.declared.machine.events.HistoryEntry.{HistoryEntry}
 use Rattle.mem_base.specs.declared.machine.records.DeskOrder.{DeskOrder}
 use Rattle.mem_base.specs.map.Limits.{most_passes, notifier_count}
@@ -33,6 +33,10 @@ use Rattle.race_level.specs.Settling.{AreLevel, HaveMet}
 use Rattle.race_level.proofs.SettlingLaws.{desk_settles}
 use Rattle.race_outside.specs.Asked.{TakesOwn}
 use Rattle.race_outside.specs.Outside.{StepsOn, StopsIn, sizes_of, stand_of}
+
+pub on_failure : {T E : Type 0} (r : Result T E) (P : Type 0) → P → OnErr r P
+on_failure (Ok x) P p = tt
+on_failure (Err e) P p = p
 
 -- nothing was done
 pub nothing_stops : (v w : RecordState) (k : Known) (phase : Phase) → w ≡ v → StopsIn v k phase w

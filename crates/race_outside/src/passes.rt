@@ -3,6 +3,8 @@ ghost use Rattle.std.specs.Prelude.{◌≡◌, ◌<◌, ◌≤◌, All, IfOk, On
 ghost use Rattle.mem_base.specs.map.Limits.{most_passes};
 ghost use Rattle.mem_base.specs.script.Race.{actor_number, alone};
 ghost use Rattle.run_laws.specs.Fitting.{FitsCommand};
+ghost use Rattle.generation.specs.Published.{Published};
+ghost use Rattle.epoch_rule.specs.Values.{PassValue};
 ghost use Rattle.pass_lines.specs.Doing.{IsInItsGeneration};
 ghost use Rattle.desk_lock.specs.Receipts.{HasNotifier};
 ghost use Rattle.desk_lock.specs.Records.{IsLater};
@@ -42,7 +44,7 @@ fn give<'a, R: Wait>(
     order: &DeskOrder,
 ) -> Result<PassSaid<'a>, AllocError>
     requires notifier { HasNotifier order.now }
-    ensures given { IfOk result (λ said. (a : _) → HasOrdered pass.0 desk.old a order.now said desk.new a) }
+    ensures given { IfOk result (λ said. (a : PassValue Published) → HasOrdered pass.0 desk.old a order.now said desk.new a) }
     ensures err { OnErr result (desk.new ≡ desk.old) }
     ensures later { IsLater desk.old desk.new }
 {
@@ -98,13 +100,15 @@ fn do_task<'a, 'c, R: Wait>(
             let answer = write(rt, &mut vcpu, *space, *addr, bytes.as_slice());
             (vcpu, bounce, Ok(said_by(answer)))
         }
-        Ok(LineTask::Copied {
-            space,
-            addr,
-            len,
-            to_space,
-            to_addr,
-        }) => {
+        Ok(
+            LineTask::Copied {
+                space,
+                addr,
+                len,
+                to_space,
+                to_addr,
+            },
+        ) => {
             let (vcpu, bounce, answer) = copy(
                 rt,
                 alloc,
