@@ -32,7 +32,7 @@ use Rattle.race_lines.specs.LineTasks.{Resolves, name_made}
 use Rattle.race_level.specs.Settling.{AreLevel, HaveMet}
 use Rattle.race_level.proofs.SettlingLaws.{desk_settles}
 use Rattle.race_outside.specs.Asked.{StopsAsking, TakesOwn}
-use Rattle.race_outside.specs.Outside.{StepsOn, StopsIn, sizes_of, stand_of}
+use Rattle.race_outside.specs.Outside.{StepsOn, StopsIn, WritesOn, sizes_of, stand_of}
 
 pub on_failure : {T E : Type 0} (r : Result T E) (P : Type 0) → P → OnErr r P
 on_failure (Ok x) P p = tt
@@ -101,3 +101,9 @@ module _ (v w : RecordState) (k : Known) (line : Line) (olds news : List (PassVa
   pub asking_stops : FitsCommand line.1 → StopsAsking v k line.1 w → StopsIn v k (alone line) w
   asking_stops fits (inl same) = nothing_stops v w k (alone line) same
   asking_stops fits (inr h) = begun_stops h.task h.got h.first.resolves fits h.first.took
+
+-- a phase was done, and its text was put after what stood there
+pub writes_on : {T E : Type 0} (v w : RecordState) (k next : Known) (phase : Phase) (before after written : Text) (r : Result T E)
+    → OnOk r (after ≡ before ++ written) → StepsOn v k phase w next written → OnOk r (WritesOn v k phase w next before after)
+writes_on v w k next phase before after written (Ok x) is steps = record { written = written; text = is; steps = steps }
+writes_on v w k next phase before after written (Err e) is steps = tt
