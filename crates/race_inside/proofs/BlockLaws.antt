@@ -25,11 +25,10 @@ use Rattle.race_actors.specs.declared.blocks.BlockActor.{BlockActor}
 use Rattle.race_actors.specs.Blocks.{CanAct}
 use Rattle.race_block.specs.Joined.{HasJoined}
 use Rattle.race_level.specs.Levels.{HasMet}
-use Rattle.race_outside.specs.Outside.{stand_of}
-use Rattle.race_outside.specs.Steps.{StepsOn, StopsIn}
+use Rattle.race_outside.specs.Outside.{StepsOn, StopsIn, WritesOn, stand_of}
 use Rattle.race_joins.specs.Starts.{AreAtStart}
 use Rattle.race_joins.specs.Ran.{HasRunBlock, actors_text, block_text, is_out_of_memory, known_after_block}
-use Rattle.race_inside.specs.Blocks.{HasRunAll, WritesOn}
+use Rattle.race_inside.specs.Blocks.{HasRunAll}
 use Rattle.race_inside.specs.Seats.{AreBack, AreSeated, ComeBack, acting, known_now}
 use Rattle.race_inside.specs.Texts.{actors_said, names_now}
 use Rattle.race_inside.specs.declared.seats.Seated.{Seated}

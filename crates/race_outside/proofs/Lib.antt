@@ -1,1 +1,5 @@
-pub mod OutsideLaws
+pub mod DeskLaws
+pub mod StoppingLaws
+pub mod CopyLaws
+pub mod PassLaws
+pub mod PlaceLaws

@@ -10,7 +10,7 @@ use Rattle.race_actors.specs.declared.blocks.BlockActor.{BlockActor}
 use Rattle.race_actors.specs.Blocks.{CanAct}
 use Rattle.race_level.specs.Levels.{HasMet, IsHeard, IsOfCabinet}
 use Rattle.race_level.specs.Ready.{AreReady}
-use Rattle.race_outside.specs.Steps.{StopsIn}
+use Rattle.race_outside.specs.Outside.{StopsIn}
 use Rattle.race_joins.specs.Ran.{HasRunBlock, known_after_block}
 use Rattle.race_joins.proofs.TextLaws.{blocks_may_stop, blocks_step_on}
 use Rattle.race_inside.specs.Seats.{AreSeated, IsKnown}
