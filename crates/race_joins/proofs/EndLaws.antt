@@ -1,5 +1,5 @@
 -- All actors after a block, found by their numbers.
-use Rattle.std.proofs.Common.{◌≡◌, ◌<◌, ◌≤◌, ◌+◌, ℕ, Bool, true, false, ◌||◌, List, [], ◌∷◌, ◌++◌, length, refl, sym, ap, subst, ◌∙◌, arith, Option}
+use Rattle.std.proofs.Common.{◌≡◌, ◌<◌, ℕ, Bool, true, false, ◌||◌, List, [], ◌∷◌, refl, sym, ap, subst, ◌∙◌, arith, Option}
 use Rattle.std.specs.Prelude.{◌==◌}
 use Rattle.std.specs.List.{list_any}
 use Rattle.std.proofs.lemmas.Bool.{eqb-true}
@@ -26,7 +26,7 @@ use Rattle.race_actors.specs.Desks.{DeskKeeps}
 use Rattle.race_block.specs.Joined.{HasJoined}
 use Rattle.race_joins.specs.Starts.{IsAtStart}
 use Rattle.race_joins.specs.Ran.{HasRunBlock, is_out_of_memory, known_after_block}
-use Rattle.race_joins.proofs.ListLaws.{Each, Found, GotIs, IsItsClerk, actors_apart, each_both, each_weaker, find_each, got_each, got_nothing, has_lines}
+use Rattle.race_joins.proofs.ListLaws.{Each, GotIs, IsItsClerk, actors_apart, each_both, each_weaker, find_each, got_each, got_nothing, has_lines}
 use Rattle.race_joins.proofs.ListLaws.{in_actors, is_in, no_lines, or_first, or_second}
 use Rattle.race_joins.proofs.StartLaws.{WasActor, were_actors}
 use Rattle.race_joins.proofs.DeskLaws.{DeskBegan, DeskEnded, desk_ended}

@@ -7,7 +7,6 @@ use Rattle.std.proofs.lemmas.Bool.{eqb-true, eqb-false, le-leb, or_from}
 use Rattle.std.proofs.lemmas.Map.Views.{any-filter_same}
 use mathlib.Core.Logic.{dite}
 use native.Mathlib.Decide.{ℕ_discrete}
-use Rattle.mem_base.specs.declared.machine.records.DeskEntry.{DeskEntry}
 use Rattle.mem_base.specs.machine.Records.{Clerk, got_by}
 use Rattle.mem_base.specs.script.Scripts.{Line}
 use Rattle.mem_base.specs.script.Race.{Phase, actors_in, desk_number, lines_by}

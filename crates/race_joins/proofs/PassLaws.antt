@@ -1,6 +1,5 @@
 -- A pass after a block, held against what all have seen then: it did its lines, or the first of them.
-use Rattle.std.proofs.Common.{◌≡◌, ◌<◌, ◌+◌, ℕ, zero, suc, Bool, false, List, [], ◌∷◌, ◌++◌, length, map, take, refl, sym, ap, subst, ◌∙◌, append-nil, arith}
-use mathlib.Core.List.{IsPrefix}
+use Rattle.std.proofs.Common.{◌≡◌, ◌<◌, ◌+◌, ℕ, zero, suc, false, List, [], ◌∷◌, ◌++◌, length, map, take, refl, sym, ap, subst, ◌∙◌, append-nil, arith}
 use Rattle.mem_base.specs.declared.machine.events.HistoryEntry.{HistoryEntry}
 use Rattle.mem_base.specs.declared.machine.records.DeskEntry.{DeskEntry}
 use Rattle.mem_base.specs.map.Limits.{most_passes}
@@ -12,20 +11,17 @@ use Rattle.mem_base.specs.machine.Turns.{replies_of}
 use Rattle.mem_base.specs.script.Named.{Names}
 use Rattle.mem_base.specs.script.Scripts.{Line}
 use Rattle.mem_base.specs.script.Tasks.{Known}
-use Rattle.mem_base.specs.script.RaceLines.{PassLine, Said, lines_of_pass}
+use Rattle.mem_base.specs.script.RaceLines.{lines_of_pass}
 use Rattle.mem_base.specs.script.Race.{block, lines_by, pass_state}
-use Rattle.generation.specs.Published.{Published}
-use Rattle.epoch_rule.specs.Values.{PassValue}
-use Rattle.race_laws.specs.Acting.{PassAt, PassDeed}
+use Rattle.race_laws.specs.Acting.{PassAt}
 use Rattle.pass_lines.specs.Doing.{state_seen}
 use Rattle.pass_lines.proofs.DoneLaws.{at_later, published_prefix}
 use Rattle.race_actors.specs.declared.passes.PassActor.{PassActor}
 use Rattle.race_actors.specs.declared.tasks.BlockLine.{BlockLine}
-use Rattle.race_actors.specs.declared.tasks.LineGot.{LineGot}
 use Rattle.race_actors.specs.Lines as passes
 use Rattle.race_actors.specs.Laws.{AreTasksOf, HasKept, count_own, deed_from, saids}
 use Rattle.race_actors.proofs.KeptLaws.{passes_keep_lines}
-use Rattle.race_block.specs.Joined.{HasJoinedPass, new_clerk}
+use Rattle.race_block.specs.Joined.{HasJoinedPass}
 use Rattle.race_joins.specs.Starts.{PassStarts}
 
 -- the first of some lines, with their tasks

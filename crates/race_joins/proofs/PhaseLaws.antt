@@ -1,14 +1,12 @@
 -- A block as one phase of a race: what each actor has done of it, or that it is whole.
-use Rattle.std.proofs.Common.{◌≡◌, ◌<◌, ◌+◌, ℕ, Bool, true, false, List, [], ◌∷◌, ◌++◌, length, map, flat_map, refl, sym, ap, subst, ◌∙◌, append-nil, Option}
+use Rattle.std.proofs.Common.{◌≡◌, ◌<◌, ◌+◌, ℕ, Bool, true, false, List, [], ◌++◌, length, map, flat_map, refl, sym, ap, subst, ◌∙◌, append-nil, Option}
 use Rattle.std.proofs.lemmas.List.{append_cancel_left}
 use Rattle.std.specs.List.{list_any}
-use Rattle.mem_base.specs.declared.map.ids.PassId.{PassId}
 use Rattle.mem_base.specs.declared.machine.events.HistoryEntry.{HistoryEntry}
 use Rattle.mem_base.specs.declared.machine.records.DeskEntry.{DeskEntry}
 use Rattle.mem_base.specs.declared.machine.records.Differs.{Differs}
 use Rattle.mem_base.specs.lists.Every.{Every}
 use Rattle.mem_base.specs.map.Limits.{most_passes, notifier_count}
-use Rattle.mem_base.specs.machine.Generations.{Generation}
 use Rattle.mem_base.specs.machine.Passes.{PassState, pass_id}
 use Rattle.mem_base.specs.machine.Actors.{generations_published, own_entries}
 use Rattle.mem_base.specs.machine.Records.{Clerk, Closes, got_by, recorded}
@@ -20,13 +18,13 @@ use Rattle.mem_base.specs.script.Race.{Course, Stand, actors_in, block, desk_num
 use Rattle.history_laws.proofs.AppendLaws.{own_append}
 use Rattle.epoch_rule.specs.declared.views.Sizes.{Sizes}
 use Rattle.epoch_rule.specs.Rule.{IsLegal}
-use Rattle.race_laws.specs.Acting.{DeskAt, PassAt, PassDeed}
+use Rattle.race_laws.specs.Acting.{DeskAt, PassAt}
 use Rattle.race_laws.specs.SoFar.{IsTold}
-use Rattle.race_laws.specs.Stopped.{ActorsHaveBegun, ActorsHaveDone, BeginsLine, DeskActor, PassActor, published_by}
+use Rattle.race_laws.specs.Stopped.{ActorsHaveBegun, ActorsHaveDone, DeskActor, PassActor, published_by}
 use Rattle.race_laws.proofs.ActingLaws.{pass_acts}
 use Rattle.race_laws.proofs.PassGoesOn.{state_kept}
 use Rattle.desk_lock.specs.Laws.{MakesTurns}
-use Rattle.desk_lock.specs.Records.{RecordState, later_entries}
+use Rattle.desk_lock.specs.Records.{RecordState}
 use Rattle.desk_lock.proofs.StayLaws.{later_makes_turns}
 use Rattle.race_actors.specs.declared.blocks.BlockActor.{BlockActor}
 use Rattle.race_actors.specs.Laws.{deed_from}

@@ -1,12 +1,11 @@
 -- Each actor of a block with its number, as it started and as the block left it, with its clerk.
-use Rattle.std.proofs.Common.{◌≡◌, ◌<◌, ◌+◌, ℕ, zero, suc, List, [], ◌∷◌, length, get_or, refl, sym, ap, subst, ◌∙◌, arith}
+use Rattle.std.proofs.Common.{◌≡◌, ◌<◌, ℕ, suc, List, [], ◌∷◌, length, get_or, arith}
 use Rattle.atomic_table.specs.Seated.{TableId}
 use Rattle.mem_base.specs.declared.machine.events.HistoryEntry.{HistoryEntry}
 use Rattle.mem_base.specs.machine.Records.{Clerk}
 use Rattle.mem_base.specs.script.Scripts.{Line}
 use Rattle.mem_base.specs.script.Tasks.{Known}
 use Rattle.race_actors.specs.declared.blocks.BlockActor.{BlockActor}
-use Rattle.race_actors.specs.declared.blocks.BlockActor.TheVariants.{Desk, Pass, Gone}
 use Rattle.race_actors.specs.Blocks.{CanAct}
 use Rattle.race_block.specs.Joined.{HasJoined}
 use Rattle.race_joins.specs.Starts.{AreAtStart, IsAtStart}

@@ -2,7 +2,7 @@
 use Rattle.std.proofs.Common.{◌≡◌, ◌<◌, ◌≤◌, ◌+◌, ℕ, zero, suc, Bool, true, false, if◌then◌else◌, List, [], ◌∷◌, ◌++◌, length, map, drop}
 use Rattle.std.proofs.Common.{refl, sym, ap, subst, ◌∙◌, append-nil, append_assoc, arith, ne_eqb, Option}
 use Rattle.std.specs.Prelude.{◌==◌, flat_map}
-use Rattle.std.specs.List.{list_any, range_with_len}
+use Rattle.std.specs.List.{range_with_len}
 use Rattle.std.proofs.lemmas.Bool.{eqb-true}
 use Rattle.std.proofs.lemmas.List.Folds.{flat_map-map}
 use Rattle.mem_base.specs.declared.map.ids.PassId.{PassId}
@@ -13,7 +13,6 @@ use Rattle.mem_base.specs.map.Limits.{most_passes}
 use Rattle.mem_base.specs.views.Listening.{Delivery}
 use Rattle.mem_base.specs.machine.Generations.{Generation}
 use Rattle.mem_base.specs.machine.Passes.{PassState, pass_id}
-use Rattle.mem_base.specs.machine.Reaps.{Writer}
 use Rattle.mem_base.specs.machine.Actors.{generations_published, own_entries}
 use Rattle.mem_base.specs.machine.Records.{Clerk, got_by}
 use Rattle.mem_base.specs.machine.Turns.{replies_of}
