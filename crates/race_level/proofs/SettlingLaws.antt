@@ -11,7 +11,7 @@ use Rattle.mem_base.specs.machine.Turns.{entries_of_turn}
 use Rattle.generation.specs.Published.{Published}
 use Rattle.epoch_rule.specs.Values.{PassValue}
 use Rattle.desk_lock.specs.Records.{turns_given}
-use Rattle.race_steps.specs.Levels.{OneActed, Stayed, GrewOwn}
+use Rattle.race_steps.specs.Levels.{OneActed, Stayed}
 use Rattle.race_steps.proofs.LevelLaws.{actors_are_level}
 use Rattle.race_level.specs.Settling.{AreLevel, DeskSettles, HaveMet, PassSettles, pass_at}
 

@@ -1,5 +1,5 @@
 -- What a runner of a race has between two of its phases.
-use Rattle.std.specs.Prelude.{◌≡◌, ◌+◌, All, List, length}
+use Rattle.std.specs.Prelude.{◌≡◌, All, List, length}
 use Rattle.mem_base.specs.map.Limits.{most_passes}
 use Rattle.generation.specs.Published.{Published}
 use Rattle.epoch_rule.specs.Values.{PassValue}

@@ -1,5 +1,5 @@
 -- What a line of a pass copies is at most 64 bytes; and whose line it is.
-use Rattle.std.proofs.Common.{◌≡◌, ◌≢◌, ◌≤◌, ◌<◌, ℕ, Option, Some, None, Result, Ok, Err, refl, sym, subst, arith}
+use Rattle.std.proofs.Common.{◌≢◌, ◌≤◌, ◌<◌, ℕ, Option, Some, None, Result, Ok, Err, refl, sym, subst, arith}
 use Rattle.mem_base.specs.declared.map.calls.Call.{Call}
 use Rattle.mem_base.specs.declared.machine.records.DeskOrder.TheVariants as orders
 use Rattle.mem_base.specs.declared.script.commands.Command.{Command}
@@ -15,7 +15,7 @@ use Rattle.race_laws.proofs.OutsideLaws.{orders_fit}
 use Rattle.race_lines.specs.declared.tasks.LineTask.{LineTask}
 use Rattle.race_lines.specs.declared.tasks.LineTask.TheVariants.{Idle, Ordered, Shown, Found, Watched, Unwatched, Entered, Left, Read, Written, Copied}
 use Rattle.race_lines.specs.declared.tasks.Refused.{Refused}
-use Rattle.race_lines.specs.LineTasks.{Resolves, name_made, resolved}
+use Rattle.race_lines.specs.LineTasks.{Resolves, name_made}
 use Rattle.race_outside.specs.Passes.{FitsTask}
 use Rattle.race_outside.proofs.DeskLaws.{has_notifier}
 

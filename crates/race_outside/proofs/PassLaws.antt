@@ -1,5 +1,5 @@
 -- A line of a pass outside the block, from what its virtual CPU or the record did to the race that goes on.
-use Rattle.std.proofs.Common.{◌≡◌, ◌≢◌, ℕ, ◌+◌, ◌<◌, List, [], ◌∷◌, ◌++◌, drop, length, map, Result, Ok, Err, IfOk, OnErr, OnOk, append-nil, refl, sym, ap, subst, ◌∙◌}
+use Rattle.std.proofs.Common.{◌≡◌, ℕ, ◌+◌, ◌<◌, List, [], ◌∷◌, ◌++◌, drop, length, map, Result, Ok, Err, IfOk, OnErr, OnOk, append-nil, refl, sym, ap, subst, ◌∙◌}
 use Rattle.std.specs.Prelude.{All, flat_map, slice_index_or}
 use mathlib.Core.List.{IsPrefix}
 use mathlib.Core.Logic.{dite}
@@ -11,10 +11,8 @@ use Rattle.mem_base.specs.declared.machine.records.DeskOrder.{DeskOrder}
 use Rattle.mem_base.specs.lists.Every.{Every}
 use Rattle.mem_base.specs.map.Limits.{most_passes, notifier_count}
 use Rattle.mem_base.specs.machine.Actors.{generations_published, own_entries}
-use Rattle.mem_base.specs.machine.Generations.{Generation}
 use Rattle.mem_base.specs.machine.Passes.{pass_id}
 use Rattle.mem_base.specs.machine.PassTurns.{pass_begins}
-use Rattle.mem_base.specs.machine.Reaps.{Writer}
 use Rattle.mem_base.specs.machine.Records.{FitsDeskOrder, Given, journal_length, recorded}
 use Rattle.mem_base.specs.machine.SharedHistory.{IsSharedLegal}
 use Rattle.mem_base.specs.machine.Turns.{entries_of_turn, replies_of}
@@ -40,7 +38,7 @@ use Rattle.race_laws.proofs.OutsideLaws.{orders_fit}
 use Rattle.race_laws.proofs.StoppedEnds.{race_goes_on}
 use Rattle.pass_lines.specs.declared.answers.LineAnswer.{LineAnswer}
 use Rattle.pass_lines.specs.declared.answers.LineAnswer.TheVariants as answers
-use Rattle.pass_lines.specs.Doing.{DoesLine, IsInItsGeneration}
+use Rattle.pass_lines.specs.Doing.{IsInItsGeneration}
 use Rattle.pass_lines.specs.Texts.{answer_text}
 use Rattle.pass_lines.proofs.DoneLaws.{lines_are_done, published_prefix}
 use Rattle.desk_lock.specs.Records.{GrewBy, RecordState, turns_given}

@@ -1,5 +1,5 @@
 -- A race that stopped in a phase, or lost the text of one, could have gone on.
-use Rattle.std.proofs.Common.{◌≡◌, ℕ, ◌+◌, List, [], ◌∷◌, ◌++◌, Option, Some, None, Result, Ok, Err, OnErr, OnOk, ◌⊎◌, inl, inr, refl, sym, subst, ◌∙◌, append_assoc}
+use Rattle.std.proofs.Common.{◌≡◌, ℕ, ◌+◌, List, [], ◌∷◌, ◌++◌, Option, Some, None, Result, Ok, Err, OnErr, OnOk, inl, inr, refl, sym, subst, ◌∙◌, append_assoc}
 use Rattle.mem_base.specs.declared.machine.events.HistoryEntry.{HistoryEntry}
 use Rattle.mem_base.specs.declared.machine.records.DeskOrder.{DeskOrder}
 use Rattle.mem_base.specs.map.Limits.{most_passes, notifier_count}
@@ -13,7 +13,7 @@ use Rattle.mem_base.specs.script.Scripts.{Line}
 use Rattle.mem_base.specs.script.Run.{pool_words}
 use Rattle.mem_base.specs.script.Tasks.{Known, Resolved, Task, task_of}
 use Rattle.mem_base.specs.script.Tasks as tasks
-use Rattle.mem_base.specs.script.Race.{Course, IsTextOfRace, Phase, Stand, actor_number, alone, desk_number, phases_of}
+use Rattle.mem_base.specs.script.Race.{Course, IsTextOfRace, Phase, Stand, actor_number, alone, desk_number}
 use Rattle.generation.specs.Published.{Published}
 use Rattle.epoch_rule.specs.declared.views.Sizes.{Sizes}
 use Rattle.epoch_rule.specs.Rule.{IsLegal}
@@ -35,7 +35,7 @@ use Rattle.race_lines.specs.LineTasks.{Resolves, name_made}
 use Rattle.race_level.specs.Settling.{AreLevel, HaveMet}
 use Rattle.race_level.proofs.SettlingLaws.{desk_settles}
 use Rattle.race_outside.specs.Asked.{StopsAsking, TakesOwn}
-use Rattle.race_outside.specs.Outside.{StepsOn, StopsIn, WritesOn, sizes_of, stand_of}
+use Rattle.race_outside.specs.Outside.{StepsOn, StopsIn, WritesOn, stand_of}
 
 pub on_failure : {T E : Type 0} (r : Result T E) (P : Type 0) → P → OnErr r P
 on_failure (Ok x) P p = tt

@@ -1,4 +1,4 @@
-use Rattle.std.proofs.Common.{OnErr, Result, Ok, Err, inl, inr, refl, sym, subst}
+use Rattle.std.proofs.Common.{inl, inr, refl, sym, subst}
 use Rattle.desk_lock.specs.Records.{RecordState}
 use Rattle.race_outside.specs.Asked.{TakesOwn}
 use Rattle.desk_lock.proofs.RecordLaws.{later_joins}

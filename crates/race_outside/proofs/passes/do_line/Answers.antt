@@ -1,7 +1,4 @@
-use Rattle.std.proofs.Common.{◌≡◌, ℕ, ◌<◌, IfOk, OnErr, Result, Ok, Err, length, sym, ap, subst, ◌∙◌}
-use Rattle.generation.specs.Published.{Published}
-use Rattle.epoch_rule.specs.Values.{PassValue}
-use Rattle.race_outside.specs.Passes.{Changed}
+use Rattle.std.proofs.Common.{◌≡◌, length, sym, ◌∙◌}
 use Rattle.race_outside.proofs.PassLaws.{if_done, on_nothing}
 use Rattle.race_outside.proofs.PlaceLaws.{changed_by, has_room, same_count}
 use Rattle.race_outside.proofs.passes.do_line.Goals as goal
