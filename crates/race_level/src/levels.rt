@@ -1,10 +1,10 @@
 // The record hears the virtual CPUs, and they meet it.
-ghost use Rattle.std.specs.Prelude.{◌≡◌, ℕ, ◌<◌, All, length, slice_index_or};
+ghost use Rattle.std.specs.Prelude.{◌≡◌, ℕ, ◌<◌, [], All, length, slice_index_or};
 ghost use mathlib.Core.List.{IsPrefix};
 ghost use Rattle.generation.specs.Published.{Published};
 ghost use Rattle.epoch_rule.specs.Rule.{IsLegal};
 ghost use Rattle.epoch_rule.specs.Values.{PassValue};
-ghost use Rattle.desk_lock.specs.Records.{IsLater};
+ghost use Rattle.desk_lock.specs.Records.{GrewBy, IsLater};
 ghost use Rattle.race_level.specs.Levels.{HasMet, IsHeard, IsOfCabinet};
 
 use desk_lock::Record;
@@ -69,9 +69,12 @@ pub fn level(desk: &mut Record, cpus: &mut [Vcpu<'_>])
     ensures later { IsLater desk.old desk.new }
     ensures entries { desk.new.entries ≡ desk.old.entries }
     ensures part { desk.new.part ≡ desk.old.part }
+    ensures grew { GrewBy [] desk.old desk.new }
+    ensures legal { IsLegal desk.new.seat.sizes desk.new.seat.seen }
     ensures met { (i : ℕ) (d : PassValue Published) → i < length cpus.old
         → HasMet desk.new.seat.seen (slice_index_or cpus.old i d) (slice_index_or cpus.new i d) }
 {
     hear_all(desk, cpus);
+    desk.has_seen_legal();
     meet_all(desk, cpus);
 }

@@ -1,14 +1,14 @@
 // A line of the desk.
-ghost use Rattle.std.specs.Prelude.{◌≡◌, All, IfOk, OnOk, length};
+ghost use Rattle.std.specs.Prelude.{◌≡◌, IfOk, OnErr, OnOk};
 ghost use Rattle.std.specs.Arc.{arc_value};
-ghost use Rattle.mem_base.specs.map.Limits.{most_passes};
-ghost use Rattle.mem_base.specs.script.Race.{actor_number, desk_number};
+ghost use Rattle.mem_base.specs.script.Race.{actor_number, alone, desk_number};
+ghost use Rattle.mem_base.specs.script.RaceLines.{said_text};
 ghost use Rattle.run_laws.specs.Fitting.{FitsCommand};
 ghost use Rattle.desk_lock.specs.Records.{IsLater};
 ghost use Rattle.race_lines.specs.DeskLines.{entry_got};
-ghost use Rattle.race_level.specs.Levels.{IsOfCabinet};
-ghost use Rattle.race_level.specs.Settling.{AreLevel};
-ghost use Rattle.race_outside.specs.Outside.{FitsOwn, LooksAt, StepsOn, TakesOwn, entry_of_receipt};
+ghost use Rattle.race_level.specs.Ready.{AreReady};
+ghost use Rattle.race_outside.specs.Asked.{FitsOwn, IsAsked, LooksAt, StopsAsking, TakesOwn, entry_of_receipt};
+ghost use Rattle.race_outside.specs.Outside.{StepsOn, StopsIn};
 
 use desk_lock::{Receipt, Record};
 use generation::Generation;
@@ -20,7 +20,7 @@ use std::alloc::{AllocError, Global};
 use std::sync::{Arc, Wait};
 use vcpu_pass::Vcpu;
 
-// Gives the order of a line, where its task has one.
+// Gives the order of a line, where its task has one. Out of memory nothing was done.
 fn own_order<R: Wait>(
     rt: &R,
     desk: &mut Record,
@@ -29,6 +29,7 @@ fn own_order<R: Wait>(
     requires { FitsOwn task.now }
     ensures took { IfOk result (λ got. TakesOwn desk.old task.now got desk.new) }
     ensures later { IsLater desk.old desk.new }
+    ensures err { OnErr result (desk.new ≡ desk.old) }
 {
     match task {
         Ok(LineTask::Ordered { order, naming: _ }) => {
@@ -39,10 +40,11 @@ fn own_order<R: Wait>(
     }
 }
 
-// Asks for the current generation.
+// Asks for the current generation. Out of memory nothing was done.
 fn look<R: Wait>(rt: &R, desk: &mut Record) -> Result<Arc<Generation, Global>, AllocError>
     ensures looked { IfOk result (λ current. LooksAt desk.old (arc_value current) desk.new) }
     ensures later { IsLater desk.old desk.new }
+    ensures err { OnErr result (desk.new ≡ desk.old) }
 {
     let Receipt {
         answer: _answer,
@@ -55,6 +57,34 @@ fn look<R: Wait>(rt: &R, desk: &mut Record) -> Result<Arc<Generation, Global>, A
         Some(current) => Ok(current),
         None => unreachable!(),
     }
+}
+
+// What a line asked for, and got.
+#[derive(Drop)]
+pub(crate) struct Asked<'a> {
+    pub(crate) task: ResolvedTask<'a>,
+    pub(crate) got: Option<Receipt>,
+    pub(crate) current: Arc<Generation, Global>,
+}
+
+// Gives all orders of a line: its own, if it has one, and then asks for the current generation. Out of memory the line has not
+// asked for that.
+fn ask_line<'a, R: Wait>(
+    rt: &R,
+    alloc: Global,
+    desk: &mut Record,
+    known: &KnownNames,
+    command: &'a Command,
+) -> Result<Asked<'a>, AllocError>
+    requires fits { FitsCommand command.now }
+    ensures asked { IfOk result (λ x. IsAsked desk.old known.now command.now x desk.new) }
+    ensures stopped { OnErr result (StopsAsking desk.old known.now command.now desk.new) }
+    ensures later { IsLater desk.old desk.new }
+{
+    let task = task_of(alloc, known, command)?;
+    let got = own_order(rt, desk, &task)?;
+    let current = look(rt, desk)?;
+    Ok(Asked { task, got, current })
 }
 
 // What a line got for its order.
@@ -75,8 +105,9 @@ fn answered(got: &Option<Receipt>) -> Option<Answered<'_>>
 /// record has seen then; and it is told what is known after the line and what the line writes, which takes the place of what
 /// stood in `said`.
 ///
-/// All sixteen virtual CPUs stand at their numbers, and have seen just what the record has. The numbers of the command fit, as
-/// those of every script that was read do. It may wait where a `load` replaces a part of a word.
+/// The numbers of the command fit, as those of every script that was read do. It may wait where a `load` replaces a part of a word.
+/// Out of memory the line was not done, or its own order was given, or the line was done and what it writes is lost; what is known
+/// is then of no use any more. All have seen the same history then too.
 pub fn desk_line<R: Wait>(
     rt: &R,
     alloc: Global,
@@ -89,16 +120,24 @@ pub fn desk_line<R: Wait>(
 ) -> Result<(), AllocError>
     requires actor { actor_number command.now ≡ desk_number }
     requires fits { FitsCommand command.now }
-    requires all { length cpus.old ≡ most_passes }
-    requires own { All (IsOfCabinet desk.old.seat.cabinet) cpus.old }
-    requires level { AreLevel desk.old.seat.seen cpus.old }
-    ensures step { OnOk result (StepsOn desk.old known.old (number, command.now) desk.new known.new said.new) }
-    ensures level { OnOk result (AreLevel desk.new.seat.seen cpus.new) }
+    requires ready { AreReady desk.old cpus.old }
+    ensures ready { AreReady desk.new cpus.new }
+    ensures later { IsLater desk.old desk.new }
+    ensures step { OnOk result (StepsOn desk.old known.old (alone (number, command.now)) desk.new known.new
+        (said_text known.new.names desk.new.part.desk.listening.journal said.new)) }
+    ensures stopped { OnErr result (StopsIn desk.old known.old (alone (number, command.now)) desk.new) }
 {
-    let task = task_of(alloc, known, command)?;
-    let got = own_order(rt, desk, &task)?;
-    let current = look(rt, desk)?;
+    let asked = ask_line(rt, alloc, desk, known, command);
     desk.has_seen_legal();
     meet_all(desk, cpus);
-    known.take_line(said, number, &task, answered(&got), &current)
+    match asked {
+        Ok(asked) => known.take_line(
+            said,
+            number,
+            &asked.task,
+            answered(&asked.got),
+            &asked.current,
+        ),
+        Err(error) => Err(error),
+    }
 }

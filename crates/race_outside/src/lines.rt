@@ -1,6 +1,6 @@
 // A line outside the block.
 ghost use Rattle.std.specs.Prelude.{◌≡◌, ◌≤◌, OnErr, OnOk};
-ghost use Rattle.mem_base.specs.script.Race.{alone};
+ghost use Rattle.mem_base.specs.script.Race.{actor_number, alone, desk_number};
 ghost use Rattle.run_laws.specs.Fitting.{FitsCommand};
 ghost use Rattle.desk_lock.specs.Records.{IsLater};
 ghost use Rattle.race_level.specs.Ready.{AreReady};
@@ -17,6 +17,32 @@ use script_lines::Line;
 use std::alloc::{AllocError, Global};
 use std::sync::Wait;
 use vcpu_pass::Vcpu;
+
+// A line of the desk, with its text.
+fn write_desk_line<R: Wait>(
+    rt: &R,
+    alloc: Global,
+    desk: &mut Record,
+    cpus: &mut [Vcpu<'_>],
+    known: &mut KnownNames,
+    text: &mut Line,
+    number: u32,
+    command: &Command,
+) -> Result<(), AllocError>
+    requires actor { actor_number command.now ≡ desk_number }
+    requires fits { FitsCommand command.now }
+    requires ready { AreReady desk.old cpus.old }
+    ensures ready { AreReady desk.new cpus.new }
+    ensures later { IsLater desk.old desk.new }
+    ensures step { OnOk result (WritesOn desk.old known.old (alone (number, command.now)) desk.new known.new text.old text.new) }
+    ensures stopped { OnErr result (StopsIn desk.old known.old (alone (number, command.now)) desk.new) }
+{
+    let mut said = LineSaid::new(alloc);
+    match desk_line(rt, alloc, desk, cpus, known, &mut said, number, command) {
+        Ok(()) => said.add_text(text, known.names(), desk.journal()),
+        Err(error) => Err(error),
+    }
+}
 
 /// A line of a race outside the block, the desk's or a pass's: it is done on the running machine, what it writes is added to the
 /// text, and all virtual CPUs and the record have then seen the same history.
@@ -48,6 +74,6 @@ pub fn outside_line<'c, R: Wait>(
     if who != DESK_NUMBER {
         return pass_line(rt, alloc, desk, cpus, known, bounce, text, number, PassId(who), command);
     }
-    let done = outside_desk_line(rt, alloc, desk, cpus.as_mut_slice(), known, text, number, command);
+    let done = write_desk_line(rt, alloc, desk, cpus.as_mut_slice(), known, text, number, command);
     (bounce, done)
 }
