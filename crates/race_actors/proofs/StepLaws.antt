@@ -41,6 +41,7 @@ use Rattle.pass_lines.specs.Laws.{KeepsLines}
 use Rattle.pass_lines.proofs.DoneLaws.{at_later, lines_are_done}
 use Rattle.pass_lines.proofs.EntryLaws.{state_then}
 use Rattle.pass_lines.proofs.LineLaws.{nothing_grew}
+use Rattle.race_lines.specs.LineTasks.{refused_text}
 use Rattle.race_actors.specs.declared.tasks.PassTask.{PassTask}
 use Rattle.race_actors.specs.declared.tasks.PassTask.TheVariants.{Refused, Order, Enter, Leave, Read, Write, Copy}
 use Rattle.race_actors.specs.declared.tasks.BlockLine.{BlockLine}
@@ -75,7 +76,7 @@ run_then (y ∷ xs) line c d e v w x all got h done = record {
 -- a pass that did a line is in its generation, of the same cabinet
 pub stays_inside : (task : PassTask) (c : Clerk) (v : PassValue Published) (got : LineGot) (d : Clerk) (w : PassValue Published) → IsInItsGeneration v
     → HasDone task c v got d w → IsInItsGeneration w × (w.cabinet ≡ v.cabinet)
-stays_inside Refused c v got d w inside h = subst (λ (z : PassValue Published). IsInItsGeneration z × (z.cabinet ≡ v.cabinet)) (sym h.2) (inside, refl)
+stays_inside (Refused why) c v got d w inside h = subst (λ (z : PassValue Published). IsInItsGeneration z × (z.cabinet ≡ v.cabinet)) (sym h.2) (inside, refl)
 stays_inside (Order order) c v got d w inside h = (h.1.inside, h.1.grew.cabinet)
 stays_inside Enter c v got d w inside h = (h.does.inside, h.does.grew.cabinet)
 stays_inside Leave c v got d w inside h = (h.does.inside, h.does.grew.cabinet)
@@ -289,7 +290,7 @@ module _ (k : Known) (count : ℕ) (deed : PassDeed) (line : Line) (c : Clerk) (
       }
 
   pub step_kept : (task : PassTask) → StandsFor task (task_of k line.1) → HasDone task c v got d w → Kept
-  step_kept Refused is h = refused is.0 is.1 h.0 h.1 h.2
+  step_kept (Refused why) is h = refused (refused_text why) is h.0 h.1 h.2
   step_kept (Order order) is h = ordered order is.0 is.1 h.0 h.1
   step_kept Enter is h = answered tasks.entered is h
   step_kept Leave is h = answered tasks.left is h

@@ -21,6 +21,7 @@ use Rattle.race_laws.specs.Acting.{PassDeed}
 use Rattle.pass_lines.specs.Doing.{Grew, IsInItsGeneration, state_seen}
 use Rattle.pass_lines.specs.Laws.{KeepsLines}
 use Rattle.pass_lines.specs.Texts.{answer_text}
+use Rattle.race_lines.specs.LineTasks.{refused_text}
 use Rattle.race_actors.specs.declared.tasks.PassTask.{PassTask}
 use Rattle.race_actors.specs.declared.tasks.PassTask.TheVariants.{Refused, Order, Enter, Leave, Read, Write, Copy}
 use Rattle.race_actors.specs.declared.tasks.BlockLine.{BlockLine}
@@ -30,7 +31,7 @@ use Rattle.race_actors.specs.Lines.{HaveRun}
 
 -- the task is what a line asks for, once its names are resolved
 abbrev pub StandsFor : PassTask → Resolved Task → Type 0
-StandsFor Refused r = (why : Text) × (r ≡ Err why)
+StandsFor (Refused why) r = r ≡ Err (refused_text why)
 StandsFor (Order order) r = (name : Text) × (r ≡ Ok (ordered order name))
 StandsFor Enter r = r ≡ Ok entered
 StandsFor Leave r = r ≡ Ok left

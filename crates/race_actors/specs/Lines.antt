@@ -48,7 +48,7 @@ pub record HasAnswered (task : Task) (c : Clerk) (v : PassValue Published) (got 
 
 -- a line was done, with what its clerk had written down and its pass was, and what both are after it
 abbrev pub HasDone : PassTask → Clerk → PassValue Published → LineGot → Clerk → PassValue Published → Type 0
-HasDone Refused c v got d w = (got ≡ gots.Refused) × (d ≡ c) × (w ≡ v)
+HasDone (Refused why) c v got d w = (got ≡ gots.Refused) × (d ≡ c) × (w ≡ v)
 HasDone (Order order) c v got d w = (got ≡ gots.Ordered) × HasOrdered order c v d w
 HasDone Enter c v got d w = HasAnswered entered c v got d w
 HasDone Leave c v got d w = HasAnswered left c v got d w

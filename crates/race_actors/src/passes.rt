@@ -68,7 +68,7 @@ fn do_task<'a, O: Orderly, R: Wait>(
 {
     let mut vcpu = vcpu;
     match task {
-        PassTask::Refused => (vcpu, bounce, Ok(LineGot::Refused)),
+        PassTask::Refused(_) => (vcpu, bounce, Ok(LineGot::Refused)),
         PassTask::Order(asked) => {
             let got = order(rt, desk, &mut vcpu, clerk, asked);
             (vcpu, bounce, got)

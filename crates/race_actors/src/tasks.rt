@@ -2,12 +2,13 @@
 
 use mem_base::{Bytes, DeskOrder, SpaceId};
 use pass_lines::LineAnswer;
+use race_lines::Refused;
 
 /// What a line asks of a pass, once its names are resolved.
 #[derive(Debug, Drop)]
 pub enum PassTask<'a> {
-    /// Nothing: one of its names refuses the line.
-    Refused,
+    /// Nothing: one of its names refuses the line, this one.
+    Refused(Refused<'a>),
     /// An order to the desk.
     Order(DeskOrder),
     /// To enter the current generation, and to leave first where it is entered.

@@ -156,6 +156,7 @@ pub fn run_block<J: Naming + Send + Sync, G: Gate, R: Threads + Wait + Sync>(
     ensures later { IsLater first result.0 }
     ensures legal { IsLegal result.0.seat.sizes result.0.seat.seen }
     ensures closes { Closes (later_entries first result.0) clerks.new.items result.1 }
+    ensures count { length clerks.new.items ≡ length actors.old }
     ensures joined { (i : ℕ) (d : BlockActor) (c : Noted) → i < length actors.old
         → HasJoined result.0.seat.seen (slice_index_or actors.old i d) (slice_index_or actors.new i d) (slice_index_or clerks.new.items i c) }
 {

@@ -1,3 +1,4 @@
 pub mod Outside
 pub mod Asked
 pub mod Passes
+pub mod Steps

@@ -1,8 +1,9 @@
-use Rattle.std.proofs.Common.{sym, ap, subst, get_or}
+use Rattle.std.proofs.Common.{sym, ap, subst, get_or, length, ◌∙◌}
+use Rattle.std.proofs.lemmas.List.{length-map}
 use Rattle.atomic_table.specs.Seated.{TableId}
 use Rattle.desk_lock.specs.Records.{IsLater, RecordState}
 use Rattle.desk_lock.proofs.RecordLaws.{later_joins}
-use Rattle.race_block.specs.Joined.{IsVcpuOf}
+use Rattle.race_block.specs.Joined.{IsVcpuOf, clerk_of}
 use Rattle.race_block.proofs.JoinLaws.{joined_all, of_all, still_all}
 use Rattle.race_block.proofs.joining.run_block.Goals as goal
 
@@ -27,6 +28,10 @@ pub returns-clause-later : goal.returns-clause-later
 returns-clause-later g c =
     subst (λ (z : RecordState × RecordState). IsLater z.0 z.1) (λ i. (sym c.requires.start i, sym c.meet_all.ensures.same i))
     (later_joins g.J.Naming.start c.closed-desk.result.0 c.hear_all.new.desk c.closed-desk.ensures.later c.hear_all.ensures.later)
+
+pub returns-clause-count : goal.returns-clause-count
+returns-clause-count g c =
+    ap length c.take_clerks.ensures.clerks ∙ length-map c.act_all.new.actors clerk_of ∙ c.act_all.auto.actors
 
 pub returns-clause-joined : goal.returns-clause-joined
 returns-clause-joined g c =
