@@ -1,6 +1,7 @@
 -- Some phases of a race, and then some more.
 use Rattle.std.proofs.Common.{◌≡◌, ℕ, ◌+◌, ◌≤◌, List, [], ◌∷◌, ◌++◌, Option, Result, Ok, Err, OnOk, OnErr, refl, sym, ap, subst, ◌∙◌, arith, append-nil, append_assoc}
-use Rattle.std.specs.Prelude.{IsErrOf}
+use Rattle.std.specs.Prelude.{IsErrOf, map, take, drop}
+use Rattle.std.specs.declared.alloc.AllocError.{AllocError}
 use mathlib.Core.List.{IsPrefix}
 use base.Growing.{prefix_refl}
 use Rattle.outside.specs.Causes.{Rose}
@@ -16,12 +17,13 @@ use Rattle.mem_base.specs.script.Spelling.{Text}
 use Rattle.mem_base.specs.script.Scripts.{Line}
 use Rattle.mem_base.specs.script.Run.{pool_words, text_of}
 use Rattle.mem_base.specs.script.Tasks.{Known, known_at_first}
-use Rattle.mem_base.specs.script.Race.{IsAlone, IsTextOfRace, NameTheirPasses, NamesItsPass, Phase, Stand, first_stand, phases_of}
+use Rattle.mem_base.specs.script.Race.{IsAlone, IsTextOfRace, LeavesLast, NameTheirPasses, NamesItsPass, Phase, Stand, first_stand, phases_of}
 use Rattle.run_laws.specs.Fitting.{AreFitting, FitsCommand}
 use Rattle.race_laws.specs.SoFar.{IsRaceSoFar}
 use Rattle.race_laws.specs.Stopped.{GoesOn}
 use Rattle.race_laws.specs.Outside.{IsFault}
 use Rattle.race_laws.proofs.OutsideLaws.{faults_write}
+use Rattle.race_laws.proofs.PhaseEnds.{every_pass}
 use Rattle.race_laws.proofs.PlainRaces.{race_is_run}
 use Rattle.race_laws.proofs.SoFarLaws.{stops}
 use Rattle.race_laws.proofs.StoppedEnds.{race_goes_on}
@@ -30,7 +32,7 @@ use Rattle.desk_lock.specs.Records.{IsLater, RecordState}
 use Rattle.desk_lock.proofs.RecordLaws.{later_joins, later_same}
 use Rattle.epoch_rule.specs.declared.views.Sizes.{Sizes}
 use Rattle.epoch_rule.specs.Rule.{IsLegal}
-use Rattle.race_outside.specs.Outside.{StepsOn, StopsIn, sizes_of, stand_of}
+use Rattle.race_outside.specs.Outside.{StepsOn, StopsIn, WritesOn, sizes_of, stand_of}
 use Rattle.script_run.specs.declared.faults.RunFault.{RunFault}
 use Rattle.script_run.specs.declared.faults.RunFault.TheVariants.{Memory, Write}
 use Rattle.race_run.specs.declared.racers.Racer.{Racer}
@@ -171,6 +173,17 @@ module _ {K : Type 0} (written : K → Option (List ℕ)) (holds : K → List �
       not_write : Memory ≡ Write → ⊥
       not_write e = cc
 
+  -- what came of a phase, by whether memory lasted for it
+  pub goes_done : (old new : K) (phase : Phase) (a b : Racer) (before text : Text) (done : Result (Unit {0}) AllocError) (r : Result (Unit {0}) RunFault)
+      → IsLater a.desk b.desk → before ≡ [] → OnOk done (WritesOn a.desk a.known phase b.desk b.known before text)
+      → OnErr done (StopsIn a.desk a.known phase b.desk) → OnOk done (Writes written holds faults old new text Write r)
+      → OnErr done ((r ≡ Err Memory) × (new ≡ old)) → Goes written holds faults old new (phase ∷ []) a b r
+  goes_done old new phase a b before text (Ok x) r later none steps stopped wrote memory =
+      goes_one old new phase a b text r later
+      (subst (λ (t : Text). StepsOn a.desk a.known phase b.desk b.known t) (sym (steps.text ∙ ap (λ (t : Text). t ++ steps.written) none)) steps.steps) wrote
+  goes_done old new phase a b before text (Err e) r later none steps stopped wrote memory =
+      goes_stopped old new phase a b r later stopped memory.0 memory.1
+
   -- A whole race
 
   first_race : (pool : ℕ) (a : Racer) → a.known ≡ known_at_first → a.desk.seat.seen ≡ [] → a.desk.part ≡ (first_stand pool).writer
@@ -238,7 +251,7 @@ module _ {K : Type 0} (written : K → Option (List ℕ)) (holds : K → List �
       seen = [];
       last = [];
       whole = seen;
-      leaves = record { each = no_leaves; rests = refl };
+      leaves = record { each = every_pass (LeavesLast [] []) (λ pass near. refl); rests = refl };
       fault = faults_write lines [] [] [] (race_goes_on lines [] (phases_of lines) (first_stand (pool_words lines)) [] fits refl (race_starts (pool_words lines)))
           (prefix_refl []);
     },

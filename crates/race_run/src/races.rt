@@ -1,13 +1,15 @@
 // A whole race.
-ghost use Rattle.std.specs.Prelude.{◌≡◌, ◌≤◌, OnErr, OnOk, IsErrOf, false, replicate};
+ghost use Rattle.std.specs.Prelude.{◌≡◌, ◌≤◌, [], IfOk, OnErr, OnOk, IsErrOf, false, true, replicate, vec_capacity};
 ghost use Rattle.outside.specs.Causes.{Rose};
 ghost use Rattle.outside.specs.Sink.{Writes};
 ghost use Rattle.mem_base.specs.lists.Every.{Every};
 ghost use Rattle.mem_base.specs.map.Limits.{most_passes};
 ghost use Rattle.mem_base.specs.script.Race.{IsAlone, IsTextOfRace, phases_of};
 ghost use Rattle.mem_base.specs.script.Run.{pool_words, text_of};
+ghost use Rattle.mem_base.specs.script.Tasks.{known_at_first};
+ghost use Rattle.desk_lock.specs.Records.{IsUnused};
 ghost use Rattle.race_run.specs.Ends.{IsFresh};
-ghost use Rattle.race_run.specs.Racing.{HasStopped, TakesOne};
+ghost use Rattle.race_run.specs.Racing.{HasStopped, IsReady, TakesOne};
 
 use crate::closing::close;
 use crate::opening::hand_out;
@@ -30,6 +32,50 @@ use vcpu_pass::Vcpu;
 
 // How many bytes a line copies at most.
 const MOST_COPIED: usize = 64;
+
+// Room for the virtual CPUs, and the bytes that a copy goes through.
+fn room_for<'c>(alloc: Global) -> Result<(Vec<Vcpu<'c>>, Bounce), AllocError>
+    ensures empty { IfOk result (λ room. room.0.items ≡ []) }
+    ensures room { IfOk result (λ room. most_passes ≤ vec_capacity room.0) }
+    ensures bounce { IfOk result (λ room. room.1 ≡ 64) }
+{
+    let cpus = Vec::with_capacity(alloc, MOST_PASSES as usize)?;
+    let bounce = Bounce::new(alloc, MOST_COPIED)?;
+    Ok((cpus, bounce))
+}
+
+// A race of which nothing was done yet.
+fn begin<'c>(
+    alloc: Global,
+    cabinet: &'c Cabinet<Generation>,
+    config: Config,
+    cpus: Vec<Vcpu<'c>>,
+    bounce: Bounce,
+) -> Racer<'c>
+    requires own { config.seat.cabinet ≡ cabinet.now.id }
+    requires unused { IsUnused config }
+    requires seen { config.seat.seen ≡ [] }
+    requires out { config.seat.out ≡ replicate most_passes false }
+    requires empty { cpus.items ≡ [] }
+    requires room { most_passes ≤ vec_capacity cpus }
+    requires bounce { 64 ≤ bounce }
+    ensures ready { IsReady result }
+    ensures known { result.known ≡ known_at_first }
+    ensures seen { result.desk.seat.seen ≡ [] }
+    ensures out { result.desk.seat.out ≡ replicate most_passes true }
+    ensures part { result.desk.part ≡ config.part }
+    ensures same { (result.desk.seat.cabinet ≡ config.seat.cabinet) × (result.desk.seat.sizes ≡ config.seat.sizes) }
+{
+    let mut desk = Record::new(alloc, config);
+    let mut all = cpus;
+    hand_out(cabinet, &mut desk, &mut all);
+    Racer {
+        desk,
+        cpus: all,
+        known: KnownNames::new(alloc),
+        bounce,
+    }
+}
 
 /// Runs a script on the running machine, with the desk and the passes of its block beside one another, and writes its text.
 ///
@@ -62,6 +108,7 @@ pub fn race<R: Threads + Wait + Sync, S: Sink, G: Gate>(
     ensures home { result.0.seat.out ≡ replicate most_passes false }
     ensures same { (result.0.seat.cabinet ≡ config.seat.cabinet) × (result.0.seat.sizes ≡ config.seat.sizes) }
 {
+    let _lines = script.lines();
     let (cpus, bounce) = match room_for(alloc) {
         Ok(room) => room,
         Err(AllocError) => return (config, Err(RunFault::Memory)),
