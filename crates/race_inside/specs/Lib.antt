@@ -1,0 +1,4 @@
+pub mod Rooms
+pub mod Seats
+pub mod Texts
+pub mod Blocks

@@ -1,0 +1,106 @@
+// A block, from what its runner has before it to what it has after it.
+ghost use Rattle.std.specs.Prelude.{◌≡◌, OnErr, OnOk};
+ghost use Rattle.mem_base.specs.script.Race.{block};
+ghost use Rattle.mem_base.specs.script.Tasks.{Known};
+ghost use Rattle.run_laws.specs.Fitting.{AreFitting};
+ghost use Rattle.desk_lock.specs.Records.{IsLater};
+ghost use Rattle.race_level.specs.Ready.{AreReady};
+ghost use Rattle.race_outside.specs.Steps.{StopsIn};
+ghost use Rattle.race_inside.specs.Blocks.{WritesOn};
+ghost use Rattle.race_inside.specs.Seats.{AreSeated};
+
+use crate::rooms::room_for;
+use crate::seats::{Seated, known_after, seat, unseat_passes};
+use crate::texts::add_block;
+use desk_lock::{Naming, Record};
+use mem_base::{Command, MOST_PASSES};
+use outside::Gate;
+use race_block::run_block;
+use race_level::meet_all;
+use race_lines::KnownNames;
+use script_lines::Line;
+use std::alloc::{AllocError, Global};
+use std::marker::Brand;
+use std::sync::Wait;
+use std::thread::Threads;
+use vcpu_pass::Vcpu;
+
+// Lets the actors of a block do their lines, once there is room for all of it.
+fn run_in<'c, J: Naming + Send + Sync, G: Gate, R: Threads + Wait + Sync>(
+    rt: &R,
+    alloc: Global,
+    gate: &G,
+    desk: Record,
+    seated: Seated<'c>,
+    lines: &[(u32, Command)],
+    text: &mut Line,
+) -> (Record, Vec<Vcpu<'c>>, KnownNames, Result<(), AllocError>)
+    requires start { desk ≡ J.start }
+    requires seated { (k : Known) × AreSeated k lines.now desk seated }
+    ensures ready { AreReady result.0 result.1.items }
+    ensures later { IsLater desk result.0 }
+    ensures step { (k : Known) → AreSeated k lines.now desk seated
+        → OnOk result.3 (WritesOn desk k (block lines.now) result.0 result.2 text.old text.new) }
+    ensures stopped { (k : Known) → AreSeated k lines.now desk seated → StopsIn desk k (block lines.now) result.0 }
+{
+    let Seated {
+        mut actors,
+        mut clerks,
+        known,
+        mut waiting,
+        mut cpus,
+    } = seated;
+    let (mut after, differs) = run_block::<J, G, R>(
+        rt,
+        alloc,
+        gate,
+        desk,
+        actors.as_mut_slice(),
+        &mut clerks,
+    );
+    let done = add_block(
+        text,
+        &known,
+        &after,
+        actors.as_slice(),
+        clerks.as_slice(),
+        differs,
+    );
+    unseat_passes(MOST_PASSES, lines, &mut actors, &mut waiting, &mut cpus);
+    meet_all(&mut after, cpus.as_mut_slice());
+    let known = known_after(actors.pop(), known);
+    (after, cpus, known, done)
+}
+
+/// A block of a race: its actors do their lines beside one another, each in a thread of its own where one can be made, over one lock before
+/// the desk; then all have seen the same history, and what the block writes is added to the text.
+///
+/// It takes the record of the desk, the virtual CPUs and what is known of names, and gives back all of them. The numbers of the commands
+/// fit, as those of every script that was read do, and the actors reach the gate before each of their lines. Out of memory nothing was
+/// done, or each actor has done the first of its lines, or the block is whole and its text is lost: the text may then end within the
+/// block's.
+pub fn block<'c, G: Gate, R: Threads + Wait + Sync>(
+    rt: &R,
+    alloc: Global,
+    gate: &G,
+    desk: Record,
+    cpus: Vec<Vcpu<'c>>,
+    known: KnownNames,
+    lines: &'c [(u32, Command)],
+    text: &mut Line,
+) -> (Record, Vec<Vcpu<'c>>, KnownNames, Result<(), AllocError>)
+    requires fits { AreFitting lines.now }
+    requires ready { AreReady desk cpus.items }
+    ensures ready { AreReady result.0 result.1.items }
+    ensures later { IsLater desk result.0 }
+    ensures step { OnOk result.3 (WritesOn desk known (block lines.now) result.0 result.2 text.old text.new) }
+    ensures stopped { StopsIn desk known (block lines.now) result.0 }
+{
+    match room_for(alloc, &known, lines) {
+        Ok(room) => {
+            let seated = seat(alloc, cpus, known, lines, room);
+            run_in::<Brand, G, R>(rt, alloc, gate, desk, seated, lines, text)
+        }
+        Err(error) => (desk, cpus, known, Err(error)),
+    }
+}
