@@ -1,2 +1,3 @@
 pub mod LevelLists
 pub mod SettlingLaws
+pub mod ReadyLaws

@@ -70,6 +70,7 @@ pub fn level(desk: &mut Record, cpus: &mut [Vcpu<'_>])
     ensures entries { desk.new.entries ≡ desk.old.entries }
     ensures part { desk.new.part ≡ desk.old.part }
     ensures grew { GrewBy [] desk.old desk.new }
+    ensures heard { All (IsHeard desk.new.seat.seen) cpus.old }
     ensures legal { IsLegal desk.new.seat.sizes desk.new.seat.seen }
     ensures met { (i : ℕ) (d : PassValue Published) → i < length cpus.old
         → HasMet desk.new.seat.seen (slice_index_or cpus.old i d) (slice_index_or cpus.new i d) }

@@ -1,1 +1,4 @@
-pub mod OutsideLaws
+pub mod DeskLaws
+pub mod StoppingLaws
+pub mod CopyLaws
+pub mod PassLaws

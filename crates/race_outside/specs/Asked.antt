@@ -1,11 +1,11 @@
 -- What a line of the desk asks of the record, and gets.
-use Rattle.std.specs.Prelude.{◌≡◌, ◌⊎◌, Option, Some, None, Result, Ok}
+use Rattle.std.specs.Prelude.{◌≡◌, ◌⊎◌, ℕ, Option, Some, None, Result, Ok}
 use Rattle.std.specs.Arc.{arc_value}
 use Rattle.mem_base.specs.declared.machine.records.DeskEntry.{DeskEntry}
 use Rattle.mem_base.specs.declared.machine.records.DeskOrder.TheVariants.{Look}
 use Rattle.mem_base.specs.declared.script.commands.Command.{Command}
 use Rattle.mem_base.specs.script.Tasks.{Known, task_of}
-use Rattle.mem_base.specs.script.RaceLines.{no_entry}
+use Rattle.mem_base.specs.script.RaceLines.{DeskLine, no_entry}
 use Rattle.mem_base.specs.script.Race.{desk_number}
 use Rattle.generation.specs.Published.{Published}
 use Rattle.epoch_rule.specs.Copies.{value_in}
@@ -16,8 +16,8 @@ use Rattle.desk_lock.specs.Turned.{Takes}
 use Rattle.race_lines.specs.declared.tasks.LineTask.{LineTask}
 use Rattle.race_lines.specs.declared.tasks.LineTask.TheVariants.{Ordered}
 use Rattle.race_lines.specs.declared.tasks.Refused.{Refused}
-use Rattle.race_lines.specs.DeskLines.{entry_with}
-use Rattle.race_lines.specs.LineTasks.{Resolves}
+use Rattle.race_lines.specs.DeskLines.{desk_line_by, entry_with}
+use Rattle.race_lines.specs.LineTasks.{Resolves, resolved}
 use Rattle.race_outside.specs.declared.desks.Asked.{Asked}
 
 -- what is asked of the order that a task has, if any
@@ -43,6 +43,10 @@ pub record LooksAt (v : RecordState) (g : Published) (w : RecordState) : Type 0 
 abbrev pub entry_of_receipt : Option Receipt → DeskEntry
 entry_of_receipt None = no_entry
 entry_of_receipt (Some r) = entry_with r.answer r.from r.to
+
+-- the line, by what it got
+abbrev pub line_asked : Known → ℕ → Asked → DeskLine
+line_asked k number x = desk_line_by k number (resolved x.task) (entry_of_receipt x.got) (arc_value x.current).number (arc_value x.current).forest
 
 -- the record took the order of a line, if it has one
 pub record TakesFirst (v : RecordState) (k : Known) (command : Command) (task : Result LineTask Refused) (got : Option Receipt) (w : RecordState)

@@ -1,5 +1,6 @@
 -- A line of the desk outside the block, from what the record took to the race that goes on.
 use Rattle.std.proofs.Common.{◌≡◌, ℕ, ◌+◌, List, [], ◌∷◌, ◌++◌, map, Option, Some, None, Result, Ok, Err, refl, sym, ap, subst, ◌∙◌}
+use Rattle.std.specs.Arc.{arc_value}
 use Rattle.mem_base.specs.declared.map.forests.Forest.{Forest}
 use Rattle.mem_base.specs.declared.machine.events.HistoryEntry.{HistoryEntry}
 use Rattle.mem_base.specs.declared.machine.records.DeskAnswer.{DeskAnswer}
@@ -43,10 +44,12 @@ use Rattle.race_steps.proofs.StepLaws.{desk_lines_step}
 use Rattle.race_level.specs.Settling.{AreLevel, HaveMet}
 use Rattle.race_level.proofs.SettlingLaws.{desk_settles}
 use Rattle.view_laws.proofs.Tests.{none_is_not_some}
-use Rattle.race_outside.specs.Outside.{FitsOwn, LooksAt, StepsOn, TakesOwn, entry_of_receipt, stand_of}
+use Rattle.race_outside.specs.declared.desks.Asked.{Asked}
+use Rattle.race_outside.specs.Asked.{FitsOwn, IsAsked, LooksAt, TakesOwn, entry_of_receipt, line_asked}
+use Rattle.race_outside.specs.Outside.{StepsOn, stand_of}
 
 -- an order that fits takes a notifier that there is
-has_notifier : (order : DeskOrder) → FitsDeskOrder order → HasNotifier order
+pub has_notifier : (order : DeskOrder) → FitsDeskOrder order → HasNotifier order
 has_notifier orders.Begin h = tt
 has_notifier (orders.Call call) h = tt
 has_notifier orders.Commit h = tt
@@ -179,7 +182,8 @@ module _ (v m w : RecordState) (k : Known) (line : Line) (got : Option Receipt) 
 
   pub steps_on : (task : Result LineTask Refused) (next : Known) (said : Said) (olds news : List (PassValue Published)) → Resolves k task (task_of k line.1)
       → Gave task → LooksAt m g w → actor_number line.1 ≡ desk_number → IsLegal w.seat.sizes w.seat.seen → AreLevel v.seat.seen olds
-      → HaveMet w.seat.seen olds news → next ≡ (line_got task).known → said ≡ (line_got task).said → StepsOn v k line w next said
+      → HaveMet w.seat.seen olds news → next ≡ (line_got task).known → said ≡ (line_got task).said
+      → StepsOn v k (alone line) w next (said_text next.names w.part.desk.listening.journal said)
   steps_on task next said olds news r x looks actor lawful level met known_is said_is pool done text sizes race =
       let s : Stand = stand_of k v in
       let c : Course = desk_course s x.given in
@@ -222,3 +226,13 @@ hands_some (answers.Released regions) o seen h e = h
 hands_some (answers.Pages pages) o seen h e = h
 hands_some (answers.Value value) o seen h e = h
 hands_some (answers.Refused why) o seen h e = h
+
+-- a line that was given all its orders is a phase, where this is known after it and this is what it says
+pub asked_steps : (v w : RecordState) (k : Known) (line : Line) (x : Asked) (next : Known) (said : Said) (olds news : List (PassValue Published))
+    → IsAsked v k line.1 x w → FitsCommand line.1 → actor_number line.1 ≡ desk_number → IsLegal w.seat.sizes w.seat.seen → AreLevel v.seat.seen olds
+    → HaveMet w.seat.seen olds news → next ≡ (line_asked k line.0 x).known → said ≡ (line_asked k line.0 x).said
+    → StepsOn v k (alone line) w next (said_text next.names w.part.desk.listening.journal said)
+asked_steps v w k line x next said olds news a fits actor lawful level met known_is said_is =
+    let g : Published = arc_value x.current in
+    let given = gave v a.between w k line x.got g x.task a.first.resolves fits a.first.took a.looks in
+    steps_on v a.between w k line x.got g x.task next said olds news a.first.resolves given a.looks actor lawful level met known_is said_is
