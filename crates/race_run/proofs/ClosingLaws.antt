@@ -25,8 +25,9 @@ use Rattle.history_laws.proofs.OwnLaws.{own_writers}
 use Rattle.race_laws.proofs.PhaseEnds.{every_pass}
 use Rattle.generation.specs.Published.{Published}
 use Rattle.epoch_rule.specs.Rule.{IsLegal}
-use Rattle.epoch_rule.specs.Values.{PassValue}
+use Rattle.epoch_rule.specs.Values.{PassValue, WriterValue}
 use Rattle.epoch_rule.specs.Wrote.{Made}
+use Rattle.epoch_rule.proofs.SeatSteps.{set_false}
 use Rattle.vcpu_pass.specs.Calls.{HasLeft, is_entered}
 use Rattle.vcpu_pass.specs.Entries.{replies_to_leave}
 use Rattle.pass_lines.specs.Doing.{IsInItsGeneration}
@@ -73,6 +74,31 @@ last_at all rest x d is = ap (λ (xs : List (PassValue Published)). get_or xs (l
 pub before_at : (all rest : List (PassValue Published)) (x d : PassValue Published) (k : ℕ) → all ≡ rest ++ x ∷ [] → k < length rest
     → get_or all k d ≡ get_or rest k d
 before_at all rest x d k is near = ap (λ (xs : List (PassValue Published)). get_or xs k d) is ∙ get_or-append rest (x ∷ []) d k near
+
+-- the last of them has its number, and its pass is out no more
+pub record LastIn (rest : List (PassValue Published)) (x : PassValue Published) (out : List Bool) : Type 0 where
+  pub numbered : x.number ≡ length rest
+  pub inside : get_or out (length rest) false ≡ false
+
+pub last_in : (all rest : List (PassValue Published)) (x p : PassValue Published) (out taken : List Bool) → all ≡ rest ++ x ∷ []
+    → ((k : ℕ) (d : PassValue Published) → k < length all → (get_or all k d).number ≡ k) → p.number ≡ x.number
+    → taken ≡ set out p.number false → LastIn rest x taken
+last_in all rest x p out taken is numbers same set_is =
+    let near : length rest < length all = let long = last_number all rest x is in omega (arith, long) in
+    let numbered : x.number ≡ length rest = subst (λ (y : PassValue Published). y.number ≡ length rest) (last_at all rest x x is) (numbers (length rest) x near) in
+    record {
+      numbered = numbered;
+      inside = ap (λ (bs : List Bool). get_or bs (length rest) false) (set_is ∙ ap (λ (n : ℕ). set out n false) (same ∙ numbered)) ∙ set_false out (length rest);
+    }
+
+-- those that are in
+pub in_all : (all rest : List (PassValue Published)) (x : PassValue Published) (taken now : List Bool) → all ≡ rest ++ x ∷ []
+    → LastIn rest x taken → ((q : ℕ) → q < length rest → get_or now q false ≡ false)
+    → ((q : ℕ) → get_or taken q false ≡ false → get_or now q false ≡ false)
+    → (q : ℕ) → q < length all → get_or now q false ≡ false
+in_all all rest x taken now is last before still q near =
+    below_more (λ (n : ℕ). get_or now n false ≡ false) (length rest) before (still (length rest) last.inside) q
+    (let long = last_number all rest x is in omega (arith, near, long))
 
 -- the last came in, and then those before it
 pub came_all : (all rest : List (PassValue Published)) (x p : PassValue Published) (taken now : List HistoryEntry) → all ≡ rest ++ x ∷ []
@@ -132,3 +158,25 @@ are_leaves r cpus now last d ready whole writer came = record {
         (λ i. is_some (pass_state (pass_id (sym number i)) (sym seen i)).entered)
         ∙ ap is_some (ready.inside pass.0 d inside) ∙ some_map (λ g. g.number) v.edition in
         own ∙ (λ i. entries_of [] (leaves_unless (not (sym state i)) (pass_id (number i))) [])
+
+-- the desk after all have come in
+pub closed : (v w : RecordState) (c : ConfigState) (cpus : List (PassValue Published)) → c.seat ≡ w.seat → c.part ≡ w.part → AreReady v cpus
+    → w.seat.cabinet ≡ v.seat.cabinet → w.seat.sizes ≡ v.seat.sizes → w.part ≡ v.part → length w.seat.out ≡ length v.seat.out
+    → length v.seat.out ≡ most_passes → IsLegal w.seat.sizes w.seat.seen → IsPrefix v.seat.seen w.seat.seen
+    → own_entries 0 w.seat.seen ≡ own_entries 0 v.seat.seen
+    → ((k : ℕ) (d : PassValue Published) → k < length cpus → HasComeIn w.seat.seen (get_or cpus k d))
+    → ((q : ℕ) → q < length cpus → get_or w.seat.out q false ≡ false) → HasClosed v c
+closed v w c cpus seat part ready cabinet sizes same_part long count legal begins writer came inside = record {
+  cabinet = ap (λ (s : WriterValue). s.cabinet) seat ∙ cabinet;
+  sizes = ap (λ (s : WriterValue). s.sizes) seat ∙ sizes;
+  out = ap (λ (s : WriterValue). s.out) seat
+      ∙ none_out w.seat.out (long ∙ count) (λ q near. inside q (subst (λ (n : ℕ). q < n) (sym ready.all) near));
+  part = part ∙ same_part;
+  legal = subst (λ (s : WriterValue). IsLegal s.sizes s.seen) (sym seat) legal;
+  last = begins.0;
+  whole = ap (λ (s : WriterValue). s.seen) seat ∙ sym begins.1;
+  leaves = are_leaves v cpus w.seat.seen begins.0 some_cpu ready begins.1 writer came;
+}
+  where
+    some_cpu : PassValue Published
+    some_cpu = record { cabinet = v.seat.cabinet; number = 0; sizes = v.seat.sizes; seen = []; edition = None }

@@ -44,7 +44,7 @@ pub(crate) fn hand_out<'c>(
     ensures seen { desk.new.seat.seen ≡ [] }
     ensures part { desk.new.part ≡ desk.old.part }
 {
-    for _ in 0..MOST_PASSES {
+    for _count in 0..MOST_PASSES {
         cpus.push_reserved(hand_one(cabinet, desk));
     }
 }

@@ -72,7 +72,7 @@ fn go_lines<'c, R: Wait, S: Sink>(
     rt: &R,
     alloc: Global,
     racer: Racer<'c>,
-    lines: &[(u32, Command)],
+    lines: &'c [(u32, Command)],
     sink: &mut S,
 ) -> (Racer<'c>, Result<(), RunFault>)
     requires fits { AreFitting lines.now }
@@ -96,7 +96,7 @@ fn go_block<'c, R: Threads + Wait + Sync, S: Sink, G: Gate>(
     rt: &R,
     alloc: Global,
     racer: Racer<'c>,
-    lines: &[(u32, Command)],
+    lines: &'c [(u32, Command)],
     sink: &mut S,
     gate: &G,
 ) -> (Racer<'c>, Result<(), RunFault>)
@@ -131,7 +131,7 @@ pub(crate) fn go_through<'c, R: Threads + Wait + Sync, S: Sink, G: Gate>(
     rt: &R,
     alloc: Global,
     racer: Racer<'c>,
-    script: &Script,
+    script: &'c Script,
     sink: &mut S,
     gate: &G,
 ) -> (Racer<'c>, Result<(), RunFault>)

@@ -85,11 +85,11 @@ fn begin<'c>(
 ///
 /// It answers `Write` only where a write failed. After that and after `Memory` the passes leave; what was written then is the beginning of the
 /// text of a history of the script that begins with what was seen before.
-pub fn race<R: Threads + Wait + Sync, S: Sink, G: Gate>(
+pub fn race<'c, R: Threads + Wait + Sync, S: Sink, G: Gate>(
     rt: &R,
     alloc: Global,
-    script: &Script,
-    cabinet: &Cabinet<Generation>,
+    script: &'c Script,
+    cabinet: &'c Cabinet<Generation>,
     config: Config,
     sink: &mut S,
     gate: &G,
