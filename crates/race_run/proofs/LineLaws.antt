@@ -1,10 +1,11 @@
 -- The lines of a script, one after another.
-use Rattle.std.proofs.Common.{◌≡◌, ◌≢◌, ℕ, zero, suc, ◌+◌, ◌<◌, List, [], ◌∷◌, ◌++◌, length, get_or, inl, inr, refl, sym, ap, subst, ◌∙◌, arith, add-one}
+use Rattle.std.proofs.Common.{◌≡◌, ℕ, zero, suc, ◌+◌, ◌<◌, ◌≤◌, ◌==◌, Bool, true, false, List, [], ◌∷◌, ◌++◌, length, get_or, inl, inr, refl, sym, ap, subst, ◌∙◌, arith, add-one}
 use Rattle.std.specs.Prelude.{map, take, drop}
 use Rattle.std.proofs.lemmas.List.{take-append-drop}
+use Rattle.std.proofs.lemmas.Bool.{eqb-true}
 use Rattle.mem_base.specs.lists.Every.{Every}
 use Rattle.mem_base.specs.script.Scripts.{Line}
-use Rattle.mem_base.specs.script.Race.{Phase, alone, block}
+use Rattle.mem_base.specs.script.Race.{Phase, alone, block, phases_of}
 use Rattle.race_laws.specs.Outside.{block_of, phases_alone}
 use Rattle.race_phases.specs.Plain.{AreParts}
 
@@ -33,12 +34,8 @@ line_of P [] i line near is h = absurd (omega (arith, near))
 line_of P (x ∷ xs) zero line near is h = subst P (sym is) h.0
 line_of P (x ∷ xs) (suc i) line near is h = line_of P xs i line (omega (arith, near)) is h.1
 
--- a block with lines
-pub one_block : (lines : List Line) → lines ≢ [] → block_of lines ≡ block lines ∷ []
-one_block [] some = absurd (some refl)
-one_block (x ∷ xs) some = refl
-
-pub no_block : (lines : List Line) → length lines ≡ 0 → block_of lines ≡ []
+-- a block without lines
+no_block : (lines : List Line) → length lines ≡ 0 → block_of lines ≡ []
 no_block [] none = refl
 no_block (x ∷ xs) none = absurd (omega (arith, none))
 
@@ -71,3 +68,25 @@ in_parts P lines before inside after (inr h) every =
       in_it = front_of P inside (h.1 ∷ after) rest;
       after_it = (back_of P inside (h.1 ∷ after) rest).1;
     }
+
+-- by the test whether it has any
+pub none_by : (lines : List Line) (b : Bool) → b ≡ (length lines == 0) → b ≡ true → block_of lines ≡ []
+none_by lines b is none = no_block lines (eqb-true (length lines) 0 (sym is ∙ none))
+
+pub some_by : (lines : List Line) (b : Bool) → b ≡ (length lines == 0) → b ≡ false → block_of lines ≡ block lines ∷ []
+some_by [] b is some = absurd (let e : true ≡ false = sym is ∙ some in cc)
+some_by (x ∷ xs) b is some = refl
+
+-- all of the lines
+pub take_all : (lines : List Line) (i : ℕ) → length lines ≤ i → phases_alone (take i lines) ≡ phases_alone lines
+take_all lines i far = ap phases_alone (take_past i lines far)
+  where
+    take_past : (k : ℕ) (xs : List Line) → length xs ≤ k → take k xs ≡ xs
+    take_past zero [] l = refl
+    take_past zero (x ∷ xs) l = absurd (omega (arith, l))
+    take_past (suc k) [] l = refl
+    take_past (suc k) (x ∷ xs) l = ap (λ (ys : List Line). x ∷ ys) (take_past k xs (omega (arith, l)))
+
+-- the phases of a script by its lines
+pub phases_are : (script lines : List Line) (phases : List Phase) → lines ≡ script → phases_of lines ≡ phases → phases ≡ phases_of script
+phases_are script lines phases same is = sym is ∙ ap phases_of same

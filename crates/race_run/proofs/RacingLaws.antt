@@ -12,6 +12,8 @@ use Rattle.mem_base.specs.declared.script.commands.Command.{Command}
 use Rattle.mem_base.specs.declared.script.commands.Command.TheVariants as commands
 use Rattle.mem_base.specs.lists.Every.{Every}
 use Rattle.mem_base.specs.map.Limits.{most_passes, notifier_count}
+use Rattle.mem_base.specs.machine.Actors.{own_entries}
+use Rattle.mem_base.specs.machine.Reaps.{first_writer}
 use Rattle.mem_base.specs.machine.SharedHistory.{IsSharedLegal}
 use Rattle.mem_base.specs.script.Spelling.{Text}
 use Rattle.mem_base.specs.script.Scripts.{Line}
@@ -28,7 +30,7 @@ use Rattle.race_laws.proofs.PlainRaces.{race_is_run}
 use Rattle.race_laws.proofs.SoFarLaws.{stops}
 use Rattle.race_laws.proofs.StoppedEnds.{race_goes_on}
 use Rattle.config_desk.specs.Configs.{ConfigState}
-use Rattle.desk_lock.specs.Records.{IsLater, RecordState}
+use Rattle.desk_lock.specs.Records.{IsLater, IsUnused}
 use Rattle.desk_lock.proofs.RecordLaws.{later_joins, later_same}
 use Rattle.epoch_rule.specs.declared.views.Sizes.{Sizes}
 use Rattle.epoch_rule.specs.Rule.{IsLegal}
@@ -36,7 +38,7 @@ use Rattle.race_outside.specs.Outside.{StepsOn, StopsIn, WritesOn, sizes_of, sta
 use Rattle.script_run.specs.declared.faults.RunFault.{RunFault}
 use Rattle.script_run.specs.declared.faults.RunFault.TheVariants.{Memory, Write}
 use Rattle.race_run.specs.declared.racers.Racer.{Racer}
-use Rattle.race_run.specs.Ends.{HasClosed}
+use Rattle.race_run.specs.Ends.{HasClosed, IsFresh}
 use Rattle.race_run.specs.Racing.{Goes, GoesThrough, HasStopped, StopsWithin, TakesOne}
 
 -- before the first phase
@@ -79,6 +81,10 @@ stops_before : (xs ys : List Phase) (a b : Racer) (one : Text) → StopsWithin x
 stops_before xs ys a b one first lines done left text sizes fits phases race =
     first lines done (ys ++ left) text sizes fits (phases ∙ ap (λ (zs : List Phase). done ++ zs) (append_assoc xs ys left)) race
 
+pub on_err : {T E P : Type 0} (r : Result T E) → P → OnErr r P
+on_err (Ok x) p = tt
+on_err (Err e) p = p
+
 ok_of : {T E P Q : Type 0} (r : Result T E) → OnOk r P → (P → Q) → OnOk r Q
 ok_of (Ok x) p f = f p
 ok_of (Err e) p f = tt
@@ -98,7 +104,7 @@ module _ {K : Type 0} (written : K → Option (List ℕ)) (holds : K → List �
           (λ i. (sym (append-nil done) i, sym (append-nil text) i)) race,
     );
     stopped = tt;
-    failed = λ e. absurd e;
+    failed = λ e. cc;
     no_less = omega arith;
   }
 
@@ -130,6 +136,42 @@ module _ {K : Type 0} (written : K → Option (List ℕ)) (holds : K → List �
     failed = first.failed;
     no_less = first.no_less;
   }
+
+  -- Parts that go on, by the results that came
+
+  by_result : (old new : K) (xs : List Phase) (a b : Racer) (r s : Result (Unit {0}) RunFault) → r ≡ s → Goes written holds faults old new xs a b r
+      → Goes written holds faults old new xs a b s
+  by_result old new xs a b r s is = subst (λ (z : Result (Unit {0}) RunFault). Goes written holds faults old new xs a b z) is
+
+  pub goes_to_fault : (old mid new : K) (xs : List Phase) (phase : Phase) (ys all : List Phase) (a b c : Racer) (r : Result (Unit {0}) RunFault) (e : RunFault)
+      → r ≡ Err e → (xs ++ phase ∷ []) ++ ys ≡ all → Goes written holds faults old mid xs a b (Ok tt)
+      → Goes written holds faults mid new (phase ∷ []) b c r → Goes written holds faults old new all a c (Err e)
+  goes_to_fault old mid new xs phase ys all a b c r e is whole first second =
+      subst (λ (zs : List Phase). Goes written holds faults old new zs a c (Err e)) whole
+      (goes_no_further old new (xs ++ phase ∷ []) ys a c e
+      (goes_on old mid new xs (phase ∷ []) a b c (Err e) first (by_result mid new (phase ∷ []) b c r (Err e) is second)))
+
+  pub goes_first_fault : (old new : K) (xs ys zs all : List Phase) (a b : Racer) (r : Result (Unit {0}) RunFault) (e : RunFault) → r ≡ Err e
+      → xs ++ (ys ++ zs) ≡ all → Goes written holds faults old new xs a b r → Goes written holds faults old new all a b (Err e)
+  goes_first_fault old new xs ys zs all a b r e is whole first =
+      subst (λ (ps : List Phase). Goes written holds faults old new ps a b (Err e)) whole
+      (goes_no_further old new xs (ys ++ zs) a b e (by_result old new xs a b r (Err e) is first))
+
+  pub goes_second_fault : (old mid new : K) (xs ys zs all : List Phase) (a b c : Racer) (q r : Result (Unit {0}) RunFault) (e : RunFault) → q ≡ Ok tt
+      → r ≡ Err e → xs ++ (ys ++ zs) ≡ all → Goes written holds faults old mid xs a b q → Goes written holds faults mid new ys b c r
+      → Goes written holds faults old new all a c (Err e)
+  goes_second_fault old mid new xs ys zs all a b c q r e fine is whole first second =
+      subst (λ (ps : List Phase). Goes written holds faults old new ps a c (Err e)) whole
+      (goes_on old mid new xs (ys ++ zs) a b c (Err e) (by_result old mid xs a b q (Ok tt) fine first)
+      (goes_no_further mid new ys zs b c e (by_result mid new ys b c r (Err e) is second)))
+
+  pub goes_three : (old mid last new : K) (xs ys zs all : List Phase) (a b c d : Racer) (q r s : Result (Unit {0}) RunFault) → q ≡ Ok tt → r ≡ Ok tt
+      → xs ++ (ys ++ zs) ≡ all → Goes written holds faults old mid xs a b q → Goes written holds faults mid last ys b c r
+      → Goes written holds faults last new zs c d s → Goes written holds faults old new all a d s
+  goes_three old mid last new xs ys zs all a b c d q r s fine good whole first second third =
+      subst (λ (ps : List Phase). Goes written holds faults old new ps a d s) whole
+      (goes_on old mid new xs (ys ++ zs) a b d s (by_result old mid xs a b q (Ok tt) fine first)
+      (goes_on mid last new ys zs b c d s (by_result mid last ys b c r (Ok tt) good second) third))
 
   -- one phase: done, and its text written or a part of it; or stopped for want of memory
 
@@ -166,13 +208,9 @@ module _ {K : Type 0} (written : K → Option (List ℕ)) (holds : K → List �
           λ lines done left before sizes fits phases race. faults_write lines b.desk.seat.seen before (before ++ [])
               (stopped lines done left before sizes fits phases race) ([], append-nil (before ++ []) ∙ append-nil before),
         );
-        failed = λ e. absurd (not_write e);
+        failed = λ e. cc;
         no_less = omega arith;
       })
-    where
-      not_write : Memory ≡ Write → ⊥
-      not_write e = cc
-
   -- what came of a phase, by whether memory lasted for it
   pub goes_done : (old new : K) (phase : Phase) (a b : Racer) (before text : Text) (done : Result (Unit {0}) AllocError) (r : Result (Unit {0}) RunFault)
       → IsLater a.desk b.desk → before ≡ [] → OnOk done (WritesOn a.desk a.known phase b.desk b.known before text)
@@ -256,3 +294,12 @@ module _ {K : Type 0} (written : K → Option (List ℕ)) (holds : K → List �
           (prefix_refl []);
     },
   )
+
+-- a fresh desk is unused
+pub unused_fresh : (pool : ℕ) (c : ConfigState) → IsFresh pool c → IsUnused c
+unused_fresh pool c f = record {
+  pool_words = pool;
+  wide = ap (λ (z : Sizes). z.words) f.sizes;
+  none = ap (own_entries 0) f.seen;
+  part = f.part ∙ ap (λ (z : Sizes). first_writer pool z.passes) (sym f.sizes);
+}

@@ -1,5 +1,5 @@
 -- A race under way: what some of its phases do to it, what the sink takes of their text, and how a race stops.
-use Rattle.std.specs.Prelude.{◌≡◌, ◌×◌, ◌≤◌, ◌++◌, ℕ, List, Option, Result, OnOk, OnErr, IsErrOf}
+use Rattle.std.specs.Prelude.{◌≡◌, ◌≤◌, ◌++◌, ℕ, List, Option, Result, OnOk, OnErr, IsErrOf}
 use Rattle.outside.specs.Causes.{Rose}
 use Rattle.outside.specs.Sink.{Takes}
 use Rattle.mem_base.specs.declared.machine.events.HistoryEntry.{HistoryEntry}

@@ -45,7 +45,7 @@ fn go_line<'c, R: Wait, S: Sink>(
     requires fits { FitsCommand command.now }
     requires ready { IsReady racer }
     ensures ready { IsReady result.0 }
-    ensures goes { Goes S.written S.holds S.faults sink.old sink.new (alone (number, command.now) ∷ []) racer result.0 result.1 }
+    ensures goes { Goes S.written S.holds S.faults sink.old sink.new (alone (number, command.now) ∷ []) racer.entry result.0 result.1 }
 {
     let Racer {
         mut desk,
@@ -78,7 +78,7 @@ fn go_lines<'c, R: Wait, S: Sink>(
     requires fits { AreFitting lines.now }
     requires ready { IsReady racer }
     ensures ready { IsReady result.0 }
-    ensures goes { Goes S.written S.holds S.faults sink.old sink.new (phases_alone lines.now) racer result.0 result.1 }
+    ensures goes { Goes S.written S.holds S.faults sink.old sink.new (phases_alone lines.now) racer.entry result.0 result.1 }
 {
     let mut at = racer;
     for (number, command) in lines {
@@ -103,7 +103,7 @@ fn go_block<'c, R: Threads + Wait + Sync, S: Sink, G: Gate>(
     requires fits { AreFitting lines.now }
     requires ready { IsReady racer }
     ensures ready { IsReady result.0 }
-    ensures goes { Goes S.written S.holds S.faults sink.old sink.new (block_of lines.now) racer result.0 result.1 }
+    ensures goes { Goes S.written S.holds S.faults sink.old sink.new (block_of lines.now) racer.entry result.0 result.1 }
 {
     if lines.is_empty() {
         return (racer, Ok(()));
@@ -138,7 +138,7 @@ pub(crate) fn go_through<'c, R: Threads + Wait + Sync, S: Sink, G: Gate>(
     requires ready { IsReady racer }
     ensures fits { AreFitting script.now }
     ensures ready { IsReady result.0 }
-    ensures goes { Goes S.written S.holds S.faults sink.old sink.new (phases_of script.now) racer result.0 result.1 }
+    ensures goes { Goes S.written S.holds S.faults sink.old sink.new (phases_of script.now) racer.entry result.0 result.1 }
 {
     let parts = parts_of(script.lines());
     let (racer, done) = go_lines(rt, alloc, racer, parts.before, sink);

@@ -1,5 +1,5 @@
 -- What a race writes: a text of the script for the history of the very machine on which it ran.
-use Rattle.std.specs.Prelude.{ℕ, ◌≡◌, ◌×◌, false, List, [], Option, Some, None, Ok, Err, replicate}
+use Rattle.std.specs.Prelude.{ℕ, ◌≡◌, false, List, [], Option, Some, None, Ok, Err, replicate}
 use Rattle.outside.specs.Sink.{Takes, TakesPrefix}
 use Rattle.mem_base.specs.declared.machine.events.HistoryEntry.{HistoryEntry}
 use Rattle.mem_base.specs.lists.Every.{Every}

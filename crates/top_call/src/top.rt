@@ -1,5 +1,5 @@
 // The top call: all that the program does, over the words, the source and the sink that it is handed.
-ghost use Rattle.std.specs.Prelude.{◌≡◌, ◌≢◌, ◌×◌, MatchBool, None, Option, Some, map, string_bytes};
+ghost use Rattle.std.specs.Prelude.{◌≡◌, ◌≢◌, MatchBool, None, Option, Some, map, string_bytes};
 ghost use Rattle.mem_base.specs.declared.script.tasks.Task.TheVariants.{Race};
 ghost use Rattle.mem_base.specs.script.Words.{task_of, usage_line};
 ghost use Rattle.script_make.specs.Texts.{text_of_seed};
