@@ -81,9 +81,9 @@ stops_before : (xs ys : List Phase) (a b : Racer) (one : Text) → StopsWithin x
 stops_before xs ys a b one first lines done left text sizes fits phases race =
     first lines done (ys ++ left) text sizes fits (phases ∙ ap (λ (zs : List Phase). done ++ zs) (append_assoc xs ys left)) race
 
-pub on_err : {T E P : Type 0} (r : Result T E) → P → OnErr r P
-on_err (Ok x) p = tt
-on_err (Err e) p = p
+pub on_err : {T E : Type 0} (r : Result T E) (P : Type 0) → P → OnErr r P
+on_err (Ok x) P p = tt
+on_err (Err e) P p = p
 
 ok_of : {T E P Q : Type 0} (r : Result T E) → OnOk r P → (P → Q) → OnOk r Q
 ok_of (Ok x) p f = f p
@@ -211,6 +211,7 @@ module _ {K : Type 0} (written : K → Option (List ℕ)) (holds : K → List �
         failed = λ e. cc;
         no_less = omega arith;
       })
+
   -- what came of a phase, by whether memory lasted for it
   pub goes_done : (old new : K) (phase : Phase) (a b : Racer) (before text : Text) (done : Result (Unit {0}) AllocError) (r : Result (Unit {0}) RunFault)
       → IsLater a.desk b.desk → before ≡ [] → OnOk done (WritesOn a.desk a.known phase b.desk b.known before text)
@@ -237,11 +238,11 @@ module _ {K : Type 0} (written : K → Option (List ℕ)) (holds : K → List �
     t.0,
     t.1,
     let race : IsRaceSoFar (pool_words lines) (phases_of lines) (stand_of b.known b.desk) t.0 =
-    t.2 (pool_words lines) [] [] sizes (first_race (pool_words lines) a known seen part) in
-    let same : c.seat.sizes ≡ sizes_of (pool_words lines) = closed.sizes ∙ goes.later.grew.sizes ∙ sizes in
-    subst (λ (xs : List HistoryEntry). IsTextOfRace lines xs t.0) (sym closed.whole)
-    (stops lines (stand_of b.known b.desk) t.0 closed.last race
-    (subst (λ (z : Sizes × List HistoryEntry). IsLegal z.0 z.1) (λ i. (same i, closed.whole i)) closed.legal) closed.leaves.each closed.leaves.rests),
+        t.2 (pool_words lines) [] [] sizes (first_race (pool_words lines) a known seen part) in
+        let same : c.seat.sizes ≡ sizes_of (pool_words lines) = closed.sizes ∙ goes.later.grew.sizes ∙ sizes in
+        subst (λ (xs : List HistoryEntry). IsTextOfRace lines xs t.0) (sym closed.whole)
+        (stops lines (stand_of b.known b.desk) t.0 closed.last race
+        (subst (λ (z : Sizes × List HistoryEntry). IsLegal z.0 z.1) (λ i. (same i, closed.whole i)) closed.legal) closed.leaves.each closed.leaves.rests),
   ))
 
   pub stopped_race : (old new : K) (lines : List Line) (a b : Racer) (c : ConfigState) (r : Result (Unit {0}) RunFault)

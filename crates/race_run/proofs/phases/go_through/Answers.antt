@@ -26,7 +26,10 @@ returns-in-Err-clause-goes g c =
     c.lines.ensures.value c.parts_of-parts.ensures.phases) c.go_lines-racer.ensures.goes
 
 pub go_block-racer-requires-clause-fits : goal.go_block-racer-requires-clause-fits
-go_block-racer-requires-clause-fits g c = ?
+go_block-racer-requires-clause-fits g c = λ κs l.
+    let p = c.parts_of-parts.result in
+    (in_parts (λ line. FitsCommand line.1) c.lines.result.now p.before.now p.block.now p.after.now c.parts_of-parts.ensures.lines
+    (subst AreFitting (sym c.lines.ensures.value) (sound_fits Start c.args.script.now c.lines.ensures.sound))).in_it
 
 pub returns-in-Err-done-clause-fits : goal.returns-in-Err-done-clause-fits
 returns-in-Err-done-clause-fits g c = sound_fits Start c.args.script.now c.lines.ensures.sound
