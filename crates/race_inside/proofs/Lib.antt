@@ -1,0 +1,9 @@
+pub mod TaskLaws
+pub mod LineLists
+pub mod SeatLists
+pub mod SeatLaws
+pub mod BackLaws
+pub mod TextLaws
+pub mod TextLists
+pub mod JoinedLaws
+pub mod BlockLaws

@@ -15,6 +15,7 @@ use Rattle.race_phases.specs.Plain.{has_lines}
 use Rattle.race_actors.specs.declared.blocks.BlockActor.{BlockActor}
 use Rattle.race_actors.specs.declared.blocks.BlockActor.TheVariants.{Desk, Pass, Gone}
 use Rattle.race_actors.specs.declared.passes.PassActor.{PassActor}
+use Rattle.race_actors.specs.declared.tasks.BlockLine.{BlockLine}
 use Rattle.race_actors.specs.Blocks.{CanAct}
 use Rattle.race_actors.specs.Desks as desks
 use Rattle.race_block.specs.Joined.{new_clerk}
@@ -57,19 +58,20 @@ SeatsDesk k lines (Some kept) [] = (has_lines (block lines) desk_number ≡ fals
 SeatsDesk k lines None (Desk a ∷ []) = (has_lines (block lines) desk_number ≡ true) × DeskStarts k lines a × desks.IsReady a
 SeatsDesk k lines _ _ = ⊥
 
--- an actor that has this virtual CPU and these lines, and did nothing yet
-pub record IsNewActor (who : ℕ) (cpu : PassValue Published) (work : PassWork) (a : PassActor) : Type 0 where
+-- an actor that has this virtual CPU, these lines and this bounce, and did nothing yet
+pub record IsNewActor (who : ℕ) (cpu : PassValue Published) (own : List BlockLine) (bounce : ℕ) (a : PassActor) : Type 0 where
   pub cpu_is : a.vcpu ≡ cpu
   pub clerk : a.clerk ≡ new_clerk who
+  pub lines : a.lines.items ≡ own
+  pub room : a.bounce ≡ bounce
   pub nothing : a.got.items ≡ []
-  pub work_is : work ≡ Lines a.lines a.bounce
 
 -- the pass has lines and is one actor more, or waits
 abbrev pub SeatsPass : ℕ → PassValue Published → PassWork → List BlockActor → List BlockActor → List (PassValue Published) → List (PassValue Published)
     → Type 0
 SeatsPass who cpu Nothing olds news before after = (news ≡ olds) × (after ≡ before ++ cpu ∷ [])
 SeatsPass who cpu (Lines own bounce) olds news before after =
-    (after ≡ before) × (a : PassActor) × (news ≡ olds ++ Pass a ∷ []) × IsNewActor who cpu (Lines own bounce) a
+    (after ≡ before) × (a : PassActor) × (news ≡ olds ++ Pass a ∷ []) × IsNewActor who cpu own.items bounce a
 
 -- the first `n` passes have their places: those with lines are actors, and the others wait
 pub record HaveSeats (k : Known) (lines : List Line) (r : RecordState) (n : ℕ) (olds news : List BlockActor) (before after : List (PassValue Published))

@@ -1,20 +1,25 @@
 // A block, from what its runner has before it to what it has after it.
-ghost use Rattle.std.specs.Prelude.{◌≡◌, OnErr, OnOk};
+ghost use Rattle.std.specs.Prelude.{◌≡◌, ℕ, ◌<◌, ◌≤◌, [], All, OnOk, length, slice_index_or, vec_capacity};
 ghost use Rattle.mem_base.specs.script.Race.{block};
 ghost use Rattle.mem_base.specs.script.Tasks.{Known};
 ghost use Rattle.run_laws.specs.Fitting.{AreFitting};
+ghost use Rattle.generation.specs.Published.{Published};
+ghost use Rattle.epoch_rule.specs.Values.{PassValue};
 ghost use Rattle.desk_lock.specs.Records.{IsLater};
+ghost use Rattle.race_actors.specs.Blocks.{CanAct};
+ghost use Rattle.race_level.specs.Levels.{HasMet, IsHeard, IsOfCabinet};
 ghost use Rattle.race_level.specs.Ready.{AreReady};
 ghost use Rattle.race_outside.specs.Steps.{StopsIn};
-ghost use Rattle.race_inside.specs.Blocks.{WritesOn};
+ghost use Rattle.race_inside.specs.Blocks.{HasRunAll, WritesOn};
 ghost use Rattle.race_inside.specs.Seats.{AreSeated};
 
 use crate::rooms::room_for;
 use crate::seats::{Seated, known_after, seat, unseat_passes};
 use crate::texts::add_block;
-use desk_lock::{Naming, Record};
-use mem_base::{Command, MOST_PASSES};
+use desk_lock::{Clerk, Naming, Record};
+use mem_base::{Command, Differs, MOST_PASSES};
 use outside::Gate;
+use race_actors::BlockActor;
 use race_block::run_block;
 use race_level::meet_all;
 use race_lines::KnownNames;
@@ -24,6 +29,44 @@ use std::marker::Brand;
 use std::sync::Wait;
 use std::thread::Threads;
 use vcpu_pass::Vcpu;
+
+// Lets the actors of a block do their lines beside one another, behind one lock.
+fn run_actors<'c, J: Naming + Send + Sync, G: Gate, R: Threads + Wait + Sync>(
+    rt: &R,
+    alloc: Global,
+    gate: &G,
+    first: Record,
+    actors: &mut Vec<BlockActor<'c>>,
+    clerks: &mut Vec<Clerk>,
+) -> (Record, Option<Differs>)
+    requires start { first ≡ J.start }
+    requires ready { All (CanAct J.start.seat.cabinet) actors.old.items }
+    requires empty { clerks.old.items ≡ [] }
+    requires room { length actors.old.items ≤ vec_capacity clerks.old }
+    ensures { HasRunAll first result.0 actors.old.items actors.new.items clerks.new.items result.1 }
+{
+    let (after, differs) = run_block::<J, G, R>(
+        rt,
+        alloc,
+        gate,
+        first,
+        actors.as_mut_slice(),
+        clerks,
+    );
+    (after, differs)
+}
+
+// All virtual CPUs meet what the record has seen.
+fn meet<'c>(desk: &mut Record, cpus: &mut Vec<Vcpu<'c>>)
+    requires own { All (IsOfCabinet desk.old.seat.cabinet) cpus.old.items }
+    requires heard { All (IsHeard desk.old.seat.seen) cpus.old.items }
+    ensures same { desk.new ≡ desk.old }
+    ensures count { length cpus.new.items ≡ length cpus.old.items }
+    ensures met { (i : ℕ) (d : PassValue Published) → i < length cpus.old.items
+        → HasMet desk.old.seat.seen (slice_index_or cpus.old.items i d) (slice_index_or cpus.new.items i d) }
+{
+    meet_all(desk, cpus.as_mut_slice());
+}
 
 // Lets the actors of a block do their lines, once there is room for all of it.
 fn run_in<'c, J: Naming + Send + Sync, G: Gate, R: Threads + Wait + Sync>(
@@ -39,9 +82,9 @@ fn run_in<'c, J: Naming + Send + Sync, G: Gate, R: Threads + Wait + Sync>(
     requires seated { (k : Known) × AreSeated k lines.now desk seated }
     ensures ready { AreReady result.0 result.1.items }
     ensures later { IsLater desk result.0 }
-    ensures step { (k : Known) → AreSeated k lines.now desk seated
+    ensures step { (k : Known) → AreSeated k lines.now desk seated.entry
         → OnOk result.3 (WritesOn desk k (block lines.now) result.0 result.2 text.old text.new) }
-    ensures stopped { (k : Known) → AreSeated k lines.now desk seated → StopsIn desk k (block lines.now) result.0 }
+    ensures stopped { (k : Known) → AreSeated k lines.now desk seated.entry → StopsIn desk k (block lines.now) result.0 }
 {
     let Seated {
         mut actors,
@@ -50,12 +93,12 @@ fn run_in<'c, J: Naming + Send + Sync, G: Gate, R: Threads + Wait + Sync>(
         mut waiting,
         mut cpus,
     } = seated;
-    let (mut after, differs) = run_block::<J, G, R>(
+    let (mut after, differs) = run_actors::<J, G, R>(
         rt,
         alloc,
         gate,
         desk,
-        actors.as_mut_slice(),
+        &mut actors,
         &mut clerks,
     );
     let done = add_block(
@@ -67,7 +110,7 @@ fn run_in<'c, J: Naming + Send + Sync, G: Gate, R: Threads + Wait + Sync>(
         differs,
     );
     unseat_passes(MOST_PASSES, lines, &mut actors, &mut waiting, &mut cpus);
-    meet_all(&mut after, cpus.as_mut_slice());
+    meet(&mut after, &mut cpus);
     let known = known_after(actors.pop(), known);
     (after, cpus, known, done)
 }

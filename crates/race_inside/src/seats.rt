@@ -71,7 +71,7 @@ fn seat_pass<'a>(
 )
     requires actors_fit { length actors.old.items < vec_capacity actors.old }
     requires waiting_fit { length waiting.old.items < vec_capacity waiting.old }
-    ensures seat { SeatsPass who cpu work actors.old.items actors.new.items waiting.old.items waiting.new.items }
+    ensures seat { SeatsPass who cpu.entry work.entry actors.old.items actors.new.items waiting.old.items waiting.new.items }
     ensures actors_room { vec_capacity actors.new ≡ vec_capacity actors.old }
     ensures waiting_room { vec_capacity waiting.new ≡ vec_capacity waiting.old }
 {
@@ -128,7 +128,7 @@ pub(crate) fn seat<'a>(
 ) -> Seated<'a>
     requires all { length cpus.items ≡ most_passes }
     requires room { IsRoomFor known lines.now room }
-    ensures { (r : RecordState) → AreSeatsOf r cpus.items → AreSeated known lines.now r result }
+    ensures { (r : RecordState) → AreSeatsOf r cpus.entry.items → AreSeated known lines.now r result }
 {
     let Room {
         desk_lines,
@@ -152,7 +152,7 @@ pub(crate) fn seat<'a>(
 
 // The virtual CPU of an actor.
 fn cpu_of<'a>(actor: Option<BlockActor<'a>>) -> Option<Vcpu<'a>>
-    ensures { (a : PassActor) → actor ≡ Some (Pass a) → result ≡ Some a.vcpu }
+    ensures { (a : PassActor) → actor.entry ≡ Some (Pass a) → result ≡ Some a.vcpu }
 {
     match actor {
         Some(BlockActor::Pass(pass)) => Some(pass.vcpu),
@@ -202,7 +202,7 @@ pub(crate) fn unseat_passes<'a>(
 /// What is known after a block: what was kept, or what the desk knows then.
 pub(crate) fn known_after(desk: Option<BlockActor<'_>>, kept: Option<KnownNames>) -> KnownNames
     requires { IsKnown kept (option_to_list desk) }
-    ensures { (k : Known) → result ≡ known_now k kept (option_to_list desk) }
+    ensures { (k : Known) → result ≡ known_now k kept (option_to_list desk.entry) }
 {
     match kept {
         Some(known) => known,

@@ -6,7 +6,7 @@ ghost use Rattle.mem_base.specs.script.Tasks.{task_of};
 ghost use Rattle.run_laws.specs.Fitting.{AreFitting, FitsCommand};
 ghost use Rattle.race_lines.specs.LineTasks.{resolved};
 ghost use Rattle.race_actors.specs.Desks as desks;
-ghost use Rattle.race_actors.specs.Desks.{lines_meant};
+ghost use Rattle.race_actors.specs.Desks.{line_meant, lines_meant};
 ghost use Rattle.race_actors.specs.Laws.{AreTasksOf, StandsFor};
 ghost use Rattle.race_actors.specs.Lines as passes;
 ghost use Rattle.race_inside.specs.Rooms.{IsOfPass, IsTaskOf, copy_room};
@@ -20,7 +20,7 @@ use std::alloc::{AllocError, Global};
 // What a line of a pass asks for, in the words of an actor.
 fn pass_task(task: ResolvedTask<'_>) -> PassTask<'_>
     requires { IsOfPass task }
-    ensures { StandsFor result (resolved task) }
+    ensures { StandsFor result (resolved task.entry) }
 {
     match task {
         Ok(LineTask::Ordered { order, naming: _ }) => PassTask::Order(order),
@@ -81,10 +81,21 @@ pub(crate) fn lines_of_pass<'a>(
     let mut own = Vec::new(alloc);
     for line in lines {
         if actor_number(&line.1) == who {
-            own.push(block_line(alloc, known, line)?)?;
+            let own_line = block_line(alloc, known, line)?;
+            own.push(own_line)?;
         }
     }
     Ok(own)
+}
+
+// A line of the desk.
+fn desk_line(line: &(u32, Command)) -> DeskLine<'_>
+    ensures { line_meant result ≡ line.now }
+{
+    DeskLine {
+        number: line.0,
+        command: &line.1,
+    }
 }
 
 /// The lines of the desk in a block. It fails only where memory runs out.
@@ -99,10 +110,8 @@ pub(crate) fn lines_of_desk(
     let mut own = Vec::new(alloc);
     for line in lines {
         if actor_number(&line.1) == DESK_NUMBER {
-            own.push(DeskLine {
-                number: line.0,
-                command: &line.1,
-            })?;
+            let own_line = desk_line(line);
+            own.push(own_line)?;
         }
     }
     Ok(own)

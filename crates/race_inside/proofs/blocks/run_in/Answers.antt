@@ -1,0 +1,136 @@
+use Rattle.std.specs.Prelude.{slice_index_or}
+use Rattle.std.proofs.Common.{rules, ◌≡◌, ℕ, ◌<◌, List, None, length, All, OnOk, option_to_list, sym, subst, ◌∙◌, ap}
+use Rattle.mem_base.specs.map.Limits.{most_passes}
+use Rattle.mem_base.specs.script.Race.{block}
+use Rattle.mem_base.specs.script.Tasks.{Known}
+use Rattle.generation.specs.Published.{Published}
+use Rattle.epoch_rule.specs.Values.{PassValue}
+use Rattle.desk_lock.specs.Records.{RecordState}
+use Rattle.race_actors.specs.declared.blocks.BlockActor.{BlockActor}
+use Rattle.race_actors.specs.Blocks.{CanAct}
+use Rattle.race_level.specs.Levels.{HasMet, IsHeard, IsOfCabinet}
+use Rattle.race_level.specs.Ready.{AreReady}
+use Rattle.race_outside.specs.Steps.{StopsIn}
+use Rattle.race_joins.specs.Ran.{HasRunBlock, known_after_block}
+use Rattle.race_joins.proofs.TextLaws.{blocks_may_stop, blocks_step_on}
+use Rattle.race_inside.specs.Seats.{AreSeated, IsKnown}
+use Rattle.race_inside.proofs.BackLaws.{all_heard, all_own, all_ready}
+use Rattle.race_inside.specs.Blocks.{HasRunAll}
+use Rattle.race_inside.proofs.BlockLaws.{came_back, has_run, known_is, known_list, parts, seated_can_all, steps_on}
+use Rattle.race_inside.proofs.blocks.run_in.Goals as goal
+
+pub run_actors-after-requires-clause-ready : goal.run_actors-after-requires-clause-ready
+run_actors-after-requires-clause-ready g c κs within =
+    subst (λ (z : RecordState). All (CanAct z.seat.cabinet) c.args.seated.actors.items) c.requires.start
+    (seated_can_all c.requires.seated.0 c.args.lines.now c.args.desk c.args.seated c.requires.seated.1)
+
+pub add_block-done-requires : goal.add_block-done-requires
+add_block-done-requires g c =
+    let v : RecordState = c.args.desk in
+    let w : RecordState = c.run_actors-after.result.0 in
+    let s = c.args.seated in
+    let lines = c.args.lines.now in
+    let news = c.run_actors-after.new.actors.items in
+    let clerks = c.run_actors-after.new.clerks.items in
+    let differs = c.run_actors-after.result.1 in
+    let r : HasRunAll v w s.actors.items news clerks differs = c.run_actors-after.ensures in
+    let same : c.as_slice.result.now ≡ news = c.as_slice.ensures.value in
+    subst (IsKnown s.known) (sym same) (parts c.requires.seated.0 lines v w s c.requires.seated.1 news clerks differs r).known
+
+pub meet-requires-clause-own : goal.meet-requires-clause-own
+meet-requires-clause-own g c =
+    let v : RecordState = c.args.desk in
+    let w : RecordState = c.run_actors-after.result.0 in
+    let s = c.args.seated in
+    let lines = c.args.lines.now in
+    let news = c.run_actors-after.new.actors.items in
+    let clerks = c.run_actors-after.new.clerks.items in
+    let differs = c.run_actors-after.result.1 in
+    let r : HasRunAll v w s.actors.items news clerks differs = c.run_actors-after.ensures in
+    let back = came_back c.requires.seated.0 lines v w s c.requires.seated.1 news clerks differs r c.unseat_passes.new.actors.items c.unseat_passes.new.cpus.items
+    c.unseat_passes.ensures.back in
+    all_own lines v w c.unseat_passes.new.cpus.items r.later back.1
+
+pub meet-requires-clause-heard : goal.meet-requires-clause-heard
+meet-requires-clause-heard g c =
+    let v : RecordState = c.args.desk in
+    let w : RecordState = c.run_actors-after.result.0 in
+    let s = c.args.seated in
+    let lines = c.args.lines.now in
+    let news = c.run_actors-after.new.actors.items in
+    let clerks = c.run_actors-after.new.clerks.items in
+    let differs = c.run_actors-after.result.1 in
+    let r : HasRunAll v w s.actors.items news clerks differs = c.run_actors-after.ensures in
+    let back = came_back c.requires.seated.0 lines v w s c.requires.seated.1 news clerks differs r c.unseat_passes.new.actors.items c.unseat_passes.new.cpus.items
+    c.unseat_passes.ensures.back in
+    all_heard lines v w c.unseat_passes.new.cpus.items r.later back.1
+
+pub known_after-known-requires : goal.known_after-known-requires
+known_after-known-requires g c =
+    let v : RecordState = c.args.desk in
+    let w : RecordState = c.run_actors-after.result.0 in
+    let s = c.args.seated in
+    let lines = c.args.lines.now in
+    let news = c.run_actors-after.new.actors.items in
+    let clerks = c.run_actors-after.new.clerks.items in
+    let differs = c.run_actors-after.result.1 in
+    let r : HasRunAll v w s.actors.items news clerks differs = c.run_actors-after.ensures in
+    let back = came_back c.requires.seated.0 lines v w s c.requires.seated.1 news clerks differs r c.unseat_passes.new.actors.items c.unseat_passes.new.cpus.items
+    c.unseat_passes.ensures.back in
+    let p = parts c.requires.seated.0 lines v w s c.requires.seated.1 news clerks differs r in
+    let none : c.pop.result ≡ None → length c.unseat_passes.new.actors.items ≡ 0 = search rules in
+    subst (IsKnown s.known) (sym (known_list c.requires.seated.0 lines v w s c.requires.seated.1 news clerks differs r c.unseat_passes.new.actors.items
+    c.pop.new.self.items c.pop.result back.0 c.pop.ensures.items none)) p.kept
+
+pub returns-clause-ready : goal.returns-clause-ready
+returns-clause-ready g c =
+    let v : RecordState = c.args.desk in
+    let w : RecordState = c.run_actors-after.result.0 in
+    let s = c.args.seated in
+    let lines = c.args.lines.now in
+    let news = c.run_actors-after.new.actors.items in
+    let clerks = c.run_actors-after.new.clerks.items in
+    let differs = c.run_actors-after.result.1 in
+    let r : HasRunAll v w s.actors.items news clerks differs = c.run_actors-after.ensures in
+    let back = came_back c.requires.seated.0 lines v w s c.requires.seated.1 news clerks differs r c.unseat_passes.new.actors.items c.unseat_passes.new.cpus.items
+    c.unseat_passes.ensures.back in
+    subst (λ (x : RecordState). AreReady x c.meet.new.cpus.items) (sym c.meet.ensures.same)
+    (all_ready lines v w c.unseat_passes.new.cpus.items c.meet.new.cpus.items r.later back.1
+    c.meet.ensures.count c.meet.ensures.met)
+
+pub returns-clause-step : goal.returns-clause-step
+returns-clause-step g c = λ k h.
+    let v : RecordState = c.args.desk in
+    let w : RecordState = c.run_actors-after.result.0 in
+    let s = c.args.seated in
+    let lines = c.args.lines.now in
+    let news = c.run_actors-after.new.actors.items in
+    let clerks = c.run_actors-after.new.clerks.items in
+    let differs = c.run_actors-after.result.1 in
+    let r : HasRunAll v w s.actors.items news clerks differs = c.run_actors-after.ensures in
+    let back = came_back k lines v w s h news clerks differs r c.unseat_passes.new.actors.items c.unseat_passes.new.cpus.items
+    c.unseat_passes.ensures.back in
+    let whole : HasRunBlock k lines v w s.actors.items news clerks differs =
+    has_run k lines v w s h news clerks differs r c.unseat_passes.new.cpus.items c.meet.new.cpus.items back.1 c.meet.ensures.met in
+    let none : c.pop.result ≡ None → length c.unseat_passes.new.actors.items ≡ 0 = search rules in
+    let known : c.known_after-known.result ≡ known_after_block k news = c.known_after-known.ensures k
+    ∙ known_is k lines v w s h news clerks differs r c.unseat_passes.new.actors.items c.pop.new.self.items c.pop.result back.0 c.pop.ensures.items none in
+    steps_on k lines v w c.meet.new.desk s h news c.as_slice.result.now clerks c.as_slice-2.result.now differs r c.known_after-known.result
+    c.args.text.now c.add_block-done.new.text c.add_block-done.result c.as_slice.ensures.value c.as_slice-2.ensures.value c.meet.ensures.same known
+    c.add_block-done.ensures.lasted c.add_block-done.ensures.text (blocks_step_on k lines v w s.actors.items news clerks differs whole)
+
+pub returns-clause-stopped : goal.returns-clause-stopped
+returns-clause-stopped g c = λ k h.
+    let v : RecordState = c.args.desk in
+    let w : RecordState = c.run_actors-after.result.0 in
+    let s = c.args.seated in
+    let lines = c.args.lines.now in
+    let news = c.run_actors-after.new.actors.items in
+    let clerks = c.run_actors-after.new.clerks.items in
+    let differs = c.run_actors-after.result.1 in
+    let r : HasRunAll v w s.actors.items news clerks differs = c.run_actors-after.ensures in
+    let back = came_back k lines v w s h news clerks differs r c.unseat_passes.new.actors.items c.unseat_passes.new.cpus.items
+    c.unseat_passes.ensures.back in
+    subst (λ (x : RecordState). StopsIn v k (block lines) x) (sym c.meet.ensures.same)
+    (blocks_may_stop k lines v w s.actors.items news clerks differs
+    (has_run k lines v w s h news clerks differs r c.unseat_passes.new.cpus.items c.meet.new.cpus.items back.1 c.meet.ensures.met))
