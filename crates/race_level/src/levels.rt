@@ -54,6 +54,7 @@ pub fn meet_all(desk: &mut Record, cpus: &mut [Vcpu<'_>])
     requires own { All (IsOfCabinet desk.old.seat.cabinet) cpus.old }
     requires heard { All (IsHeard desk.old.seat.seen) cpus.old }
     ensures same { desk.new ≡ desk.old }
+    ensures count { length cpus.new ≡ length cpus.old }
     ensures met { (i : ℕ) (d : PassValue Published) → i < length cpus.old
         → HasMet desk.old.seat.seen (slice_index_or cpus.old i d) (slice_index_or cpus.new i d) }
 {
@@ -72,6 +73,7 @@ pub fn level(desk: &mut Record, cpus: &mut [Vcpu<'_>])
     ensures grew { GrewBy [] desk.old desk.new }
     ensures heard { All (IsHeard desk.new.seat.seen) cpus.old }
     ensures legal { IsLegal desk.new.seat.sizes desk.new.seat.seen }
+    ensures count { length cpus.new ≡ length cpus.old }
     ensures met { (i : ℕ) (d : PassValue Published) → i < length cpus.old
         → HasMet desk.new.seat.seen (slice_index_or cpus.old i d) (slice_index_or cpus.new i d) }
 {

@@ -55,11 +55,13 @@ use Rattle.race_lines.specs.LineTasks.{Resolves, name_made, refused_text, task_m
 use Rattle.race_lines.specs.PassLines.{said_of}
 use Rattle.race_steps.specs.Steps.{HasDone, stand_with}
 use Rattle.race_steps.proofs.StepLaws.{pass_lines_step}
-use Rattle.race_level.specs.Levels.{HasMet}
+use Rattle.race_level.specs.Levels.{HasMet, IsHeard, IsOfCabinet}
+use Rattle.race_level.specs.Ready.{AreReady}
 use Rattle.race_level.specs.Settling.{AreLevel, HaveMet, OnePassMade, pass_at}
 use Rattle.race_level.proofs.SettlingLaws.{desk_settles, pass_settles}
+use Rattle.race_level.proofs.ReadyLaws.{have_met, ready_again}
 use Rattle.race_outside.specs.Outside.{StepsOn, StopsIn, stand_of}
-use Rattle.race_outside.specs.Passes.{Changed, DoesPassLine, HasActed, HasOrdered, IsIdle, said_by}
+use Rattle.race_outside.specs.Passes.{Changed, DoesPassLine, HasActed, HasDoneLine, HasDoneNothing, HasOrdered, IsIdle, said_by}
 
 -- what is kept of an answer says what the answer writes
 said_answer : (names : Names) (pass : PassId) (n : ℕ) (answer : LineAnswer) → said_of names pass n (said_by answer) ≡ says (answer_text pass answer)
@@ -290,3 +292,52 @@ module _ (v m w : RecordState) (k : Known) (line : Line) (p : ℕ) (a b : PassVa
         idle (Ok (task_meant (Unwatched name watcher))) said saids.Nothing r.is (record { entries = refl; orders = refl; said_is = refl }) h
     line_steps (Err why) said r fits h =
         idle (Err (refused_text why)) said (saids.Refused why) r.is (record { entries = refl; orders = refl; said_is = refl }) h
+
+-- The same by what a line of a pass leaves, once all are level again
+
+module _ (v m w : RecordState) (p : ℕ) (olds between news : List (PassValue Published)) (near : p < most_passes) (ready : AreReady v olds)
+    (grew : GrewBy [] m w) (lawful : IsLegal w.seat.sizes w.seat.seen) (heard : All (IsHeard w.seat.seen) between)
+    (met : (i : ℕ) (d : PassValue Published) → i < length between → HasMet w.seat.seen (slice_index_or between i d) (slice_index_or news i d)) where
+  within : p < length olds
+  within = subst (λ (n : ℕ). p < n) (sym ready.all) near
+
+  inside_at : (a b : PassValue Published) → Changed p a b olds between → IsInItsGeneration a
+  inside_at a b c = subst IsInItsGeneration (c.was a) (ready.inside p a within)
+
+  met_all : (a b : PassValue Published) → Changed p a b olds between → HaveMet w.seat.seen between news
+  met_all a b c = have_met w.seat.seen between news (c.count ∙ ready.all) met
+
+  changed_ready : (a b : PassValue Published) → Changed p a b olds between → IsSame a b → w.seat.cabinet ≡ v.seat.cabinet → length news ≡ length between
+      → AreReady w news
+  changed_ready a b c same cabinet count = ready_again w between news (c.count ∙ ready.all) count
+      (all_between (IsOfCabinet w.seat.cabinet) p a b olds between c own (λ i d l. ready.own i d l ∙ sym cabinet))
+      (all_between IsInItsGeneration p a b olds between c same.inside ready.inside) numbers met
+    where
+      own : IsOfCabinet w.seat.cabinet b
+      own = same.cabinet ∙ subst (λ (x : PassValue Published). x.cabinet ≡ v.seat.cabinet) (c.was a) (ready.own p a within) ∙ sym cabinet
+
+      numbers : (i : ℕ) (d : PassValue Published) → i < most_passes → (pass_at between i d).number ≡ i
+      numbers i d l = dite (ℕ_discrete i p)
+          (λ at. ap (λ (n : ℕ). (pass_at between n d).number) at ∙ ap (λ (x : PassValue Published). x.number) (c.is d) ∙ same.number
+          ∙ ap (λ (x : PassValue Published). x.number) (sym (c.was d)) ∙ (ready.level p d near).0 ∙ sym at)
+          (λ other. ap (λ (x : PassValue Published). x.number) (c.others i d other) ∙ (ready.level i d l).0)
+
+  pub done_ready : (task : Result LineTask Refused) (said : PassSaid) → HasDoneLine p v olds task said m between → w.seat.cabinet ≡ v.seat.cabinet
+      → length news ≡ length between → AreReady w news
+  done_ready task said h = changed_ready h.a h.b h.changed (is_same p v m h.a h.b task said h.does (inside_at h.a h.b h.changed))
+
+  pub nothing_ready : HasDoneNothing p v olds m between → w.seat.cabinet ≡ v.seat.cabinet → length news ≡ length between → AreReady w news
+  nothing_ready h = changed_ready h.a h.a h.changed (record { cabinet = refl; number = refl; inside = inside_at h.a h.a h.changed })
+
+  pub done_steps : (k : Known) (line : Line) (task : Result LineTask Refused) (said : PassSaid) → actor_number line.1 ≡ p → FitsCommand line.1
+      → Resolves k task (task_of k line.1) → HasDoneLine p v olds task said m between
+      → StepsOn v k (alone line) w k (said_text k.names w.part.desk.listening.journal (said_of k.names (pass_id p) line.0 said))
+  done_steps k line task said actor fits r h =
+      let c : Changed p h.a h.b olds between = h.changed in
+      let begins : IsPrefix h.b.seen w.seat.seen = subst (λ (x : PassValue Published). IsHeard w.seat.seen x) (c.is h.b)
+      (heard p h.b (subst (λ (n : ℕ). p < n) (sym c.count) within)) in
+      line_steps v m w k line p h.a h.b olds between news near actor grew lawful ready.level c (met_all h.a h.b c) begins task said r fits h.does
+
+  pub nothing_steps : (k : Known) (line : Line) → actor_number line.1 ≡ p → HasDoneNothing p v olds m between → StopsIn v k (alone line) w
+  nothing_steps k line actor h =
+      idle_stops v m w k line p h.a h.a olds between news near actor grew lawful ready.level h.changed (met_all h.a h.a h.changed) h.desk refl

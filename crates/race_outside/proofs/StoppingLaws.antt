@@ -1,5 +1,5 @@
 -- A race that stopped in a phase, or lost the text of one, could have gone on.
-use Rattle.std.proofs.Common.{◌≡◌, ℕ, ◌+◌, List, [], ◌∷◌, ◌++◌, Option, Some, None, Result, Ok, Err, refl, sym, subst, ◌∙◌, append_assoc}
+use Rattle.std.proofs.Common.{◌≡◌, ℕ, ◌+◌, List, [], ◌∷◌, ◌++◌, Option, Some, None, Result, Ok, Err, OnErr, OnOk, ◌⊎◌, inl, inr, refl, sym, subst, ◌∙◌, append_assoc}
 use Rattle.mem_base.specs.declared.machine.events.HistoryEntry.{HistoryEntry}
 use Rattle.mem_base.specs.declared.machine.records.DeskOrder.{DeskOrder}
 use Rattle.mem_base.specs.map.Limits.{most_passes, notifier_count}
@@ -31,8 +31,16 @@ use Rattle.race_lines.specs.declared.tasks.Refused.{Refused}
 use Rattle.race_lines.specs.LineTasks.{Resolves, name_made}
 use Rattle.race_level.specs.Settling.{AreLevel, HaveMet}
 use Rattle.race_level.proofs.SettlingLaws.{desk_settles}
-use Rattle.race_outside.specs.Asked.{TakesOwn}
+use Rattle.race_outside.specs.Asked.{StopsAsking, TakesOwn}
 use Rattle.race_outside.specs.Outside.{StepsOn, StopsIn, sizes_of, stand_of}
+
+pub on_failure : {T E : Type 0} (r : Result T E) (P : Type 0) → P → OnErr r P
+on_failure (Ok x) P p = tt
+on_failure (Err e) P p = p
+
+pub on_both : {T E P Q R : Type 0} (r : Result T E) → OnOk r P → OnOk r Q → (P → Q → R) → OnOk r R
+on_both (Ok x) p q f = f p q
+on_both (Err e) p q f = tt
 
 -- nothing was done
 pub nothing_stops : (v w : RecordState) (k : Known) (phase : Phase) → w ≡ v → StopsIn v k phase w
@@ -88,3 +96,8 @@ module _ (v w : RecordState) (k : Known) (line : Line) (olds news : List (PassVa
   begun_stops (Ok (Written space addr bytes)) got r fits takes = nothing_stops v w k (alone line) takes.1
   begun_stops (Ok (Copied space addr len to_space to_addr)) got r fits takes = nothing_stops v w k (alone line) takes.1
   begun_stops (Err why) got r fits takes = nothing_stops v w k (alone line) takes.1
+
+  -- it gave no order, or just that one
+  pub asking_stops : FitsCommand line.1 → StopsAsking v k line.1 w → StopsIn v k (alone line) w
+  asking_stops fits (inl same) = nothing_stops v w k (alone line) same
+  asking_stops fits (inr h) = begun_stops h.task h.got h.first.resolves fits h.first.took

@@ -1,12 +1,18 @@
 -- What a line of a pass does on the running machine: to its virtual CPU, or by an order to the record.
-use Rattle.std.specs.Prelude.{◌≡◌, ◌≢◌, ℕ, ◌≤◌, List, Result, Ok, Err, length, slice_index_or}
+use Rattle.std.specs.Prelude.{◌≡◌, ◌≢◌, ℕ, ◌<◌, ◌≤◌, All, List, [], ◌++◌, Result, Ok, Err, length, slice_index_or}
+use Rattle.mem_base.specs.declared.map.ids.PassId.{PassId}
 use Rattle.mem_base.specs.declared.machine.records.DeskOrder.{DeskOrder}
+use Rattle.mem_base.specs.views.Listening.{Delivery}
+use Rattle.mem_base.specs.script.Spelling.{Text}
+use Rattle.mem_base.specs.script.Named.{Names}
+use Rattle.mem_base.specs.script.RaceLines.{said_text}
 use Rattle.mem_base.specs.script.Tasks.{Task}
 use Rattle.generation.specs.Published.{Published}
+use Rattle.epoch_rule.specs.Rule.{IsLegal}
 use Rattle.epoch_rule.specs.Values.{PassValue}
 use Rattle.desk_lock.specs.declared.orders.Receipt.{Receipt}
 use Rattle.desk_lock.specs.Receipts.{HasNotifier}
-use Rattle.desk_lock.specs.Records.{RecordState}
+use Rattle.desk_lock.specs.Records.{GrewBy, RecordState}
 use Rattle.desk_lock.specs.Turned.{Takes}
 use Rattle.pass_lines.specs.declared.answers.LineAnswer.{LineAnswer}
 use Rattle.pass_lines.specs.declared.answers.LineAnswer.TheVariants as answers
@@ -17,6 +23,8 @@ use Rattle.race_lines.specs.declared.tasks.LineTask.{LineTask}
 use Rattle.race_lines.specs.declared.tasks.LineTask.TheVariants.{Ordered, Entered, Left, Read, Written, Copied}
 use Rattle.race_lines.specs.declared.tasks.Refused.{Refused}
 use Rattle.race_lines.specs.LineTasks.{task_meant}
+use Rattle.race_lines.specs.PassLines.{said_of}
+use Rattle.race_level.specs.Levels.{HasMet, IsHeard}
 
 -- what is asked of a task: the bounce has room for what it copies, and a notifier that is to be taken is one of those that there are
 abbrev pub FitsTask : ℕ → Result LineTask Refused → Type 0
@@ -84,3 +92,18 @@ pub record HasDoneNothing (p : ℕ) (v : RecordState) (olds : List (PassValue Pu
   pub a : PassValue Published
   pub desk : w ≡ v
   pub changed : Changed p a a olds news
+
+-- The rest of a line: all are level again, and what the line writes is added to a text
+
+-- the record heard all virtual CPUs, and they met it
+pub record HasSettled (v : RecordState) (olds : List (PassValue Published)) (w : RecordState) (news : List (PassValue Published)) : Type 0 where
+  pub grew : GrewBy [] v w
+  pub legal : IsLegal w.seat.sizes w.seat.seen
+  pub heard : All (IsHeard w.seat.seen) olds
+  pub count : length news ≡ length olds
+  pub met : (i : ℕ) (d : PassValue Published) → i < length olds → HasMet w.seat.seen (slice_index_or olds i d) (slice_index_or news i d)
+
+-- what is kept of a line was written after what stood there
+abbrev pub IsWritten : {E : Type 0} → Names → List Delivery → PassId → ℕ → Text → Text → Result PassSaid E → Type 0
+IsWritten names journal pass line before after (Ok said) = after ≡ before ++ said_text names journal (said_of names pass line said)
+IsWritten names journal pass line before after (Err e) = ⊥

@@ -72,8 +72,28 @@ pub fn outside_line<'c, R: Wait>(
 {
     let who = actor_number(command);
     if who != DESK_NUMBER {
-        return pass_line(rt, alloc, desk, cpus, known, bounce, text, number, PassId(who), command);
+        return pass_line(
+            rt,
+            alloc,
+            desk,
+            cpus,
+            known,
+            bounce,
+            text,
+            number,
+            PassId(who),
+            command,
+        );
     }
-    let done = write_desk_line(rt, alloc, desk, cpus.as_mut_slice(), known, text, number, command);
+    let done = write_desk_line(
+        rt,
+        alloc,
+        desk,
+        cpus.as_mut_slice(),
+        known,
+        text,
+        number,
+        command,
+    );
     (bounce, done)
 }

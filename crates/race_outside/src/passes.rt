@@ -3,12 +3,15 @@ ghost use Rattle.std.specs.Prelude.{◌≡◌, ◌<◌, ◌≤◌, All, IfOk, On
 ghost use Rattle.mem_base.specs.map.Limits.{most_passes};
 ghost use Rattle.mem_base.specs.script.Race.{actor_number, alone};
 ghost use Rattle.run_laws.specs.Fitting.{FitsCommand};
+ghost use Rattle.generation.specs.Published.{Published};
+ghost use Rattle.epoch_rule.specs.Values.{PassValue};
 ghost use Rattle.pass_lines.specs.Doing.{IsInItsGeneration};
 ghost use Rattle.desk_lock.specs.Receipts.{HasNotifier};
 ghost use Rattle.desk_lock.specs.Records.{IsLater};
+ghost use Rattle.race_level.specs.Levels.{IsOfCabinet};
 ghost use Rattle.race_level.specs.Ready.{AreReady};
 ghost use Rattle.race_outside.specs.Outside.{StopsIn, WritesOn};
-ghost use Rattle.race_outside.specs.Passes.{DoesPassLine, FitsTask, HasDoneLine, HasDoneNothing, HasOrdered, said_by};
+ghost use Rattle.race_outside.specs.Passes.{DoesPassLine, FitsTask, HasDoneLine, HasDoneNothing, HasOrdered, HasSettled, IsWritten, said_by};
 
 use desk_lock::{Receipt, Record};
 use io_window::Bounce;
@@ -42,7 +45,7 @@ fn give<'a, R: Wait>(
     order: &DeskOrder,
 ) -> Result<PassSaid<'a>, AllocError>
     requires notifier { HasNotifier order.now }
-    ensures given { IfOk result (λ said. (a : _) → HasOrdered pass.0 desk.old a order.now said desk.new a) }
+    ensures given { IfOk result (λ said. (a : PassValue Published) → HasOrdered pass.0 desk.old a order.now said desk.new a) }
     ensures err { OnErr result (desk.new ≡ desk.old) }
     ensures later { IsLater desk.old desk.new }
 {
@@ -98,13 +101,15 @@ fn do_task<'a, 'c, R: Wait>(
             let answer = write(rt, &mut vcpu, *space, *addr, bytes.as_slice());
             (vcpu, bounce, Ok(said_by(answer)))
         }
-        Ok(LineTask::Copied {
-            space,
-            addr,
-            len,
-            to_space,
-            to_addr,
-        }) => {
+        Ok(
+            LineTask::Copied {
+                space,
+                addr,
+                len,
+                to_space,
+                to_addr,
+            },
+        ) => {
             let (vcpu, bounce, answer) = copy(
                 rt,
                 alloc,
@@ -149,6 +154,32 @@ fn do_line<'a, 'c, R: Wait>(
     (bounce, said)
 }
 
+// The record hears all virtual CPUs, and they meet it.
+fn settle(desk: &mut Record, cpus: &mut Vec<Vcpu<'_>>)
+    requires own { All (IsOfCabinet desk.old.seat.cabinet) cpus.old.items }
+    ensures settled { HasSettled desk.old cpus.old.items desk.new cpus.new.items }
+{
+    level(desk, cpus.as_mut_slice());
+}
+
+// Adds what a line writes to the text, where it was done.
+fn write_line(
+    text: &mut Line,
+    known: &KnownNames,
+    desk: &Record,
+    number: u32,
+    pass: PassId,
+    said: Result<PassSaid<'_>, AllocError>,
+) -> Result<(), AllocError>
+    ensures written { OnOk result
+        (IsWritten known.now.names desk.now.part.desk.listening.journal pass number text.old text.new said.entry) }
+{
+    match said {
+        Ok(said) => said.add_text(text, known.names(), desk.journal(), number, pass),
+        Err(error) => Err(error),
+    }
+}
+
 /// A line of a pass outside the block: its virtual CPU does it, or the record takes its order; all virtual CPUs and the record see
 /// the same history then, and what the line writes is added to the text.
 ///
@@ -182,10 +213,7 @@ pub fn pass_line<'c, R: Wait>(
         return (bounce, Err(AllocError));
     };
     let (bounce, said) = do_line(rt, alloc, desk, cpus, bounce, pass, &task);
-    level(desk, cpus.as_mut_slice());
-    let done = match said {
-        Ok(said) => said.add_text(text, known.names(), desk.journal(), number, pass),
-        Err(error) => Err(error),
-    };
+    settle(desk, cpus);
+    let done = write_line(text, known, desk, number, pass, said);
     (bounce, done)
 }
