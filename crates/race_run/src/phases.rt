@@ -1,5 +1,6 @@
 // The phases of a race, one after another.
-ghost use Rattle.std.specs.Prelude.{◌≡◌, [], ◌∷◌, Err, OnErr, OnOk};
+ghost use Rattle.std.specs.Prelude.{◌≡◌, ◌<◌, [], ◌∷◌, Err, IfSome, OnErr, OnOk, length};
+ghost use Rattle.outside.specs.Causes.{failed};
 ghost use Rattle.outside.specs.Sink.{Writes};
 ghost use Rattle.mem_base.specs.script.Race.{alone, phases_of};
 ghost use Rattle.run_laws.specs.Fitting.{AreFitting, FitsCommand};
@@ -8,7 +9,7 @@ ghost use Rattle.race_run.specs.Racing.{Goes, IsReady};
 
 use crate::racers::Racer;
 use mem_base::Command;
-use outside::{Gate, Sink, write_all};
+use outside::{Failed, Gate, Sink, write_all};
 use race_inside::block;
 use race_outside::outside_line;
 use race_phases::parts_of;
@@ -19,6 +20,27 @@ use std::alloc::{AllocError, Global};
 use std::sync::Wait;
 use std::thread::Threads;
 
+// Where the first line of a text ends, if it has one.
+fn line_end(text: &[u8]) -> Option<usize>
+    ensures { IfSome result (λ end. end < length text.now) }
+{
+    text.iter().position(|byte| *byte == b'\n')
+}
+
+// Writes a text line by line, each as one piece with its line feed.
+fn write_lines<S: Sink>(text: &[u8], sink: &mut S) -> Result<(), Failed>
+    ensures { Writes S.written S.holds S.faults sink.old sink.new text.now failed result }
+{
+    let mut rest = text;
+    while let Some(end) = line_end(rest) {
+        let (line, more) = rest.split_at(end + 1);
+        write_all(sink, line)?;
+        rest = more;
+    }
+    write_all(sink, rest)?;
+    Ok(())
+}
+
 // Writes the text of a phase that was done.
 fn say<S: Sink>(done: Result<(), AllocError>, text: &Line, sink: &mut S) -> Result<(), RunFault>
     ensures wrote { OnOk done (Writes S.written S.holds S.faults sink.old sink.new text.now RunFault.Write result) }
@@ -26,7 +48,7 @@ fn say<S: Sink>(done: Result<(), AllocError>, text: &Line, sink: &mut S) -> Resu
 {
     match done {
         Ok(()) => {
-            write_all(sink, text.as_bytes())?;
+            write_lines(text.as_bytes(), sink)?;
             Ok(())
         }
         Err(AllocError) => Err(RunFault::Memory),
