@@ -1,2 +1,3 @@
 pub mod RunLaws
+pub mod RaceLaws
 pub mod SayLaws

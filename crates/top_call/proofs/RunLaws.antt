@@ -1,4 +1,4 @@
--- What a source had, and how a run of its bytes ends.
+-- What a source had, and how a run or a race of its bytes ends.
 use Rattle.std.proofs.Common.{◌≡◌, ◌⊎◌, ◌<◌, ◌≤◌, ◌∙◌, ℕ, List, [], ◌++◌, cond, eqb, refl, sym, ap, arith, None, Some, Ok, Err, length, subst, inl, inr}
 use Rattle.std.specs.declared.option.Option.{Option}
 use Rattle.std.proofs.lemmas.List.{append-nil, length-append}
@@ -18,10 +18,10 @@ use Rattle.run_laws.proofs.EachCommand.{runs_are_lawful}
 use Rattle.top_call.specs.declared.endings.Ending.{Ending}
 use Rattle.top_call.specs.declared.endings.Ending.TheVariants as endings
 use Rattle.top_call.specs.ReadScript.{Came, Had}
-use Rattle.top_call.specs.Runs.{Runs, ending_of}
+use Rattle.top_call.specs.Runs.{Runs, RunsBy, ending_of}
 use Rattle.top_call.specs.Says.{Says}
 use Rattle.top_call.specs.Statuses.{IfBad}
-use Rattle.top_call.specs.WrittenText.{text_of_script}
+use Rattle.top_call.specs.WrittenText.{WritesTextOf, text_of_script}
 
 -- there is something that a source had
 pub had_any : (left : Option (List ℕ)) → (bytes : List ℕ) × Had left bytes
@@ -82,12 +82,27 @@ ends_said ending fault script same (inl e) fine = inl (e ∙ sym (ap ending_of s
 ends_said ending fault script same (inr (inl e)) fine = absurd (fine e)
 ends_said ending fault script same (inr (inr e)) fine = inr e
 
-module _ {S K : Type 0} (left : S → Option (List ℕ)) (read_faults : S → ℕ) (written : K → Option (List ℕ))
-    (holds : K → List ℕ → Type 0)
-    (write_faults : K → ℕ) where
+abbrev pub meant : List Line → Meaning
+meant lines = Ok lines
+
+abbrev at_fault : BadScript → Meaning
+at_fault fault = Err fault
+
+not_meant : (fault : BadScript) (lines : List Line) → at_fault fault ≡ meant lines → ⊥
+not_meant fault lines e = cc
+
+-- what is no script has no commands
+pub no_lines : (script : Meaning) (fault : BadScript) (lines : List Line) → script ≡ Err fault → script ≡ Ok lines → ⊥
+no_lines script fault lines bad fine = not_meant fault lines (sym bad ∙ fine)
+
+-- the line of a text that is longer than a script may be
+abbrev pub long_fault : BadScript
+long_fault = record { line = 0; cause = Long }
+
+module _ {S : Type 0} (left : S → Option (List ℕ)) (read_faults : S → ℕ) (source source' : S) (before after : ℕ) (WritesFor : Meaning → Type 0) where
   -- memory ran out before anything was written
-  pub out_of_memory : (source source' : S) (sink : K) → Runs left read_faults written holds write_faults source source' sink sink endings.Memory
-  out_of_memory source source' sink =
+  pub memory_by : ((bytes : List ℕ) → WritesFor (script_of bytes)) → RunsBy left read_faults source source' before after endings.Memory WritesFor
+  memory_by writes =
       let had = had_any (left source) in record {
         script = script_of had.0;
         reads = record {
@@ -96,13 +111,7 @@ module _ {S K : Type 0} (left : S → Option (List ℕ)) (read_faults : S → �
           bad = tt;
           short = λ e. cc;
         };
-        writes = record {
-          done = λ e. cc;
-          lawful = runs_are_lawful had.0;
-          bad = tt;
-          read = λ e. cc;
-          prefix = TakesPrefix-nil written holds sink (text_of_script (script_of had.0));
-        };
+        writes = writes had.0;
         read = λ e. cc;
         write = λ e. cc;
         never = λ e. cc;
@@ -110,10 +119,9 @@ module _ {S K : Type 0} (left : S → Option (List ℕ)) (read_faults : S → �
       }
 
   -- a read failed before anything was written
-  pub read_fault : (source source' : S) (sink : K) → SomeCame (left source) (left source') (λ bytes. length bytes ≤ most_text)
-      → Rose (read_faults source) (read_faults source')
-      → Runs left read_faults written holds write_faults source source' sink sink endings.ReadFault
-  read_fault source source' sink few rose =
+  pub read_fault_by : SomeCame (left source) (left source') (λ bytes. length bytes ≤ most_text) → Rose (read_faults source) (read_faults source')
+      → ((bytes : List ℕ) → WritesFor (script_of bytes)) → RunsBy left read_faults source source' before after endings.ReadFault WritesFor
+  read_fault_by few rose writes =
       let had = had_any (left source) in record {
         script = script_of had.0;
         reads = record {
@@ -122,13 +130,7 @@ module _ {S K : Type 0} (left : S → Option (List ℕ)) (read_faults : S → �
           bad = tt;
           short = λ e. few;
         };
-        writes = record {
-          done = λ e. cc;
-          lawful = runs_are_lawful had.0;
-          bad = tt;
-          read = λ e. Takes-nil written holds sink;
-          prefix = TakesPrefix-nil written holds sink (text_of_script (script_of had.0));
-        };
+        writes = writes had.0;
         read = λ e. rose;
         write = λ e. cc;
         never = λ e. cc;
@@ -136,37 +138,93 @@ module _ {S K : Type 0} (left : S → Option (List ℕ)) (read_faults : S → �
       }
 
   -- more came than a script may have, and that is said
-  pub too_long : (source source' : S) (sink sink' : K) (ending : Ending)
-      → (long : SomeCame (left source) (left source') (λ bytes. most_text < length bytes))
-      → Says written holds write_faults (bad_line (record { line = 0; cause = Long })) (endings.BadScript (record { line = 0; cause = Long })) sink sink' ending
-      → Runs left read_faults written holds write_faults source source' sink sink' ending
-  too_long source source' sink sink' ending long says =
-      let fault : BadScript = record { line = 0; cause = Long } in
+  pub too_long_by : (ending : Ending) → SomeCame (left source) (left source') (λ bytes. most_text < length bytes)
+      → (ending ≡ endings.BadScript long_fault) ⊎ (ending ≡ endings.WriteFault) ⊎ (ending ≡ endings.Memory)
+      → (ending ≡ endings.WriteFault → Rose before after)
+      → ((script : Meaning) → script ≡ Err long_fault → WritesFor script) → RunsBy left read_faults source source' before after ending WritesFor
+  too_long_by ending long only write writes =
       let had = had_long (left source) (left source') long in
-      let same : script_of had.0 ≡ Err fault = script_of-long had.0 had.2 in record {
+      let same : script_of had.0 ≡ Err long_fault = script_of-long had.0 had.2 in record {
         script = script_of had.0;
         reads = record {
           text = (had.0, had.1, refl);
-          done = λ e. absurd (other_than ending fault endings.Done says.only (λ o. cc) (λ o. cc) (λ o. cc) e);
+          done = λ e. absurd (other_than ending long_fault endings.Done only (λ o. cc) (λ o. cc) (λ o. cc) e);
           bad = if_bad ending (λ f. (bytes : List ℕ) × Came (left source) (left source') bytes × (script_of bytes ≡ script_of had.0))
               (λ f. (long.0, record { in_order = long.1; enough = inr long.2 }, script_of-long long.0 long.2 ∙ sym same));
-          short = λ e. absurd (other_than ending fault endings.ReadFault says.only (λ o. cc) (λ o. cc) (λ o. cc) e);
+          short = λ e. absurd (other_than ending long_fault endings.ReadFault only (λ o. cc) (λ o. cc) (λ o. cc) e);
         };
-        writes = record {
-          done = λ e. absurd (other_than ending fault endings.Done says.only (λ o. cc) (λ o. cc) (λ o. cc) e);
-          lawful = runs_are_lawful had.0;
-          bad = if_said ending fault (λ f. (script_of had.0 ≡ Err f) × Takes written holds sink sink' (bad_line f)) says.only
-              (λ e. (same, says.whole e));
-          read = λ e. absurd (other_than ending fault endings.ReadFault says.only (λ o. cc) (λ o. cc) (λ o. cc) e);
-          prefix = subst (λ t. TakesPrefix written holds sink sink' t) (ap text_of_script (sym same)) says.prefix;
-        };
-        read = λ e. absurd (other_than ending fault endings.ReadFault says.only (λ o. cc) (λ o. cc) (λ o. cc) e);
-        write = says.write;
-        never = λ e. absurd (other_than ending fault endings.Usage says.only (λ o. cc) (λ o. cc) (λ o. cc) e);
-        complete = λ told no_read no_write. ends_said ending fault (script_of had.0) same says.only (λ e. no_write (says.write e));
+        writes = writes (script_of had.0) same;
+        read = λ e. absurd (other_than ending long_fault endings.ReadFault only (λ o. cc) (λ o. cc) (λ o. cc) e);
+        write = write;
+        never = λ e. absurd (other_than ending long_fault endings.Usage only (λ o. cc) (λ o. cc) (λ o. cc) e);
+        complete = λ told no_read no_write. ends_said ending long_fault (script_of had.0) same only (λ e. no_write (write e));
       }
 
   -- all bytes came, and were run
+  pub ran_by : (ending : Ending) (bytes given : List ℕ) → AllCame (left source) (left source') bytes
+      → (ending ≡ endings.WriteFault → Rose before after) → (ending ≡ endings.Usage → ⊥) × (ending ≡ endings.ReadFault → ⊥)
+      → ((Rose before after → ⊥) → (ending ≡ ending_of (script_of given)) ⊎ (ending ≡ endings.Memory)) → given ≡ bytes
+      → WritesFor (script_of given) → RunsBy left read_faults source source' before after ending WritesFor
+  ran_by ending bytes given came write_fault other as_said e writes =
+      let all : AllCame (left source) (left source') given = subst (AllCame (left source) (left source')) (sym e) came in record {
+        script = script_of given;
+        reads = record {
+          text = (given, had_all (left source) (left source') given all, refl);
+          done = λ d. (given, all, refl);
+          bad = if_bad ending (λ f. (some : List ℕ) × Came (left source) (left source') some × (script_of some ≡ script_of given))
+              (λ f. (given, record { in_order = all.came; enough = inl all.at_end }, refl));
+          short = λ f. absurd (other.1 f);
+        };
+        writes = writes;
+        read = λ f. absurd (other.1 f);
+        write = write_fault;
+        never = other.0;
+        complete = λ told no_read no_write. as_said no_write;
+      }
+
+-- The same of `run`
+
+module _ {S K : Type 0} (left : S → Option (List ℕ)) (read_faults : S → ℕ) (written : K → Option (List ℕ))
+    (holds : K → List ℕ → Type 0)
+    (write_faults : K → ℕ) where
+  pub out_of_memory : (source source' : S) (sink : K) → Runs left read_faults written holds write_faults source source' sink sink endings.Memory
+  out_of_memory source source' sink =
+      memory_by left read_faults source source' (write_faults sink) (write_faults sink) (λ script. WritesTextOf written holds script sink sink endings.Memory)
+      (λ bytes. record {
+        done = λ e. cc;
+        lawful = runs_are_lawful bytes;
+        bad = tt;
+        read = λ e. cc;
+        prefix = TakesPrefix-nil written holds sink (text_of_script (script_of bytes));
+      })
+
+  pub read_fault : (source source' : S) (sink : K) → SomeCame (left source) (left source') (λ bytes. length bytes ≤ most_text)
+      → Rose (read_faults source) (read_faults source')
+      → Runs left read_faults written holds write_faults source source' sink sink endings.ReadFault
+  read_fault source source' sink few rose =
+      read_fault_by left read_faults source source' (write_faults sink) (write_faults sink)
+      (λ script. WritesTextOf written holds script sink sink endings.ReadFault) few rose (λ bytes. record {
+        done = λ e. cc;
+        lawful = runs_are_lawful bytes;
+        bad = tt;
+        read = λ e. Takes-nil written holds sink;
+        prefix = TakesPrefix-nil written holds sink (text_of_script (script_of bytes));
+      })
+
+  pub too_long : (source source' : S) (sink sink' : K) (ending : Ending)
+      → (long : SomeCame (left source) (left source') (λ bytes. most_text < length bytes))
+      → Says written holds write_faults (bad_line long_fault) (endings.BadScript long_fault) sink sink' ending
+      → Runs left read_faults written holds write_faults source source' sink sink' ending
+  too_long source source' sink sink' ending long says =
+      too_long_by left read_faults source source' (write_faults sink) (write_faults sink')
+      (λ script. WritesTextOf written holds script sink sink' ending) ending long says.only says.write (λ script same. record {
+        done = λ e. absurd (other_than ending long_fault endings.Done says.only (λ o. cc) (λ o. cc) (λ o. cc) e);
+        lawful = λ lines e. absurd (no_lines script long_fault lines same e);
+        bad = if_said ending long_fault (λ f. (script ≡ Err f) × Takes written holds sink sink' (bad_line f)) says.only (λ e. (same, says.whole e));
+        read = λ e. absurd (other_than ending long_fault endings.ReadFault says.only (λ o. cc) (λ o. cc) (λ o. cc) e);
+        prefix = subst (λ t. TakesPrefix written holds sink sink' t) (ap text_of_script (sym same)) says.prefix;
+      })
+
   pub ran : (source source' : S) (sink sink' : K) (ending : Ending) (bytes given : List ℕ)
       → AllCame (left source) (left source') bytes
       → (ending ≡ endings.Done → (lines : List Line) × (script_of given ≡ Ok lines) × Takes written holds sink sink' (text_of lines))
@@ -178,24 +236,11 @@ module _ {S K : Type 0} (left : S → Option (List ℕ)) (read_faults : S → �
       → given ≡ bytes
       → Runs left read_faults written holds write_faults source source' sink sink' ending
   ran source source' sink sink' ending bytes given came whole at_fault front write_fault other as_said e =
-      let all : AllCame (left source) (left source') given = subst (AllCame (left source) (left source')) (sym e) came in record {
-        script = script_of given;
-        reads = record {
-          text = (given, had_all (left source) (left source') given all, refl);
-          done = λ d. (given, all, refl);
-          bad = if_bad ending (λ f. (some : List ℕ) × Came (left source) (left source') some × (script_of some ≡ script_of given))
-              (λ f. (given, record { in_order = all.came; enough = inl all.at_end }, refl));
-          short = λ f. absurd (other.1 f);
-        };
-        writes = record {
-          done = whole;
-          lawful = runs_are_lawful given;
-          bad = at_fault;
-          read = λ f. absurd (other.1 f);
-          prefix = front;
-        };
+      ran_by left read_faults source source' (write_faults sink) (write_faults sink') (λ script. WritesTextOf written holds script sink sink' ending)
+      ending bytes given came write_fault other as_said e (record {
+        done = whole;
+        lawful = runs_are_lawful given;
+        bad = at_fault;
         read = λ f. absurd (other.1 f);
-        write = write_fault;
-        never = other.0;
-        complete = λ told no_read no_write. as_said no_write;
-      }
+        prefix = front;
+      })

@@ -6,7 +6,7 @@ use Rattle.mem_base.specs.declared.script.tasks.Task.{Task}
 use Rattle.mem_base.specs.declared.script.tasks.Task.TheVariants.{Run, Race, Make, Demo}
 use Rattle.top_call.specs.declared.endings.Ending.{Ending}
 use Rattle.top_call.specs.declared.endings.Ending.TheVariants.{Memory}
-use Rattle.top_call.specs.Asks.{IfDemo, IfMake, IfRun, IfUsage, UnlessRun}
+use Rattle.top_call.specs.Asks.{IfDemo, IfMake, IfRun, IfUsage, UnlessReads}
 use Rattle.top_call.specs.Says.{IsLeftAlone, Says}
 
 pub says_nothing : {K : Type 0} (written : K → Option (List ℕ)) (holds : K → List ℕ → Type 0) (write_faults : K → ℕ) (text : List ℕ) (said : Ending)
@@ -29,12 +29,12 @@ if_run (Some Race) fact f = tt
 if_run (Some (Make seed)) fact f = tt
 if_run (Some (Demo seed)) fact f = tt
 
-pub unless_run : (task : Option Task) (fact : Type 0) → fact → UnlessRun task fact
-unless_run None fact f = f
-unless_run (Some Run) fact f = tt
-unless_run (Some Race) fact f = f
-unless_run (Some (Make seed)) fact f = f
-unless_run (Some (Demo seed)) fact f = f
+pub unless_reads : (task : Option Task) (fact : Type 0) → fact → UnlessReads task fact
+unless_reads None fact f = f
+unless_reads (Some Run) fact f = tt
+unless_reads (Some Race) fact f = tt
+unless_reads (Some (Make seed)) fact f = f
+unless_reads (Some (Demo seed)) fact f = f
 
 pub if_make : (task : Option Task) (fact : ℕ → Type 0) → ((seed : ℕ) → fact seed) → IfMake task fact
 if_make None fact f = tt
@@ -53,6 +53,6 @@ if_demo (Some (Demo seed)) fact f = f seed
 pub if_usage : (task : Option Task) (fact : Type 0) → fact → IfUsage task fact
 if_usage None fact f = f
 if_usage (Some Run) fact f = tt
-if_usage (Some Race) fact f = f
+if_usage (Some Race) fact f = tt
 if_usage (Some (Make seed)) fact f = tt
 if_usage (Some (Demo seed)) fact f = tt

@@ -8,10 +8,21 @@ abbrev pub IfRun : Option Task → Type 0 → Type 0
 IfRun (Some Run) fact = fact
 IfRun _ fact = ⊤
 
--- where they ask for anything else, or for nothing
-abbrev pub UnlessRun : Option Task → Type 0 → Type 0
-UnlessRun (Some Run) fact = ⊤
-UnlessRun _ fact = fact
+-- where they ask for `race`
+abbrev pub IfRace : Option Task → Type 0 → Type 0
+IfRace (Some Race) fact = fact
+IfRace _ fact = ⊤
+
+-- where they do not ask for `race`
+abbrev pub UnlessRace : Option Task → Type 0 → Type 0
+UnlessRace (Some Race) fact = ⊤
+UnlessRace _ fact = fact
+
+-- where they ask for neither, so that nothing is read
+abbrev pub UnlessReads : Option Task → Type 0 → Type 0
+UnlessReads (Some Run) fact = ⊤
+UnlessReads (Some Race) fact = ⊤
+UnlessReads _ fact = fact
 
 -- where they ask for `make`, a fact of the seed
 abbrev pub IfMake : Option Task → (ℕ → Type 0) → Type 0
@@ -23,8 +34,7 @@ abbrev pub IfDemo : Option Task → (ℕ → Type 0) → Type 0
 IfDemo (Some (Demo seed)) fact = fact seed
 IfDemo _ fact = ⊤
 
--- where they have none of the four forms, or ask for `race`, which is not built
+-- where they have none of the four forms
 abbrev pub IfUsage : Option Task → Type 0 → Type 0
 IfUsage None fact = fact
-IfUsage (Some Race) fact = fact
 IfUsage _ fact = ⊤

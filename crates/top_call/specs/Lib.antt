@@ -1,5 +1,6 @@
 pub mod Asks
 pub mod KeptText
+pub mod RacedText
 pub mod ReadScript
 pub mod Runs
 pub mod Says

@@ -19,8 +19,8 @@ use script_run::{RunFault, run};
 use script_text::{MOST_TEXT, ParseFault, parse};
 use std::alloc::{AllocError, Global};
 
-// What is said of a text that is longer than a script may be: no line of it is named.
-fn too_long() -> BadScript
+/// What is said of a text that is longer than a script may be: no line of it is named.
+pub(crate) fn too_long() -> BadScript
     ensures { result ≡ record { line = 0; cause = Cause.Long } }
 {
     BadScript {
@@ -38,8 +38,8 @@ fn line_of(alloc: Global, bad: BadScript) -> Result<Line, AllocError>
     Ok(line)
 }
 
-// Writes the line of a text that is no script.
-fn refuse<K: Sink>(alloc: Global, bad: BadScript, sink: &mut K) -> Ending
+/// Writes the line of a text that is no script.
+pub(crate) fn refuse<K: Sink>(alloc: Global, bad: BadScript, sink: &mut K) -> Ending
     ensures says { Says K.written K.holds K.faults (bad_line bad) (Ending.BadScript bad) sink.old sink.new result }
     ensures later { K.faults sink.old ≤ K.faults sink.new }
 {

@@ -1,15 +1,19 @@
 // The top call: all that the program does, over the words, the source and the sink that it is handed.
-ghost use Rattle.std.specs.Prelude.{map, string_bytes};
+ghost use Rattle.std.specs.Prelude.{◌≡◌, ◌≢◌, MatchBool, None, Option, Some, map, string_bytes};
+ghost use Rattle.mem_base.specs.declared.script.tasks.Task.TheVariants.{Race};
 ghost use Rattle.mem_base.specs.script.Words.{task_of, usage_line};
 ghost use Rattle.script_make.specs.Texts.{text_of_seed};
-ghost use Rattle.top_call.specs.Asks.{IfDemo, IfMake, IfRun, IfUsage, UnlessRun};
-ghost use Rattle.top_call.specs.Runs.{Runs};
+ghost use Rattle.config_desk.specs.Configs.{ConfigState};
+ghost use Rattle.top_call.specs.Asks.{IfDemo, IfMake, IfRace, IfRun, IfUsage, UnlessRace, UnlessReads};
+ghost use Rattle.top_call.specs.Runs.{Races, Runs};
 ghost use Rattle.top_call.specs.Says.{IsLeftAlone, Says, demo_text};
 ghost use Rattle.top_call.specs.Statuses.{ExitsWith};
 
 use crate::endings::Ending;
+use crate::racing::race_source;
 use crate::running::run_source;
 use crate::seeds::{demo, make};
+use config_desk::Config;
 use mem_base::Task;
 use outside::{Failed, Gate, OpenGate, Sink, Source, write_all};
 use script_words::{WordsStop, task_of};
@@ -28,17 +32,28 @@ fn show_usage<K: Sink>(sink: &mut K) -> Ending
     }
 }
 
+/// Whether the words are exactly the one word `race`.
+pub fn asks_race(words: &[String]) -> bool
+    ensures { MatchBool result (task_of (map string_bytes words.now) ≡ Some Race) (task_of (map string_bytes words.now) ≢ Some Race) }
+{
+    match words {
+        [word] => word.as_bytes() == b"race".as_slice(),
+        _ => false,
+    }
+}
+
 /// Does what the words ask: `run` reads the source to its end, and writes the text of the script that it is; `make SEED`
-/// writes the script of the seed, and `demo SEED` the summary of what that script writes.
+/// writes the script of the seed, and `demo SEED` the summary of what that script writes. Any other words are answered with the
+/// usage line; they are not the one word `race`, which needs other threads. Only `run` reads the source.
 ///
-/// It never waits. Any other words are answered with the usage line, `race` among them, which is not built. Only `run` reads
-/// the source.
+/// It never waits.
 pub fn alone<S: Source, K: Sink>(
     alloc: Global,
     words: &[String],
     source: &mut S,
     sink: &mut K,
 ) -> Ending
+    requires { task_of (map string_bytes words.now) ≢ Some Race }
     // What is read is a script, and what is written is its text, of a run that is one legal history of the machine; each
     // fault has its cause.
     ensures run { IfRun (task_of (map string_bytes words.now))
@@ -49,40 +64,56 @@ pub fn alone<S: Source, K: Sink>(
         (λ seed. Says K.written K.holds K.faults (demo_text seed) Ending.Done sink.old sink.new result) }
     ensures usage { IfUsage (task_of (map string_bytes words.now))
         (Says K.written K.holds K.faults usage_line Ending.Usage sink.old sink.new result) }
-    ensures unread { UnlessRun (task_of (map string_bytes words.now)) (IsLeftAlone S.left S.faults source.old source.new) }
+    ensures unread { UnlessReads (task_of (map string_bytes words.now)) (IsLeftAlone S.left S.faults source.old source.new) }
 {
     match task_of(alloc, words) {
         Ok(Task::Run) => run_source(alloc, source, sink),
+        Ok(Task::Race) => unreachable!(),
         Ok(Task::Make { seed }) => make(alloc, seed, sink),
         Ok(Task::Demo { seed }) => demo(alloc, seed, sink),
-        Ok(Task::Race) | Err(WordsStop::Usage) => show_usage(sink),
+        Err(WordsStop::Usage) => show_usage(sink),
         Err(WordsStop::Memory) => Ending::Memory,
     }
 }
 
-/// Does what the words ask, as `alone` does. No form of words that is built needs other threads or the gate.
+/// Does what the words ask, as `alone` does, and `race` beside: it reads the source to its end, runs the script that it is on a
+/// machine of its own, with the desk and the passes of its block beside one another, and writes its text.
+///
+/// Each actor of the block arrives at the gate before each of its lines. After `race` has ended with `Done`, the desk of the machine on
+/// which the script ran is kept, with all passes taken in; after anything else none is. With `race` it may wait.
 pub fn mtree<R: Threads + Wait + Sync, S: Source, K: Sink, G: Gate>(
-    _rt: &R,
+    rt: &R,
     alloc: Global,
     words: &[String],
     source: &mut S,
     sink: &mut K,
-    _gate: &G,
+    gate: &G,
+    kept: &mut Option<Config>,
 ) -> Ending
     ensures run { IfRun (task_of (map string_bytes words.now))
         (Runs S.left S.faults K.written K.holds K.faults source.old source.new sink.old sink.new result) }
+    // What is read is a script, and what is written is its text for the history of the machine that is kept; each fault has its cause.
+    ensures race { IfRace (task_of (map string_bytes words.now))
+        (Races S.left S.faults K.written K.holds K.faults source.old source.new sink.old sink.new kept.new result) }
+    ensures kept { UnlessRace (task_of (map string_bytes words.now)) (kept.new ≡ None) }
     ensures make { IfMake (task_of (map string_bytes words.now))
         (λ seed. Says K.written K.holds K.faults (text_of_seed seed) Ending.Done sink.old sink.new result) }
     ensures demo { IfDemo (task_of (map string_bytes words.now))
         (λ seed. Says K.written K.holds K.faults (demo_text seed) Ending.Done sink.old sink.new result) }
     ensures usage { IfUsage (task_of (map string_bytes words.now))
         (Says K.written K.holds K.faults usage_line Ending.Usage sink.old sink.new result) }
-    ensures unread { UnlessRun (task_of (map string_bytes words.now)) (IsLeftAlone S.left S.faults source.old source.new) }
+    ensures unread { UnlessReads (task_of (map string_bytes words.now)) (IsLeftAlone S.left S.faults source.old source.new) }
 {
+    if asks_race(words) {
+        let (ending, machine) = race_source(rt, alloc, source, sink, gate);
+        *kept = machine;
+        return ending;
+    }
+    *kept = None;
     alone(alloc, words, source, sink)
 }
 
-/// Does what the words ask, and gives the exit status of the ending.
+/// Does what the words ask, and gives the exit status of the ending. No actor waits at a gate, and no machine is kept.
 pub fn exit_code<R: Threads + Wait + Sync, S: Source, K: Sink>(
     rt: &R,
     alloc: Global,
@@ -92,14 +123,17 @@ pub fn exit_code<R: Threads + Wait + Sync, S: Source, K: Sink>(
 ) -> ExitCode
     ensures run { ExitsWith result (λ ending. IfRun (task_of (map string_bytes words.now))
         (Runs S.left S.faults K.written K.holds K.faults source.old source.new sink.old sink.new ending)) }
+    ensures race { ExitsWith result (λ ending. IfRace (task_of (map string_bytes words.now)) ((machine : Option ConfigState)
+        × Races S.left S.faults K.written K.holds K.faults source.old source.new sink.old sink.new machine ending)) }
     ensures make { ExitsWith result (λ ending. IfMake (task_of (map string_bytes words.now))
         (λ seed. Says K.written K.holds K.faults (text_of_seed seed) Ending.Done sink.old sink.new ending)) }
     ensures demo { ExitsWith result (λ ending. IfDemo (task_of (map string_bytes words.now))
         (λ seed. Says K.written K.holds K.faults (demo_text seed) Ending.Done sink.old sink.new ending)) }
     ensures usage { ExitsWith result (λ ending. IfUsage (task_of (map string_bytes words.now))
         (Says K.written K.holds K.faults usage_line Ending.Usage sink.old sink.new ending)) }
-    ensures unread { UnlessRun (task_of (map string_bytes words.now)) (IsLeftAlone S.left S.faults source.old source.new) }
+    ensures unread { UnlessReads (task_of (map string_bytes words.now)) (IsLeftAlone S.left S.faults source.old source.new) }
 {
-    let ending = mtree(rt, alloc, words, source, sink, &OpenGate);
+    let mut kept = None;
+    let ending = mtree(rt, alloc, words, source, sink, &OpenGate, &mut kept);
     ExitCode::from(ending.status())
 }

@@ -1,13 +1,13 @@
 // The top call over ends that fail, give little, or take little, and its answers to other words.
 
-use crate::runs::{ROOM, USAGE, run_of, run_over, words_of};
+use crate::runs::{ROOM, USAGE, end_of, run_of, run_over, words_of};
 use mem_base::{BadScript, Cause};
 use outside::{CalmSource, MemSink, MemSource, OpenGate, StdSink, StdSource};
 use std::alloc::Global;
 use std::io::{self, ErrorKind, Read, Write};
 use std::process::ExitCode;
 use std::test::Fail;
-use top_call::{Ending, alone, exit_code, mtree};
+use top_call::{Ending, exit_code, mtree};
 
 /// The map of the manual's picture, on a machine with the least memory.
 const SCRIPT: &str = "machine 4K\n\
@@ -113,7 +113,7 @@ fn a_writer_that_takes_a_byte_a_call_gets_the_same_text(rt: HostRuntime) -> Resu
     let mut source = CalmSource::new(SCRIPT.as_bytes().to_vec(rt.alloc())?);
     let mut written = Vec::new(rt.alloc());
     let mut sink = StdSink::new(Slow(&mut written));
-    let ending = alone(rt.alloc(), words.as_slice(), &mut source, &mut sink);
+    let ending = end_of(rt.alloc(), words.as_slice(), &mut source, &mut sink);
     assert_eq!(rt; ending, Ending::Done);
     assert_eq!(rt; written.as_slice(), first_lines(rt.alloc(), 6)?.as_slice());
     Ok(())
@@ -140,14 +140,14 @@ fn a_writer_that_is_full_after_any_byte_has_the_text_up_to_there(
     for byte in &whole {
         let mut source = CalmSource::new(SCRIPT.as_bytes().to_vec(rt.alloc())?);
         let mut sink = StdSink::new(room.as_mut_slice());
-        let ending = alone(rt.alloc(), words.as_slice(), &mut source, &mut sink);
+        let ending = end_of(rt.alloc(), words.as_slice(), &mut source, &mut sink);
         assert_eq!(rt; ending, Ending::WriteFault);
         assert!(rt; whole.starts_with(room.as_slice()));
         room.push(!*byte)?;
     }
     let mut source = CalmSource::new(SCRIPT.as_bytes().to_vec(rt.alloc())?);
     let mut sink = StdSink::new(room.as_mut_slice());
-    let ending = alone(rt.alloc(), words.as_slice(), &mut source, &mut sink);
+    let ending = end_of(rt.alloc(), words.as_slice(), &mut source, &mut sink);
     assert_eq!(rt; ending, Ending::Done);
     assert_eq!(rt; room.as_slice(), whole.as_slice());
     Ok(())
@@ -347,27 +347,29 @@ fn other_words_are_told_the_usage(rt: HostRuntime) -> Result<(), Fail> {
         let words = words_of(rt.alloc(), words)?;
         let mut source = CalmSource::new(SCRIPT.as_bytes().to_vec(rt.alloc())?);
         let mut sink = MemSink::new(rt.alloc(), ROOM, Vec::new(rt.alloc()))?;
-        let ending = alone(rt.alloc(), words.as_slice(), &mut source, &mut sink);
+        let ending = end_of(rt.alloc(), words.as_slice(), &mut source, &mut sink);
         assert_eq!(rt; ending, Ending::Usage);
         assert_eq!(rt; sink.written(), USAGE.as_bytes());
 
         let mut full = MemSink::new(rt.alloc(), 0, Vec::new(rt.alloc()))?;
-        let ending = alone(rt.alloc(), words.as_slice(), &mut source, &mut full);
+        let ending = end_of(rt.alloc(), words.as_slice(), &mut source, &mut full);
         assert_eq!(rt; ending, Ending::WriteFault);
     }
     Ok(())
 }
 
 #[test]
-fn the_top_call_runs_a_script_and_does_not_know_race_yet(rt: HostRuntime) -> Result<(), Fail> {
-    for (word, want, text) in [
-        ("run", Ending::Done, "at S 0 X @0 io\n"),
-        ("race", Ending::Usage, USAGE),
+fn the_top_call_keeps_the_machine_of_a_race_alone(rt: HostRuntime) -> Result<(), Fail> {
+    for (word, want, text, keeps) in [
+        ("run", Ending::Done, "at S 0 X @0 io\n", false),
+        ("race", Ending::Done, "at S 0 X @0 io\n", true),
+        ("races", Ending::Usage, USAGE, false),
     ] {
         let words = words_of(rt.alloc(), word)?;
         let script = b"region X io 1 latch\nspace S X\nat S 0\n";
         let mut source = CalmSource::new(script.to_vec(rt.alloc())?);
         let mut sink = MemSink::new(rt.alloc(), ROOM, Vec::new(rt.alloc()))?;
+        let mut kept = None;
         let ending = mtree(
             &rt,
             rt.alloc(),
@@ -375,8 +377,10 @@ fn the_top_call_runs_a_script_and_does_not_know_race_yet(rt: HostRuntime) -> Res
             &mut source,
             &mut sink,
             &OpenGate,
+            &mut kept,
         );
         assert_eq!(rt; ending, want, "{word}");
+        assert_eq!(rt; kept.is_some(), keeps, "{word}");
         assert_eq!(rt; sink.written(), text.as_bytes(), "{word}");
     }
     Ok(())
@@ -387,7 +391,7 @@ fn a_generated_script_begins_and_ends_as_defined(rt: HostRuntime) -> Result<(), 
     let words = words_of(rt.alloc(), "make 1")?;
     let mut source = CalmSource::new(Vec::new(rt.alloc()));
     let mut sink = MemSink::new(rt.alloc(), 1_048_576, Vec::new(rt.alloc()))?;
-    let ending = alone(rt.alloc(), words.as_slice(), &mut source, &mut sink);
+    let ending = end_of(rt.alloc(), words.as_slice(), &mut source, &mut sink);
     assert_eq!(rt; ending, Ending::Done);
     let front = b"machine 0x1000000\nregion sys container 0x40000000\nbegin\nspace s sys\n";
     assert!(rt; sink.written().starts_with(front.as_slice()));
@@ -401,7 +405,7 @@ fn written_for(alloc: Global, words: &str, script: &[u8]) -> Result<Vec<u8>, Fai
     let mut source = CalmSource::new(script.to_vec(alloc)?);
     let mut written = Vec::new(alloc);
     let mut sink = StdSink::new(&mut written);
-    let _ = alone(alloc, words.as_slice(), &mut source, &mut sink);
+    let _ = end_of(alloc, words.as_slice(), &mut source, &mut sink);
     Ok(written)
 }
 

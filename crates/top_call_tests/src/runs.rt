@@ -1,9 +1,9 @@
 // Runs of the top call on scripts in memory.
 
-use outside::{CalmSource, MemSink, Source};
+use outside::{CalmSource, MemSink, Sink, Source};
 use std::alloc::Global;
 use std::test::Fail;
-use top_call::{Ending, alone};
+use top_call::{Ending, alone, asks_race};
 
 /// The usage line.
 pub(crate) const USAGE: &str = "usage: mtree run | race | make SEED | demo SEED\n";
@@ -22,6 +22,19 @@ pub(crate) fn words_of(alloc: Global, text: &str) -> Result<Vec<String>, Fail> {
     Ok(words)
 }
 
+/// How the top call ends without other threads. The one word `race`, which wants them, is no case here.
+pub(crate) fn end_of<S: Source, K: Sink>(
+    alloc: Global,
+    words: &[String],
+    source: &mut S,
+    sink: &mut K,
+) -> Ending {
+    if asks_race(words) {
+        return Ending::Usage;
+    }
+    alone(alloc, words, source, sink)
+}
+
 /// How `run` ended over this source and a sink with this much room that fails at these calls, and what it wrote.
 pub(crate) fn run_over<S: Source>(
     alloc: Global,
@@ -31,7 +44,7 @@ pub(crate) fn run_over<S: Source>(
 ) -> Result<(Ending, Vec<u8>), Fail> {
     let words = words_of(alloc, "run")?;
     let mut sink = MemSink::new(alloc, room, fails.to_vec(alloc)?)?;
-    let ending = alone(alloc, words.as_slice(), source, &mut sink);
+    let ending = end_of(alloc, words.as_slice(), source, &mut sink);
     Ok((ending, sink.written().to_vec(alloc)?))
 }
 

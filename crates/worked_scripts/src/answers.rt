@@ -49,6 +49,7 @@ fn run<R: Threads + Wait + Sync>(
     let mut source = CalmSource::new(case.script.to_vec(alloc)?);
     let mut written = Vec::new(alloc);
     let mut sink = StdSink::new(&mut written);
+    let mut kept = None;
     let ending = mtree(
         rt,
         alloc,
@@ -56,6 +57,7 @@ fn run<R: Threads + Wait + Sync>(
         &mut source,
         &mut sink,
         &OpenGate,
+        &mut kept,
     );
     Ok((ending, written))
 }

@@ -5,7 +5,7 @@ use Rattle.top_call.specs.declared.endings.Ending.TheVariants.{Done, Memory, Usa
 use Rattle.top_call.specs.Runs.{Runs}
 use Rattle.top_call.specs.Says.{IsLeftAlone, Says, demo_text}
 use Rattle.top_call.proofs.RunLaws.{out_of_memory}
-use Rattle.top_call.proofs.SayLaws.{if_demo, if_make, if_run, if_usage, left_alone, says_nothing, unless_run}
+use Rattle.top_call.proofs.SayLaws.{if_demo, if_make, if_run, if_usage, left_alone, says_nothing, unless_reads}
 use Rattle.top_call.proofs.top.alone.Goals as goal
 
 pub returns-in-Err-Memory-clause-run : goal.returns-in-Err-Memory-clause-run
@@ -30,5 +30,5 @@ returns-in-Err-Memory-clause-usage g c = if_usage (task_of (map string_bytes c.a
     (says_nothing g.K.Sink.written g.K.Sink.holds g.K.Sink.faults usage_line Usage c.args.sink.now (λ e. cc))
 
 pub returns-in-Err-Memory-clause-unread : goal.returns-in-Err-Memory-clause-unread
-returns-in-Err-Memory-clause-unread g c = unless_run (task_of (map string_bytes c.args.words.now))
+returns-in-Err-Memory-clause-unread g c = unless_reads (task_of (map string_bytes c.args.words.now))
     (IsLeftAlone g.S.Source.left g.S.Source.faults c.args.source.now c.args.source.now) (left_alone g.S.Source.left g.S.Source.faults c.args.source.now)

@@ -1,0 +1,4 @@
+pub mod OpeningLaws
+pub mod ClosingLaws
+pub mod LineLaws
+pub mod RacingLaws

@@ -1,0 +1,89 @@
+// `race`: the bytes of a source are read as a script, which runs on a machine of its own, its actors beside one another.
+ghost use Rattle.std.specs.Prelude.{◌≡◌, ◌≢◌, ◌≤◌, ◌⊎◌, None, Ok};
+ghost use Rattle.outside.specs.Causes.{Rose};
+ghost use Rattle.mem_base.specs.script.Scripts.{script_of};
+ghost use Rattle.top_call.specs.RacedText.{WritesRaceOf};
+ghost use Rattle.top_call.specs.Runs.{Races, ending_of};
+
+use crate::endings::Ending;
+use crate::running::{refuse, too_long};
+use config_desk::Config;
+use mem_base::MOST_PASSES;
+use outside::{Gate, ReadStop, Sink, Source, read_all};
+use race_run::{RunFault, race};
+use script_text::{MOST_TEXT, ParseFault, Script, parse, pool_words};
+use std::alloc::{AllocError, Global};
+use std::sync::Wait;
+use std::thread::Threads;
+
+// Races a script on a machine of its own, and hands it out once all was done.
+fn race_script<R: Threads + Wait + Sync, K: Sink, G: Gate>(
+    rt: &R,
+    alloc: Global,
+    script: &Script,
+    sink: &mut K,
+    gate: &G,
+) -> (Ending, Option<Config>)
+    ensures writes { WritesRaceOf K.written K.holds (Ok script.now) sink.old sink.new result.1 result.0 }
+    ensures write { result.0 ≡ Ending.WriteFault → Rose (K.faults sink.old) (K.faults sink.new) }
+    ensures only { (result.0 ≡ Ending.Done) ⊎ (result.0 ≡ Ending.WriteFault) ⊎ (result.0 ≡ Ending.Memory) }
+    ensures later { K.faults sink.old ≤ K.faults sink.new }
+{
+    // It tells that the script's pool is no larger than the largest one.
+    let _ = script.lines();
+    let (cabinet, config) = match Config::new(alloc, pool_words(script), MOST_PASSES) {
+        Ok(machine) => machine,
+        Err(AllocError) => return (Ending::Memory, None),
+    };
+    let (config, done) = race(rt, alloc, script, &cabinet, config, sink, gate);
+    match done {
+        Ok(()) => (Ending::Done, Some(config)),
+        Err(RunFault::Write) => (Ending::WriteFault, None),
+        Err(RunFault::Memory) => (Ending::Memory, None),
+    }
+}
+
+/// Races the script that the bytes are.
+pub(crate) fn race_text<R: Threads + Wait + Sync, K: Sink, G: Gate>(
+    rt: &R,
+    alloc: Global,
+    text: &[u8],
+    sink: &mut K,
+    gate: &G,
+) -> (Ending, Option<Config>)
+    ensures writes { WritesRaceOf K.written K.holds (script_of text.now) sink.old sink.new result.1 result.0 }
+    ensures write { result.0 ≡ Ending.WriteFault → Rose (K.faults sink.old) (K.faults sink.new) }
+    ensures never { (result.0 ≡ Ending.Usage → ⊥) × (result.0 ≡ Ending.ReadFault → ⊥) }
+    ensures complete { (Rose (K.faults sink.old) (K.faults sink.new) → ⊥)
+        → (result.0 ≡ ending_of (script_of text.now)) ⊎ (result.0 ≡ Ending.Memory) }
+    ensures later { K.faults sink.old ≤ K.faults sink.new }
+{
+    match parse(alloc, text) {
+        Ok(script) => race_script(rt, alloc, &script, sink, gate),
+        Err(ParseFault::Bad(bad)) => (refuse(alloc, bad, sink), None),
+        Err(ParseFault::Memory) => (Ending::Memory, None),
+    }
+}
+
+/// Races the script that the source gives, and hands out the machine on which it ran, where it ended with `Done`.
+pub(crate) fn race_source<
+    R: Threads + Wait + Sync,
+    S: Source,
+    K: Sink,
+    G: Gate,
+>(
+    rt: &R,
+    alloc: Global,
+    source: &mut S,
+    sink: &mut K,
+    gate: &G,
+) -> (Ending, Option<Config>)
+    ensures { Races S.left S.faults K.written K.holds K.faults source.old source.new sink.old sink.new result.1 result.0 }
+{
+    match read_all(alloc, source, MOST_TEXT) {
+        Ok(bytes) => race_text(rt, alloc, &bytes, sink, gate),
+        Err(ReadStop::Failed) => (Ending::ReadFault, None),
+        Err(ReadStop::Long) => (refuse(alloc, too_long(), sink), None),
+        Err(ReadStop::Memory) => (Ending::Memory, None),
+    }
+}
