@@ -19,14 +19,14 @@ use std::marker::Model;
 
 /// The machine, and what is known of the names that a script made and of its watchers, as its commands so far left them.
 #[derive(Drop)]
-pub(crate) struct Session<M> {
+pub(crate) struct Session<M: Machine + Drop> {
     alloc: Global,
     machine: M,
     known: KnownNames,
     said: LineSaid,
 }
 
-impl<M: Machine> Model for Session<M> {
+impl<M: Machine + Drop> Model for Session<M> {
     ghost use Rattle.script_run.specs.Standing.{Standing};
 
     ghost Value = { Standing };
@@ -59,7 +59,7 @@ fn pass_of(command: &Command) -> Option<PassId>
     }
 }
 
-impl<M: Machine> Session<M> {
+impl<M: Machine + Drop> Session<M> {
     // A machine on which no command was done yet.
     pub(crate) fn new(alloc: Global, machine: M) -> Session<M>
         ensures known { result.known ≡ known_at_first }

@@ -35,8 +35,8 @@ returns-in-Ok g c =
     (subst (λ (x : Outcome). Adds c.args.text.now c.do_task.new.text x k (g.M.Machine.world c.do_task.new.machine))
     (ap (pass_step k w c.args.pass c.args.number) is ∙ sym line.does))
 
-pub returns-in-Err : goal.returns-in-Err
-returns-in-Err g c =
+pub returns : goal.returns
+returns g c =
     let r = c.requires in
     let k = c.args.known.now in
     let w = g.M.Machine.world c.args.machine.now in
