@@ -7,7 +7,11 @@ mod machine;
 mod orders;
 mod passes;
 mod pieces;
+mod runs;
 mod session;
+mod worlds;
 
 pub use faults::RunFault;
 pub use machine::Machine;
+pub use runs::run_on;
+pub use worlds::run;
