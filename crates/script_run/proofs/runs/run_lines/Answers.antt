@@ -1,4 +1,5 @@
-use Rattle.std.proofs.Common.{refl, rules}
+use Rattle.std.proofs.Common.{◌≡◌, ◌++◌, ap, refl, rules, List, ℕ, ◌∙◌}
+use Rattle.mem_base.specs.script.Run.{step}
 use Rattle.run_laws.specs.Fitting.{FitsCommand}
 use Rattle.script_run.specs.Standing.{state_of}
 use Rattle.script_run.proofs.Writing.{on_err, through_prefix, through_start}
@@ -30,23 +31,28 @@ returns-in_err-step g c = record {
 }
 
 pub returns-in_err-write_lines : goal.returns-in_err-write_lines
-returns-in_err-write_lines g c = record {
-  all = search rules;
-  prefix = on_err c.from_residual.result _ (script_part g.K.Sink.written g.K.Sink.holds g.K.Sink.faults _ _ _ _ _
-      (state_of c.loop-number.session) c.args.lines.now c.loop-number.number-index c.loop-number-item.result c.loop-number-test.true
-      c.loop-number-item.is c.loop-number.invariant.through c.in_ok-step.ensures.text c.in_err-write_lines.ensures.prefix);
-  failed = search rules;
-  later = search rules;
-}
+returns-in_err-write_lines g c =
+    let x : List ℕ = (step (state_of c.loop-number.session) c.loop-number-item.result.0 c.loop-number-item.result.1).0 in
+    let text : c.as_bytes.result.now ≡ x = c.as_bytes.ensures ∙ c.in_ok-step.ensures.text ∙ ap (λ (t : List ℕ). t ++ x) c.clear.ensures in
+    record {
+      all = search rules;
+      prefix = on_err c.from_residual-in_err-write_lines.result _ (script_part g.K.Sink.written g.K.Sink.holds g.K.Sink.faults _ _ _ _ _
+          (state_of c.loop-number.session) c.args.lines.now c.loop-number.number-index c.loop-number-item.result c.loop-number-test.true
+          c.loop-number-item.is c.loop-number.invariant.through text c.in_err-write_lines.ensures.prefix);
+      failed = search rules;
+      later = search rules;
+    }
 
 pub loop-number-preserved : goal.loop-number-preserved
 loop-number-preserved g c =
     let own = c.in_ok-step.ensures in
     let wrote = c.in_ok-write_lines.ensures in
+    let x : List ℕ = (step (state_of c.loop-number.session) c.loop-number-item.result.0 c.loop-number-item.result.1).0 in
+    let text : c.as_bytes.result.now ≡ x = c.as_bytes.ensures ∙ c.in_ok-step.ensures.text ∙ ap (λ (t : List ℕ). t ++ x) c.clear.ensures in
     record {
       through = script_next g.K.Sink.written g.K.Sink.holds g.K.Sink.faults _ _ _ _ _ (state_of c.loop-number.session) _ c.args.lines.now
           c.loop-number.number-index c.loop-number-item.result c.loop-number-test.true c.loop-number-item.is
-          c.loop-number.invariant.through own.text wrote.all wrote.later own.is;
+          c.loop-number.invariant.through text wrote.all wrote.later own.is;
       ready = own.ready;
       fits = each_later (λ line. FitsCommand line.1) c.args.lines.now c.loop-number.number-index c.loop-number-item.result
           c.loop-number-test.true c.loop-number-item.is c.loop-number.invariant.fits;

@@ -10,12 +10,12 @@ use Rattle.script_run.specs.Standing.{state_of}
 use Rattle.script_run.proofs.RunLaws.{starts_at, starts_ready}
 use Rattle.script_run.proofs.runs.run_on.Goals as goal
 
-pub run_lines-requires-clause-ready : goal.run_lines-requires-clause-ready
-run_lines-requires-clause-ready g c = starts_ready c.new-session.result (pool_words c.args.script.now) c.new-session.ensures.known
+pub run_lines-done-requires-clause-ready : goal.run_lines-done-requires-clause-ready
+run_lines-done-requires-clause-ready g c = starts_ready c.new-session.result (pool_words c.args.script.now) c.new-session.ensures.known
     (c.new-session.ensures.world ∙ c.requires)
 
-pub run_lines-requires-clause-fits : goal.run_lines-requires-clause-fits
-run_lines-requires-clause-fits g c =
+pub run_lines-done-requires-clause-fits : goal.run_lines-done-requires-clause-fits
+run_lines-done-requires-clause-fits g c =
     subst AreFitting (sym c.lines.ensures.value) (sound_fits Start c.args.script.now c.lines.ensures.sound)
 
 pub returns : goal.returns
