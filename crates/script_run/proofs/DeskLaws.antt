@@ -1,5 +1,5 @@
 -- A line of the desk: what it writes and leaves, by what its order was answered.
-use Rattle.std.proofs.Common.{◌≡◌, ◌+◌, ◌-◌, ℕ, List, [], ◌∷◌, ◌++◌, length, take, drop, Option, Some, None, Result, Ok, Err, Bool, true, false}
+use Rattle.std.proofs.Common.{◌≡◌, ◌-◌, ℕ, List, [], ◌∷◌, ◌++◌, length, take, drop, Option, Some, None, Ok, Err, Bool, true, false}
 use Rattle.std.proofs.Common.{refl, sym, ap, subst, ◌∙◌, arith, append_assoc, if◌then◌else◌}
 use Rattle.std.specs.Prelude.{nat_le}
 use Rattle.std.specs.List.{slice_get}
@@ -30,7 +30,7 @@ use Rattle.mem_base.specs.script.Watching.{Watcher, caught_up, notices_all, watc
 use Rattle.mem_base.specs.script.States.{Outcome, State, outcome}
 use Rattle.mem_base.specs.script.Shows.{catches_up, joins_unless, shown_forest}
 use Rattle.mem_base.specs.script.Tasks.{Known, Resolved, Task, task_of, after_order, with_order, accessed, copied, entered, found, idle, left, ordered, shown, unwatched, watched}
-use Rattle.mem_base.specs.script.RaceLines.{DeskLine, Said, answer_text, catching_up, delivered_between, new_watcher, own_line, said_text, says, watch_line}
+use Rattle.mem_base.specs.script.RaceLines.{DeskLine, Said, answer_text, catching_up, new_watcher, own_line, said_text, says, watch_line}
 use Rattle.run_laws.specs.KnownNames.{IsKnownOrder, IsKnownTask, KnowsNames}
 use Rattle.run_laws.specs.LineLaws.{IsDeskLine}
 use Rattle.run_laws.specs.TaskSteps.{desk_order, desk_step, known_state}

@@ -1,5 +1,5 @@
 -- What a line asks for fits where the numbers of the line do.
-use Rattle.std.proofs.Common.{◌<◌, Option, Some, None, Ok, Err}
+use Rattle.std.proofs.Common.{Option, Some, None, Ok, Err}
 use Rattle.mem_base.specs.declared.map.calls.Call.{Call}
 use Rattle.mem_base.specs.declared.machine.records.DeskOrder.TheVariants as orders
 use Rattle.mem_base.specs.declared.script.commands.Command.{Command}

@@ -1,19 +1,17 @@
 -- A line of a pass: it enters and leaves, and the writer's part stays as it was, or it asks for a change of the map.
-use Rattle.std.proofs.Common.{◌≡◌, ◌<◌, ◌+◌, ℕ, zero, suc, Bool, true, false, ◌&&◌, ◌||◌, List, [], ◌∷◌, ◌++◌, length, drop, Option, Some, None, Result, OnOk}
+use Rattle.std.proofs.Common.{◌≡◌, ◌<◌, ℕ, zero, suc, Bool, true, false, ◌||◌, List, [], ◌∷◌, ◌++◌, length, drop}
 use Rattle.std.proofs.Common.{append_assoc, refl, sym, ap, subst, ◌∙◌, arith, if◌then◌else◌, get_or}
-use Rattle.std.specs.Prelude.{is_some, is_none, nat_lt, slice_set, unwrap_or}
-use Rattle.std.specs.List.{slice_index_or, filter_map, list_any}
+use Rattle.std.specs.Prelude.{is_some, nat_lt, slice_set, unwrap_or}
+use Rattle.std.specs.List.{filter_map}
 use Rattle.std.proofs.lemmas.List.{append-nil, get_or-set_same, length-set}
 use Rattle.std.proofs.lemmas.Bool.Decides.{nat_tests}
 use Rattle.mem_base.specs.declared.map.ids.PassId.{PassId}
 use Rattle.mem_base.specs.declared.map.ids.SpaceId.{SpaceId}
 use Rattle.mem_base.specs.declared.access.accesses.Access.{Access}
-use Rattle.mem_base.specs.declared.machine.events.Event.{Event}
 use Rattle.mem_base.specs.declared.machine.events.Event.TheVariants as events
 use Rattle.mem_base.specs.declared.machine.events.Hand.TheVariants as hands
 use Rattle.mem_base.specs.access.AccessSteps.{AccessStep, Transfer, blank, steps, marks, event_of, events_of_steps, reading, writing}
-use Rattle.mem_base.specs.map.Region.{node_of}
-use Rattle.mem_base.specs.views.Listening.{Delivery, is_listener}
+use Rattle.mem_base.specs.views.Listening.{Delivery}
 use Rattle.mem_base.specs.machine.Passes.{PassState, idle, is_pass, pass_of}
 use Rattle.mem_base.specs.machine.Reaps.{Writer}
 use Rattle.mem_base.specs.machine.World.{World, possible, is_at_rest, world_after}
@@ -24,12 +22,9 @@ use Rattle.mem_base.specs.script.Named.{Names}
 use Rattle.mem_base.specs.script.Output.{dma_line, told_lines}
 use Rattle.mem_base.specs.script.PassSteps.{copy, entered_number, joined}
 use Rattle.mem_base.specs.script.States.{Outcome, State, heard, outcome}
-use Rattle.mem_base.specs.script.Watching.{Watcher}
 use Rattle.view_laws.proofs.Tests.{both, both_of, true_is_not_false}
 use Rattle.mem_base.specs.declared.machine.records.DeskAnswer.{DeskAnswer}
 use Rattle.mem_base.specs.declared.machine.records.DeskOrder.{DeskOrder}
-use Rattle.mem_base.specs.machine.Composites.{completed}
-use Rattle.mem_base.specs.machine.Records.{call_of, told}
 use Rattle.mem_base.specs.script.Spelling.{Text}
 use Rattle.mem_base.specs.script.RaceLines.{do_text}
 use Rattle.mem_base.specs.script.Tasks.{Known}
@@ -40,7 +35,6 @@ use Rattle.script_run.specs.Adding.{Adds, PassAdds}
 use Rattle.script_run.specs.Asking.{IsAnswered}
 use Rattle.script_run.specs.Standing.{IsReady}
 use Rattle.script_run.proofs.DeskLaws.{ready_after}
-use Rattle.world_laws.proofs.PassKeeping.{keeps_itself, keeps_then}
 use Rattle.run_laws.proofs.Lawful.{drop_all}
 
 -- Entering and leaving

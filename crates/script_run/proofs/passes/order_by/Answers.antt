@@ -1,4 +1,4 @@
-use Rattle.std.proofs.Common.{◌≡◌, ◌++◌, ap, ◌∙◌, length, drop, List, ℕ}
+use Rattle.std.proofs.Common.{◌≡◌, ◌++◌, ap, ◌∙◌, length, drop}
 use Rattle.mem_base.specs.script.Named.{Names}
 use Rattle.mem_base.specs.script.Output.{told_lines}
 use Rattle.mem_base.specs.script.RaceLines.{do_text}

@@ -1,9 +1,9 @@
 use Rattle.std.proofs.Common.{◌≡◌, ap, refl, sym, subst, ◌∙◌, Ok, Err}
 use Rattle.mem_base.specs.script.States.{Outcome}
-use Rattle.mem_base.specs.script.Tasks.{Resolved, Task, task_of}
+use Rattle.mem_base.specs.script.Tasks.{task_of}
 use Rattle.run_laws.specs.KnownNames.{IsPassTask}
 use Rattle.run_laws.specs.TaskSteps.{pass_step}
-use Rattle.race_lines.specs.LineTasks.{refused_text, resolved, task_meant}
+use Rattle.race_lines.specs.LineTasks.{resolved}
 use Rattle.script_run.specs.Adding.{Adds}
 use Rattle.script_run.specs.Asking.{FitsTask}
 use Rattle.script_run.proofs.FittingLaws.{task_fits}

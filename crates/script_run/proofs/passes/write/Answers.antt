@@ -1,14 +1,9 @@
-use Rattle.std.proofs.Common.{◌≡◌, ap, refl, sym, ◌∙◌, ℕ, length}
-use Rattle.mem_base.specs.access.AccessSteps.{reading, writing}
-use Rattle.mem_base.specs.machine.World.{World}
-use Rattle.mem_base.specs.machine.History.{run_events}
-use Rattle.mem_base.specs.machine.Composites.{is_entered, enters, enters_anew}
-use Rattle.mem_base.specs.script.Output.{dma_line, enter_line, leave_line, read_line, write_line}
-use Rattle.mem_base.specs.script.PassSteps.{copy, enter, entered_number, leave, read, write}
+use Rattle.std.proofs.Common.{sym}
+use Rattle.mem_base.specs.script.Output.{write_line}
+use Rattle.mem_base.specs.script.PassSteps.{write}
 use Rattle.mem_base.specs.script.States.{outcome}
 use Rattle.run_laws.specs.TaskSteps.{known_state}
-use Rattle.world_laws.proofs.PassKeeping.{keeps_then}
-use Rattle.script_run.proofs.PassLaws.{anew, copied, entered_as, pass_adds, still_entered}
+use Rattle.script_run.proofs.PassLaws.{pass_adds}
 use Rattle.script_run.proofs.Writing.{on_ok}
 use Rattle.script_run.proofs.passes.write.Goals as goal
 

@@ -1,8 +1,8 @@
-use Rattle.std.proofs.Common.{◌≡◌, ◌++◌, ap, refl, rules, List, ℕ, ◌∙◌}
+use Rattle.std.proofs.Common.{◌≡◌, refl, rules, List, ℕ}
 use Rattle.mem_base.specs.script.Run.{step}
 use Rattle.run_laws.specs.Fitting.{FitsCommand}
 use Rattle.script_run.specs.Standing.{state_of}
-use Rattle.script_run.proofs.Writing.{on_err, through_prefix, through_start}
+use Rattle.script_run.proofs.Writing.{alone_added, on_err, through_prefix, through_start}
 use Rattle.script_run.proofs.RunLaws.{each_here, each_later, script_next, script_part}
 use Rattle.script_run.proofs.runs.run_lines.Goals as goal
 
@@ -33,7 +33,8 @@ returns-in_err-step g c = record {
 pub returns-in_err-write_lines : goal.returns-in_err-write_lines
 returns-in_err-write_lines g c =
     let x : List ℕ = (step (state_of c.loop-number.session) c.loop-number-item.result.0 c.loop-number-item.result.1).0 in
-    let text : c.as_bytes.result.now ≡ x = c.as_bytes.ensures ∙ c.in_ok-step.ensures.text ∙ ap (λ (t : List ℕ). t ++ x) c.clear.ensures in
+    let text : c.as_bytes.result.now ≡ x =
+    alone_added c.as_bytes.result.now c.step.new.text c.clear.new.self x c.as_bytes.ensures c.in_ok-step.ensures.text c.clear.ensures in
     record {
       all = search rules;
       prefix = on_err c.from_residual-in_err-write_lines.result _ (script_part g.K.Sink.written g.K.Sink.holds g.K.Sink.faults _ _ _ _ _
@@ -48,7 +49,8 @@ loop-number-preserved g c =
     let own = c.in_ok-step.ensures in
     let wrote = c.in_ok-write_lines.ensures in
     let x : List ℕ = (step (state_of c.loop-number.session) c.loop-number-item.result.0 c.loop-number-item.result.1).0 in
-    let text : c.as_bytes.result.now ≡ x = c.as_bytes.ensures ∙ c.in_ok-step.ensures.text ∙ ap (λ (t : List ℕ). t ++ x) c.clear.ensures in
+    let text : c.as_bytes.result.now ≡ x =
+    alone_added c.as_bytes.result.now c.step.new.text c.clear.new.self x c.as_bytes.ensures c.in_ok-step.ensures.text c.clear.ensures in
     record {
       through = script_next g.K.Sink.written g.K.Sink.holds g.K.Sink.faults _ _ _ _ _ (state_of c.loop-number.session) _ c.args.lines.now
           c.loop-number.number-index c.loop-number-item.result c.loop-number-test.true c.loop-number-item.is

@@ -1,12 +1,10 @@
-use Rattle.std.proofs.Common.{◌≡◌, ap, sym, subst, ◌∙◌, List, ℕ}
+use Rattle.std.proofs.Common.{sym, subst, ◌∙◌, List, ℕ}
 use Rattle.outside.specs.Sink.{Writes}
 use Rattle.mem_base.specs.declared.script.places.Section.TheVariants.{Start}
 use Rattle.mem_base.specs.script.Run.{pool_words, text_from}
-use Rattle.mem_base.specs.script.Scripts.{Line}
 use Rattle.run_laws.specs.Fitting.{AreFitting}
 use Rattle.run_laws.proofs.FittingLaws.{sound_fits}
 use Rattle.script_run.specs.declared.faults.RunFault.TheVariants.{Write}
-use Rattle.script_run.specs.Standing.{state_of}
 use Rattle.script_run.proofs.RunLaws.{starts_at, starts_ready}
 use Rattle.script_run.proofs.runs.run_on.Goals as goal
 
