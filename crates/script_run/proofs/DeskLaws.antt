@@ -29,7 +29,8 @@ use Rattle.mem_base.specs.script.Output.{notice_lines, told_lines}
 use Rattle.mem_base.specs.script.Watching.{Watcher, caught_up, notices_all, watch_refusal}
 use Rattle.mem_base.specs.script.States.{Outcome, State, outcome}
 use Rattle.mem_base.specs.script.Shows.{catches_up, joins_unless, shown_forest}
-use Rattle.mem_base.specs.script.Tasks.{Known, Resolved, Task, task_of, after_order, with_order, accessed, copied, entered, found, idle, left, ordered, shown, unwatched, watched}
+use Rattle.mem_base.specs.script.Tasks.{Known, Resolved, Task, task_of, after_order, with_order}
+use Rattle.mem_base.specs.script.Tasks.{accessed, copied, entered, found, idle, left, ordered, shown, unwatched, watched}
 use Rattle.mem_base.specs.script.RaceLines.{DeskLine, Said, answer_text, catching_up, new_watcher, own_line, said_text, says, watch_line}
 use Rattle.run_laws.specs.KnownNames.{IsKnownOrder, IsKnownTask, KnowsNames}
 use Rattle.run_laws.specs.LineLaws.{IsDeskLine}
@@ -168,12 +169,12 @@ module _ (k : Known) (w : World) (n : ℕ) (a : KnowsNames k w.writer.desk) wher
   quiet task v e own = subst (λ (u : World). Follows u (line_by k n task (entry_of None 0 0) u) (catches_up (desk_step k w n task))) (sym e)
       (caught k w (desk_step k w n task) _ own)
 
-  abbrev Follows_own : Resolved Task → Option DeskAnswer → World → Type 0
-  Follows_own task got v = Follows v
+  abbrev FollowsOwn : Resolved Task → Option DeskAnswer → World → Type 0
+  FollowsOwn task got v = Follows v
       (line_by k n task (entry_of got (length w.writer.desk.listening.journal) (length v.writer.desk.listening.journal)) v)
       (catches_up (desk_step k w n task))
 
-  pub line_follows : (task : Resolved Task) (got : Option DeskAnswer) (v : World) → IsKnownTask k task → TakesOwn w task got v → Follows_own task got v
+  pub line_follows : (task : Resolved Task) (got : Option DeskAnswer) (v : World) → IsKnownTask k task → TakesOwn w task got v → FollowsOwn task got v
   line_follows (Ok (ordered order name)) (Some x) v known h = ordering v order name x known h
   line_follows (Ok (ordered order name)) None v known h = absurd h
   line_follows (Ok idle) None v known h = quiet (Ok idle) v h (record { said = refl; left = refl; knows = a })

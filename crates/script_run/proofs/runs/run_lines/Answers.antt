@@ -52,8 +52,8 @@ loop-number-preserved g c =
     let text : c.as_bytes.result.now ≡ x =
     alone_added c.as_bytes.result.now c.step.new.text c.clear.new.self x c.as_bytes.ensures c.in_ok-step.ensures.text c.clear.ensures in
     record {
-      through = script_next g.K.Sink.written g.K.Sink.holds g.K.Sink.faults _ _ _ _ _ (state_of c.loop-number.session) _ c.args.lines.now
-          c.loop-number.number-index c.loop-number-item.result c.loop-number-test.true c.loop-number-item.is
+      through = script_next g.K.Sink.written g.K.Sink.holds g.K.Sink.faults _ _ _ _ _ (state_of c.loop-number.session) (state_of c.step.new.self)
+          c.args.lines.now c.loop-number.number-index c.loop-number-item.result c.loop-number-test.true c.loop-number-item.is
           c.loop-number.invariant.through text wrote.all wrote.later own.is;
       ready = own.ready;
       fits = each_later (λ line. FitsCommand line.1) c.args.lines.now c.loop-number.number-index c.loop-number-item.result
