@@ -1,7 +1,5 @@
 pub mod Writing
-pub mod ReadyLaws
-pub mod OrderLaws
-pub mod ShowLaws
+pub mod FittingLaws
+pub mod DeskLaws
 pub mod PassLaws
 pub mod RunLaws
-pub mod WatchLaws

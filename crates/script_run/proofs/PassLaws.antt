@@ -1,20 +1,17 @@
--- What passes do: they enter and leave, and the writer's part stays as it was.
-use Rattle.std.proofs.Common.{◌≡◌, ◌<◌, ◌+◌, ℕ, zero, suc, Bool, true, false, ◌&&◌, ◌||◌, List, [], ◌∷◌, ◌++◌, length, drop, Option, Some, None, Result, OnOk}
-use Rattle.std.proofs.Common.{refl, sym, ap, subst, ◌∙◌, arith, if◌then◌else◌, get_or}
-use Rattle.std.specs.Prelude.{is_some, is_none, nat_lt, slice_set, unwrap_or}
-use Rattle.std.specs.List.{slice_index_or, filter_map, list_any}
+-- A line of a pass: it enters and leaves, and the writer's part stays as it was, or it asks for a change of the map.
+use Rattle.std.proofs.Common.{◌≡◌, ◌<◌, ℕ, zero, suc, Bool, true, false, ◌||◌, List, [], ◌∷◌, ◌++◌, length, drop}
+use Rattle.std.proofs.Common.{append_assoc, refl, sym, ap, subst, ◌∙◌, arith, if◌then◌else◌, get_or}
+use Rattle.std.specs.Prelude.{is_some, nat_lt, slice_set, unwrap_or}
+use Rattle.std.specs.List.{filter_map}
 use Rattle.std.proofs.lemmas.List.{append-nil, get_or-set_same, length-set}
 use Rattle.std.proofs.lemmas.Bool.Decides.{nat_tests}
-use Rattle.outside.specs.Sink.{Writes}
 use Rattle.mem_base.specs.declared.map.ids.PassId.{PassId}
 use Rattle.mem_base.specs.declared.map.ids.SpaceId.{SpaceId}
 use Rattle.mem_base.specs.declared.access.accesses.Access.{Access}
-use Rattle.mem_base.specs.declared.machine.events.Event.{Event}
 use Rattle.mem_base.specs.declared.machine.events.Event.TheVariants as events
 use Rattle.mem_base.specs.declared.machine.events.Hand.TheVariants as hands
 use Rattle.mem_base.specs.access.AccessSteps.{AccessStep, Transfer, blank, steps, marks, event_of, events_of_steps, reading, writing}
-use Rattle.mem_base.specs.map.Region.{node_of}
-use Rattle.mem_base.specs.views.Listening.{Delivery, is_listener}
+use Rattle.mem_base.specs.views.Listening.{Delivery}
 use Rattle.mem_base.specs.machine.Passes.{PassState, idle, is_pass, pass_of}
 use Rattle.mem_base.specs.machine.Reaps.{Writer}
 use Rattle.mem_base.specs.machine.World.{World, possible, is_at_rest, world_after}
@@ -25,16 +22,19 @@ use Rattle.mem_base.specs.script.Named.{Names}
 use Rattle.mem_base.specs.script.Output.{dma_line, told_lines}
 use Rattle.mem_base.specs.script.PassSteps.{copy, entered_number, joined}
 use Rattle.mem_base.specs.script.States.{Outcome, State, heard, outcome}
-use Rattle.mem_base.specs.script.Watching.{Watcher}
 use Rattle.view_laws.proofs.Tests.{both, both_of, true_is_not_false}
-use Rattle.script_names.specs.Tables.{AllNames, printed_names}
-use Rattle.script_run.specs.declared.faults.RunFault.{RunFault}
-use Rattle.script_run.specs.declared.faults.RunFault.TheVariants.{Write}
-use Rattle.script_run.specs.Performs.{IsLeft, Performs}
-use Rattle.script_run.specs.Ready.{state_of, IsReady}
-use Rattle.race_lines.specs.NamedTables.{IsNamed}
-use Rattle.script_run.proofs.OrderLaws.{always_ok}
-use Rattle.world_laws.proofs.PassKeeping.{keeps_itself, keeps_then}
+use Rattle.mem_base.specs.declared.machine.records.DeskAnswer.{DeskAnswer}
+use Rattle.mem_base.specs.declared.machine.records.DeskOrder.{DeskOrder}
+use Rattle.mem_base.specs.script.Spelling.{Text}
+use Rattle.mem_base.specs.script.RaceLines.{do_text}
+use Rattle.mem_base.specs.script.Tasks.{Known}
+use Rattle.run_laws.specs.KnownNames.{IsChangeOrder, KnowsNames}
+use Rattle.run_laws.specs.TaskSteps.{known_state, pass_order}
+use Rattle.run_laws.proofs.KnowingLaws.{orders_are_known}
+use Rattle.script_run.specs.Adding.{Adds, PassAdds}
+use Rattle.script_run.specs.Asking.{IsAnswered}
+use Rattle.script_run.specs.Standing.{IsReady}
+use Rattle.script_run.proofs.DeskLaws.{ready_after}
 use Rattle.run_laws.proofs.Lawful.{drop_all}
 
 -- Entering and leaving
@@ -111,21 +111,13 @@ still_entered w v pass space addr transfer is e =
     ∙ steps_keep pass (steps_in w pass space addr transfer) w in
     ap (λ (ps : List PassState). is_some (pass_of ps pass).entered) same ∙ e
 
--- Commands
+-- Lines
 
-ready_keeps : (names : AllNames) (w v : World) (watchers : List Watcher) → IsReady names w watchers → KeepsWriter w v
-    → IsReady names v watchers
-ready_keeps names w v watchers r k = record {
-  regions = subst (λ (h : Writer). IsNamed names.regions (λ n. is_some (node_of h.desk.forest.nodes (record { 0 = n }))))
-      (sym k.writer) r.regions;
-  spaces = r.spaces;
-  listeners = subst (λ (h : Writer). IsNamed names.listeners
-      (λ n. list_any (is_listener (record { 0 = n })) h.desk.listening.listeners)) (sym k.writer) r.listeners;
-  notifiers = r.notifiers;
-  made = r.made ∙ ap (λ (h : Writer). h.desk.forest.made) (sym k.writer);
-  fresh = r.fresh;
-  rests = ap (λ (h : Writer). is_at_rest h.desk) k.writer ∙ r.rests;
-  passes = λ pass l. k.may pass (r.passes pass l);
+ready_keeps : (k : Known) (w v : World) → IsReady k w → KeepsWriter w v → IsReady k v
+ready_keeps k w v r keeps = record {
+  names = subst (λ (h : Writer). KnowsNames k h.desk) (sym keeps.writer) r.names;
+  rests = ap (λ (h : Writer). is_at_rest h.desk) keeps.writer ∙ r.rests;
+  passes = λ pass l. keeps.may pass (r.passes pass l);
 }
 
 -- nobody hears of what passes do
@@ -138,15 +130,30 @@ quiet_outcome s names v text k =
     ap (λ (t : List ℕ). let x : Outcome = (t, record s { names = names; world = v }) in x)
     (ap (λ (ds : List Delivery). text ++ told_lines names ds) none ∙ append-nil text)
 
-pub pass_performs : {K : Type 0} (written : K → Option (List ℕ)) (holds : K → List ℕ → Type 0) (faults : K → ℕ) (a b : K)
-    (result : Result (Unit {0}) RunFault) (names : AllNames) (w v : World) (watchers : List Watcher) (x : Outcome) (text : List ℕ)
-    → IsReady names w watchers → KeepsWriter w v → x ≡ outcome (state_of names w watchers) (printed_names names) v text
-    → Writes written holds faults a b text Write result → Performs written holds faults a b x names v watchers result
-pass_performs written holds faults a b result names w v watchers x text ready keeps is wrote =
-    let same = is ∙ quiet_outcome (state_of names w watchers) (printed_names names) v text keeps in record {
-      wrote = subst (λ (t : List ℕ). Writes written holds faults a b t Write result) (sym (ap (λ (y : Outcome). y.0) same)) wrote;
-      left = always_ok result (record
-          { is = sym (ap (λ (y : Outcome). y.1) same); ready = ready_keeps names w v watchers ready keeps });
+-- what passes do to the machine, with the line that they write
+pub pass_adds : (old new text : Text) (w v : World) (does : State → Outcome) → KeepsWriter w v
+    → ((k : Known) → does (known_state k w) ≡ outcome (known_state k w) k.names v text) → new ≡ old ++ text → PassAdds old new w does v
+pass_adds old new text w v does keeps is e k ready =
+    let same = is k ∙ quiet_outcome (known_state k w) k.names v text keeps in record {
+      text = e ∙ ap (λ (y : Outcome). old ++ y.0) (sym same);
+      is = sym (ap (λ (y : Outcome). y.1) same);
+      ready = ready_keeps k w v ready keeps;
+    }
+
+-- an order of a pass by its answer, and the world after it
+abbrev pass_by : Known → World → PassId → ℕ → DeskAnswer → World → Outcome
+pass_by k w pass n x v = outcome (known_state k w) k.names v (do_text k.names n pass x)
+
+pub order_adds : (k : Known) (w v : World) (pass : PassId) (n : ℕ) (order : DeskOrder) (x : DeskAnswer) (old new : Text) → IsReady k w
+    → IsChangeOrder order → IsAnswered w order x v
+    → new ≡ (old ++ do_text k.names n pass x) ++ told_lines k.names (heard w v)
+    → Adds old new (pass_order k w pass n order) k v
+order_adds k w v pass n order x old new r change h e =
+    let to_run : pass_by k w pass n x v ≡ pass_order k w pass n order = (λ i. pass_by k w pass n (h.answer_is i) (h.world i)) in record {
+      text = e ∙ append_assoc old (do_text k.names n pass x) (told_lines k.names (heard w v)) ∙ ap (λ (y : Outcome). old ++ y.0) to_run;
+      is = ap (λ (y : Outcome). y.1) to_run;
+      ready = ready_after k k w v r
+          (subst (λ (u : World). KnowsNames k u.writer.desk) (sym h.world) ((orders_are_known k w order r.names).pass change)) h.rests h.passes;
     }
 
 copy_end : State → PassId → Bool → Access → World → Access → Outcome

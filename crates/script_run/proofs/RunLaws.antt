@@ -1,62 +1,69 @@
 -- The text of a run, command after command.
-use Rattle.std.proofs.Common.{◌≡◌, ◌<◌, ◌≤◌, ◌+◌, ℕ, zero, suc, Bool, true, false, ◌||◌, ◌&&◌, List, [], ◌∷◌, ◌++◌, length, drop, get_or, add-one, Option, Some}
-use Rattle.std.proofs.Common.{None, Result, OnOk, refl, sym, ap, subst, ◌∙◌, arith, if◌then◌else◌, replicate}
-use Rattle.std.specs.Prelude.{is_some, is_none, nat_lt, map}
-use Rattle.std.specs.List.{list_any}
+use Rattle.std.proofs.Common.{◌≡◌, ◌<◌, ◌≤◌, ◌+◌, ℕ, suc, List, [], ◌∷◌, ◌++◌, length, drop, get_or, add-one, Option, Bool, true, false, ◌||◌, inl, inr}
+use Rattle.std.proofs.Common.{refl, sym, ap, subst, ◌∙◌, arith}
 use Rattle.std.proofs.Math.Seq.{drop-cons}
-use Rattle.std.proofs.lemmas.List.{get_or-replicate}
-use Rattle.std.proofs.lemmas.Bool.Decides.{nat_tests}
-use Rattle.outside.specs.Sink.{Takes, TakesPrefix, Writes}
+use Rattle.std.proofs.lemmas.List.{append-nil}
+use Rattle.outside.specs.Sink.{Takes, TakesPrefix}
 use Rattle.mem_base.specs.declared.map.ids.PassId.{PassId}
-use Rattle.mem_base.specs.declared.map.forests.Forest.{Forest}
 use Rattle.mem_base.specs.declared.script.commands.Command.{Command}
+use Rattle.mem_base.specs.declared.script.commands.Command.TheVariants as commands
 use Rattle.mem_base.specs.lists.Every.{Every}
 use Rattle.mem_base.specs.map.Limits.{most_passes}
-use Rattle.mem_base.specs.machine.Passes.{PassState, idle}
 use Rattle.mem_base.specs.machine.World.{World, opening}
-use Rattle.mem_base.specs.machine.Completions.{may_access}
+use Rattle.mem_base.specs.script.Spelling.{Text}
 use Rattle.mem_base.specs.script.Scripts.{Line}
-use Rattle.mem_base.specs.script.Output.{notice_lines}
-use Rattle.mem_base.specs.script.Watching.{Noticed, Watcher, caught_up, is_watcher, notices_all, parts_shown, with_parts}
+use Rattle.mem_base.specs.script.Race.{actor_number, desk_number, is_end, is_par}
+use Rattle.mem_base.specs.script.Run.{start, step, text_from}
 use Rattle.mem_base.specs.script.States.{Outcome, State}
-use Rattle.mem_base.specs.script.Shows.{catches_up, shown_forest}
-use Rattle.mem_base.specs.script.Run.{pool_words, start, step, text_from, text_of}
-use Rattle.script_names.specs.Tables.{AllNames, table}
-use Rattle.script_run.specs.Ready.{state_of, IsReady, is_listener, is_region, watches}
-use Rattle.race_lines.proofs.NamedLaws.{named_none, named_same}
-use Rattle.race_lines.proofs.WatchingLaws.{same_watchers}
-use Rattle.script_run.proofs.Writing.{Through, through_next, through_prefix}
+use Rattle.mem_base.specs.script.Tasks.{Known, known_at_first}
+use Rattle.run_laws.specs.Fitting.{FitsCommand}
+use Rattle.run_laws.specs.LineLaws.{IsDeskLine, IsPassLine, IsSomeonesLine}
 use Rattle.run_laws.proofs.EachCommand.{may_first}
+use Rattle.run_laws.proofs.TaskLaws.{lines_are_tasks}
+use Rattle.script_run.specs.Adding.{StepAdds}
+use Rattle.script_run.specs.Standing.{IsReady, Standing, state_of}
+use Rattle.script_run.proofs.FittingLaws.{names_its}
+use Rattle.script_run.proofs.Writing.{Through, through_next, through_part}
 
 -- Before the first command
 
-abbrev no_tables : AllNames
-no_tables = record { regions = table [] []; kinds = []; spaces = table [] []; listeners = table [] []; notifiers = table [] [] }
-
-ready_first : (pool : ℕ) → IsReady no_tables (opening pool most_passes) []
+ready_first : (pool : ℕ) → IsReady known_at_first (opening pool most_passes)
 ready_first pool = record {
-  regions = named_none (is_region (opening pool most_passes));
-  spaces = named_none (λ n. true);
-  listeners = named_none (is_listener (opening pool most_passes));
-  notifiers = named_none (watches []);
-  made = refl;
-  fresh = λ n l. refl;
+  names = record {
+    regions = λ n l. absurd (omega arith);
+    made = refl;
+    dropped = λ n l. refl;
+    listeners = λ n l. absurd (omega arith);
+    gone = λ n l. refl;
+  };
   rests = refl;
   passes = may_first pool;
 }
 
-pub starts_ready : (names : AllNames) (w : World) (watchers : List Watcher) (pool : ℕ) → names ≡ no_tables
-    → w ≡ opening pool most_passes → watchers ≡ []
-    → IsReady names w watchers
-starts_ready names w watchers pool e f h =
-    subst (λ (x : List Watcher). IsReady names w x) (sym h)
-    (subst (λ (x : World). IsReady names x []) (sym f)
-    (subst (λ (x : AllNames). IsReady x (opening pool most_passes) []) (sym e) (ready_first pool)))
+pub starts_ready : (s : Standing) (pool : ℕ) → s.known ≡ known_at_first → s.world ≡ opening pool most_passes → IsReady s.known s.world
+starts_ready s pool e f =
+    subst (λ (w : World). IsReady s.known w) (sym f) (subst (λ (k : Known). IsReady k (opening pool most_passes)) (sym e) (ready_first pool))
 
-pub starts_at : (names : AllNames) (w : World) (watchers : List Watcher) (pool : ℕ) → names ≡ no_tables
-    → w ≡ opening pool most_passes → watchers ≡ []
-    → state_of names w watchers ≡ start pool
-starts_at names w watchers pool e f h = (λ i. state_of (e i) (f i) (h i))
+pub starts_at : (s : Standing) (pool : ℕ) → s.known ≡ known_at_first → s.world ≡ opening pool most_passes → state_of s ≡ start pool
+starts_at s pool e f = (λ i. state_of (record { known = e i; world = f i }))
+
+-- Whose line a command is
+
+pub desks_line : (k : Known) (w : World) (n : ℕ) (c : Command) → IsReady k w → FitsCommand c → actor_number c ≡ desk_number → is_par c ≡ false
+    → is_end c ≡ false → IsDeskLine k w n c
+desks_line k w n c r fits actor par end = go (lines_are_tasks k w n c r.names (names_its c fits) par end)
+  where
+    go : IsSomeonesLine k w n c → IsDeskLine k w n c
+    go (inl d) = d
+    go (inr d) = let near = d.1.near in let is = d.1.actor in absurd (omega (arith, near, is, actor))
+
+pub passes_line : (k : Known) (w : World) (n : ℕ) (c : Command) (pass : PassId) → IsReady k w → FitsCommand c → actor_number c ≡ pass.0
+    → pass.0 < most_passes → is_par c ≡ false → is_end c ≡ false → IsPassLine k w n c pass
+passes_line k w n c pass r fits actor near par end = go (lines_are_tasks k w n c r.names (names_its c fits) par end)
+  where
+    go : IsSomeonesLine k w n c → IsPassLine k w n c pass
+    go (inl d) = let is = d.actor in absurd (omega (arith, near, is, actor))
+    go (inr d) = subst (λ (m : ℕ). IsPassLine k w n c (record { 0 = m })) (sym d.1.actor ∙ actor) d.1
 
 -- From command to command
 
@@ -67,28 +74,25 @@ next_text state lines i line l is =
     ∙ ap (λ n. line ∷ drop n lines) (sym (add-one i)))
 
 pub script_next : {K : Type 0} (written : K → Option (List ℕ)) (holds : K → List ℕ → Type 0) (faults : K → ℕ) (a b c : K)
-    (whole : List ℕ)
-    (state after : State) (lines : List Line) (i : ℕ) (line : Line) → i < length lines → line ≡ get_or lines i line
-    → Through written holds faults a b whole (text_from state (drop i lines))
-    → Takes written holds b c (step state line.0 line.1).0 → faults b ≤ faults c → after ≡ (step state line.0 line.1).1
+    (whole text : List ℕ) (state after : State) (lines : List Line) (i : ℕ) (line : Line) → i < length lines → line ≡ get_or lines i line
+    → Through written holds faults a b whole (text_from state (drop i lines)) → text ≡ (step state line.0 line.1).0
+    → Takes written holds b c text → faults b ≤ faults c → after ≡ (step state line.0 line.1).1
     → Through written holds faults a c whole (text_from after (drop (i + 1) lines))
-script_next written holds faults a b c whole state after lines i line l is k t m e =
+script_next written holds faults a b c whole text state after lines i line l is k own t m e =
     subst (λ (s : State). Through written holds faults a c whole (text_from s (drop (i + 1) lines))) (sym e)
     (through_next written holds faults a b c whole (step state line.0 line.1).0 _
-    (subst (Through written holds faults a b whole) (next_text state lines i line l is) k) t m)
+    (subst (Through written holds faults a b whole) (next_text state lines i line l is) k) (subst (Takes written holds b c) own t) m)
 
-pub script_prefix : {K : Type 0} (written : K → Option (List ℕ)) (holds : K → List ℕ → Type 0) (faults : K → ℕ) (a b c : K)
-    (whole : List ℕ)
-    (state : State) (lines : List Line) (i : ℕ) (line : Line) → i < length lines → line ≡ get_or lines i line
-    → Through written holds faults a b whole (text_from state (drop i lines))
-    → TakesPrefix written holds b c (step state line.0 line.1).0 → TakesPrefix written holds a c whole
-script_prefix written holds faults a b c whole state lines i line l is k t =
-    through_prefix written holds faults a b c whole (step state line.0 line.1).0 _
-    (subst (Through written holds faults a b whole) (next_text state lines i line l is) k) t
+pub script_part : {K : Type 0} (written : K → Option (List ℕ)) (holds : K → List ℕ → Type 0) (faults : K → ℕ) (a b c : K)
+    (whole text : List ℕ) (state : State) (lines : List Line) (i : ℕ) (line : Line) → i < length lines → line ≡ get_or lines i line
+    → Through written holds faults a b whole (text_from state (drop i lines)) → text ≡ (step state line.0 line.1).0
+    → TakesPrefix written holds b c text → TakesPrefix written holds a c whole
+script_part written holds faults a b c whole text state lines i line l is k own t =
+    through_part written holds faults a b c whole (step state line.0 line.1).0 _
+    (subst (Through written holds faults a b whole) (next_text state lines i line l is) k) (subst (TakesPrefix written holds b c) own t)
 
 each_split : (P : Line → Type 0) (lines : List Line) (i : ℕ) (line : Line) → i < length lines → line ≡ get_or lines i line
-    → Every P (drop i lines)
-    → P line × Every P (drop (i + 1) lines)
+    → Every P (drop i lines) → P line × Every P (drop (i + 1) lines)
 each_split P lines i line l is h =
     subst (Every P) (drop-cons lines i line l ∙ ap (λ x. x ∷ drop (suc i) lines) (sym is)
     ∙ ap (λ n. line ∷ drop n lines) (sym (add-one i))) h
@@ -98,32 +102,22 @@ pub each_here : (P : Line → Type 0) (lines : List Line) (i : ℕ) (line : Line
 each_here P lines i line l is h = (each_split P lines i line l is h).0
 
 pub each_later : (P : Line → Type 0) (lines : List Line) (i : ℕ) (line : Line) → i < length lines → line ≡ get_or lines i line
-    → Every P (drop i lines)
-    → Every P (drop (i + 1) lines)
+    → Every P (drop i lines) → Every P (drop (i + 1) lines)
 each_later P lines i line l is h = (each_split P lines i line l is h).1
 
--- Watchers
+-- The ends of a block
 
-pub caught_ready : (names : AllNames) (w : World) (watchers after : List Watcher) (f : Forest) → after ≡ caught_up f watchers
-    → IsReady names w watchers
-    → IsReady names w after
-caught_ready names w watchers after f e r = record {
-  regions = r.regions;
-  spaces = r.spaces;
-  listeners = r.listeners;
-  notifiers = named_same names.notifiers (watches watchers) (watches after)
-      (λ n. ap (λ (ws : List Watcher). watches ws n) e ∙ same_watchers f watchers n) r.notifiers;
-  made = r.made;
-  fresh = λ n l. ap (λ (ws : List Watcher). watches ws n) e ∙ same_watchers f watchers n ∙ r.fresh n l;
-  rests = r.rests;
-  passes = r.passes;
-}
+pub neither : (a b : Bool) → (a || b) ≡ false → (a ≡ false) × (b ≡ false)
+neither true b e = absurd (grind arith)
+neither false b e = (refl, e)
 
--- an outcome, and the watchers after it
-pub caught_text : (x : Outcome) (s : State) → s ≡ x.1
-    → (catches_up x).0 ≡ x.0 ++ notice_lines s.names (notices_all (shown_forest s) s.watchers)
-caught_text x s e = ap (λ (t : State). x.0 ++ notice_lines t.names (notices_all (shown_forest t) t.watchers)) (sym e)
+block_end : (state : State) (n : ℕ) (c : Command) → (is_par c || is_end c) ≡ true → step state n c ≡ ([], state)
+block_end state n commands.Par e = refl
+block_end state n commands.End e = refl
+block_end state n c e = absurd (grind arith)
 
-pub caught_state : (x y : Outcome) (s : State) → s ≡ x.1 → y.1 ≡ s → (catches_up y).1 ≡ (catches_up x).1
-caught_state x y s e f =
-    ap (λ (t : State). let u : State = record t { watchers = caught_up (shown_forest t) t.watchers } in u) (f ∙ e)
+-- nothing is added
+pub end_adds : (s : Standing) (n : ℕ) (c : Command) (text : Text) → IsReady s.known s.world → (is_par c || is_end c) ≡ true
+    → StepAdds text text (step (state_of s) n c) s
+end_adds s n c text ready e =
+    subst (λ (x : Outcome). StepAdds text text x s) (sym (block_end (state_of s) n c e)) (record { text = sym (append-nil text); is = refl; ready = ready })

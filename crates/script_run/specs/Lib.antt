@@ -1,4 +1,3 @@
-pub mod Ready
-pub mod Performs
-pub mod Answers
-pub mod Groups
+pub mod Standing
+pub mod Asking
+pub mod Adding

@@ -1,5 +1,5 @@
-// The commands of virtual CPUs: enter, leave, read, write, and a copy from one space to another.
-ghost use Rattle.std.specs.Prelude.{◌≡◌, ◌<◌, ◌≤◌, [], length, true, if◌then◌else◌};
+// A line of a virtual CPU: enter, leave, read, write, a copy from one space to another, and a change of the map.
+ghost use Rattle.std.specs.Prelude.{◌≡◌, ◌<◌, ◌≤◌, [], length, false, true, Ok, OnOk, if◌then◌else◌};
 ghost use Rattle.mem_base.specs.declared.machine.events.Event.TheVariants as events;
 ghost use Rattle.mem_base.specs.access.AccessSteps.{either};
 ghost use Rattle.mem_base.specs.map.Limits.{most_passes};
@@ -7,18 +7,27 @@ ghost use Rattle.mem_base.specs.machine.World.{possible};
 ghost use Rattle.mem_base.specs.machine.History.{run_events};
 ghost use Rattle.mem_base.specs.machine.Composites.{enters_unless, is_entered, leaves, leaves_unless};
 ghost use Rattle.mem_base.specs.machine.Completions.{may_access, KeepsWriter};
-ghost use Rattle.mem_base.specs.script.States.{State, with_space};
 ghost use Rattle.mem_base.specs.script.PassSteps.{copy, enter, leave, read, write};
-ghost use Rattle.iommu_notify.specs.Watchers.{watchers_of};
-ghost use Rattle.script_run.specs.Performs.{Performs};
-ghost use Rattle.script_run.specs.Ready.{state_of, IsReady};
+ghost use Rattle.mem_base.specs.script.Race.{actor_number, is_end, is_par};
+ghost use Rattle.mem_base.specs.script.Run.{step};
+ghost use Rattle.run_laws.specs.Fitting.{FitsCommand};
+ghost use Rattle.run_laws.specs.KnownNames.{IsChangeOrder, IsPassTask};
+ghost use Rattle.run_laws.specs.TaskSteps.{known_state, pass_order, pass_step};
+ghost use Rattle.race_lines.specs.LineTasks.{task_meant};
+ghost use Rattle.script_run.specs.Asking.{FitsTask, HasNotifier};
+ghost use Rattle.script_run.specs.Adding.{Adds, PassAdds};
+ghost use Rattle.script_run.specs.Standing.{IsReady};
 
-use crate::faults::RunFault;
 use crate::machine::Machine;
-use crate::output::{say_dma, say_enter, say_leave, say_read, say_write};
-use crate::session::Session;
-use mem_base::{Access, Bytes, Name, PassId, SpaceId, TxResult};
-use outside::Sink;
+use crate::orders::ask;
+use mem_base::{Access, Command, DeskOrder, PassId, SpaceId, TxResult};
+use race_lines::{
+    KnownNames, LineTask, add_do_answer, add_name_refused, add_told_lines, later, task_of,
+};
+use script_lines::{
+    Line, add_dma_line, add_enter_line, add_leave_line, add_read_line, add_write_line,
+};
+use std::alloc::{AllocError, Global};
 
 fn either(x: TxResult, y: TxResult) -> TxResult
     ensures { result ≡ either x y }
@@ -68,207 +77,221 @@ fn leave_unless<M: Machine>(machine: &mut M, pass: PassId, entered: bool)
     }
 }
 
-impl<M: Machine> Session<M> {
-    // `vN enter`
-    pub(crate) fn enter<K: Sink>(&mut self, pass: PassId, sink: &mut K) -> Result<(), RunFault>
-        requires ready { IsReady self.old.names (M.world self.old.machine) (watchers_of self.old.notices) }
-        requires pass { pass.0 < most_passes }
-        ensures { Performs K.written K.holds K.faults sink.old sink.new
-            (enter (state_of self.old.names (M.world self.old.machine) (watchers_of self.old.notices)) pass)
-            self.new.names (M.world self.new.machine) (watchers_of self.new.notices) result }
-    {
-        leave_first(&mut self.machine, pass);
-        let generation = self.machine.enter(pass);
-        say_enter(&mut self.line, pass, generation, sink)
-    }
+// `vN enter`
+fn enter<M: Machine>(machine: &mut M, text: &mut Line, pass: PassId) -> Result<(), AllocError>
+    requires { may_access (M.world machine.old) pass ≡ true }
+    ensures { OnOk result (PassAdds text.old text.new (M.world machine.old) (λ s. enter s pass) (M.world machine.new)) }
+{
+    leave_first(machine, pass);
+    let generation = machine.enter(pass);
+    add_enter_line(text, pass, generation)
+}
 
-    // `vN leave`
-    pub(crate) fn leave<K: Sink>(&mut self, pass: PassId, sink: &mut K) -> Result<(), RunFault>
-        requires ready { IsReady self.old.names (M.world self.old.machine) (watchers_of self.old.notices) }
-        requires pass { pass.0 < most_passes }
-        ensures { Performs K.written K.holds K.faults sink.old sink.new
-            (leave (state_of self.old.names (M.world self.old.machine) (watchers_of self.old.notices)) pass)
-            self.new.names (M.world self.new.machine) (watchers_of self.new.notices) result }
-    {
-        leave_first(&mut self.machine, pass);
-        say_leave(&mut self.line, pass, sink)
-    }
+// `vN leave`
+fn leave<M: Machine>(machine: &mut M, text: &mut Line, pass: PassId) -> Result<(), AllocError>
+    requires { may_access (M.world machine.old) pass ≡ true }
+    ensures { OnOk result (PassAdds text.old text.new (M.world machine.old) (λ s. leave s pass) (M.world machine.new)) }
+{
+    leave_first(machine, pass);
+    add_leave_line(text, pass)
+}
 
-    // A read of as many bytes as there is room for.
-    fn read_into<K: Sink>(
-        &mut self,
-        pass: PassId,
-        space: SpaceId,
-        addr: u64,
-        out: &mut [u8],
-        sink: &mut K,
-    ) -> Result<(), RunFault>
-        requires ready { IsReady self.old.names (M.world self.old.machine) (watchers_of self.old.notices) }
-        requires pass { pass.0 < most_passes }
-        ensures { Performs K.written K.holds K.faults sink.old sink.new
-            (read (state_of self.old.names (M.world self.old.machine) (watchers_of self.old.notices)) pass space addr
-            (length out.old))
-            self.new.names (M.world self.new.machine) (watchers_of self.new.notices) result }
-    {
-        let access = self.machine.read(pass, space, addr, out);
-        say_read(&mut self.line, pass, access, out, sink)
-    }
+// A read of as many bytes as there is room for.
+fn read_into<M: Machine>(
+    machine: &mut M,
+    text: &mut Line,
+    pass: PassId,
+    space: SpaceId,
+    addr: u64,
+    out: &mut [u8],
+) -> Result<(), AllocError>
+    requires { may_access (M.world machine.old) pass ≡ true }
+    ensures { OnOk result (PassAdds text.old text.new (M.world machine.old) (λ s. read s pass space addr (length out.old))
+        (M.world machine.new)) }
+{
+    let access = machine.read(pass, space, addr, out);
+    add_read_line(text, pass, access, out)
+}
 
-    // `vN read SPACE ADDR LEN`
-    pub(crate) fn read<K: Sink>(
-        &mut self,
-        number: u32,
-        pass: PassId,
-        space: &Name,
-        addr: u64,
-        len: u8,
-        sink: &mut K,
-    ) -> Result<(), RunFault>
-        requires ready { IsReady self.old.names (M.world self.old.machine) (watchers_of self.old.notices) }
-        requires pass { pass.0 < most_passes }
-        requires len { len ≤ 64 }
-        ensures { let before : State = state_of self.old.names (M.world self.old.machine) (watchers_of self.old.notices) in
-            Performs K.written K.holds K.faults sink.old sink.new
-            (with_space before number space.now (λ s. read before pass s addr len))
-            self.new.names (M.world self.new.machine) (watchers_of self.new.notices) result }
-    {
-        let mut bytes = [0; 64];
-        match self.space(space) {
-            Some(id) => self.read_into(pass, id, addr, &mut bytes[..usize::from(len)], sink),
-            None => self.unknown(number, space, sink),
+// `vN read SPACE ADDR LEN`
+fn read<M: Machine>(
+    machine: &mut M,
+    text: &mut Line,
+    pass: PassId,
+    space: SpaceId,
+    addr: u64,
+    len: u8,
+) -> Result<(), AllocError>
+    requires may { may_access (M.world machine.old) pass ≡ true }
+    requires len { len ≤ 64 }
+    ensures { OnOk result (PassAdds text.old text.new (M.world machine.old) (λ s. read s pass space addr len)
+        (M.world machine.new)) }
+{
+    let mut bytes = [0; 64];
+    read_into(
+        machine,
+        text,
+        pass,
+        space,
+        addr,
+        &mut bytes[..usize::from(len)],
+    )
+}
+
+// `vN write SPACE ADDR BYTES`
+fn write<M: Machine>(
+    machine: &mut M,
+    text: &mut Line,
+    pass: PassId,
+    space: SpaceId,
+    addr: u64,
+    bytes: &[u8],
+) -> Result<(), AllocError>
+    requires { may_access (M.world machine.old) pass ≡ true }
+    ensures { OnOk result (PassAdds text.old text.new (M.world machine.old) (λ s. write s pass space addr bytes.now)
+        (M.world machine.new)) }
+{
+    let access = machine.write(pass, space, addr, bytes);
+    add_write_line(text, pass, access)
+}
+
+// A copy of as many bytes as there is room for, by way of that room.
+fn copy_through<M: Machine>(
+    machine: &mut M,
+    text: &mut Line,
+    pass: PassId,
+    space: SpaceId,
+    addr: u64,
+    to_space: SpaceId,
+    to_addr: u64,
+    out: &mut [u8],
+) -> Result<(), AllocError>
+    requires { may_access (M.world machine.old) pass ≡ true }
+    ensures { OnOk result (PassAdds text.old text.new (M.world machine.old)
+        (λ s. copy s pass space addr (length out.old) to_space to_addr) (M.world machine.new)) }
+{
+    let entered = enter_unless(machine, pass);
+    let read = machine.read(pass, space, addr, out);
+    let written = machine.write(pass, to_space, to_addr, out);
+    leave_unless(machine, pass, entered);
+    let access = Access {
+        result: either(read.result, written.result),
+        number: read.number,
+    };
+    add_dma_line(text, pass, access)
+}
+
+// `vN dma SPACE ADDR LEN to SPACE ADDR`
+fn copy<M: Machine>(
+    machine: &mut M,
+    text: &mut Line,
+    pass: PassId,
+    space: SpaceId,
+    addr: u64,
+    len: u8,
+    to_space: SpaceId,
+    to_addr: u64,
+) -> Result<(), AllocError>
+    requires may { may_access (M.world machine.old) pass ≡ true }
+    requires len { len ≤ 64 }
+    ensures { OnOk result (PassAdds text.old text.new (M.world machine.old) (λ s. copy s pass space addr len to_space to_addr)
+        (M.world machine.new)) }
+{
+    let mut bytes = [0; 64];
+    copy_through(
+        machine,
+        text,
+        pass,
+        space,
+        addr,
+        to_space,
+        to_addr,
+        &mut bytes[..usize::from(len)],
+    )
+}
+
+// `vN do COMMAND`
+fn order_by<M: Machine>(
+    machine: &mut M,
+    known: &KnownNames,
+    text: &mut Line,
+    number: u32,
+    pass: PassId,
+    order: &DeskOrder,
+) -> Result<(), AllocError>
+    requires ready { IsReady known.now (M.world machine.old) }
+    requires notifier { HasNotifier order.now }
+    requires change { IsChangeOrder order.now }
+    ensures { OnOk result (Adds text.old text.new (pass_order known.now (M.world machine.old) pass number order.now)
+        known.now (M.world machine.new)) }
+{
+    let from = machine.journal().len();
+    let answer = ask(machine, order)?;
+    add_do_answer(text, known.names(), number, pass, &answer)?;
+    add_told_lines(text, known.names(), later(machine.journal(), from))
+}
+
+// Does what a line asks for, once its names are resolved.
+fn do_task<M: Machine>(
+    machine: &mut M,
+    known: &KnownNames,
+    text: &mut Line,
+    number: u32,
+    pass: PassId,
+    task: &LineTask<'_>,
+) -> Result<(), AllocError>
+    requires ready { IsReady known.now (M.world machine.old) }
+    requires pass { pass.0 < most_passes }
+    requires fits { FitsTask (Ok (task_meant task.now)) }
+    requires change { IsPassTask (Ok (task_meant task.now)) }
+    ensures { OnOk result (Adds text.old text.new
+        (pass_step known.now (M.world machine.old) pass number (Ok (task_meant task.now))) known.now (M.world machine.new)) }
+{
+    match task {
+        LineTask::Ordered { order, naming: _ } => {
+            order_by(machine, known, text, number, pass, order)
         }
-    }
-
-    // A write of some bytes.
-    fn write_from<K: Sink>(
-        &mut self,
-        pass: PassId,
-        space: SpaceId,
-        addr: u64,
-        bytes: &[u8],
-        sink: &mut K,
-    ) -> Result<(), RunFault>
-        requires ready { IsReady self.old.names (M.world self.old.machine) (watchers_of self.old.notices) }
-        requires pass { pass.0 < most_passes }
-        ensures { Performs K.written K.holds K.faults sink.old sink.new
-            (write (state_of self.old.names (M.world self.old.machine) (watchers_of self.old.notices)) pass space addr bytes.now)
-            self.new.names (M.world self.new.machine) (watchers_of self.new.notices) result }
-    {
-        let access = self.machine.write(pass, space, addr, bytes);
-        say_write(&mut self.line, pass, access, sink)
-    }
-
-    // `vN write SPACE ADDR BYTES`
-    pub(crate) fn write<K: Sink>(
-        &mut self,
-        number: u32,
-        pass: PassId,
-        space: &Name,
-        addr: u64,
-        bytes: &Bytes,
-        sink: &mut K,
-    ) -> Result<(), RunFault>
-        requires ready { IsReady self.old.names (M.world self.old.machine) (watchers_of self.old.notices) }
-        requires pass { pass.0 < most_passes }
-        ensures { let before : State = state_of self.old.names (M.world self.old.machine) (watchers_of self.old.notices) in
-            Performs K.written K.holds K.faults sink.old sink.new
-            (with_space before number space.now (λ s. write before pass s addr bytes.now))
-            self.new.names (M.world self.new.machine) (watchers_of self.new.notices) result }
-    {
-        match self.space(space) {
-            Some(id) => self.write_from(pass, id, addr, bytes.as_slice(), sink),
-            None => self.unknown(number, space, sink),
+        LineTask::Entered => enter(machine, text, pass),
+        LineTask::Left => leave(machine, text, pass),
+        LineTask::Read { space, addr, len } => read(machine, text, pass, *space, *addr, *len),
+        LineTask::Written { space, addr, bytes } => {
+            write(machine, text, pass, *space, *addr, bytes.as_slice())
         }
+        LineTask::Copied {
+            space,
+            addr,
+            len,
+            to_space,
+            to_addr,
+        } => copy(
+            machine, text, pass, *space, *addr, *len, *to_space, *to_addr,
+        ),
+        _ => Ok(()),
     }
+}
 
-    // A copy of as many bytes as there is room for, by way of that room.
-    fn copy_through<K: Sink>(
-        &mut self,
-        pass: PassId,
-        space: SpaceId,
-        addr: u64,
-        to_space: SpaceId,
-        to_addr: u64,
-        out: &mut [u8],
-        sink: &mut K,
-    ) -> Result<(), RunFault>
-        requires ready { IsReady self.old.names (M.world self.old.machine) (watchers_of self.old.notices) }
-        requires pass { pass.0 < most_passes }
-        ensures { Performs K.written K.holds K.faults sink.old sink.new
-            (copy (state_of self.old.names (M.world self.old.machine) (watchers_of self.old.notices)) pass space addr
-            (length out.old) to_space to_addr)
-            self.new.names (M.world self.new.machine) (watchers_of self.new.notices) result }
-    {
-        let entered = enter_unless(&mut self.machine, pass);
-        let read = self.machine.read(pass, space, addr, out);
-        let written = self.machine.write(pass, to_space, to_addr, out);
-        leave_unless(&mut self.machine, pass, entered);
-        let access = Access {
-            result: either(read.result, written.result),
-            number: read.number,
-        };
-        say_dma(&mut self.line, pass, access, sink)
-    }
-
-    // A copy, where the first space is known.
-    fn copy_from<K: Sink>(
-        &mut self,
-        number: u32,
-        pass: PassId,
-        space: SpaceId,
-        addr: u64,
-        len: u8,
-        to_space: &Name,
-        to_addr: u64,
-        sink: &mut K,
-    ) -> Result<(), RunFault>
-        requires ready { IsReady self.old.names (M.world self.old.machine) (watchers_of self.old.notices) }
-        requires pass { pass.0 < most_passes }
-        requires len { len ≤ 64 }
-        ensures { let before : State = state_of self.old.names (M.world self.old.machine) (watchers_of self.old.notices) in
-            Performs K.written K.holds K.faults sink.old sink.new
-            (with_space before number to_space.now (λ t. copy before pass space addr len t to_addr))
-            self.new.names (M.world self.new.machine) (watchers_of self.new.notices) result }
-    {
-        let mut bytes = [0; 64];
-        match self.space(to_space) {
-            Some(to) => self.copy_through(
-                pass,
-                space,
-                addr,
-                to,
-                to_addr,
-                &mut bytes[..usize::from(len)],
-                sink,
-            ),
-            None => self.unknown(number, to_space, sink),
-        }
-    }
-
-    // `vN dma SPACE ADDR LEN to SPACE ADDR`
-    pub(crate) fn copy<K: Sink>(
-        &mut self,
-        number: u32,
-        pass: PassId,
-        space: &Name,
-        addr: u64,
-        len: u8,
-        to_space: &Name,
-        to_addr: u64,
-        sink: &mut K,
-    ) -> Result<(), RunFault>
-        requires ready { IsReady self.old.names (M.world self.old.machine) (watchers_of self.old.notices) }
-        requires pass { pass.0 < most_passes }
-        requires len { len ≤ 64 }
-        ensures { let before : State = state_of self.old.names (M.world self.old.machine) (watchers_of self.old.notices) in
-            Performs K.written K.holds K.faults sink.old sink.new
-            (with_space before number space.now (λ s. with_space before number to_space.now
-            (λ t. copy before pass s addr len t to_addr)))
-            self.new.names (M.world self.new.machine) (watchers_of self.new.notices) result }
-    {
-        match self.space(space) {
-            Some(id) => self.copy_from(number, pass, id, addr, len, to_space, to_addr, sink),
-            None => self.unknown(number, space, sink),
-        }
+// Does a line of a pass, and adds what it writes to a text.
+pub(crate) fn pass_line<M: Machine>(
+    alloc: Global,
+    machine: &mut M,
+    known: &KnownNames,
+    text: &mut Line,
+    number: u32,
+    pass: PassId,
+    command: &Command,
+) -> Result<(), AllocError>
+    requires ready { IsReady known.now (M.world machine.old) }
+    requires fits { FitsCommand command.now }
+    requires pass { pass.0 < most_passes }
+    requires actor { actor_number command.now ≡ pass.0 }
+    requires par { is_par command.now ≡ false }
+    requires end { is_end command.now ≡ false }
+    ensures { OnOk result (Adds text.old text.new (step (known_state known.now (M.world machine.old)) number command.now)
+        known.now (M.world machine.new)) }
+{
+    let task = task_of(alloc, known, command)?;
+    match &task {
+        Ok(task) => do_task(machine, known, text, number, pass, task),
+        Err(why) => add_name_refused(text, number, why),
     }
 }

@@ -1,112 +1,112 @@
-// What stands while a script runs, and what its names stand for.
-ghost use Rattle.std.specs.Prelude.{◌≡◌, option_map};
-ghost use Rattle.mem_base.specs.script.RefusalLines.{refused_line, taken_text, unknown_text};
-ghost use Rattle.mem_base.specs.script.States.{listener_named, region_named, space_named, watcher_named, writes};
-ghost use Rattle.script_names.specs.Tables.{number_of};
-ghost use Rattle.iommu_notify.specs.Watchers.{watchers_of};
-ghost use Rattle.script_run.specs.Performs.{Performs};
-ghost use Rattle.script_run.specs.Ready.{state_of, IsReady};
+// What stands while a script runs, and the next command of it.
+ghost use Rattle.std.specs.Prelude.{◌≡◌, ◌<◌, ◌||◌, IfSome, None, OnOk};
+ghost use Rattle.mem_base.specs.map.Limits.{most_passes};
+ghost use Rattle.mem_base.specs.script.Race.{actor_number, desk_number, is_end, is_par};
+ghost use Rattle.mem_base.specs.script.Run.{step};
+ghost use Rattle.mem_base.specs.script.Tasks.{known_at_first};
+ghost use Rattle.run_laws.specs.Fitting.{FitsCommand};
+ghost use Rattle.script_run.specs.Adding.{StepAdds};
+ghost use Rattle.script_run.specs.Standing.{MayGoOn, state_of};
 
-use crate::faults::RunFault;
+use crate::desk::desk_line;
 use crate::machine::Machine;
-use crate::output::{say_taken, say_unknown};
-use iommu_notify::Notices;
-use mem_base::{ListenerId, Name, RegionId, SpaceId, WatcherId};
-use outside::Sink;
+use crate::passes::pass_line;
+use mem_base::{Command, PassId};
+use race_lines::{KnownNames, LineSaid};
 use script_lines::Line;
-use script_names::Names;
-use std::alloc::Global;
+use std::alloc::{AllocError, Global};
+use std::marker::Model;
 
-/// The machine, the names that a script made, and the watchers, as its commands so far left them; and the one line that every
-/// line of output is made in.
+/// The machine, and what is known of the names that a script made and of its watchers, as its commands so far left them.
 #[derive(Drop)]
-pub(crate) struct Session<M> {
-    pub(crate) alloc: Global,
-    pub(crate) machine: M,
-    pub(crate) names: Names,
-    pub(crate) notices: Notices,
-    pub(crate) line: Line,
+pub(crate) struct Session<M: Machine + Drop> {
+    alloc: Global,
+    machine: M,
+    known: KnownNames,
+    said: LineSaid,
 }
 
-impl<M: Machine> Session<M> {
-    // The region that a name stands for.
-    pub(crate) fn region(&self, name: &Name) -> Option<RegionId>
-        requires { IsReady self.now.names (M.world self.now.machine) (watchers_of self.now.notices) }
-        ensures named { result ≡ region_named (state_of self.now.names (M.world self.now.machine) (watchers_of self.now.notices))
-            name.now }
-        ensures table { result ≡ option_map (λ n. record { 0 = n }) (number_of self.now.names.regions.bound name.now) }
+impl<M: Machine + Drop> Model for Session<M> {
+    ghost use Rattle.script_run.specs.Standing.{Standing};
+
+    ghost Value = { Standing };
+
+    ghost view = { λ s. record { known = s.known; world = M.world s.machine } };
+}
+
+// An end of a block, which does nothing in a plain run.
+fn is_block_end(command: &Command) -> bool
+    ensures { result ≡ (is_par command.now || is_end command.now) }
+{
+    matches!(command, Command::Par | Command::End)
+}
+
+// The pass whose line it is; none of a line of the desk.
+fn pass_of(command: &Command) -> Option<PassId>
+    requires { FitsCommand command.now }
+    ensures near { IfSome result (λ pass. pass.0 < most_passes) }
+    ensures pass { IfSome result (λ pass. actor_number command.now ≡ pass.0) }
+    ensures desk { result ≡ None → actor_number command.now ≡ desk_number }
+{
+    match command {
+        Command::PassEnter { pass }
+        | Command::PassLeave { pass }
+        | Command::PassRead { pass, .. }
+        | Command::PassWrite { pass, .. }
+        | Command::PassDo { pass, .. }
+        | Command::PassDma { pass, .. } => Some(*pass),
+        _ => None,
+    }
+}
+
+impl<M: Machine + Drop> Session<M> {
+    // A machine on which no command was done yet.
+    pub(crate) fn new(alloc: Global, machine: M) -> Session<M>
+        ensures known { result.known ≡ known_at_first }
+        ensures world { result.world ≡ M.world machine }
     {
-        self.names
-            .regions()
-            .number_of(name.as_bytes())
-            .map(RegionId)
+        Session {
+            alloc,
+            machine,
+            known: KnownNames::new(alloc),
+            said: LineSaid::new(alloc),
+        }
     }
 
-    // The space that a name stands for.
-    pub(crate) fn space(&self, name: &Name) -> Option<SpaceId>
-        requires { IsReady self.now.names (M.world self.now.machine) (watchers_of self.now.notices) }
-        ensures named { result ≡ space_named (state_of self.now.names (M.world self.now.machine) (watchers_of self.now.notices))
-            name.now }
-        ensures table { result ≡ option_map (λ n. record { 0 = n }) (number_of self.now.names.spaces.bound name.now) }
-    {
-        self.names.spaces().number_of(name.as_bytes()).map(SpaceId)
-    }
-
-    // The listener that a name stands for.
-    pub(crate) fn listener(&self, name: &Name) -> Option<ListenerId>
-        requires { IsReady self.now.names (M.world self.now.machine) (watchers_of self.now.notices) }
-        ensures named { result ≡ listener_named (state_of self.now.names (M.world self.now.machine)
-            (watchers_of self.now.notices)) name.now }
-        ensures table { result ≡ option_map (λ n. record { 0 = n }) (number_of self.now.names.listeners.bound name.now) }
-    {
-        self.names
-            .listeners()
-            .number_of(name.as_bytes())
-            .map(ListenerId)
-    }
-
-    // The watcher that a name stands for.
-    pub(crate) fn watcher(&self, name: &Name) -> Option<WatcherId>
-        requires { IsReady self.now.names (M.world self.now.machine) (watchers_of self.now.notices) }
-        ensures named { result ≡ watcher_named (state_of self.now.names (M.world self.now.machine) (watchers_of self.now.notices))
-            name.now }
-        ensures table { result ≡ option_map (λ n. record { 0 = n }) (number_of self.now.names.notifiers.bound name.now) }
-    {
-        self.names
-            .notifiers()
-            .number_of(name.as_bytes())
-            .map(WatcherId)
-    }
-
-    // The refusal of a command that names something which is not there.
-    pub(crate) fn unknown<K: Sink>(
+    // Does a command, and adds what it writes to a text. After each of the desk's commands, refused ones too, the watchers catch
+    // up; the ends of a block do nothing in a plain run.
+    pub(crate) fn step(
         &mut self,
+        text: &mut Line,
         number: u32,
-        name: &Name,
-        sink: &mut K,
-    ) -> Result<(), RunFault>
-        requires { IsReady self.old.names (M.world self.old.machine) (watchers_of self.old.notices) }
-        ensures { Performs K.written K.holds K.faults sink.old sink.new
-            (writes (state_of self.old.names (M.world self.old.machine) (watchers_of self.old.notices))
-            (refused_line number (unknown_text name.now)))
-            self.new.names (M.world self.new.machine) (watchers_of self.new.notices) result }
+        command: &Command,
+    ) -> Result<(), AllocError>
+        requires ready { MayGoOn self.old }
+        requires fits { FitsCommand command.now }
+        ensures { OnOk result (StepAdds text.old text.new (step (state_of self.old) number command.now) self.new) }
     {
-        say_unknown(&mut self.line, number, name.as_bytes(), sink)
-    }
-
-    // The refusal of a command that would give a name which stands for something.
-    pub(crate) fn taken<K: Sink>(
-        &mut self,
-        number: u32,
-        name: &Name,
-        sink: &mut K,
-    ) -> Result<(), RunFault>
-        requires { IsReady self.old.names (M.world self.old.machine) (watchers_of self.old.notices) }
-        ensures { Performs K.written K.holds K.faults sink.old sink.new
-            (writes (state_of self.old.names (M.world self.old.machine) (watchers_of self.old.notices))
-            (refused_line number (taken_text name.now)))
-            self.new.names (M.world self.new.machine) (watchers_of self.new.notices) result }
-    {
-        say_taken(&mut self.line, number, name.as_bytes(), sink)
+        if is_block_end(command) {
+            return Ok(());
+        }
+        match pass_of(command) {
+            Some(pass) => pass_line(
+                self.alloc,
+                &mut self.machine,
+                &self.known,
+                text,
+                number,
+                pass,
+                command,
+            ),
+            None => desk_line(
+                self.alloc,
+                &mut self.machine,
+                &mut self.known,
+                &mut self.said,
+                text,
+                number,
+                command,
+            ),
+        }
     }
 }
