@@ -1,5 +1,5 @@
 -- The virtual CPUs stand in order of their numbers again after a block.
-use Rattle.std.proofs.Common.{◌≡◌, ℕ, ◌+◌, ◌<◌, ◌≤◌, Bool, true, false, List, [], ◌∷◌, ◌++◌, length, get_or, append-nil, append_assoc, length-append}
+use Rattle.std.proofs.Common.{◌≡◌, ℕ, ◌+◌, ◌<◌, Bool, true, false, List, [], ◌∷◌, ◌++◌, length, get_or, append-nil, append_assoc}
 use Rattle.std.proofs.Common.{refl, sym, ap, subst, ◌∙◌, arith, All, Option, Some, None, option_map, option_to_list}
 use Rattle.std.specs.Prelude.{nat_le}
 use Rattle.std.proofs.lemmas.List.{get_or_append_left, get_or_push, length_push, same_from_push}
@@ -22,8 +22,7 @@ use Rattle.view_laws.proofs.Tests.{true_is_not_false}
 use Rattle.race_phases.specs.Plain.{has_lines}
 use Rattle.race_actors.specs.declared.blocks.BlockActor.{BlockActor}
 use Rattle.race_actors.specs.declared.blocks.BlockActor.TheVariants.{Desk, Pass, Gone}
-use Rattle.race_actors.specs.declared.passes.PassActor.{PassActor}
-use Rattle.race_inside.specs.Seats.{AreActorsOf, AreBack, AreSeats, ComeBack, HaveSeatOf, IsBack, IsSeatOf, TakesCpu, acting, idle}
+use Rattle.race_inside.specs.Seats.{AreActorsOf, AreBack, AreSeats, ComeBack, HaveSeatOf, IsBack, TakesCpu, acting, idle}
 use Rattle.race_inside.proofs.SeatLists.{last_actor, last_seat, one_acts, one_waits, others_act, others_wait}
 
 -- what a pop takes

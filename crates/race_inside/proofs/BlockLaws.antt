@@ -1,20 +1,17 @@
 -- A block, from the places that its actors took to what its runner has after it.
-use Rattle.std.proofs.Common.{◌≡◌, ◌⊎◌, ℕ, ◌+◌, ◌<◌, Bool, true, false, cond, List, [], ◌∷◌, ◌++◌, length, get_or, filter, refl, sym, ap, subst, ◌∙◌, arith}
+use Rattle.std.proofs.Common.{◌≡◌, ◌⊎◌, ℕ, ◌+◌, ◌<◌, false, List, [], ◌∷◌, ◌++◌, length, get_or, refl, sym, ap, subst, ◌∙◌, arith}
 use Rattle.std.proofs.lemmas.List.{length_push, nil_from_length}
 use Rattle.std.proofs.Common.{zero, suc, inl, inr, All, Option, Some, None, OnOk, Result, Ok, Err, option_to_list}
-use Rattle.std.specs.Prelude.{flat_map}
 use Rattle.std.specs.List.{range_with_len, list_any}
 use Rattle.mem_base.specs.declared.machine.records.Differs.{Differs}
 use Rattle.mem_base.specs.lists.Every.{Every}
 use Rattle.mem_base.proofs.EveryLaws.{every_at, every_filter, weaker}
 use Rattle.mem_base.specs.map.Limits.{most_passes}
-use Rattle.mem_base.specs.machine.Actors.{own_entries}
 use Rattle.mem_base.specs.machine.Records.{Clerk, Closes}
 use Rattle.mem_base.specs.script.Scripts.{Line}
 use Rattle.mem_base.specs.script.Spelling.{Text}
 use Rattle.mem_base.specs.script.Tasks.{Known}
-use Rattle.mem_base.specs.script.Race.{Phase, actors_in, block, differs_line, lines_by}
-use Rattle.run_laws.specs.Fitting.{AreFitting}
+use Rattle.mem_base.specs.script.Race.{Phase, actors_in, block, differs_line}
 use Rattle.generation.specs.Published.{Published}
 use Rattle.epoch_rule.specs.Rule.{IsLegal}
 use Rattle.epoch_rule.specs.Values.{PassValue}
@@ -25,12 +22,11 @@ use Rattle.race_actors.specs.declared.blocks.BlockActor.{BlockActor}
 use Rattle.race_actors.specs.Blocks.{CanAct}
 use Rattle.race_block.specs.Joined.{HasJoined}
 use Rattle.race_level.specs.Levels.{HasMet}
-use Rattle.race_outside.specs.Outside.{stand_of}
-use Rattle.race_outside.specs.Steps.{StepsOn, StopsIn}
+use Rattle.race_outside.specs.Outside.{StepsOn, StopsIn, WritesOn, stand_of}
 use Rattle.race_joins.specs.Starts.{AreAtStart}
-use Rattle.race_joins.specs.Ran.{HasRunBlock, actors_text, block_text, is_out_of_memory, known_after_block}
-use Rattle.race_inside.specs.Blocks.{HasRunAll, WritesOn}
-use Rattle.race_inside.specs.Seats.{AreBack, AreSeated, ComeBack, acting, known_now}
+use Rattle.race_joins.specs.Ran.{HasRunBlock, block_text, is_out_of_memory, known_after_block}
+use Rattle.race_inside.specs.Blocks.{HasRunAll}
+use Rattle.race_inside.specs.Seats.{AreSeated, ComeBack, acting, known_now}
 use Rattle.race_inside.specs.Texts.{actors_said, names_now}
 use Rattle.race_inside.specs.declared.seats.Seated.{Seated}
 use Rattle.race_inside.proofs.SeatLaws.{all_can, all_start}

@@ -1,37 +1,31 @@
 -- The actors of a block after it: their virtual CPUs, what is known, and what they write.
-use Rattle.std.proofs.Common.{◌≡◌, ℕ, ◌+◌, zero, suc, ◌<◌, List, [], ◌∷◌, ◌++◌, length, take, get_or, append-nil, refl, sym, ap, subst, ◌∙◌, arith}
+use Rattle.std.proofs.Common.{◌≡◌, ℕ, ◌+◌, zero, suc, ◌<◌, List, [], ◌∷◌, ◌++◌, length, take, get_or, refl, sym, ap, subst, ◌∙◌, arith}
 use Rattle.std.proofs.Common.{Option, Some, None, option_map, ◌⊎◌, inl, inr}
 use Rattle.std.specs.Prelude.{flat_map}
 use Rattle.mem_base.specs.lists.Every.{Every}
 use Rattle.mem_base.specs.map.Limits.{most_passes}
-use Rattle.mem_base.specs.declared.machine.events.HistoryEntry.{HistoryEntry}
-use Rattle.mem_base.specs.declared.machine.records.DeskEntry.{DeskEntry}
 use Rattle.mem_base.specs.views.Listening.{Delivery}
-use Rattle.mem_base.specs.machine.Actors.{own_entries}
 use Rattle.mem_base.specs.machine.Passes.{PassState, pass_id}
 use Rattle.mem_base.specs.machine.Records.{Clerk}
 use Rattle.mem_base.specs.script.Named.{Names}
 use Rattle.mem_base.specs.script.RaceLines.{Said, said_text}
 use Rattle.mem_base.specs.script.Scripts.{Line}
-use Rattle.mem_base.specs.script.Spelling.{Text}
 use Rattle.mem_base.specs.script.Tasks.{Known}
 use Rattle.mem_base.specs.script.Race.{block, lines_by}
 use Rattle.generation.specs.Published.{Published}
-use Rattle.epoch_rule.specs.Values.{PassValue}
-use Rattle.pass_lines.specs.Doing.{Grew, IsInItsGeneration, state_seen}
+use Rattle.pass_lines.specs.Doing.{IsInItsGeneration, state_seen}
 use Rattle.pass_lines.proofs.EntryLaws.{state_then}
-use Rattle.desk_lock.specs.Records.{IsLater, RecordState}
+use Rattle.desk_lock.specs.Records.{RecordState}
 use Rattle.race_actors.specs.declared.blocks.BlockActor.{BlockActor}
 use Rattle.race_actors.specs.declared.blocks.BlockActor.TheVariants.{Desk, Pass, Gone}
-use Rattle.race_actors.specs.declared.desks.DeskActor.{DeskActor}
 use Rattle.race_actors.specs.declared.passes.PassActor.{PassActor}
 use Rattle.race_actors.specs.declared.tasks.BlockLine.{BlockLine}
 use Rattle.race_actors.specs.declared.tasks.LineGot.{LineGot}
 use Rattle.race_actors.specs.Blocks.{CanAct}
-use Rattle.race_actors.specs.Laws.{AreTasksOf, HasKept, saids}
+use Rattle.race_actors.specs.Laws.{AreTasksOf, HasKept}
 use Rattle.race_actors.specs.Lines.{HaveRun}
 use Rattle.race_actors.proofs.KeptLaws.{passes_keep_lines}
-use Rattle.race_block.specs.Joined.{HasJoined, HasJoinedDesk, HasJoinedPass}
+use Rattle.race_block.specs.Joined.{HasJoined, HasJoinedPass}
 use Rattle.race_joins.specs.Starts.{AreAtStart, IsAtStart, PassStarts}
 use Rattle.race_joins.specs.Ran.{actor_text, actors_text, known_after_block}
 use Rattle.race_inside.specs.Seats.{AreActorsOf, HaveSeatOf, IsKnown, IsSeatOf, SeatsDesk, acting, known_now}

@@ -1,8 +1,8 @@
 -- The virtual CPUs take their places before a block.
-use Rattle.std.proofs.Common.{◌≡◌, ℕ, ◌+◌, ◌<◌, ◌≤◌, Bool, true, false, List, [], ◌∷◌, ◌++◌, length, get_or, append-nil, append_assoc, length-append}
+use Rattle.std.proofs.Common.{◌≡◌, ℕ, ◌+◌, ◌<◌, ◌≤◌, Bool, List, [], ◌∷◌, ◌++◌, length, get_or, append-nil, append_assoc}
 use Rattle.std.proofs.Common.{refl, sym, ap, subst, ◌∙◌, arith, All, Option, Some, None, if◌then◌else◌}
 use Rattle.std.specs.Prelude.{vec_capacity}
-use Rattle.std.proofs.lemmas.List.{get_or_append_left, get_or_push, length_push, nil_from_length}
+use Rattle.std.proofs.lemmas.List.{get_or_append_left, get_or_push, length_push}
 use Rattle.mem_base.specs.lists.Every.{Every}
 use Rattle.mem_base.proofs.EveryLaws.{every_push}
 use Rattle.mem_base.specs.map.Limits.{most_passes}
@@ -14,14 +14,13 @@ use Rattle.epoch_rule.specs.Values.{PassValue}
 use Rattle.pass_lines.specs.Doing.{IsInItsGeneration}
 use Rattle.desk_lock.specs.Records.{RecordState}
 use Rattle.race_level.specs.Ready.{AreReady}
-use Rattle.race_phases.specs.Plain.{has_lines}
 use Rattle.race_actors.specs.declared.blocks.BlockActor.{BlockActor}
 use Rattle.race_actors.specs.declared.blocks.BlockActor.TheVariants.{Desk, Pass, Gone}
 use Rattle.race_actors.specs.declared.passes.PassActor.{PassActor}
 use Rattle.race_actors.specs.declared.tasks.BlockLine.{BlockLine}
 use Rattle.race_actors.specs.Blocks.{CanAct}
 use Rattle.race_actors.specs.Laws.{AreTasksOf}
-use Rattle.race_actors.specs.Lines.{FitsLine, IsReady}
+use Rattle.race_actors.specs.Lines.{FitsLine}
 use Rattle.race_joins.specs.Starts.{AreAtStart, PassStarts}
 use Rattle.race_inside.specs.Rooms.{AreWorksOf, HasLines, IsRoomFor, IsWorkOf}
 use Rattle.race_inside.specs.Seats.{AreSeated, AreSeats, AreSeatsOf, HaveSeats, IsNewActor, IsSeatOf, SeatsDesk, SeatsPass, acting, idle}

@@ -1,5 +1,5 @@
 -- The tasks of a pass's lines are those of a pass, and there is room for what they copy.
-use Rattle.std.proofs.Common.{◌≡◌, ◌<◌, ◌≤◌, ℕ, sym, subst, arith, Option, Some, None, Result, Ok, Err}
+use Rattle.std.proofs.Common.{◌<◌, ◌≤◌, sym, subst, arith, Result, Ok, Err}
 use Rattle.mem_base.specs.declared.machine.records.DeskOrder.{DeskOrder}
 use Rattle.mem_base.specs.declared.machine.records.DeskOrder.TheVariants as orders
 use Rattle.mem_base.specs.declared.map.calls.Call.{Call}
@@ -8,7 +8,7 @@ use Rattle.mem_base.specs.declared.script.commands.Command.TheVariants as comman
 use Rattle.mem_base.specs.map.Limits.{most_passes}
 use Rattle.mem_base.specs.machine.Records.{FitsDeskOrder}
 use Rattle.mem_base.specs.script.Race.{actor_number}
-use Rattle.mem_base.specs.script.Tasks.{Known, Resolved, Task, change_of, plain, space, task_of, then_resolved}
+use Rattle.mem_base.specs.script.Tasks.{Known, Resolved, Task, change_of, space, task_of, then_resolved}
 use Rattle.mem_base.specs.script.Tasks as tasks
 use Rattle.run_laws.specs.Fitting.{FitsCommand}
 use Rattle.race_laws.proofs.OutsideLaws.{orders_fit}

@@ -1,19 +1,15 @@
 -- What the lines of a block write, in the words of the script's definition.
-use Rattle.std.proofs.Common.{◌≡◌, ℕ, ◌+◌, suc, ◌<◌, List, [], ◌∷◌, ◌++◌, length, take, drop, get_or, refl, sym, ap, subst, ◌∙◌, append-nil, append_assoc, arith}
-use Rattle.std.specs.Prelude.{flat_map}
+use Rattle.std.proofs.Common.{◌≡◌, ℕ, List, [], ◌∷◌, length, take, drop, get_or, refl, sym, ap, subst, ◌∙◌}
 use Rattle.mem_base.specs.declared.map.ids.PassId.{PassId}
 use Rattle.mem_base.specs.declared.machine.records.DeskEntry.{DeskEntry}
-use Rattle.mem_base.specs.views.Listening.{Delivery}
 use Rattle.mem_base.specs.machine.Records.{Clerk}
 use Rattle.mem_base.specs.script.Named.{Names}
 use Rattle.mem_base.specs.script.RefusalLines.{refused_line}
-use Rattle.mem_base.specs.script.RaceLines.{Said, do_text, entry_at, said_text, says, says_with}
+use Rattle.mem_base.specs.script.RaceLines.{do_text, entry_at, says, says_with}
 use Rattle.mem_base.specs.script.Scripts.{Line}
-use Rattle.mem_base.specs.script.Spelling.{Text}
 use Rattle.mem_base.specs.script.Tasks.{Known, task_of}
 use Rattle.generation.specs.Published.{Published}
 use Rattle.epoch_rule.specs.Values.{PassValue}
-use Rattle.race_lines.specs.LineTasks.{refused_text}
 use Rattle.race_actors.specs.declared.tasks.PassTask.{PassTask}
 use Rattle.race_actors.specs.declared.tasks.PassTask.TheVariants.{Refused, Order, Enter, Leave, Read, Write, Copy}
 use Rattle.race_actors.specs.declared.tasks.BlockLine.{BlockLine}

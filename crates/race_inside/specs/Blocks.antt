@@ -1,15 +1,11 @@
--- What the run of a block leaves, and what a block does to the race so far, with its text.
-use Rattle.std.specs.Prelude.{◌≡◌, ℕ, ◌<◌, ◌++◌, List, length, slice_index_or, Option}
+-- What the run of a block leaves.
+use Rattle.std.specs.Prelude.{◌≡◌, ℕ, ◌<◌, List, length, slice_index_or, Option}
 use Rattle.mem_base.specs.declared.machine.records.Differs.{Differs}
 use Rattle.mem_base.specs.machine.Records.{Clerk, Closes}
-use Rattle.mem_base.specs.script.Spelling.{Text}
-use Rattle.mem_base.specs.script.Tasks.{Known}
-use Rattle.mem_base.specs.script.Race.{Phase}
 use Rattle.epoch_rule.specs.Rule.{IsLegal}
 use Rattle.desk_lock.specs.Records.{IsLater, RecordState, later_entries}
 use Rattle.race_actors.specs.declared.blocks.BlockActor.{BlockActor}
 use Rattle.race_block.specs.Joined.{HasJoined}
-use Rattle.race_outside.specs.Steps.{StepsOn}
 
 -- the actors did their lines, or the first of them: what each is then, what its clerk wrote down, and how that stands to the record
 pub record HasRunAll (v w : RecordState) (olds news : List BlockActor) (clerks : List Clerk) (differs : Option Differs) : Type 0 where
@@ -19,9 +15,3 @@ pub record HasRunAll (v w : RecordState) (olds news : List BlockActor) (clerks :
   pub all_news : length news ≡ length olds
   pub all_clerks : length clerks ≡ length olds
   pub joined : (i : ℕ) (d : BlockActor) (c : Clerk) → i < length olds → HasJoined w.seat.seen (slice_index_or olds i d) (slice_index_or news i d) (slice_index_or clerks i c)
-
--- the race so far takes this phase, and what it writes was put after what had been written
-pub record WritesOn (v : RecordState) (k : Known) (phase : Phase) (w : RecordState) (next : Known) (before after : Text) : Type 0 where
-  pub written : Text
-  pub text : after ≡ before ++ written
-  pub steps : StepsOn v k phase w next written

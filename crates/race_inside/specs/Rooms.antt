@@ -5,10 +5,9 @@ use Rattle.mem_base.specs.script.Scripts.{Line}
 use Rattle.mem_base.specs.script.Tasks.{Known, task_of}
 use Rattle.mem_base.specs.script.Race.{block, desk_number, lines_by}
 use Rattle.race_lines.specs.declared.tasks.LineTask.{LineTask}
-use Rattle.race_lines.specs.declared.tasks.LineTask.TheVariants.{Idle, Ordered, Shown, Found, Watched, Unwatched, Entered, Left, Read, Written, Copied}
+use Rattle.race_lines.specs.declared.tasks.LineTask.TheVariants.{Ordered, Entered, Left, Read, Written, Copied}
 use Rattle.race_lines.specs.declared.tasks.Refused.{Refused}
 use Rattle.race_phases.specs.Plain.{has_lines}
-use Rattle.race_actors.specs.declared.desks.DeskLine.{DeskLine}
 use Rattle.race_actors.specs.declared.tasks.BlockLine.{BlockLine}
 use Rattle.race_actors.specs.Desks as desks
 use Rattle.race_actors.specs.Desks.{lines_meant}

@@ -1,5 +1,5 @@
 -- What the lines of a block write, by what its actors have after it.
-use Rattle.std.specs.Prelude.{◌≡◌, ℕ, List, [], ◌∷◌, ◌++◌, drop, flat_map, Option, Some, None}
+use Rattle.std.specs.Prelude.{ℕ, List, [], ◌∷◌, ◌++◌, drop, flat_map, Option, Some, None}
 use Rattle.mem_base.specs.declared.map.ids.PassId.{PassId}
 use Rattle.mem_base.specs.declared.machine.records.DeskEntry.{DeskEntry}
 use Rattle.mem_base.specs.views.Listening.{Delivery}

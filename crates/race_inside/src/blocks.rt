@@ -9,8 +9,8 @@ ghost use Rattle.desk_lock.specs.Records.{IsLater};
 ghost use Rattle.race_actors.specs.Blocks.{CanAct};
 ghost use Rattle.race_level.specs.Levels.{HasMet, IsHeard, IsOfCabinet};
 ghost use Rattle.race_level.specs.Ready.{AreReady};
-ghost use Rattle.race_outside.specs.Steps.{StopsIn};
-ghost use Rattle.race_inside.specs.Blocks.{HasRunAll, WritesOn};
+ghost use Rattle.race_outside.specs.Outside.{StopsIn, WritesOn};
+ghost use Rattle.race_inside.specs.Blocks.{HasRunAll};
 ghost use Rattle.race_inside.specs.Seats.{AreSeated};
 
 use crate::rooms::room_for;

@@ -1,5 +1,5 @@
 // What a block writes, after it: the desk's lines, each pass's, and where what an actor got differs from the record.
-ghost use Rattle.std.specs.Prelude.{◌≡◌, ◌++◌, false, flat_map, length, OnOk};
+ghost use Rattle.std.specs.Prelude.{◌≡◌, ◌++◌, false, flat_map, OnOk};
 ghost use Rattle.std.specs.List.{list_any};
 ghost use Rattle.mem_base.specs.script.Race.{differs_line};
 ghost use Rattle.mem_base.specs.script.RaceLines.{entry_at, said_text};

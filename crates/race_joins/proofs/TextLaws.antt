@@ -37,8 +37,7 @@ use Rattle.race_actors.specs.declared.desks.DeskActor.{DeskActor}
 use Rattle.race_actors.specs.declared.passes.PassActor.{PassActor}
 use Rattle.race_actors.specs.Desks.{DeskKeeps}
 use Rattle.race_actors.specs.Laws.{saids}
-use Rattle.race_outside.specs.Outside.{stand_of}
-use Rattle.race_outside.specs.Steps.{StepsOn}
+use Rattle.race_outside.specs.Outside.{StepsOn, stand_of}
 use Rattle.race_joins.specs.Ran.{HasRunBlock, actor_text, actors_text, block_text, known_after_block}
 use Rattle.race_joins.specs.Laws.{BlocksMayStop, BlocksStepOn}
 use Rattle.race_joins.proofs.ListLaws.{Each, each_weaker, flat_actors, has_lines, no_lines}

@@ -8,7 +8,7 @@ use Rattle.mem_base.specs.script.Tasks.{Known}
 use Rattle.mem_base.specs.script.Race.{block}
 use Rattle.desk_lock.specs.Records.{RecordState}
 use Rattle.race_actors.specs.declared.blocks.BlockActor.{BlockActor}
-use Rattle.race_outside.specs.Steps.{StepsOn, StopsIn}
+use Rattle.race_outside.specs.Outside.{StepsOn, StopsIn}
 use Rattle.race_joins.specs.Ran.{HasRunBlock, block_text, is_out_of_memory, known_after_block}
 
 -- where memory lasted for all actors, the race so far takes the block, with its text

@@ -1,5 +1,5 @@
 -- A line of a pass outside the block, from what its virtual CPU or the record did to the race that goes on.
-use Rattle.std.proofs.Common.{◌≡◌, ◌≢◌, ℕ, ◌+◌, ◌<◌, List, [], ◌∷◌, ◌++◌, drop, length, map, Result, Ok, Err, append-nil, refl, sym, ap, subst, ◌∙◌}
+use Rattle.std.proofs.Common.{◌≡◌, ◌≢◌, ℕ, ◌+◌, ◌<◌, List, [], ◌∷◌, ◌++◌, drop, length, map, Result, Ok, Err, IfOk, OnErr, OnOk, append-nil, refl, sym, ap, subst, ◌∙◌}
 use Rattle.std.specs.Prelude.{All, flat_map, slice_index_or}
 use mathlib.Core.List.{IsPrefix}
 use mathlib.Core.Logic.{dite}
@@ -18,6 +18,7 @@ use Rattle.mem_base.specs.machine.Reaps.{Writer}
 use Rattle.mem_base.specs.machine.Records.{FitsDeskOrder, Given, journal_length, recorded}
 use Rattle.mem_base.specs.machine.SharedHistory.{IsSharedLegal}
 use Rattle.mem_base.specs.machine.Turns.{entries_of_turn, replies_of}
+use Rattle.mem_base.specs.views.Listening.{Delivery}
 use Rattle.mem_base.specs.script.Named.{Names}
 use Rattle.mem_base.specs.script.Spelling.{Text}
 use Rattle.mem_base.specs.script.Scripts.{Line}
@@ -60,8 +61,8 @@ use Rattle.race_level.specs.Ready.{AreReady}
 use Rattle.race_level.specs.Settling.{AreLevel, HaveMet, OnePassMade, pass_at}
 use Rattle.race_level.proofs.SettlingLaws.{desk_settles, pass_settles}
 use Rattle.race_level.proofs.ReadyLaws.{have_met, ready_again}
-use Rattle.race_outside.specs.Outside.{StepsOn, StopsIn, stand_of}
-use Rattle.race_outside.specs.Passes.{Changed, DoesPassLine, HasActed, HasDoneLine, HasDoneNothing, HasOrdered, IsIdle, said_by}
+use Rattle.race_outside.specs.Outside.{StepsOn, StopsIn, WritesOn, stand_of}
+use Rattle.race_outside.specs.Passes.{Changed, DoesPassLine, HasActed, HasDoneLine, HasDoneNothing, HasOrdered, HasSettled, IsIdle, IsWritten, said_by}
 
 -- what is kept of an answer says what the answer writes
 said_answer : (names : Names) (pass : PassId) (n : ℕ) (answer : LineAnswer) → said_of names pass n (said_by answer) ≡ says (answer_text pass answer)
@@ -159,7 +160,7 @@ steps_by v w k line p given ys said near actor grew lawful came pool done text s
 module _ (v m w : RecordState) (k : Known) (line : Line) (p : ℕ) (a b : PassValue Published) (olds between news : List (PassValue Published))
     (near : p < most_passes) (actor : actor_number line.1 ≡ p) (grew : GrewBy [] m w) (lawful : IsLegal w.seat.sizes w.seat.seen)
     (level : AreLevel v.seat.seen olds) (changed : Changed p a b olds between) (met : HaveMet w.seat.seen between news) where
-  pass : PassId
+  abbrev pass : PassId
   pass = pass_id p
 
   from_before : m ≡ v → GrewBy [] v w
@@ -295,49 +296,99 @@ module _ (v m w : RecordState) (k : Known) (line : Line) (p : ℕ) (a b : PassVa
 
 -- The same by what a line of a pass leaves, once all are level again
 
-module _ (v m w : RecordState) (p : ℕ) (olds between news : List (PassValue Published)) (near : p < most_passes) (ready : AreReady v olds)
-    (grew : GrewBy [] m w) (lawful : IsLegal w.seat.sizes w.seat.seen) (heard : All (IsHeard w.seat.seen) between)
-    (met : (i : ℕ) (d : PassValue Published) → i < length between → HasMet w.seat.seen (slice_index_or between i d) (slice_index_or news i d)) where
+-- the virtual CPUs after a line, and before they are level
+pub record AreBetween (p : ℕ) (olds between : List (PassValue Published)) : Type 0 where
+  pub a : PassValue Published
+  pub b : PassValue Published
+  pub changed : Changed p a b olds between
+  pub same : IsSame a b
+
+module _ (v m : RecordState) (p : ℕ) (olds between : List (PassValue Published)) (near : p < most_passes) (ready : AreReady v olds) where
   within : p < length olds
   within = subst (λ (n : ℕ). p < n) (sym ready.all) near
 
   inside_at : (a b : PassValue Published) → Changed p a b olds between → IsInItsGeneration a
   inside_at a b c = subst IsInItsGeneration (c.was a) (ready.inside p a within)
 
-  met_all : (a b : PassValue Published) → Changed p a b olds between → HaveMet w.seat.seen between news
-  met_all a b c = have_met w.seat.seen between news (c.count ∙ ready.all) met
+  pub done_between : (task : Result LineTask Refused) (said : PassSaid) → HasDoneLine p v olds task said m between → AreBetween p olds between
+  done_between task said h = record {
+    a = h.a;
+    b = h.b;
+    changed = h.changed;
+    same = is_same p v m h.a h.b task said h.does (inside_at h.a h.b h.changed);
+  }
 
-  changed_ready : (a b : PassValue Published) → Changed p a b olds between → IsSame a b → w.seat.cabinet ≡ v.seat.cabinet → length news ≡ length between
-      → AreReady w news
-  changed_ready a b c same cabinet count = ready_again w between news (c.count ∙ ready.all) count
-      (all_between (IsOfCabinet w.seat.cabinet) p a b olds between c own (λ i d l. ready.own i d l ∙ sym cabinet))
-      (all_between IsInItsGeneration p a b olds between c same.inside ready.inside) numbers met
-    where
-      own : IsOfCabinet w.seat.cabinet b
-      own = same.cabinet ∙ subst (λ (x : PassValue Published). x.cabinet ≡ v.seat.cabinet) (c.was a) (ready.own p a within) ∙ sym cabinet
+  pub nothing_between : HasDoneNothing p v olds m between → AreBetween p olds between
+  nothing_between h = record {
+    a = h.a;
+    b = h.a;
+    changed = h.changed;
+    same = record { cabinet = refl; number = refl; inside = inside_at h.a h.a h.changed };
+  }
 
-      numbers : (i : ℕ) (d : PassValue Published) → i < most_passes → (pass_at between i d).number ≡ i
-      numbers i d l = dite (ℕ_discrete i p)
-          (λ at. ap (λ (n : ℕ). (pass_at between n d).number) at ∙ ap (λ (x : PassValue Published). x.number) (c.is d) ∙ same.number
-          ∙ ap (λ (x : PassValue Published). x.number) (sym (c.was d)) ∙ (ready.level p d near).0 ∙ sym at)
-          (λ other. ap (λ (x : PassValue Published). x.number) (c.others i d other) ∙ (ready.level i d l).0)
+  pub still_own : (r : RecordState) → AreBetween p olds between → r.seat.cabinet ≡ v.seat.cabinet → All (IsOfCabinet r.seat.cabinet) between
+  still_own r x cabinet =
+      let was : x.a.cabinet ≡ v.seat.cabinet =
+      subst (λ (y : PassValue Published). y.cabinet ≡ v.seat.cabinet) (x.changed.was x.a) (ready.own p x.a within) in
+      all_between (IsOfCabinet r.seat.cabinet) p x.a x.b olds between x.changed (x.same.cabinet ∙ was ∙ sym cabinet)
+      (λ i d l. ready.own i d l ∙ sym cabinet)
 
-  pub done_ready : (task : Result LineTask Refused) (said : PassSaid) → HasDoneLine p v olds task said m between → w.seat.cabinet ≡ v.seat.cabinet
-      → length news ≡ length between → AreReady w news
-  done_ready task said h = changed_ready h.a h.b h.changed (is_same p v m h.a h.b task said h.does (inside_at h.a h.b h.changed))
+  numbers : AreBetween p olds between → (i : ℕ) (d : PassValue Published) → i < most_passes → (pass_at between i d).number ≡ i
+  numbers x i d l = dite (ℕ_discrete i p)
+      (λ at. ap (λ (n : ℕ). (pass_at between n d).number) at ∙ ap (λ (y : PassValue Published). y.number) (x.changed.is d) ∙ x.same.number
+      ∙ ap (λ (y : PassValue Published). y.number) (sym (x.changed.was d)) ∙ (ready.level p d near).0 ∙ sym at)
+      (λ other. ap (λ (y : PassValue Published). y.number) (x.changed.others i d other) ∙ (ready.level i d l).0)
 
-  pub nothing_ready : HasDoneNothing p v olds m between → w.seat.cabinet ≡ v.seat.cabinet → length news ≡ length between → AreReady w news
-  nothing_ready h = changed_ready h.a h.a h.changed (record { cabinet = refl; number = refl; inside = inside_at h.a h.a h.changed })
+  module _ (w : RecordState) (news : List (PassValue Published)) (settled : HasSettled m between w news) where
+    met_all : (a b : PassValue Published) → Changed p a b olds between → HaveMet w.seat.seen between news
+    met_all a b c = have_met w.seat.seen between news (c.count ∙ ready.all) settled.met
 
-  pub done_steps : (k : Known) (line : Line) (task : Result LineTask Refused) (said : PassSaid) → actor_number line.1 ≡ p → FitsCommand line.1
-      → Resolves k task (task_of k line.1) → HasDoneLine p v olds task said m between
-      → StepsOn v k (alone line) w k (said_text k.names w.part.desk.listening.journal (said_of k.names (pass_id p) line.0 said))
-  done_steps k line task said actor fits r h =
-      let c : Changed p h.a h.b olds between = h.changed in
-      let begins : IsPrefix h.b.seen w.seat.seen = subst (λ (x : PassValue Published). IsHeard w.seat.seen x) (c.is h.b)
-      (heard p h.b (subst (λ (n : ℕ). p < n) (sym c.count) within)) in
-      line_steps v m w k line p h.a h.b olds between news near actor grew lawful ready.level c (met_all h.a h.b c) begins task said r fits h.does
+    pub between_ready : AreBetween p olds between → m.seat.cabinet ≡ v.seat.cabinet → AreReady w news
+    between_ready x cabinet = ready_again w between news (x.changed.count ∙ ready.all) settled.count
+        (still_own w x (settled.grew.cabinet ∙ cabinet))
+        (all_between IsInItsGeneration p x.a x.b olds between x.changed x.same.inside ready.inside) (numbers x) settled.met
 
-  pub nothing_steps : (k : Known) (line : Line) → actor_number line.1 ≡ p → HasDoneNothing p v olds m between → StopsIn v k (alone line) w
-  nothing_steps k line actor h =
-      idle_stops v m w k line p h.a h.a olds between news near actor grew lawful ready.level h.changed (met_all h.a h.a h.changed) h.desk refl
+    pub done_steps : (k : Known) (line : Line) (task : Result LineTask Refused) (said : PassSaid) → actor_number line.1 ≡ p → FitsCommand line.1
+        → Resolves k task (task_of k line.1) → HasDoneLine p v olds task said m between
+        → StepsOn v k (alone line) w k (said_text k.names w.part.desk.listening.journal (said_of k.names (pass_id p) line.0 said))
+    done_steps k line task said actor fits r h =
+        let c : Changed p h.a h.b olds between = h.changed in
+        let begins : IsPrefix h.b.seen w.seat.seen = subst (λ (x : PassValue Published). IsHeard w.seat.seen x) (c.is h.b)
+        (settled.heard p h.b (subst (λ (n : ℕ). p < n) (sym c.count) within)) in
+        line_steps v m w k line p h.a h.b olds between news near actor settled.grew settled.legal ready.level c (met_all h.a h.b c) begins task said r
+        fits h.does
+
+    pub nothing_steps : (k : Known) (line : Line) → actor_number line.1 ≡ p → HasDoneNothing p v olds m between → StopsIn v k (alone line) w
+    nothing_steps k line actor h =
+        idle_stops v m w k line p h.a h.a olds between news near actor settled.grew settled.legal ready.level h.changed (met_all h.a h.a h.changed) h.desk
+        refl
+
+-- In either case of a result
+
+pub either_way : {A E : Type 0} {P : A → Type 0} {Q S : Type 0} (r : Result A E) → IfOk r P → OnErr r Q → ((a : A) → P a → S) → (Q → S) → S
+either_way (Ok a) p q f g = f a p
+either_way (Err e) p q f g = g q
+
+pub steps_written : {T E F : Type 0} {P : PassSaid → Type 0} (v w : RecordState) (k : Known) (phase : Phase) (journal : List Delivery) (who : PassId)
+    (n : ℕ) (before after : Text) (res : Result T F) (r : Result PassSaid E) → OnOk res (IsWritten k.names journal who n before after r) → IfOk r P
+    → ((said : PassSaid) → P said → StepsOn v k phase w k (said_text k.names journal (said_of k.names who n said)))
+    → OnOk res (WritesOn v k phase w k before after)
+steps_written v w k phase journal who n before after (Ok x) (Ok said) is p f =
+    record { written = said_text k.names journal (said_of k.names who n said); text = is; steps = f said p }
+steps_written v w k phase journal who n before after (Ok x) (Err e) is p f = absurd is
+steps_written v w k phase journal who n before after (Err e) r is p f = tt
+
+-- A line on the virtual CPU that was taken out and put back
+
+pub if_done : {E : Type 0} (r : Result PassSaid E) (p : ℕ) (v : RecordState) (olds : List (PassValue Published)) (task : Result LineTask Refused)
+    (m : RecordState) (news : List (PassValue Published)) (a b : PassValue Published) → IfOk r (λ said. DoesPassLine p v a task said m b)
+    → Changed p a b olds news → IfOk r (λ said. HasDoneLine p v olds task said m news)
+if_done (Ok said) p v olds task m news a b does changed = record { a = a; b = b; does = does; changed = changed }
+if_done (Err e) p v olds task m news a b does changed = tt
+
+pub on_nothing : {E : Type 0} (r : Result PassSaid E) (p : ℕ) (v : RecordState) (olds : List (PassValue Published)) (m : RecordState)
+    (news : List (PassValue Published)) (a b : PassValue Published) → OnErr r ((m ≡ v) × (b ≡ a)) → Changed p a b olds news
+    → OnErr r (HasDoneNothing p v olds m news)
+on_nothing (Ok said) p v olds m news a b same changed = tt
+on_nothing (Err e) p v olds m news a b same changed =
+    record { a = a; desk = same.0; changed = subst (λ (x : PassValue Published). Changed p a x olds news) same.1 changed }

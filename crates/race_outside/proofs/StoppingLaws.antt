@@ -6,6 +6,9 @@ use Rattle.mem_base.specs.map.Limits.{most_passes, notifier_count}
 use Rattle.mem_base.specs.machine.Records.{FitsDeskOrder, Given}
 use Rattle.mem_base.specs.machine.SharedHistory.{IsSharedLegal}
 use Rattle.mem_base.specs.script.Spelling.{Text}
+use Rattle.mem_base.specs.views.Listening.{Delivery}
+use Rattle.mem_base.specs.script.Named.{Names}
+use Rattle.mem_base.specs.script.RaceLines.{Said, said_text}
 use Rattle.mem_base.specs.script.Scripts.{Line}
 use Rattle.mem_base.specs.script.Run.{pool_words}
 use Rattle.mem_base.specs.script.Tasks.{Known, Resolved, Task, task_of}
@@ -32,7 +35,7 @@ use Rattle.race_lines.specs.LineTasks.{Resolves, name_made}
 use Rattle.race_level.specs.Settling.{AreLevel, HaveMet}
 use Rattle.race_level.proofs.SettlingLaws.{desk_settles}
 use Rattle.race_outside.specs.Asked.{StopsAsking, TakesOwn}
-use Rattle.race_outside.specs.Outside.{StepsOn, StopsIn, sizes_of, stand_of}
+use Rattle.race_outside.specs.Outside.{StepsOn, StopsIn, WritesOn, sizes_of, stand_of}
 
 pub on_failure : {T E : Type 0} (r : Result T E) (P : Type 0) → P → OnErr r P
 on_failure (Ok x) P p = tt
@@ -101,3 +104,15 @@ module _ (v w : RecordState) (k : Known) (line : Line) (olds news : List (PassVa
   pub asking_stops : FitsCommand line.1 → StopsAsking v k line.1 w → StopsIn v k (alone line) w
   asking_stops fits (inl same) = nothing_stops v w k (alone line) same
   asking_stops fits (inr h) = begun_stops h.task h.got h.first.resolves fits h.first.took
+
+-- a phase was done, and what it says was put after what stood there, by these names and this journal
+pub writes_on : {T E : Type 0} (v w : RecordState) (k next : Known) (phase : Phase) (before after : Text) (said : Said) (names : Names)
+    (journal : List Delivery) (r : Result T E) → OnOk r (after ≡ before ++ said_text names journal said) → names ≡ next.names
+    → journal ≡ w.part.desk.listening.journal → StepsOn v k phase w next (said_text next.names w.part.desk.listening.journal said)
+    → OnOk r (WritesOn v k phase w next before after)
+writes_on v w k next phase before after said names journal (Ok x) is named told steps = record {
+  written = said_text next.names w.part.desk.listening.journal said;
+  text = is ∙ (λ i. before ++ said_text (named i) (told i) said);
+  steps = steps;
+}
+writes_on v w k next phase before after said names journal (Err e) is named told steps = tt

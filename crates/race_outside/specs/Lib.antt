@@ -1,4 +1,3 @@
 pub mod Outside
 pub mod Asked
 pub mod Passes
-pub mod Steps

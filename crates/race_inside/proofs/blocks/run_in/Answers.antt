@@ -1,19 +1,12 @@
-use Rattle.std.specs.Prelude.{slice_index_or}
-use Rattle.std.proofs.Common.{rules, ◌≡◌, ℕ, ◌<◌, List, None, length, All, OnOk, option_to_list, sym, subst, ◌∙◌, ap}
-use Rattle.mem_base.specs.map.Limits.{most_passes}
+use Rattle.std.proofs.Common.{rules, ◌≡◌, None, length, All, sym, subst, ◌∙◌}
 use Rattle.mem_base.specs.script.Race.{block}
-use Rattle.mem_base.specs.script.Tasks.{Known}
-use Rattle.generation.specs.Published.{Published}
-use Rattle.epoch_rule.specs.Values.{PassValue}
 use Rattle.desk_lock.specs.Records.{RecordState}
-use Rattle.race_actors.specs.declared.blocks.BlockActor.{BlockActor}
 use Rattle.race_actors.specs.Blocks.{CanAct}
-use Rattle.race_level.specs.Levels.{HasMet, IsHeard, IsOfCabinet}
 use Rattle.race_level.specs.Ready.{AreReady}
-use Rattle.race_outside.specs.Steps.{StopsIn}
+use Rattle.race_outside.specs.Outside.{StopsIn}
 use Rattle.race_joins.specs.Ran.{HasRunBlock, known_after_block}
 use Rattle.race_joins.proofs.TextLaws.{blocks_may_stop, blocks_step_on}
-use Rattle.race_inside.specs.Seats.{AreSeated, IsKnown}
+use Rattle.race_inside.specs.Seats.{IsKnown}
 use Rattle.race_inside.proofs.BackLaws.{all_heard, all_own, all_ready}
 use Rattle.race_inside.specs.Blocks.{HasRunAll}
 use Rattle.race_inside.proofs.BlockLaws.{came_back, has_run, known_is, known_list, parts, seated_can_all, steps_on}

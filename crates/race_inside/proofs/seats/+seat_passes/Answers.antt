@@ -1,4 +1,4 @@
-use Rattle.std.proofs.Common.{rules, ◌≡◌, [], ◌∷◌, ◌++◌, length}
+use Rattle.std.proofs.Common.{rules, ◌≡◌, length}
 use Rattle.race_inside.proofs.SeatLaws.{none_seated, one_seated}
 use Rattle.race_inside.proofs.seats.+seat_passes.Goals as goal
 

@@ -1,10 +1,8 @@
-use Rattle.std.proofs.Common.{rules, ◌≡◌, ℕ, ◌+◌, ◌<◌, ◌≤◌, ◌==◌, true, false, ◌∷◌, [], ◌++◌, All, length, drop, slice_index_or, sym, subst, arith}
+use Rattle.std.proofs.Common.{rules, ◌≡◌, ℕ, ◌+◌, ◌<◌, ◌≤◌, ◌==◌, true, false, ◌∷◌, [], ◌++◌, All, length, drop, slice_index_or, sym, subst}
 use Rattle.std.proofs.lemmas.List.Elements.{All-push}
 use Rattle.std.proofs.lemmas.List.{drop_all}
 use Rattle.mem_base.specs.script.Scripts.{Line}
 use Rattle.mem_base.specs.script.Race.{actor_number}
-use Rattle.mem_base.proofs.EveryLaws.{every_at}
-use Rattle.run_laws.specs.Fitting.{FitsCommand}
 use Rattle.race_actors.specs.declared.tasks.BlockLine.{BlockLine}
 use Rattle.race_actors.specs.Lines.{FitsLine}
 use Rattle.race_inside.specs.Rooms.{copy_room}

@@ -1,0 +1,21 @@
+use Rattle.std.proofs.Common.{◌≡◌, List, length, sym, subst, ◌∙◌}
+use Rattle.std.proofs.lemmas.List.{take_at}
+use Rattle.generation.specs.Published.{Published}
+use Rattle.epoch_rule.specs.Values.{PassValue}
+use Rattle.race_outside.specs.Passes.{HasSettled}
+use Rattle.race_outside.proofs.passes.settle.Goals as goal
+
+pub returns : goal.returns
+returns c =
+    let news : List (PassValue Published) = c.level.new.cpus in
+    let l = c.level.ensures in record {
+      settled = subst (λ (xs : List (PassValue Published)). HasSettled c.args.desk.now c.args.cpus.now.items c.level.new.desk xs)
+          (sym (take_at news _ c.args.cpus.now.len (l.count ∙ c.as_mut_slice.ensures.len)))
+          (subst (λ (ys : List (PassValue Published)). HasSettled c.args.desk.now ys c.level.new.desk news) c.as_mut_slice.ensures.value (record {
+            grew = l.grew;
+            legal = l.legal;
+            heard = l.heard;
+            count = l.count;
+            met = l.met;
+          }));
+    }
