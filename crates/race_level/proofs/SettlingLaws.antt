@@ -23,8 +23,8 @@ still seen after olds news d level met v l =
     subst (λ (n : ℕ). own_entries (n + 1) after ≡ own_entries (n + 1) seen) at.0
     ((met v d l).own ∙ ap (λ (xs : List HistoryEntry). own_entries ((pass_at olds v d).number + 1) xs) at.1)
 
-pub level_again : (after : List HistoryEntry) (olds news : List (PassValue Published)) → ((v : ℕ) (d : PassValue Published) → v < most_passes → (pass_at olds v d).number ≡ v)
-    → HaveMet after olds news → AreLevel after news
+pub level_again : (after : List HistoryEntry) (olds news : List (PassValue Published))
+    → ((v : ℕ) (d : PassValue Published) → v < most_passes → (pass_at olds v d).number ≡ v) → HaveMet after olds news → AreLevel after news
 level_again after olds news numbers met v d l = ((met v d l).number ∙ numbers v d l, (met v d l).seen_is)
 
 pub desk_settles : DeskSettles

@@ -1,5 +1,6 @@
 -- A line of a pass outside the block, from what its virtual CPU or the record did to the race that goes on.
-use Rattle.std.proofs.Common.{◌≡◌, ℕ, ◌+◌, ◌<◌, List, [], ◌∷◌, ◌++◌, drop, length, map, Result, Ok, Err, IfOk, OnErr, OnOk, append-nil, refl, sym, ap, subst, ◌∙◌}
+use Rattle.std.proofs.Common.{◌≡◌, ℕ, ◌+◌, ◌<◌, List, [], ◌∷◌, ◌++◌, drop, length, map, Result, Ok, Err, IfOk, OnErr, OnOk, append-nil, refl, sym}
+use Rattle.std.proofs.Common.{ap, subst, ◌∙◌}
 use Rattle.std.specs.Prelude.{All, flat_map, slice_index_or}
 use mathlib.Core.List.{IsPrefix}
 use mathlib.Core.Logic.{dite}
@@ -166,7 +167,8 @@ module _ (v m w : RecordState) (k : Known) (line : Line) (p : ℕ) (a b : PassVa
 
   -- where the virtual CPU did nothing, all met the record from where they were
   still_met : b ≡ a → HaveMet w.seat.seen olds news
-  still_met same i d l = subst (λ (x : PassValue Published). HasMet w.seat.seen x (pass_at news i d)) (as_before p a b olds between changed same i d) (met i d l)
+  still_met same i d l =
+      subst (λ (x : PassValue Published). HasMet w.seat.seen x (pass_at news i d)) (as_before p a b olds between changed same i d) (met i d l)
 
   seen_by : (given : List Given) → GrewBy given v w → b ≡ a → (pool : ℕ) → IsSharedLegal (pool + notifier_count) most_passes w.seat.seen
       → w.seat.seen ≡ v.seat.seen ++ flat_map entries_of_turn (turns_given v.part given)

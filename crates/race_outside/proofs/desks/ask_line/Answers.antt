@@ -21,7 +21,8 @@ returns-in_err-current-clause-stopped g c = on_failure c.from_residual-in_err-cu
   got = c.in_ok-got.got;
   first = record {
     resolves = c.in_ok-task.ensures;
-    took = subst (λ (r : RecordState). TakesOwn c.args.desk.now c.in_ok-task.task c.in_ok-got.got r) (sym c.in_err-current.ensures.err) c.in_ok-got.ensures.took;
+    took = subst (λ (r : RecordState). TakesOwn c.args.desk.now c.in_ok-task.task c.in_ok-got.got r) (sym c.in_err-current.ensures.err)
+        c.in_ok-got.ensures.took;
   };
 }))
 
