@@ -116,7 +116,8 @@ one_seated k lines r cpus fewer works less cpu work who olds mid news before bet
     let inside : length fewer < length cpus = omega (arith, long) in
     let within : length fewer < length works = omega (arith, wide, even) in
     let here : IsSeatOf r (length fewer) cpu = subst (IsSeatOf r (length fewer))
-    (ap (λ (xs : List (PassValue Published)). get_or xs (length fewer) cpu) c ∙ get_or_push fewer cpu cpu (length fewer) refl) (seats (length fewer) cpu inside) in
+    (ap (λ (xs : List (PassValue Published)). get_or xs (length fewer) cpu) c ∙ get_or_push fewer cpu cpu (length fewer) refl)
+    (seats (length fewer) cpu inside) in
     let todo : IsWorkOf k lines (length fewer) work = subst (IsWorkOf k lines (length fewer))
     (ap (λ (xs : List PassWork). get_or xs (length fewer) work) w ∙ get_or_push less work work (length fewer) even) (does (length fewer) work within) in
     let others : AreSeatsOf r fewer = λ p d l. subst (IsSeatOf r p)

@@ -75,7 +75,8 @@ last_seat r [] p (x ∷ y ∷ xs) h = absurd h.1
 last_seat r (q ∷ ps) p [] h = absurd h
 last_seat r (q ∷ ps) p (x ∷ xs) h =
     let rest = last_seat r ps p xs h.1 in
-    record { front = x ∷ rest.front; last = rest.last; is = ap (λ (l : List (PassValue Published)). x ∷ l) rest.is; seats = (h.0, rest.seats); seat = rest.seat }
+    let is : x ∷ xs ≡ (x ∷ rest.front) ++ rest.last ∷ [] = ap (λ (l : List (PassValue Published)). x ∷ l) rest.is in
+    record { front = x ∷ rest.front; last = rest.last; is = is; seats = (h.0, rest.seats); seat = rest.seat }
 
 pub record LastActor (r : RecordState) (ps : List ℕ) (p : ℕ) (xs : List BlockActor) : Type 0 where
   pub front : List BlockActor

@@ -14,4 +14,5 @@ pub record HasRunAll (v w : RecordState) (olds news : List BlockActor) (clerks :
   pub closes : Closes (later_entries v w) clerks differs
   pub all_news : length news ≡ length olds
   pub all_clerks : length clerks ≡ length olds
-  pub joined : (i : ℕ) (d : BlockActor) (c : Clerk) → i < length olds → HasJoined w.seat.seen (slice_index_or olds i d) (slice_index_or news i d) (slice_index_or clerks i c)
+  pub joined : (i : ℕ) (d : BlockActor) (c : Clerk) → i < length olds
+      → HasJoined w.seat.seen (slice_index_or olds i d) (slice_index_or news i d) (slice_index_or clerks i c)

@@ -23,8 +23,8 @@ loop-line-preserved c =
           let mine : (actor_number line.1 == c.args.who) ≡ true = search rules in
           let x : BlockLine = w.in_ok-own_line.own_line in
           let put : c.if-actor_number-who.own.items ≡ c.loop-line.own.items ++ x ∷ [] = search rules in (
-            one_more c.args.known.now c.args.who lines (drop i lines) (drop (i + 1) lines) line c.loop-line.own.items c.if-actor_number-who.own.items x left mine
-                w.in_ok-own_line.ensures.is put c.loop-line.invariant.0,
+            one_more c.args.known.now c.args.who lines (drop i lines) (drop (i + 1) lines) line c.loop-line.own.items
+                c.if-actor_number-who.own.items x left mine w.in_ok-own_line.ensures.is put c.loop-line.invariant.0,
             subst (All (FitsLine copy_room)) (sym put) (All-push (FitsLine copy_room) c.loop-line.own.items x c.loop-line.invariant.1
                 w.in_ok-own_line.ensures.fits),
           )
