@@ -1,4 +1,5 @@
 pub mod OpeningLaws
 pub mod ClosingLaws
 pub mod LineLaws
+pub mod WritingLaws
 pub mod RacingLaws

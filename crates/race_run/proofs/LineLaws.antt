@@ -90,7 +90,3 @@ take_all lines i far = ap phases_alone (take_past i lines far)
 -- the phases of a script by its lines
 pub phases_are : (script lines : List Line) (phases : List Phase) → lines ≡ script → phases_of lines ≡ phases → phases ≡ phases_of script
 phases_are script lines phases same is = sym is ∙ ap phases_of same
-
--- a text, cut
-pub cut_text : (text front back : List ℕ) (n : ℕ) → front ≡ take n text → back ≡ drop n text → text ≡ front ++ back
-cut_text text front back n first rest = sym (take-append-drop n text) ∙ (λ i. sym first i ++ sym rest i)

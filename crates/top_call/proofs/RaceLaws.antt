@@ -43,12 +43,16 @@ write_done e = cc
 write_read : endings.WriteFault ≡ endings.ReadFault → ⊥
 write_read e = cc
 
-lines_in_it : Meaning → List Line → List Line
+abbrev lines_in_it : Meaning → List Line → List Line
 lines_in_it (Ok lines) others = lines
 lines_in_it (Err bad) others = others
 
 same_lines : (lines others : List Line) → meant lines ≡ meant others → lines ≡ others
 same_lines lines others e = ap (λ (m : Meaning). lines_in_it m lines) e
+
+-- the commands that are meant fit
+pub fits_meant : (script : List Line) → AreFitting script → (lines : List Line) → meant script ≡ Ok lines → AreFitting lines
+fits_meant script fits lines e = subst AreFitting (same_lines script lines e) fits
 
 -- each script has a text as a race
 pub some_text : (script : Meaning) → ((lines : List Line) → script ≡ Ok lines → AreFitting lines) → (text : List ℕ) × IsRacedText script text
@@ -91,11 +95,13 @@ module _ {K : Type 0} (written : K → Option (List ℕ)) (holds : K → List �
   }
 
   -- the race was done
-  pub raced : (write_faults : K → ℕ) (lines : List Line) (sink sink' : K) (c : ConfigState) → TakesOne written holds sink sink' (IsTextOfRace lines c.seat.seen)
-      → (Every IsAlone (phases_of lines) → Writes written holds write_faults sink sink' (text_of lines) Write (Ok tt))
+
+  raced_by : (write_faults : K → ℕ) (lines : List Line) (sink sink' : K) (c : ConfigState) (x : Unit {0})
+      → TakesOne written holds sink sink' (IsTextOfRace lines c.seat.seen)
+      → (Every IsAlone (phases_of lines) → Writes {T = Unit {0}} {E = RunFault} written holds write_faults sink sink' (text_of lines) Write (Ok x))
       → c.seat.out ≡ replicate most_passes false
       → WritesRaceOf written holds (Ok lines) sink sink' (Some c) endings.Done
-  raced write_faults lines sink sink' c took run home = record {
+  raced_by write_faults lines sink sink' c x took run home = record {
     done = λ e. (lines, c, refl, refl, record { home = home; text = took.0; race = took.2; took = took.1 });
     kept = λ n. absurd (n refl);
     plain = λ others e all. plain_done others (same_lines lines others e) all;
@@ -111,13 +117,24 @@ module _ {K : Type 0} (written : K → Option (List ℕ)) (holds : K → List �
             part = TakesPrefix-all written holds sink sink' (text_of lines) wrote.all;
           }) all
 
+  pub raced : (write_faults : K → ℕ) (lines : List Line) (sink sink' : K) (c : ConfigState) (r : Result (Unit {0}) RunFault) (x : Unit {0}) → r ≡ Ok x
+      → OnOk r (TakesOne written holds sink sink' (IsTextOfRace lines c.seat.seen))
+      → (Every IsAlone (phases_of lines) → Writes written holds write_faults sink sink' (text_of lines) Write r)
+      → c.seat.out ≡ replicate most_passes false
+      → WritesRaceOf written holds (Ok lines) sink sink' (Some c) endings.Done
+  raced write_faults lines sink sink' c r x is whole run home =
+      raced_by write_faults lines sink sink' c x
+      (subst (λ (z : Result (Unit {0}) RunFault). OnOk z (TakesOne written holds sink sink' (IsTextOfRace lines c.seat.seen))) is whole)
+      (λ all. subst (λ (z : Result (Unit {0}) RunFault). Writes written holds write_faults sink sink' (text_of lines) Write z) is (run all)) home
+
   -- it stopped
-  pub race_stopped : (write_faults : K → ℕ) (lines : List Line) (sink sink' : K) (c : ConfigState) (fault : RunFault) (ending : Ending)
+
+  stopped_by : (write_faults : K → ℕ) (lines : List Line) (sink sink' : K) (c : ConfigState) (fault : RunFault) (ending : Ending)
       → (ending ≡ endings.WriteFault) ⊎ (ending ≡ endings.Memory)
       → TakesOne written holds sink sink' (HasStopped lines c)
-      → (Every IsAlone (phases_of lines) → Writes written holds write_faults sink sink' (text_of lines) Write (Err fault))
+      → (Every IsAlone (phases_of lines) → Writes {T = Unit {0}} {E = RunFault} written holds write_faults sink sink' (text_of lines) Write (Err fault))
       → WritesRaceOf written holds (Ok lines) sink sink' None ending
-  race_stopped write_faults lines sink sink' c fault ending which took run = record {
+  stopped_by write_faults lines sink sink' c fault ending which took run = record {
     done = λ e. absurd (not_done which e);
     kept = λ n. refl;
     plain = λ others e all. plain_part others (same_lines lines others e) all;
@@ -142,3 +159,13 @@ module _ {K : Type 0} (written : K → Option (List ℕ)) (holds : K → List �
       plain_part : (others : List Line) → lines ≡ others → Every IsAlone (phases_of others) → WritesPlain written holds others sink sink' ending
       plain_part others is all = subst (λ (ls : List Line). Every IsAlone (phases_of ls) → WritesPlain written holds ls sink sink' ending) is
           (λ alone. let wrote = run alone in record { whole = λ d. absurd (not_done which d); part = wrote.prefix }) all
+
+  pub race_stopped : (write_faults : K → ℕ) (lines : List Line) (sink sink' : K) (c : ConfigState) (r : Result (Unit {0}) RunFault) (fault : RunFault)
+      (ending : Ending) → (ending ≡ endings.WriteFault) ⊎ (ending ≡ endings.Memory) → r ≡ Err fault
+      → OnErr r (TakesOne written holds sink sink' (HasStopped lines c))
+      → (Every IsAlone (phases_of lines) → Writes written holds write_faults sink sink' (text_of lines) Write r)
+      → WritesRaceOf written holds (Ok lines) sink sink' None ending
+  race_stopped write_faults lines sink sink' c r fault ending which is part run =
+      stopped_by write_faults lines sink sink' c fault ending which
+      (subst (λ (z : Result (Unit {0}) RunFault). OnErr z (TakesOne written holds sink sink' (HasStopped lines c))) is part)
+      (λ all. subst (λ (z : Result (Unit {0}) RunFault). Writes written holds write_faults sink sink' (text_of lines) Write z) is (run all))

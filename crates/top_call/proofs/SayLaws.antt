@@ -6,7 +6,7 @@ use Rattle.mem_base.specs.declared.script.tasks.Task.{Task}
 use Rattle.mem_base.specs.declared.script.tasks.Task.TheVariants.{Run, Race, Make, Demo}
 use Rattle.top_call.specs.declared.endings.Ending.{Ending}
 use Rattle.top_call.specs.declared.endings.Ending.TheVariants.{Memory}
-use Rattle.top_call.specs.Asks.{IfDemo, IfMake, IfRun, IfUsage, UnlessReads}
+use Rattle.top_call.specs.Asks.{IfDemo, IfMake, IfRace, IfRun, IfUsage, UnlessReads}
 use Rattle.top_call.specs.Says.{IsLeftAlone, Says}
 
 pub says_nothing : {K : Type 0} (written : K → Option (List ℕ)) (holds : K → List ℕ → Type 0) (write_faults : K → ℕ) (text : List ℕ) (said : Ending)
@@ -56,3 +56,11 @@ if_usage (Some Run) fact f = tt
 if_usage (Some Race) fact f = tt
 if_usage (Some (Make seed)) fact f = tt
 if_usage (Some (Demo seed)) fact f = tt
+
+-- a machine that is kept is one
+pub if_race_one : {M : Type 0} (task : Option Task) (fact : M → Type 0) (m : M) → IfRace task (fact m) → IfRace task ((machine : M) × fact machine)
+if_race_one None fact m f = tt
+if_race_one (Some Run) fact m f = tt
+if_race_one (Some Race) fact m f = (m, f)
+if_race_one (Some (Make seed)) fact m f = tt
+if_race_one (Some (Demo seed)) fact m f = tt

@@ -66,12 +66,7 @@ pub(crate) fn race_text<R: Threads + Wait + Sync, K: Sink, G: Gate>(
 }
 
 /// Races the script that the source gives, and hands out the machine on which it ran, where it ended with `Done`.
-pub(crate) fn race_source<
-    R: Threads + Wait + Sync,
-    S: Source,
-    K: Sink,
-    G: Gate,
->(
+pub(crate) fn race_source<R: Threads + Wait + Sync, S: Source, K: Sink, G: Gate>(
     rt: &R,
     alloc: Global,
     source: &mut S,

@@ -20,5 +20,5 @@ returns-clause-goes g c =
     (record { desk = r.0; cpus = r.1; known = r.2; bounce = c.args.racer.bounce }) c.say-said.result)
     (sym (some_by c.args.lines.now c.is_empty.result c.is_empty.ensures c.if-is_empty.false))
     (goes_done g.S.Sink.written g.S.Sink.holds g.S.Sink.faults c.args.sink.now c.say-said.new.sink (block c.args.lines.now) c.args.racer
-    (record { desk = r.0; cpus = r.1; known = r.2; bounce = c.args.racer.bounce }) c.new-text.result c.block-desk.new._text r.3 c.say-said.result e.later
+    (record { desk = r.0; cpus = r.1; known = r.2; bounce = c.args.racer.bounce }) c.new-text.result c.block-desk.new.text r.3 c.say-said.result e.later
     c.new-text.ensures e.step (on_err r.3 (StopsIn c.args.racer.desk c.args.racer.known (block c.args.lines.now) r.0) e.stopped) c.say-said.ensures.wrote c.say-said.ensures.memory)

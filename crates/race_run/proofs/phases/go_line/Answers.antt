@@ -8,5 +8,5 @@ returns-clause-goes g c =
     let n = c.outside_line-bounce.new in
     let r = c.outside_line-bounce.result in
     goes_done g.S.Sink.written g.S.Sink.holds g.S.Sink.faults c.args.sink.now c.say-said.new.sink (alone (c.args.number, c.args.command.now)) c.args.racer
-    (record { desk = n.desk; cpus = n._cpus; known = n._known; bounce = r.0 }) c.new-text.result n._text r.1 c.say-said.result e.later c.new-text.ensures
+    (record { desk = n.desk; cpus = n.cpus; known = n.known; bounce = r.0 }) c.new-text.result n.text r.1 c.say-said.result e.later c.new-text.ensures
     e.step e.stopped c.say-said.ensures.wrote c.say-said.ensures.memory

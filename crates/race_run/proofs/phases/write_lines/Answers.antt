@@ -1,8 +1,7 @@
 use Rattle.std.proofs.Common.{[], rules, subst, sym}
 use Rattle.std.proofs.lemmas.List.{append-nil}
 use Rattle.outside.specs.Sink.{TakesPrefix}
-use Rattle.script_run.proofs.Writing.{Through, through_next, through_prefix}
-use Rattle.race_run.proofs.LineLaws.{cut_text}
+use Rattle.race_run.proofs.WritingLaws.{Through, cut_text, through_next, through_prefix}
 use Rattle.race_run.proofs.RacingLaws.{on_err}
 use Rattle.race_run.proofs.phases.write_lines.Goals as goal
 

@@ -1,5 +1,5 @@
 use Rattle.std.proofs.Common.{length}
-use Rattle.script_run.proofs.Writing.{Through}
+use Rattle.race_run.proofs.WritingLaws.{Through}
 use Rattle.race_run.proofs.phases.write_lines.Given as goal
 
 abbrev pub invariant-loop-end : goal.invariant-loop-end
