@@ -1,25 +1,20 @@
 -- Passes that leave and are taken in.
-use Rattle.std.proofs.Common.{◌≡◌, ◌≢◌, ℕ, zero, suc, ◌+◌, ◌<◌, ◌≤◌, Bool, true, false, not, List, [], ◌∷◌, ◌++◌, length, get_or, set, replicate, Option, Some, None}
+use Rattle.std.proofs.Common.{◌≡◌, ℕ, suc, ◌+◌, ◌<◌, Bool, false, not, List, [], ◌∷◌, ◌++◌, length, get_or, set, replicate, Option, Some, None}
 use Rattle.std.proofs.Common.{refl, sym, ap, subst, ◌∙◌, arith, append-nil}
-use mathlib.Core.Logic.{dite}
 use mathlib.Core.List.{IsPrefix}
-use native.Mathlib.Decide.{ℕ_discrete}
-use base.Growing.{prefix_refl, prefix_trans}
-use Rattle.std.specs.Prelude.{IfSome, is_some, option_map, option_to_list}
+use Rattle.std.specs.Prelude.{IfSome, is_some, option_map}
 use Rattle.std.proofs.lemmas.List.{append_cancel_left, length-append}
 use Rattle.std.proofs.Math.ListN.{get_or-append}
 use Rattle.std.proofs.Math.Seq.{get_or-append_seam}
 use borrow.Author.Count.{below_more}
 use Rattle.mem_base.specs.declared.map.ids.PassId.{PassId}
 use Rattle.mem_base.specs.declared.machine.events.HistoryEntry.{HistoryEntry}
-use Rattle.mem_base.specs.lists.Every.{Every}
 use Rattle.mem_base.specs.map.Limits.{most_passes}
 use Rattle.mem_base.specs.machine.Passes.{pass_id}
 use Rattle.mem_base.specs.machine.Composites.{leaves, leaves_unless}
 use Rattle.mem_base.specs.machine.Actors.{own_entries}
 use Rattle.mem_base.specs.machine.PassTurns.{entries_of}
-use Rattle.mem_base.specs.machine.Turns.{writers_of}
-use Rattle.mem_base.specs.script.Race.{LeavesLast, pass_state, passes}
+use Rattle.mem_base.specs.script.Race.{LeavesLast, pass_state}
 use Rattle.history_laws.proofs.AppendLaws.{own_append}
 use Rattle.history_laws.proofs.OwnLaws.{own_writers}
 use Rattle.race_laws.proofs.PhaseEnds.{every_pass}
@@ -30,10 +25,8 @@ use Rattle.epoch_rule.specs.Wrote.{Made}
 use Rattle.epoch_rule.proofs.SeatSteps.{set_false}
 use Rattle.vcpu_pass.specs.Calls.{HasLeft, is_entered}
 use Rattle.vcpu_pass.specs.Entries.{replies_to_leave}
-use Rattle.pass_lines.specs.Doing.{IsInItsGeneration}
 use Rattle.config_desk.specs.Configs.{ConfigState}
 use Rattle.desk_lock.specs.Records.{RecordState}
-use Rattle.race_level.specs.Settling.{AreLevel}
 use Rattle.race_level.specs.Ready.{AreReady}
 use Rattle.race_run.specs.Ends.{AreLeaves, HasClosed, HasComeIn, last_of}
 

@@ -1,8 +1,7 @@
 -- Some phases of a race, and then some more.
-use Rattle.std.proofs.Common.{◌≡◌, ℕ, ◌+◌, ◌≤◌, List, [], ◌∷◌, ◌++◌, Option, Result, Ok, Err, OnOk, OnErr, refl, sym, ap, subst, ◌∙◌, arith, append-nil, append_assoc}
-use Rattle.std.specs.Prelude.{IsErrOf, map, take, drop}
+use Rattle.std.proofs.Common.{◌≡◌, ℕ, ◌≤◌, List, [], ◌∷◌, ◌++◌, Option, Result, Ok, Err, OnOk, OnErr, refl, sym, ap, subst, ◌∙◌, arith, append-nil, append_assoc}
+use Rattle.std.specs.Prelude.{IsErrOf}
 use Rattle.std.specs.declared.alloc.AllocError.{AllocError}
-use mathlib.Core.List.{IsPrefix}
 use base.Growing.{prefix_refl}
 use Rattle.outside.specs.Causes.{Rose}
 use Rattle.outside.specs.Sink.{Takes, TakesPrefix, Writes}
@@ -11,18 +10,15 @@ use Rattle.mem_base.specs.declared.machine.events.HistoryEntry.{HistoryEntry}
 use Rattle.mem_base.specs.declared.script.commands.Command.{Command}
 use Rattle.mem_base.specs.declared.script.commands.Command.TheVariants as commands
 use Rattle.mem_base.specs.lists.Every.{Every}
-use Rattle.mem_base.specs.map.Limits.{most_passes, notifier_count}
 use Rattle.mem_base.specs.machine.Actors.{own_entries}
 use Rattle.mem_base.specs.machine.Reaps.{first_writer}
-use Rattle.mem_base.specs.machine.SharedHistory.{IsSharedLegal}
 use Rattle.mem_base.specs.script.Spelling.{Text}
 use Rattle.mem_base.specs.script.Scripts.{Line}
 use Rattle.mem_base.specs.script.Run.{pool_words, text_of}
-use Rattle.mem_base.specs.script.Tasks.{Known, known_at_first}
+use Rattle.mem_base.specs.script.Tasks.{known_at_first}
 use Rattle.mem_base.specs.script.Race.{IsAlone, IsTextOfRace, LeavesLast, NameTheirPasses, NamesItsPass, Phase, Stand, first_stand, phases_of}
 use Rattle.run_laws.specs.Fitting.{AreFitting, FitsCommand}
 use Rattle.race_laws.specs.SoFar.{IsRaceSoFar}
-use Rattle.race_laws.specs.Stopped.{GoesOn}
 use Rattle.race_laws.specs.Outside.{IsFault}
 use Rattle.race_laws.proofs.OutsideLaws.{faults_write}
 use Rattle.race_laws.proofs.PhaseEnds.{every_pass}

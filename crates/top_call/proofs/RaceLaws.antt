@@ -1,11 +1,9 @@
 -- What a race writes, and the machine that is kept.
-use Rattle.std.proofs.Common.{◌≡◌, ◌⊎◌, ◌<◌, ◌≤◌, ℕ, List, [], ◌++◌, refl, sym, ap, subst, ◌∙◌, None, Some, Ok, Err, OnOk, OnErr, inl, inr}
-use Rattle.std.specs.Prelude.{IsErrOf, false, replicate}
+use Rattle.std.proofs.Common.{◌≡◌, ◌⊎◌, ℕ, List, refl, sym, ap, subst, ◌∙◌, None, Some, Ok, Err, OnOk, OnErr, inl, inr}
+use Rattle.std.specs.Prelude.{false, replicate}
 use Rattle.std.specs.declared.option.Option.{Option}
 use Rattle.std.specs.declared.result.Result.{Result}
-use Rattle.outside.specs.Causes.{Rose}
-use Rattle.outside.specs.Source.{SomeCame}
-use Rattle.outside.specs.Sink.{Takes, TakesPrefix, Writes}
+use Rattle.outside.specs.Sink.{Takes, Writes}
 use Rattle.outside.proofs.Took.{Takes-nil, TakesPrefix-all, TakesPrefix-nil}
 use Rattle.mem_base.specs.declared.script.faults.BadScript.{BadScript}
 use Rattle.mem_base.specs.lists.Every.{Every}
@@ -13,9 +11,8 @@ use Rattle.mem_base.specs.map.Limits.{most_passes}
 use Rattle.mem_base.specs.script.RefusalLines.{bad_line}
 use Rattle.mem_base.specs.script.Race.{IsAlone, IsTextOfRace, phases_of}
 use Rattle.mem_base.specs.script.Run.{text_of}
-use Rattle.mem_base.specs.script.Scripts.{Line, Meaning, most_text, script_of}
+use Rattle.mem_base.specs.script.Scripts.{Line, Meaning}
 use Rattle.run_laws.specs.Fitting.{AreFitting}
-use Rattle.run_laws.proofs.FittingLaws.{lines_fit}
 use Rattle.race_laws.proofs.StoppedEnds.{races_exist}
 use Rattle.config_desk.specs.Configs.{ConfigState}
 use Rattle.race_run.specs.Racing.{HasStopped, TakesOne}
@@ -23,7 +20,7 @@ use Rattle.script_run.specs.declared.faults.RunFault.{RunFault}
 use Rattle.script_run.specs.declared.faults.RunFault.TheVariants.{Write}
 use Rattle.top_call.specs.declared.endings.Ending.{Ending}
 use Rattle.top_call.specs.declared.endings.Ending.TheVariants as endings
-use Rattle.top_call.specs.RacedText.{HasRaced, IsRacedText, WritesPlain, WritesRaceOf}
+use Rattle.top_call.specs.RacedText.{IsRacedText, WritesPlain, WritesRaceOf}
 use Rattle.top_call.specs.Says.{Says}
 use Rattle.top_call.specs.Statuses.{IfBad}
 use Rattle.top_call.proofs.RunLaws.{if_said, meant, no_lines, other_than}

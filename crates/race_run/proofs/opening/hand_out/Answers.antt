@@ -1,4 +1,4 @@
-use Rattle.std.proofs.Common.{◌≡◌, ◌+◌, ◌∙◌, ap, length, rules, set, true}
+use Rattle.std.proofs.Common.{◌∙◌, ap, rules, set, true}
 use Rattle.race_run.proofs.OpeningLaws.{new_cpu, new_more, out_more, some_free}
 use Rattle.race_run.proofs.opening.hand_out.Goals as goal
 

@@ -1,4 +1,4 @@
-use Rattle.std.proofs.Common.{◌+◌, ◌≤◌, ◌++◌, ◌∷◌, ◌∙◌, [], List, Ok, arith, length, subst}
+use Rattle.std.proofs.Common.{◌+◌, ◌++◌, ◌∷◌, ◌∙◌, [], List, Ok, arith, subst}
 use Rattle.std.specs.Prelude.{drop, take}
 use Rattle.mem_base.specs.script.Race.{Phase, alone}
 use Rattle.run_laws.specs.Fitting.{FitsCommand}

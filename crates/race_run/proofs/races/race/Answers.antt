@@ -1,10 +1,7 @@
-use Rattle.std.proofs.Common.{◌∙◌, ap, sym, refl}
+use Rattle.std.proofs.Common.{◌∙◌}
 use Rattle.mem_base.specs.declared.script.places.Section.TheVariants.{Start}
-use Rattle.mem_base.specs.map.Limits.{most_passes}
-use Rattle.mem_base.specs.machine.Actors.{own_entries}
 use Rattle.mem_base.specs.script.Run.{pool_words}
 use Rattle.run_laws.proofs.FittingLaws.{sound_fits}
-use Rattle.epoch_rule.specs.declared.views.Sizes.{Sizes}
 use Rattle.race_run.proofs.RacingLaws.{nothing_begun, plain_race, stopped_race, unused_fresh, whole_race}
 use Rattle.race_run.proofs.races.race.Goals as goal
 

@@ -1,4 +1,4 @@
-use Rattle.std.proofs.Common.{◌≡◌, ◌≤◌, ◌^◌, inl, inr, refl, sym, subst, Ok}
+use Rattle.std.proofs.Common.{◌≤◌, ◌^◌, inl, inr, refl, sym, subst, Ok}
 use Rattle.mem_base.specs.declared.script.places.Section.TheVariants.{Start}
 use Rattle.run_laws.proofs.FittingLaws.{pool_fits, sound_fits}
 use Rattle.top_call.specs.declared.endings.Ending.TheVariants as endings
