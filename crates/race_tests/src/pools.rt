@@ -70,7 +70,7 @@ fn visit<R: Wait>(rt: &R, vcpu: &mut Vcpu<'_>, number: u64, mine: u8, round: u64
     let mut read = [0u8; 8];
     let word = word_of(number, mine).to_le_bytes();
     let from = addr_of(round);
-    let to = addr_of(round + u64::from(mine));
+    let to = addr_of(round.wrapping_add(u64::from(mine)));
     let wrote = vcpu.write(rt, SPACE, to, &word).result;
     let had = vcpu.read(SPACE, from, &mut read).result;
     let found = u64::from_le_bytes(read);

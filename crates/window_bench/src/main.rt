@@ -1,8 +1,9 @@
 //! How long mapped windows take, beside the same bytes moved by hand.
 //!
 //! Standard error has the times, in nanoseconds, each the mean of the 256 pages of a memory of one megabyte and the least of a hundred
-//! rounds: a page got, and put, by a window of its own, between its opening and its closing; the same number of words loaded, and
-//! stored, one by one by atomic steps; as many bytes copied; a window of 64 bytes opened and closed; and 8 bytes read by an access.
+//! rounds: a page got from an open window, and put into one; the same number of words loaded, and stored, one by one by atomic steps,
+//! with the same bytes; as many bytes copied; a page got, and put, by a window that is opened for it and closed; a window of 64 bytes
+//! opened and closed; and 8 bytes read by an access.
 //! Standard output is the same in every run. It stands apart from `bench`, whose parts stand on nearly all crates.
 #![tactic(auto)]
 

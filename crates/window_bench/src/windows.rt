@@ -1,11 +1,11 @@
 // How long windows take, beside the same bytes moved by hand.
-ghost use Rattle.std.specs.Prelude.{◌≡◌, ◌≤◌, ◌+◌, ◌^◌, length};
+ghost use Rattle.std.specs.Prelude.{◌≡◌, ◌≤◌, ◌+◌, ◌^◌, length, false, true};
 
 use crate::times::{Failed, Least, begin};
 use config_desk::Config;
 use epoch_rule::Cabinet;
 use generation::Generation;
-use io_window::open;
+use io_window::{Window, open};
 use mem_base::{Call, Kind, RegionId, Size, SpaceId};
 use std::alloc::{AllocError, Global};
 use std::sync::Wait;
@@ -28,10 +28,14 @@ const SPACE: SpaceId = SpaceId(0);
 /// What is done with each page of the memory, one after another.
 #[derive(Clone, Copy)]
 enum Way {
-    /// A window of the page is opened, got and closed.
+    /// It is got from one window on all pages.
     Get,
-    /// A window of the page is opened, put and closed.
+    /// It is put into one window on all pages.
     Put,
+    /// A window of the page is opened, got and closed.
+    GetAlone,
+    /// A window of the page is opened, put and closed.
+    PutAlone,
     /// A window of 64 bytes is opened and closed.
     Open,
     /// Eight bytes are read by an access.
@@ -68,6 +72,78 @@ fn put<'c, R: Wait>(rt: &R, vcpu: Vcpu<'c>, addr: u64, bytes: &[u8]) -> Vcpu<'c>
     }
 }
 
+/// Gets the page of a window from a byte on, where it has one there.
+fn get_page(window: &mut Window<'_>, at: u64, page: &mut [u8; 4096])
+    requires read { window.old.start.write ≡ false }
+    ensures start { window.new.start ≡ window.old.start }
+    ensures end { window.new.put_end ≡ window.old.put_end }
+{
+    if window.len() >= PAGE && at <= window.len() - PAGE {
+        window.get(at, page);
+    }
+}
+
+/// Puts the page of a window from a byte on, where it has one there.
+fn put_page<R: Wait>(rt: &R, window: &mut Window<'_>, at: u64, page: &[u8; 4096])
+    requires write { window.old.start.write ≡ true }
+    requires end { window.old.put_end ≤ window.old.len }
+    ensures start { window.new.start ≡ window.old.start }
+    ensures end { window.new.put_end ≤ window.new.len }
+{
+    if window.len() >= PAGE && at <= window.len() - PAGE {
+        window.put(rt, at, page);
+    }
+}
+
+/// Gets all pages of a window.
+fn get_all(window: &mut Window<'_>, page: &mut [u8; 4096])
+    requires read { window.old.start.write ≡ false }
+    requires end { window.old.put_end ≡ 0 }
+    ensures end { window.new.put_end ≡ 0 }
+{
+    for number in 0..PAGES {
+        get_page(window, number * PAGE, page);
+    }
+}
+
+/// Puts all pages of a window.
+fn put_all<R: Wait>(rt: &R, window: &mut Window<'_>, page: &[u8; 4096])
+    requires write { window.old.start.write ≡ true }
+    requires end { window.old.put_end ≤ window.old.len }
+    ensures end { window.new.put_end ≤ window.new.len }
+{
+    for number in 0..PAGES {
+        put_page(rt, window, number * PAGE, page);
+    }
+}
+
+/// Gets all pages from one window on the first `len` bytes.
+fn get_pages<'c, R: Wait>(rt: &R, vcpu: Vcpu<'c>, len: u64, page: &mut [u8; 4096]) -> Vcpu<'c>
+    requires { 1 ≤ len }
+{
+    match open(vcpu, SPACE, 0, len, false, None) {
+        Ok(mut window) => {
+            get_all(&mut window, page);
+            window.close(rt, 0).vcpu
+        }
+        Err((_, vcpu, _)) => vcpu,
+    }
+}
+
+/// Puts all pages into one window on the first `len` bytes.
+fn put_pages<'c, R: Wait>(rt: &R, vcpu: Vcpu<'c>, len: u64, page: &[u8; 4096]) -> Vcpu<'c>
+    requires { 1 ≤ len }
+{
+    match open(vcpu, SPACE, 0, len, true, None) {
+        Ok(mut window) => {
+            put_all(rt, &mut window, page);
+            let len = window.len();
+            window.close(rt, len).vcpu
+        }
+        Err((_, vcpu, _)) => vcpu,
+    }
+}
+
 /// Opens a window of 64 bytes and closes it.
 fn touch<'c, R: Wait>(rt: &R, vcpu: Vcpu<'c>, addr: u64) -> Vcpu<'c>
     requires { addr + 64 ≤ 2 ^ 64 }
@@ -78,22 +154,40 @@ fn touch<'c, R: Wait>(rt: &R, vcpu: Vcpu<'c>, addr: u64) -> Vcpu<'c>
     }
 }
 
+/// Does with a page, by a virtual CPU, what is done with each one by itself.
+fn go_on<'c, R: Wait>(
+    rt: &R,
+    mut vcpu: Vcpu<'c>,
+    way: Way,
+    addr: u64,
+    page: &mut [u8; 4096],
+) -> Vcpu<'c>
+    requires { addr + 4096 ≤ 2 ^ 64 }
+{
+    match way {
+        Way::Get | Way::GetAlone => get(rt, vcpu, addr, page),
+        Way::Put | Way::PutAlone => put(rt, vcpu, addr, page),
+        Way::Open => touch(rt, vcpu, addr),
+        Way::Access => {
+            vcpu.read(SPACE, addr, &mut page[..8]);
+            vcpu
+        }
+    }
+}
+
 /// Goes over all pages by a virtual CPU.
 fn go<'c, R: Wait>(rt: &R, vcpu: Vcpu<'c>, way: Way, page: &mut [u8; 4096]) -> Vcpu<'c> {
-    let mut vcpu = vcpu;
-    for number in 0..PAGES {
-        let addr = number * PAGE;
-        vcpu = match way {
-            Way::Get => get(rt, vcpu, addr, page),
-            Way::Put => put(rt, vcpu, addr, page),
-            Way::Open => touch(rt, vcpu, addr),
-            Way::Access => {
-                vcpu.read(SPACE, addr, &mut page[..8]);
-                vcpu
+    match way {
+        Way::Get => get_pages(rt, vcpu, PAGES * PAGE, page),
+        Way::Put => put_pages(rt, vcpu, PAGES * PAGE, page),
+        _ => {
+            let mut vcpu = vcpu;
+            for number in 0..PAGES {
+                vcpu = go_on(rt, vcpu, way, number * PAGE, page);
             }
-        };
+            vcpu
+        }
     }
-    vcpu
 }
 
 /// The least time of some rounds of one way, for a page.
@@ -146,17 +240,19 @@ impl Plain {
     }
 }
 
-/// Loads words one by one.
-fn load(words: &[AtomicU64], out: &mut [u64]) {
-    for (word, slot) in words.iter().zip(out.iter_mut()) {
-        *slot = word.load(Ordering::SeqCst);
+/// Loads words one by one into the bytes of a page.
+fn load(words: &[AtomicU64], page: &mut [u8; 4096]) {
+    let (parts, _) = page.as_mut_slice().as_chunks_mut::<8>();
+    for (word, part) in words.iter().zip(parts.iter_mut()) {
+        *part = word.load(Ordering::SeqCst).to_le_bytes();
     }
 }
 
-/// Stores words one by one.
-fn store(words: &[AtomicU64], values: &[u64]) {
-    for (word, value) in words.iter().zip(values) {
-        word.store(*value, Ordering::SeqCst);
+/// Stores words one by one from the bytes of a page.
+fn store(words: &[AtomicU64], page: &[u8; 4096]) {
+    let (parts, _) = page.as_slice().as_chunks::<8>();
+    for (word, part) in words.iter().zip(parts) {
+        word.store(u64::from_le_bytes(*part), Ordering::SeqCst);
     }
 }
 
@@ -168,16 +264,16 @@ fn copy(bytes: &[u8], page: &mut [u8; 4096]) {
 }
 
 /// Goes over all pages by hand.
-fn go_by_hand(plain: &Plain, hand: Hand, values: &mut [u64; 512], page: &mut [u8; 4096]) {
+fn go_by_hand(plain: &Plain, hand: Hand, page: &mut [u8; 4096]) {
     match hand {
         Hand::Load => {
             for words in plain.words.as_slice().chunks(512) {
-                load(words, values);
+                load(words, page);
             }
         }
         Hand::Store => {
             for words in plain.words.as_slice().chunks(512) {
-                store(words, values);
+                store(words, page);
             }
         }
         Hand::Copy => {
@@ -196,11 +292,10 @@ fn time_by_hand<R: Clock>(
     page: &mut [u8; 4096],
     rounds: u32,
 ) -> u64 {
-    let mut values = [1u64; 512];
     let mut least = Least::new();
     for _ in 0..rounds {
         let start = begin(rt);
-        go_by_hand(plain, hand, &mut values, page);
+        go_by_hand(plain, hand, page);
         least.end(rt, start);
     }
     least.nanos_each(PAGES as usize)
@@ -211,6 +306,8 @@ fn time_by_hand<R: Clock>(
 struct Figures {
     got: u64,
     put: u64,
+    got_alone: u64,
+    put_alone: u64,
     opened: u64,
     read: u64,
     loaded: u64,
@@ -223,11 +320,15 @@ fn figures_of<R: Clock + Wait>(rt: &R, vcpu: Vcpu<'_>, plain: &Plain, rounds: u3
     let mut page = [1u8; 4096];
     let (vcpu, got) = time(rt, vcpu, Way::Get, &mut page, rounds);
     let (vcpu, put) = time(rt, vcpu, Way::Put, &mut page, rounds);
+    let (vcpu, got_alone) = time(rt, vcpu, Way::GetAlone, &mut page, rounds);
+    let (vcpu, put_alone) = time(rt, vcpu, Way::PutAlone, &mut page, rounds);
     let (vcpu, opened) = time(rt, vcpu, Way::Open, &mut page, rounds);
     let (_, read) = time(rt, vcpu, Way::Access, &mut page, rounds);
     Figures {
         got,
         put,
+        got_alone,
+        put_alone,
         opened,
         read,
         loaded: time_by_hand(rt, plain, Hand::Load, &mut page, rounds),
@@ -281,9 +382,9 @@ fn on_machine<R: Clock + Wait>(
     figures
 }
 
-/// Tells how long it takes to get and to put a page by a window of its own, beside the same words loaded and stored by hand and the
-/// same bytes copied; and to open and close a window of 64 bytes, beside an access of 8. Each is the mean of 256 pages, the least of
-/// some rounds.
+/// Tells how long it takes to get a page from an open window and to put it there, and by a window of its own, beside the same words
+/// loaded and stored by hand and the same bytes copied; and to open and close a window of 64 bytes, beside an access of 8. Each is the
+/// mean of 256 pages, the least of some rounds.
 pub(crate) fn run_windows<R: Clock + Wait>(
     rt: HostRuntime,
     waiting: &R,
@@ -295,6 +396,10 @@ pub(crate) fn run_windows<R: Clock + Wait>(
     eprintln!(rt;
         "windows: a page got {} ns, put {} ns, its words loaded {} ns, stored {} ns, its bytes copied {} ns",
         it.got, it.put, it.loaded, it.stored, it.copied
+    )?;
+    eprintln!(rt;
+        "windows: by a window of its own a page got {} ns, put {} ns",
+        it.got_alone, it.put_alone
     )?;
     eprintln!(rt;
         "windows: one of 64 bytes opened and closed {} ns, 8 bytes read {} ns",
