@@ -4,7 +4,7 @@ ghost use Rattle.mem_base.specs.lists.Every.{Every};
 ghost use Rattle.mem_base.specs.access.Places.{extent_of, words_of, notifiers_place};
 ghost use Rattle.transact.specs.Preparing.{AreDeskPlaces};
 
-use mem_base::{Call, Kind, Node, Place, Refusal, RegionId};
+use mem_base::{Call, Kind, Node, Nodes, Place, Refusal, RegionId};
 use region_tree::Tree;
 use std::alloc::AllocError;
 use std::sync::ledger::Ledger;
@@ -28,7 +28,7 @@ fn is_wordless(kind: &Kind) -> bool
     }
 }
 
-/// Whether no region has words.
+/// Whether none of these regions has words.
 fn are_wordless(nodes: &[Node]) -> bool
     ensures { IsTrue result → Every (λ n. words_of (extent_of n.kind n.size) ≡ 0) nodes.now }
 {
@@ -40,12 +40,25 @@ fn are_wordless(nodes: &[Node]) -> bool
     true
 }
 
+/// Whether no region has words.
+fn is_without_words(nodes: &Nodes) -> bool
+    ensures { IsTrue result → Every (λ n. words_of (extent_of n.kind n.size) ≡ 0) nodes.now }
+{
+    let chunks = nodes.chunks();
+    for chunk in chunks {
+        if !are_wordless(chunk.as_slice()) {
+            return false;
+        }
+    }
+    true
+}
+
 /// Whether the notifiers' place is all that a desk with this tree has to be handed.
 fn needs_no_place(tree: &Tree) -> Result<bool, AllocError>
     ensures { IfOk result (λ is. IsTrue is → AreDeskPlaces tree.now (notifiers_place 0 ∷ [])) }
 {
     let forest = tree.forest()?;
-    Ok(are_wordless(forest.nodes.as_slice()))
+    Ok(is_without_words(&forest.nodes))
 }
 
 /// What came of a change or a commit.

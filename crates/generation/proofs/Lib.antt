@@ -1,4 +1,3 @@
-pub mod NodeLaws
 pub mod PlacedLaws
 pub mod ShownLaws
 pub mod TableLaws

@@ -17,7 +17,6 @@ ghost use Rattle.mem_base.specs.access.EditionPlaces.{IsEdition};
 ghost use Rattle.generation.specs.Published.{views_of, AscendByRegion};
 
 use crate::atlases::{atlas_among, is_leaf_among};
-use crate::nodes::node_among;
 use crate::places::{Guesses, place_near};
 use flat_lookup::Atlas;
 use mem_base::{Edition, Entry, Forest, Ioevent, Kind, Node, Place, RegionId, SpaceId};
@@ -69,7 +68,7 @@ impl Generation {
         ensures forest { result.forest ≡ forest }
         ensures places { result.places ≡ places.items }
     {
-        let has_iommu = has_iommu(forest.nodes.as_slice());
+        let has_iommu = forest.nodes.has_iommu();
         let guesses = Guesses::none();
         Generation::with(number, forest, atlases, places, guesses, has_iommu)
     }
@@ -94,7 +93,7 @@ impl Generation {
         ensures forest { IfOk result (λ g. g.forest ≡ forest) }
         ensures places { IfOk result (λ g. g.places ≡ places.items) }
     {
-        let regions = forest.nodes.as_slice().len();
+        let regions = forest.nodes.len();
         let guesses = Guesses::of(alloc, places.as_slice(), regions)?;
         Ok(Generation::with(number, forest, atlases, places, guesses, has_iommu))
     }
@@ -140,7 +139,7 @@ impl Generation {
         ensures none { IsNone result ↔ node_of self.now.forest.nodes region ≡ None }
         ensures some { IfSome result (λ node. node_of self.now.forest.nodes region ≡ Some node.now) }
     {
-        node_among(&self.forest.nodes, region)
+        self.forest.nodes.get(region)
     }
 
     /// The atlas of a space's view: `None` exactly where the forest has no such space.
@@ -169,7 +168,7 @@ impl Generation {
     pub fn entries(&self, region: RegionId) -> &[Entry]
         ensures { result.now ≡ entries_of self.now.forest region }
     {
-        match node_among(&self.forest.nodes, region) {
+        match self.forest.nodes.get(region) {
             Some(node) => node.entries.as_slice(),
             None => &[],
         }
@@ -186,7 +185,7 @@ impl Generation {
         if !self.has_iommu {
             return None;
         }
-        let node = node_among(&self.forest.nodes, region)?;
+        let node = self.forest.nodes.get(region)?;
         match node.kind {
             Kind::Iommu => Some(node.entries.as_slice()),
             _ => None,
@@ -197,7 +196,7 @@ impl Generation {
     pub fn events(&self, region: RegionId) -> &[Ioevent]
         ensures { result.now ≡ events_of self.now.forest region }
     {
-        match node_among(&self.forest.nodes, region) {
+        match self.forest.nodes.get(region) {
             Some(node) => node.events.as_slice(),
             None => &[],
         }
@@ -209,13 +208,6 @@ impl Generation {
     {
         is_leaf_among(self.atlases.as_slice(), region)
     }
-}
-
-// Whether one of these regions is an IOMMU region.
-fn has_iommu(nodes: &[Node]) -> bool
-    ensures { result ≡ list_any (λ n. is_iommu n.kind) nodes.now }
-{
-    nodes.iter().any(|node| matches!(node.kind, Kind::Iommu))
 }
 
 impl Edition for Generation {

@@ -8,7 +8,6 @@
 
 mod atlases;
 mod generation;
-mod nodes;
 mod places;
 
 pub use atlases::is_leaf_among;

@@ -12,5 +12,6 @@ pub mod SamePaths
 pub mod SliceLaws
 pub mod NoteLaws
 pub mod NodeLaws
+pub mod ChunkLaws
 pub mod WordLaws
 pub mod PassTurnLaws

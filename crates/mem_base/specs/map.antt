@@ -5,6 +5,7 @@ pub mod Devices
 pub mod Clients
 pub mod Attributes
 pub mod Region
+pub mod Chunks
 pub mod Order
 pub mod Search
 pub mod Paths

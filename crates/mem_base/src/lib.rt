@@ -20,6 +20,7 @@ pub use machine::editions::Edition;
 pub use machine::events::{Carried, Event, Hand, HistoryEntry, Reply};
 pub use machine::records::{DeskAnswer, DeskEntry, DeskOrder, Differs, Ids, Pages};
 pub use map::calls::{Applied, Call, Config};
+pub use map::chunks::{Chunk, MOST_CHUNK};
 pub use map::forests::{Forest, Node, Nodes, Spaces};
 pub use map::ids::{ListenerId, PassId, RegionId, SpaceId, WatcherId};
 pub use map::ioevents::{Events, Ioevent, Live, Lives};

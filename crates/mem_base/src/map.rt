@@ -1,6 +1,7 @@
 // The memory map: regions, address spaces, the calls that change them, and refusals.
 
 pub mod calls;
+pub mod chunks;
 pub mod forests;
 pub mod ids;
 pub mod ioevents;

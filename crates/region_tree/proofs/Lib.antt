@@ -4,3 +4,4 @@ pub mod RegionLaws
 pub mod EditLaws
 pub mod PickedLaws
 pub mod NearLaws
+pub mod FeatureLaws

@@ -1,50 +1,23 @@
--- A list of regions in which some are put in the places of those with their ids.
-use Rattle.std.proofs.Common.{◌≡◌, ◌≢◌, ℕ, zero, suc, ◌<◌, ◌≤◌, ◌==◌, ◌||◌, cond, if◌then◌else◌, Bool, true, false, eqb, ltb, eq-eqb, List, [], ◌∷◌, length, drop, get_or, set, Option, Some, None, refl, sym, ap, subst, ◌∙◌, arith}
-use Rattle.std.specs.Prelude.{unwrap_or}
+-- A list of regions that differs from another one in a few, chunk by chunk.
+use Rattle.std.proofs.Common.{◌≡◌, ◌≢◌, ℕ, ◌+◌, ◌<◌, ◌≤◌, ◌==◌, ◌||◌, ◌&&◌, Bool, true, false, eqb, ltb, eq-eqb, List, [], ◌∷◌, ◌++◌, length, get_or}
+use Rattle.std.proofs.Common.{take, drop, Option, Some, None, refl, sym, ap, subst, ◌∙◌, arith}
+use Rattle.std.specs.Prelude.{unwrap_or, nat_le, nat_lt, flat_map}
 use Rattle.std.specs.List.{list_any}
 use Rattle.std.proofs.lemmas.Bool.Decides.{nat_tests}
 use Rattle.std.proofs.lemmas.Option.{none-some}
-use Rattle.std.proofs.lemmas.List.{drop_all}
+use Rattle.std.proofs.lemmas.List.{append-nil, drop-map, drop_at, drop_more, length-append, length-map, map-append, take-append-drop, take-map, take_at}
+use Rattle.std.proofs.lemmas.List.Concat.{flat_map-append}
 use Rattle.mem_base.specs.declared.map.ids.RegionId.{RegionId}
 use Rattle.mem_base.specs.declared.map.forests.Node.{Node}
 use Rattle.mem_base.specs.lists.Every.{Every}
 use Rattle.mem_base.specs.map.Region.{IsAscending, node_of}
-use Rattle.mem_base.proofs.EveryLaws.{every_at, weaker}
-use Rattle.mem_base.proofs.ForestLaws.{id_of}
-use Rattle.region_tree.specs.Near.{OthersAre, IsPut}
-
-every_set : (P : Node → Type 0) (xs : List Node) (i : ℕ) (y : Node) → Every P xs → P y → Every P (set xs i y)
-every_set P [] i y h k = tt
-every_set P (x ∷ xs) zero y h k = (k, h.1)
-every_set P (x ∷ xs) (suc i) y h k = (h.0, every_set P xs i y h.1 k)
-
-put_ascends : (xs : List Node) (i : ℕ) (d y : Node) → IsAscending xs → i < length xs → (get_or xs i d).id.0 ≡ y.id.0 → IsAscending (set xs i y)
-put_ascends [] i d y h l e = absurd (omega arith)
-put_ascends (x ∷ xs) zero d y h l e = (subst (λ n. Every (λ m. n < m.id.0) xs) e h.0, h.1)
-put_ascends (x ∷ xs) (suc i) d y h l e =
-    let within : i < length xs = omega arith in
-    let above : x.id.0 < (get_or xs i d).id.0 = every_at (λ m. x.id.0 < m.id.0) xs i d within h.0 in
-    (every_set (λ m. x.id.0 < m.id.0) xs i y h.0 (subst (λ n. x.id.0 < n) e above), put_ascends xs i d y h.1 within e)
-
-put_node : (xs : List Node) (i : ℕ) (d y : Node) (r : RegionId) → IsAscending xs → i < length xs → (get_or xs i d).id.0 ≡ y.id.0
-    → node_of (set xs i y) r ≡ (if y.id.0 == r.0 then Some y else node_of xs r)
-put_node [] i d y r h l e = absurd (omega arith)
-put_node (x ∷ xs) zero d y r h l e = go (eqb y.id.0 r.0) refl
-  where
-    go : (b : Bool) → eqb y.id.0 r.0 ≡ b → node_of (y ∷ xs) r ≡ (if b then Some y else node_of (x ∷ xs) r)
-    go true t = rw t refl
-    go false t = let f : eqb x.id.0 r.0 ≡ false = grind (arith, nat_tests, t, e) in rw (t, f) refl
-put_node (x ∷ xs) (suc i) d y r h l e =
-    let within : i < length xs = omega arith in
-    go (put_node xs i d y r h.1 within e) (every_at (λ m. x.id.0 < m.id.0) xs i d within h.0) (eqb x.id.0 r.0) refl
-  where
-    go : node_of (set xs i y) r ≡ (if y.id.0 == r.0 then Some y else node_of xs r) → x.id.0 < (get_or xs i d).id.0 → (b : Bool) → eqb x.id.0 r.0 ≡ b
-        → node_of (x ∷ set xs i y) r ≡ (if y.id.0 == r.0 then Some y else node_of (x ∷ xs) r)
-    go rest above true t = let f : eqb y.id.0 r.0 ≡ false = grind (arith, nat_tests, t, e, above) in rw (t, f) refl
-    go rest above false t = rw t rest
-
-pub is_put : (xs : List Node) (i : ℕ) (d y : Node) → IsAscending xs → i < length xs → (get_or xs i d).id.0 ≡ y.id.0 → IsPut y xs (set xs i y)
-is_put xs i d y h l e = record { ascending = put_ascends xs i d y h l e; nodes = λ r. put_node xs i d y r h l e }
+use Rattle.mem_base.specs.map.Chunks.{first_id}
+use Rattle.mem_base.proofs.EveryLaws.{weaker, every_one}
+use Rattle.mem_base.proofs.ForestLaws.{IsAbsent}
+use Rattle.mem_base.proofs.ChunkLaws.{none_there, front_only, back_only, ascending_first, ascending_rest, below_rest, from_first, first_has}
+use Rattle.region_slots.specs.declared.slots.Slot.{Slot}
+use Rattle.region_slots.specs.Slots.{nodes_of}
+use Rattle.region_tree.specs.Near.{AreLeft, IsBound, is_below, is_touched}
 
 none_below : (xs : List Node) (r : RegionId) → Every (λ m. r.0 < m.id.0) xs → node_of xs r ≡ None
 none_below [] r h = refl
@@ -95,23 +68,221 @@ same_nodes (x ∷ xs) (y ∷ ys) a b h = go (same_nodes xs ys a.1 b.1) (eqb x.id
         ap (λ n. n ∷ xs) same ∙ ap (λ ns. y ∷ ns) tails
     go rest false e = absurd (other (ltb x.id.0 y.id.0) refl (grind (arith, nat_tests, e)))
 
--- one region fewer may differ when it is put
-pub others_put : (y : Node) (r : RegionId) (xs new ys : List Node) (rest : List RegionId) → node_of ys r ≡ Some y → IsPut y xs new
-    → OthersAre xs ys (r ∷ rest) → OthersAre new ys rest
-others_put y r xs new ys rest found put others q out = go (eqb y.id.0 q.0) refl
+-- two numbers on different sides of a bound
+below_apart : (u : Option RegionId) (m n : ℕ) → is_below u m ≡ true → is_below u n ≡ false → m ≢ n
+below_apart None m n t f = cc
+below_apart (Some b) m n t f = grind (arith, nat_tests, t, f)
+
+absent_below : (u : Option RegionId) (r : RegionId) (xs : List Node) → is_below u r.0 ≡ false → Every (λ n. is_below u n.id.0 ≡ true) xs → IsAbsent r xs
+absent_below u r xs f h = weaker (λ n. is_below u n.id.0 ≡ true) (λ n. eqb n.id.0 r.0 ≡ false)
+    (λ n t. let other = below_apart u n.id.0 r.0 t f in grind (arith, nat_tests, other)) xs h
+
+absent_above : (u : Option RegionId) (r : RegionId) (xs : List Node) → is_below u r.0 ≡ true → Every (λ n. is_below u n.id.0 ≡ false) xs → IsAbsent r xs
+absent_above u r xs t h = weaker (λ n. is_below u n.id.0 ≡ false) (λ n. eqb n.id.0 r.0 ≡ false)
+    (λ n f. let other = below_apart u r.0 n.id.0 t f in grind (arith, nat_tests, other)) xs h
+
+stays_above : (u : Option RegionId) (m n : ℕ) → is_below u m ≡ false → m < n → is_below u n ≡ false
+stays_above None m n f l = cc
+stays_above (Some b) m n f l = grind (arith, nat_tests, f, l)
+
+-- regions by ascending id are above a bound from the first one on that is
+pub above_from : (u : Option RegionId) (x : Node) (xs : List Node) → IsAscending (x ∷ xs) → is_below u x.id.0 ≡ false
+    → Every (λ n. is_below u n.id.0 ≡ false) (x ∷ xs)
+above_from u x xs h f = (f, weaker (λ m. x.id.0 < m.id.0) (λ m. is_below u m.id.0 ≡ false) (λ m l. stays_above u x.id.0 m.id.0 f l) xs h.0)
+
+-- regions in two parts, those below a bound and those above
+pub record IsCut (u : Option RegionId) (xs front back : List Node) : Type 0 where
+  pub whole : xs ≡ front ++ back
+  pub below : Every (λ n. is_below u n.id.0 ≡ true) front
+  pub above : Every (λ n. is_below u n.id.0 ≡ false) back
+
+record Cut (u : Option RegionId) (xs : List Node) : Type 0 where
+  front : List Node
+  back : List Node
+  cut : IsCut u xs front back
+
+cut_at : (u : Option RegionId) (xs : List Node) → IsAscending xs → Cut u xs
+cut_at u [] h = record { front = []; back = []; cut = record { whole = refl; below = tt; above = tt } }
+cut_at u (x ∷ xs) h = go (cut_at u xs h.1) (is_below u x.id.0) refl
   where
-    id : y.id.0 ≡ r.0
-    id = ap (λ (s : RegionId). s.0) (id_of ys r y found)
+    go : Cut u xs → (b : Bool) → is_below u x.id.0 ≡ b → Cut u (x ∷ xs)
+    go k true t =
+        let whole : (x ∷ xs) ≡ (x ∷ k.front) ++ k.back = ap (λ ns. x ∷ ns) k.cut.whole in
+        record { front = x ∷ k.front; back = k.back; cut = record { whole = whole; below = (t, k.cut.below); above = k.cut.above } }
+    go k false f = record { front = []; back = x ∷ xs; cut = record { whole = refl; below = tt; above = above_from u x xs h f } }
 
-    go : (b : Bool) → eqb y.id.0 q.0 ≡ b → node_of new q ≡ node_of ys q
-    go true t =
-        let at : r.0 ≡ q.0 = let e = id in grind (arith, nat_tests, t, e) in
-        let same : r ≡ q = ap (λ (n : ℕ). let s : RegionId = record { 0 = n } in s) at in
-        subst (λ b. node_of new q ≡ (if b then Some y else node_of xs q)) t (put.nodes q) ∙ sym found ∙ ap (node_of ys) same
-    go false t =
-        let f : eqb r.0 q.0 ≡ false = let e = id in grind (arith, nat_tests, t, e) in
-        subst (λ b. node_of new q ≡ (if b then Some y else node_of xs q)) t (put.nodes q) ∙ others q (rw f out)
+-- the regions before a bound and from it on
+pub at_bound : (u : Option RegionId) (a later : List Node) → IsAscending (a ++ later) → IsBound u later
+    → Every (λ n. is_below u n.id.0 ≡ true) a × Every (λ n. is_below u n.id.0 ≡ false) later
+at_bound None a later h e = (every_one (λ n. true ≡ true) a (λ n. refl), subst (λ ns. Every (λ n. true ≡ false) ns) (sym e) tt)
+at_bound (Some b) a later h e =
+    let first : b.0 ≡ first_id later = e.1 in (
+      weaker (λ n. Every (λ m. n.id.0 < m.id.0) later) (λ n. nat_lt n.id.0 b.0 ≡ true)
+          (λ n l. let below : n.id.0 < first_id later = first_has (λ v. n.id.0 < v) later e.0 l in grind (arith, nat_tests, below, first))
+          a (below_rest a later h),
+      weaker (λ n. first_id later ≤ n.id.0) (λ n. nat_lt n.id.0 b.0 ≡ false) (λ n l. grind (arith, nat_tests, l, first)) later
+          (from_first later (ascending_rest a later h)),
+    )
 
--- at the end none is left that may differ
-pub none_left : (xs ys : List Node) (rs : List RegionId) (i : ℕ) → length rs ≤ i → OthersAre xs ys (drop i rs) → (r : RegionId) → node_of xs r ≡ node_of ys r
-none_left xs ys rs i l others r = subst (OthersAre xs ys) (drop_all i rs l) others r refl
+both_false : (b : Bool) → (b && false) ≡ false
+both_false true = refl
+both_false false = refl
+
+-- what is left once the regions below a bound are done
+pub left_after : (from : RegionId) (u : Option RegionId) (a later f g : List Node) (rs : List RegionId) → AreLeft from.0 (a ++ later) (f ++ g) rs
+    → Every (λ n. is_below u n.id.0 ≡ true) a → Every (λ n. is_below u n.id.0 ≡ false) later
+    → Every (λ n. is_below u n.id.0 ≡ true) f → Every (λ n. is_below u n.id.0 ≡ false) g → AreLeft (unwrap_or u from).0 later g rs
+left_after from u a later f g rs left ba al bf ag = record {
+  old_ascends = ascending_rest a later left.old_ascends;
+  new_ascends = ascending_rest f g left.new_ascends;
+  same = λ r out. go r out (is_below u r.0) refl;
+}
+  where
+    among : RegionId → Bool
+    among r = list_any (λ q. q.0 == r.0) rs
+
+    still : (w : Option RegionId) (r : RegionId) → (nat_le (unwrap_or w from).0 r.0 && among r) ≡ false → is_below w r.0 ≡ false
+        → (nat_le from.0 r.0 && among r) ≡ false
+    still None r out t = cc
+    still (Some b) r out t =
+        let t2 : nat_le b.0 r.0 ≡ true = grind (arith, nat_tests, t) in
+        let none : among r ≡ false = subst (λ c. (c && among r) ≡ false) t2 out in
+        rw none (both_false (nat_le from.0 r.0))
+
+    go : (r : RegionId) → (nat_le (unwrap_or u from).0 r.0 && among r) ≡ false → (b : Bool) → is_below u r.0 ≡ b → node_of later r ≡ node_of g r
+    go r out true t = none_there r later (absent_above u r later t al) ∙ sym (none_there r g (absent_above u r g t ag))
+    go r out false t =
+        sym (back_only r a later (absent_below u r a t ba)) ∙ left.same r (still u r out t) ∙ back_only r f g (absent_below u r f t bf)
+
+-- where no region below a bound changed, none is among the changed ones
+outside : (from : ℕ) (u : Option RegionId) (r : RegionId) (rs : List RegionId) → is_touched from u rs ≡ false → is_below u r.0 ≡ true
+    → (nat_le from r.0 && list_any (λ q. q.0 == r.0) rs) ≡ false
+outside from u r [] h t = both_false (nat_le from r.0)
+outside from u r (q ∷ qs) h t = go (λ k. outside from u r qs k t) (nat_le from q.0 && is_below u q.0) refl h (eqb q.0 r.0) refl
+  where
+    alone : (b c : Bool) → (b && c) ≡ false → c ≡ true → b ≡ false
+    alone true true h e = cc
+    alone true false h e = cc
+    alone false c h e = refl
+
+    go : (is_touched from u qs ≡ false → (nat_le from r.0 && list_any (λ q. q.0 == r.0) qs) ≡ false)
+        → (b : Bool) → (nat_le from q.0 && is_below u q.0) ≡ b → (b || is_touched from u qs) ≡ false → (c : Bool) → eqb q.0 r.0 ≡ c
+        → (nat_le from r.0 && (c || list_any (λ q. q.0 == r.0) qs)) ≡ false
+    go rest true e k c d = cc
+    go rest false e k false d = rest k
+    go rest false e k true d =
+        let same : q.0 ≡ r.0 = grind (arith, nat_tests, d) in
+        let low : nat_le from r.0 ≡ false = alone (nat_le from r.0) (is_below u r.0) (subst (λ n. (nat_le from n && is_below u n) ≡ false) same e) t in
+        rw low refl
+
+-- A chunk of the old regions in whose place no region changed is the first part of the new ones.
+pub taken_over : (from : ℕ) (u : Option RegionId) (a later new : List Node) (rs : List RegionId) → AreLeft from (a ++ later) new rs
+    → Every (λ n. is_below u n.id.0 ≡ true) a → Every (λ n. is_below u n.id.0 ≡ false) later → is_touched from u rs ≡ false
+    → IsCut u new a (drop (length a) new)
+taken_over from u a later new rs left ba al untouched = go (cut_at u new left.new_ascends)
+  where
+    go : Cut u new → IsCut u new a (drop (length a) new)
+    go k =
+        let ascends : IsAscending k.front = ascending_first k.front k.back (subst IsAscending k.cut.whole left.new_ascends) in
+        let same : a ≡ k.front = same_nodes a k.front (ascending_first a later left.old_ascends) ascends (λ r. at r (is_below u r.0) refl) in
+        let whole : new ≡ a ++ k.back = subst (λ ns. new ≡ ns ++ k.back) (sym same) k.cut.whole in
+        let back : drop (length a) new ≡ k.back = ap (drop (length a)) whole ∙ drop_at a k.back (length a) refl in
+        record {
+          whole = subst (λ ns. new ≡ a ++ ns) (sym back) whole;
+          below = ba;
+          above = subst (λ ns. Every (λ n. is_below u n.id.0 ≡ false) ns) (sym back) k.cut.above;
+        }
+      where
+        at : (r : RegionId) → (b : Bool) → is_below u r.0 ≡ b → node_of a r ≡ node_of k.front r
+        at r true t =
+            sym (front_only r a later (absent_above u r later t al)) ∙ left.same r (outside from u r rs untouched t)
+            ∙ ap (λ ns. node_of ns r) k.cut.whole ∙ front_only r k.front k.back (absent_above u r k.back t k.cut.above)
+        at r false t = none_there r a (absent_below u r a t ba) ∙ sym (none_there r k.front (absent_below u r k.front t k.cut.below))
+
+module _ {A : Type 0} (f : A → List Node) where
+  pub first_piece : (cs : List A) (d : A) → 0 < length cs → flat_map f cs ≡ f (get_or cs 0 d) ++ flat_map f (drop 1 cs)
+  first_piece [] d l = absurd (omega arith)
+  first_piece (c ∷ cs) d l = refl
+
+  -- what is left after a chunk in whose place some region changed
+  next_touched : (from : RegionId) (u : Option RegionId) (cs : List A) (new : List Node) (n : ℕ) (rs : List RegionId) → 0 < length cs
+      → IsBound u (flat_map f (drop 1 cs)) → AreLeft from.0 (flat_map f cs) new rs
+      → Every (λ n. is_below u n.id.0 ≡ true) (take n new) → Every (λ n. is_below u n.id.0 ≡ false) (drop n new)
+      → AreLeft (unwrap_or u from).0 (flat_map f (drop 1 cs)) (drop n new) rs
+  next_touched from u [] new n rs l bound left below above = absurd (omega arith)
+  next_touched from u (c ∷ cs) new n rs l bound left below above =
+      let cut : AreLeft from.0 (f c ++ flat_map f cs) (take n new ++ drop n new) rs =
+      subst (λ ns. AreLeft from.0 (f c ++ flat_map f cs) ns rs) (sym (take-append-drop n new)) left in
+      let sides = at_bound u (f c) (flat_map f cs) left.old_ascends bound in
+      left_after from u (f c) (flat_map f cs) (take n new) (drop n new) rs cut sides.0 sides.1 below above
+
+  -- and after one in whose place none did: it is the first part of the new regions
+  next_shared : (from : RegionId) (u : Option RegionId) (cs : List A) (d : A) (new : List Node) (rs : List RegionId) → 0 < length cs
+      → IsBound u (flat_map f (drop 1 cs)) → AreLeft from.0 (flat_map f cs) new rs → is_touched from.0 u rs ≡ false
+      → (new ≡ f (get_or cs 0 d) ++ drop (length (f (get_or cs 0 d))) new)
+      × AreLeft (unwrap_or u from).0 (flat_map f (drop 1 cs)) (drop (length (f (get_or cs 0 d))) new) rs
+  next_shared from u cs d new rs l bound left untouched =
+      let a = f (get_or cs 0 d) in
+      let later = flat_map f (drop 1 cs) in
+      let parts : AreLeft from.0 (a ++ later) new rs = subst (λ ns. AreLeft from.0 ns new rs) (first_piece cs d l) left in
+      let sides = at_bound u a later parts.old_ascends bound in
+      let k = taken_over from.0 u a later new rs parts sides.0 sides.1 untouched in
+      let cut : AreLeft from.0 (a ++ later) (a ++ drop (length a) new) rs = subst (λ ns. AreLeft from.0 (a ++ later) ns rs) k.whole parts in
+      (k.whole, left_after from u a later a (drop (length a) new) rs cut sides.0 sides.1 k.below k.above)
+
+pub nodes_parts : (slots : List Slot) (i : ℕ) → nodes_of slots ≡ nodes_of (take i slots) ++ nodes_of (drop i slots)
+nodes_parts slots i = ap nodes_of (sym (take-append-drop i slots)) ∙ map-append (λ (s : Slot). s.node) (take i slots) (drop i slots)
+
+-- the regions of slots are above a bound from the first one on that is
+pub slots_above : (u : Option RegionId) (slots : List Slot) (i : ℕ) (s : Slot) → i < length slots → s ≡ get_or slots i s → IsAscending (nodes_of slots)
+    → is_below u s.node.id.0 ≡ false → Every (λ n. is_below u n.id.0 ≡ false) (nodes_of (drop i slots))
+slots_above u slots i s l read h f =
+    let left : nodes_of (drop i slots) ≡ s.node ∷ nodes_of (drop (i + 1) slots) =
+    ap nodes_of (drop_more slots i s l ∙ ap (λ t. t ∷ drop (i + 1) slots) (sym read)) in
+    let ascends : IsAscending (s.node ∷ nodes_of (drop (i + 1) slots)) =
+    subst IsAscending left (ascending_rest (nodes_of (take i slots)) (nodes_of (drop i slots)) (subst IsAscending (nodes_parts slots i) h)) in
+    subst (λ ns. Every (λ n. is_below u n.id.0 ≡ false) ns) (sym left) (above_from u s.node (nodes_of (drop (i + 1) slots)) ascends f)
+
+module _ {A : Type 0} (f : A → List Node) where
+  -- the same of slots, whose regions are copied
+  pub left_of_copied : (from : RegionId) (u : Option RegionId) (cs : List A) (slots : List Slot) (n : ℕ) (rs : List RegionId) → 0 < length cs
+      → IsBound u (flat_map f (drop 1 cs)) → AreLeft from.0 (flat_map f cs) (nodes_of slots) rs
+      → Every (λ n. is_below u n.id.0 ≡ true) (nodes_of (take n slots)) → Every (λ n. is_below u n.id.0 ≡ false) (nodes_of (drop n slots))
+      → AreLeft (unwrap_or u from).0 (flat_map f (drop 1 cs)) (nodes_of (drop n slots)) rs
+  left_of_copied from u cs slots n rs l bound left below above =
+      let front : take n (nodes_of slots) ≡ nodes_of (take n slots) = take-map (λ (s : Slot). s.node) n slots in
+      let back : drop n (nodes_of slots) ≡ nodes_of (drop n slots) = drop-map (λ (s : Slot). s.node) n slots in
+      subst (λ ns. AreLeft (unwrap_or u from).0 (flat_map f (drop 1 cs)) ns rs) back
+      (next_touched f from u cs (nodes_of slots) n rs l bound left
+      (subst (λ ns. Every (λ n. is_below u n.id.0 ≡ true) ns) (sym front) below)
+      (subst (λ ns. Every (λ n. is_below u n.id.0 ≡ false) ns) (sym back) above))
+
+  -- what sharing a chunk puts, and what it leaves
+  pub record IsShared (from : RegionId) (u : Option RegionId) (cs : List A) (slots : List Slot) (nodes : List Node) (rs : List RegionId) : Type 0 where
+    pub count : length nodes ≤ length slots
+    pub first : nodes ≡ nodes_of (take (length nodes) slots)
+    pub left : AreLeft (unwrap_or u from).0 (flat_map f (drop 1 cs)) (nodes_of (drop (length nodes) slots)) rs
+
+  pub shared : (from : RegionId) (u : Option RegionId) (cs : List A) (d : A) (slots : List Slot) (nodes : List Node) (rs : List RegionId) → 0 < length cs
+      → IsBound u (flat_map f (drop 1 cs)) → AreLeft from.0 (flat_map f cs) (nodes_of slots) rs → is_touched from.0 u rs ≡ false
+      → nodes ≡ f (get_or cs 0 d) → IsShared from u cs slots nodes rs
+  shared from u cs d slots nodes rs l bound left untouched e =
+      let a = f (get_or cs 0 d) in
+      let both = next_shared f from u cs d (nodes_of slots) rs l bound left untouched in
+      let whole : nodes_of slots ≡ nodes ++ drop (length nodes) (nodes_of slots) =
+      subst (λ ns. nodes_of slots ≡ ns ++ drop (length ns) (nodes_of slots)) (sym e) both.0 in
+      let rest : AreLeft (unwrap_or u from).0 (flat_map f (drop 1 cs)) (drop (length nodes) (nodes_of slots)) rs =
+      subst (λ ns. AreLeft (unwrap_or u from).0 (flat_map f (drop 1 cs)) (drop (length ns) (nodes_of slots)) rs) (sym e) both.1 in
+      let size : length (nodes_of slots) ≡ length slots = length-map slots (λ (s : Slot). s.node) in
+      let sum : length (nodes_of slots) ≡ length nodes + length (drop (length nodes) (nodes_of slots)) =
+      ap length whole ∙ length-append nodes (drop (length nodes) (nodes_of slots)) in
+      record {
+        count = omega arith;
+        first = sym (take_at nodes (drop (length nodes) (nodes_of slots)) (length nodes) refl) ∙ ap (take (length nodes)) (sym whole)
+            ∙ take-map (λ (s : Slot). s.node) (length nodes) slots;
+        left = subst (λ ns. AreLeft (unwrap_or u from).0 (flat_map f (drop 1 cs)) ns rs) (drop-map (λ (s : Slot). s.node) (length nodes) slots) rest;
+      }
+
+  -- one more chunk
+  pub flat_push : (cs : List A) (c : A) → flat_map f (cs ++ c ∷ []) ≡ flat_map f cs ++ f c
+  flat_push cs c = flat_map-append f cs (c ∷ []) ∙ ap (λ ns. flat_map f cs ++ ns) (append-nil (f c))

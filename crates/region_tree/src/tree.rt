@@ -11,12 +11,14 @@ ghost use Rattle.mem_base.specs.map.Calls.{empty};
 ghost use Rattle.mem_base.specs.map.Steps.{reaches, depth_of, weight_of};
 ghost use Rattle.mem_base.specs.map.Touched.{reached};
 ghost use Rattle.region_slots.specs.Slots.{nodes_of, placed_of};
+ghost use Rattle.region_tree.specs.Near.{OthersAre};
 ghost use Rattle.region_tree.specs.Reach.{picked};
 
-use crate::features::{Features, is_notable};
+use crate::features::Features;
+use crate::near::{is_sparse, nodes_anew, nodes_near};
 use mem_base::{Forest, MOST_DEPTH, Node, Nodes, RegionId, SpaceId, Spaces};
 use region_extents::{Kept, depth_within, kept_extent, mark_within, weight_within};
-use region_slots::{Child, Slot, Slots, copied};
+use region_slots::{Child, Slot, Slots};
 use std::alloc::{AllocError, Global};
 use std::marker::Model;
 
@@ -219,23 +221,47 @@ impl Tree {
         Ok(forest)
     }
 
-    /// The forest that the tree is seen as, and what a generation asks of all its regions: it is seen while they are copied.
+    /// The forest that the tree is seen as, and what a generation asks of all its regions.
     pub fn forest_with_features(&self) -> Result<(Forest, Features), AllocError>
         ensures forest { IfOk result (λ both. both.0 ≡ self.now) }
         ensures iommu { IfOk result (λ both. both.1.has_iommu ≡ list_any (λ n. is_iommu n.kind) self.now.nodes) }
         ensures events { IfOk result (λ both. both.1.with_events.items ≡ ids_of (filter (λ n. nat_lt 0 (length n.events)) self.now.nodes)) }
     {
+        let both = self.forest_of(nodes_anew(self.alloc, self.slots.as_slice())?)?;
+        Ok(both)
+    }
+
+    /// What `forest_with_features` gives, where a forest is at hand that differs from the tree in some regions alone. Of its chunks of
+    /// regions the new forest shares those in which no region changed.
+    pub fn forest_after(
+        &self,
+        old: &Forest,
+        changed: &[RegionId],
+    ) -> Result<(Forest, Features), AllocError>
+        requires { OthersAre old.now.nodes self.now.nodes changed.now }
+        ensures forest { IfOk result (λ both. both.0 ≡ self.now) }
+        ensures iommu { IfOk result (λ both. both.1.has_iommu ≡ list_any (λ n. is_iommu n.kind) self.now.nodes) }
+        ensures events { IfOk result (λ both. both.1.with_events.items ≡ ids_of (filter (λ n. nat_lt 0 (length n.events)) self.now.nodes)) }
+    {
         let slots = self.slots.as_slice();
-        let mut nodes = Vec::with_capacity(self.alloc, slots.len())?;
-        let mut features = Features::none(self.alloc);
-        for slot in slots {
-            if is_notable(&slot.node) {
-                features.note(&slot.node)?;
-            }
-            nodes.push(copied(&slot.node)?)?;
+        if is_sparse(old.nodes.chunks().len(), slots.len()) {
+            let both = self.forest_with_features()?;
+            return Ok(both);
         }
+        let both = self.forest_of(nodes_near(self.alloc, &old.nodes, changed, slots)?)?;
+        Ok(both)
+    }
+
+    // The forest that the tree is seen as, by its regions, and what a generation asks of them.
+    fn forest_of(&self, nodes: Nodes) -> Result<(Forest, Features), AllocError>
+        requires { nodes ≡ self.now.nodes }
+        ensures forest { IfOk result (λ both. both.0 ≡ self.now) }
+        ensures iommu { IfOk result (λ both. both.1.has_iommu ≡ list_any (λ n. is_iommu n.kind) self.now.nodes) }
+        ensures events { IfOk result (λ both. both.1.with_events.items ≡ ids_of (filter (λ n. nat_lt 0 (length n.events)) self.now.nodes)) }
+    {
+        let features = Features::of(self.alloc, &nodes)?;
         let forest = Forest {
-            nodes: Nodes::new(nodes),
+            nodes,
             spaces: Spaces::new(self.spaces.clone()?),
             made: self.made,
             placings: self.placings,

@@ -51,7 +51,7 @@ fn shows_events(
     ensures { result ≡ shows_events forest.now }
 {
     // It tells that the regions stand by ascending id.
-    let _ = forest.nodes.as_slice();
+    let _ = forest.nodes.chunks();
     any_leaf(with_events, atlases)
 }
 
@@ -106,7 +106,7 @@ fn places_of(
     ensures { IfOk result (λ list. list.items ≡ shown_places forest.now places.now) }
 {
     let notifies = shows_events(forest, with_events, atlases);
-    let regions = forest.nodes.as_slice().len();
+    let regions = forest.nodes.len();
     let list = kept(alloc, atlases, regions, notifies, places)?;
     Ok(list)
 }

@@ -1,10 +1,16 @@
 // Regions with their places, address spaces, and all of them together.
-ghost use Rattle.std.specs.Prelude.{◌≡◌, ◌↔◌, [], None, Some, IsNone, IfSome, option_map};
+ghost use Rattle.std.specs.Prelude.{◌≡◌, ◌↔◌, ◌<◌, [], None, Some, IsNone, IfSome, option_map, length, flat_map};
+ghost use Rattle.std.specs.Arc.{arc_value};
+ghost use Rattle.mem_base.specs.lists.Every.{Every};
+ghost use Rattle.mem_base.specs.map.Chunks.{any_iommu};
 ghost use Rattle.mem_base.specs.map.Region.{IsAscending, node_of};
 ghost use Rattle.mem_base.specs.map.Search.{itself};
 
+use crate::map::chunks::{Chunk, any_chunk_has_iommu, count_in, node_halved, node_near};
 use crate::{Attrs, Client, Entries, Events, Kind, RegionId, Size, SpaceId, Spot};
+use std::alloc::Global;
 use std::marker::Model;
+use std::sync::Arc;
 
 /// A region of the forest, with its place in its container.
 #[derive(Debug, Drop)]
@@ -67,68 +73,71 @@ impl Node {
     }
 }
 
-/// Regions, by ascending id.
+/// Regions, by ascending id, in chunks that other forests may share.
 #[derive(Debug, Drop)]
 pub struct Nodes {
-    items: Vec<Node>,
+    chunks: Vec<Arc<Chunk, Global>>,
 }
 
 impl Model for Nodes {
-    ghost use Rattle.std.specs.Prelude.{List};
+    ghost use Rattle.std.specs.Prelude.{◌<◌, List, length, flat_map};
+    ghost use Rattle.std.specs.Arc.{arc_value};
     ghost use Rattle.mem_base.specs.declared.map.forests.Node.{Node};
 
     ghost Value = { List Node };
 
+    ghost use Rattle.mem_base.specs.lists.Every.{Every};
     ghost use Rattle.mem_base.specs.map.Region.{IsAscending};
 
-    ghost view = { λ n. n.items.items };
+    ghost view = { λ n. flat_map arc_value n.chunks.items };
 
-    ghost invariant = { λ n. IsAscending n.items.items };
+    ghost invariant = { λ n. IsAscending (flat_map arc_value n.chunks.items) × Every (λ c. 0 < length (arc_value c)) n.chunks.items };
 }
 
 impl Nodes {
-    /// These regions. It takes no memory.
-    pub fn new(items: Vec<Node>) -> Self
-        requires { IsAscending items.items }
-        ensures { result ≡ items.items }
+    /// The regions of these chunks. It takes no memory.
+    pub fn new(chunks: Vec<Arc<Chunk, Global>>) -> Self
+        requires ascending { IsAscending (flat_map arc_value chunks.items) }
+        requires filled { Every (λ c. 0 < length (arc_value c)) chunks.items }
+        ensures { result ≡ flat_map arc_value chunks.items }
     {
-        Nodes { items }
+        Nodes { chunks }
     }
 
-    /// All of them, by ascending id.
-    pub fn as_slice(&self) -> &[Node]
-        ensures value { result.now ≡ self.now }
+    /// All of them, by ascending id: the chunks, each with its regions.
+    pub fn chunks(&self) -> &[Arc<Chunk, Global>]
+        ensures value { flat_map arc_value result.now ≡ self.now }
+        ensures filled { Every (λ c. 0 < length (arc_value c)) result.now }
         ensures ascending { IsAscending self.now }
     {
-        self.items.as_slice()
+        self.chunks.as_slice()
     }
 
-    /// The region with this id, or `None` exactly where there is none.
+    /// How many there are. Each chunk is looked at.
+    pub fn len(&self) -> usize
+        ensures { result ≡ length self.now }
+    {
+        count_in(self.chunks())
+    }
+
+    /// Whether one of them is an IOMMU region. Each chunk is looked at, and no region.
+    pub fn has_iommu(&self) -> bool
+        ensures { result ≡ any_iommu self.now }
+    {
+        any_chunk_has_iommu(self.chunks())
+    }
+
+    /// The region with this id, or `None` exactly where there is none: by one look where no region was dropped, since regions are
+    /// numbered in the order in which they are made, and else by halving.
     pub fn get(&self, region: RegionId) -> Option<&Node>
         ensures none { IsNone result ↔ node_of self.now region ≡ None }
         ensures some { IfSome result (λ node. node_of self.now region ≡ Some node.now) }
     {
-        node_in(self.as_slice(), region)
-    }
-
-    /// All of them, in a vector. It takes no memory.
-    pub fn into_vec(self) -> Vec<Node>
-        ensures value { result.items ≡ self }
-        ensures ascending { IsAscending self }
-    {
-        self.items
-    }
-}
-
-// The region with this id, of regions by ascending id.
-fn node_in(nodes: &[Node], region: RegionId) -> Option<&Node>
-    requires { IsAscending nodes.now }
-    ensures none { IsNone result ↔ node_of nodes.now region ≡ None }
-    ensures some { IfSome result (λ node. node_of nodes.now region ≡ Some node.now) }
-{
-    match nodes.binary_search_by_key(&region.0, |node| node.id.0) {
-        Ok(i) => Some(&nodes[i]),
-        Err(_) => None,
+        let chunks = self.chunks();
+        match node_near(chunks, region) {
+            Some(node) => Some(node),
+            None => node_halved(chunks, region),
+        }
     }
 }
 

@@ -2,7 +2,7 @@ use Rattle.std.proofs.Common.{rules, Some, refl, sym, ap, ◌∙◌}
 use Rattle.std.proofs.lemmas.List.Sorted.{answers_always}
 use Rattle.mem_base.specs.declared.map.forests.Node.{Node}
 use Rattle.mem_base.proofs.NodeLaws.{node_found, node_missing}
-use Rattle.mem_base.proofs.map.forests.node_in.Goals as goal
+use Rattle.mem_base.proofs.map.chunks.node_in.Goals as goal
 
 pub returns-in-Ok-clause-some : goal.returns-in-Ok-clause-some
 returns-in-Ok-clause-some c =
