@@ -1,7 +1,7 @@
 -- Where no changed region has other ways to it or from it, the same regions are reached.
-use Rattle.std.proofs.Common.{◌≡◌, ℕ, zero, suc, Bool, true, false, ◌||◌, List, [], ◌∷◌, filter, refl, sym, ap, ◌∙◌, subst}
+use Rattle.std.proofs.Common.{◌≡◌, ℕ, zero, suc, ◌<◌, Bool, true, false, ◌||◌, List, [], ◌∷◌, map, filter, refl, sym, ap, ◌∙◌, subst}
 use Rattle.std.proofs.Common.{if◌then◌else◌, Option, Some, None}
-use Rattle.std.specs.Prelude.{◌==◌}
+use Rattle.std.specs.Prelude.{◌==◌, pos}
 use Rattle.std.specs.List.{list_any}
 use Rattle.mem_base.specs.declared.map.ids.RegionId.{RegionId}
 use Rattle.mem_base.specs.declared.map.ids.SpaceId.{SpaceId}
@@ -9,6 +9,7 @@ use Rattle.mem_base.specs.declared.map.forests.Node.{Node}
 use Rattle.mem_base.specs.declared.map.forests.Forest.{Forest}
 use Rattle.mem_base.specs.declared.map.kinds.Kind.{Kind}
 use Rattle.mem_base.specs.declared.map.kinds.Kind.TheVariants.{Container, Ram, Rom, RomDevice, Io, Iommu, Alias, Reserve, Host}
+use Rattle.mem_base.specs.lists.Every.{Every}
 use Rattle.mem_base.specs.map.Kinds.{target_of}
 use Rattle.mem_base.specs.map.Region.{IsAscending, node_of, is_in, is_child_of}
 use Rattle.mem_base.specs.map.Order.{trial_order, children_of, ids_of}
@@ -17,9 +18,9 @@ use Rattle.mem_base.specs.map.Search.{root_of}
 use Rattle.mem_base.specs.map.Touched.{is_reached, is_reached_from, reached}
 use Rattle.mem_base.proofs.ForestLaws.{id_of, node_of-itself}
 use Rattle.view_laws.proofs.Tests.{none_is_not_some, same_some}
-use Rattle.view_laws.proofs.LiveLaws.{every_in}
+use Rattle.view_laws.proofs.LiveLaws.{In, every_in}
 use Rattle.view_laws.proofs.SortedLaws.{filter_in, filter_out, map_in, map_out, sorted_in, sorted_out, any_in, any_found}
-use Rattle.view_laws.proofs.TouchedLaws.{found_in_list}
+use Rattle.view_laws.proofs.TouchedLaws.{found_in_list, unique}
 use Rattle.change_laws.specs.Meeting.{is_among}
 use Rattle.change_laws.specs.Reaching.{HasSameWays, KeepsWays}
 
@@ -125,10 +126,64 @@ ids_filter p (n ∷ ns) = go (p n.id) (ids_filter p ns)
     go true e = ap (λ (l : List RegionId). n.id ∷ l) e
     go false e = e
 
+-- a region of this id and nothing else
+abbrev bare : RegionId → Node
+bare r = record {
+  id = r;
+  kind = Container;
+  size = 0;
+  parent = None;
+  offset = 0;
+  priority = pos 0;
+  placing = 0;
+  enabled = false;
+  readonly = false;
+  nonvolatile = false;
+  romd = false;
+  unmergeable = false;
+  log = 0;
+  entries = [];
+  events = [];
+}
+
+bare_ids : (nodes : List Node) → ids_of (map (λ n. bare n.id) nodes) ≡ ids_of nodes
+bare_ids [] = refl
+bare_ids (n ∷ ns) = ap (λ (l : List RegionId). n.id ∷ l) (bare_ids ns)
+
+bare_ascend : (nodes : List Node) → IsAscending nodes → IsAscending (map (λ n. bare n.id) nodes)
+bare_ascend [] h = tt
+bare_ascend (n ∷ ns) h = (each ns h.0, bare_ascend ns h.1)
+  where
+    each : (ms : List Node) → Every (λ m. n.id.0 < m.id.0) ms → Every (λ m. n.id.0 < m.id.0) (map (λ m. bare m.id) ms)
+    each [] k = tt
+    each (m ∷ ms) k = (k.0, each ms k.1)
+
+-- each region of the one forest is in the other
+bare_there : (f g : Forest) → IsAscending f.nodes → AllKept f g → (z : Node) → In z (map (λ n. bare n.id) f.nodes) → In z (map (λ n. bare n.id) g.nodes)
+bare_there f g up all z m =
+    let t = map_in (λ (n : Node). bare n.id) z f.nodes m in
+    let itself : node_of f.nodes t.item.id ≡ Some t.item = every_in (λ (n : Node). node_of f.nodes n.id ≡ Some n) t.item f.nodes
+    (node_of-itself f.nodes up) t.there in
+    go t.item t.is (node_of g.nodes t.item.id) refl
+    (subst (λ (o : Option Node). HasSameWays o (node_of g.nodes t.item.id)) itself (all t.item.id))
+  where
+    go : (n : Node) → z ≡ bare n.id → (o : Option Node) → node_of g.nodes n.id ≡ o → HasSameWays (Some n) o → In z (map (λ m. bare m.id) g.nodes)
+    go n is None e h = absurd h
+    go n is (Some m) e h =
+        subst (λ y. In y (map (λ m. bare m.id) g.nodes)) (ap bare (id_of g.nodes n.id m e) ∙ sym is)
+        (map_out (λ (m : Node). bare m.id) m g.nodes (found_in_list g.nodes n.id m e))
+
+same_ids : (f g : Forest) → IsAscending f.nodes → IsAscending g.nodes → AllKept f g → ids_of f.nodes ≡ ids_of g.nodes
+same_ids f g up vp all =
+    sym (bare_ids f.nodes)
+    ∙ ap ids_of (unique _ _ (bare_ascend f.nodes up) (bare_ascend g.nodes vp) (bare_there f g up all)
+    (bare_there g f vp (λ r. ways_back (node_of f.nodes r) (node_of g.nodes r) (all r))))
+    ∙ bare_ids g.nodes
+
 pub same_are_reached : (rs : List RegionId) (f g : Forest) (s : SpaceId) → IsAscending f.nodes → IsAscending g.nodes → root_of f s ≡ root_of g s
     → KeepsWays rs f g → reached f s ≡ reached g s
 same_are_reached rs f g s up vp root k =
-    ids_filter (is_reached f s) f.nodes ∙ (λ i. filter (λ r. is_reached_same f g up vp all s root r i) (k.ids i)) ∙ sym (ids_filter (is_reached g s) g.nodes)
+    ids_filter (is_reached f s) f.nodes ∙ (λ i. filter (λ r. is_reached_same f g up vp all s root r i) (same_ids f g up vp all i)) ∙ sym (ids_filter (is_reached g s) g.nodes)
   where
     all : AllKept f g
     all r = go (is_among rs r) refl

@@ -1,10 +1,11 @@
-// Which spaces a change of the forest touches.
-ghost use Rattle.std.specs.Prelude.{◌≡◌, ◌==◌, ◌&&◌, not};
-ghost use Rattle.std.specs.List.{list_any};
+// Whether a region looks alike in two states of the map.
+ghost use Rattle.std.specs.Prelude.{◌≡◌, ◌==◌, ◌&&◌, not, true};
 ghost use Rattle.std.specs.Ordering.{int_cmp, is_eq};
 ghost use Rattle.mem_base.specs.lists.Booleans.{bool_eq};
+ghost use Rattle.mem_base.specs.lists.Every.{Every};
 ghost use Rattle.mem_base.specs.map.Region.{node_of};
 ghost use Rattle.mem_base.specs.map.Touched.{is_same_device_kind, is_same_ops, is_same_device, is_same_kind, is_same_region, looks_alike, stays_alike};
+ghost use Rattle.change_spans.specs.Alike.{is_moved_alone, moves_alone};
 
 use mem_base::{Device, DeviceKind, Forest, Kind, Node, Ops, RegionId};
 use region_tree::Tree;
@@ -66,7 +67,7 @@ fn is_same_kind(x: &Kind, y: &Kind) -> bool
 }
 
 /// One and the same region, or none and none.
-pub(crate) fn is_same_region(x: Option<RegionId>, y: Option<RegionId>) -> bool
+pub fn is_same_region(x: Option<RegionId>, y: Option<RegionId>) -> bool
     ensures { result ≡ is_same_region x y }
 {
     match (x, y) {
@@ -111,8 +112,8 @@ fn looks_alike(x: &Node, y: &Node) -> bool
         && is_flagged_alike(x, y)
 }
 
-// Whether a region is in one of two forests only, or does not look alike in both.
-fn differs(old: &Forest, new: &Tree, region: RegionId) -> bool
+/// Whether a region is in one of two forests only, or does not look alike in both. It takes no memory.
+pub fn differs(old: &Forest, new: &Tree, region: RegionId) -> bool
     ensures { result ≡ not (stays_alike (node_of old.now.nodes region) (node_of new.now.nodes region)) }
 {
     match (old.nodes.get(region), new.node(region)) {
@@ -122,14 +123,32 @@ fn differs(old: &Forest, new: &Tree, region: RegionId) -> bool
     }
 }
 
-/// Whether some of these regions differs from one forest to the other.
-pub(crate) fn any_differs(old: &Forest, new: &Tree, regions: &[RegionId]) -> bool
-    ensures { result ≡ list_any (λ r. not (stays_alike (node_of old.now.nodes r) (node_of new.now.nodes r))) regions.now }
+// Whether two regions are the same but for id and place, translations and ioeventfds.
+fn is_moved_alone(x: &Node, y: &Node) -> bool
+    ensures { result ≡ is_moved_alone x.now y.now }
+{
+    is_same_kind(&x.kind, &y.kind) && x.size.get() == y.size.get() && is_flagged_alike(x, y)
+}
+
+// Whether a region is in neither of two forests, or in both, and the same there but for its place.
+fn moves_alone(old: &Forest, new: &Tree, region: RegionId) -> bool
+    ensures { result ≡ moves_alone (node_of old.now.nodes region) (node_of new.now.nodes region) }
+{
+    match (old.nodes.get(region), new.node(region)) {
+        (Some(x), Some(y)) => is_moved_alone(x, y),
+        (None, None) => true,
+        _ => false,
+    }
+}
+
+/// Whether each of these regions is in neither of two forests, or in both, and the same there but for its place.
+pub(crate) fn move_alone(old: &Forest, new: &Tree, regions: &[RegionId]) -> bool
+    ensures { result ≡ true → Every (λ r. moves_alone (node_of old.now.nodes r) (node_of new.now.nodes r) ≡ true) regions.now }
 {
     for region in regions {
-        if differs(old, new, *region) {
-            return true;
+        if !moves_alone(old, new, *region) {
+            return false;
         }
     }
-    false
+    true
 }
