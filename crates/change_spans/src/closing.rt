@@ -163,12 +163,20 @@ fn keeps_after(spans: &[Reach], placed: bool, after: &Tree, region: RegionId) ->
 }
 
 // The same of all changed regions, before the change and after it.
-fn all_changed(spans: &[Reach], placed: bool, before: &Forest, after: &Tree, changed: &[RegionId]) -> bool
+fn all_changed(
+    spans: &[Reach],
+    placed: bool,
+    before: &Forest,
+    after: &Tree,
+    changed: &[RegionId],
+) -> bool
     ensures before { result ≡ true → Every (KeepsIn before.now.nodes placed spans.now) changed.now }
     ensures after { result ≡ true → Every (KeepsIn after.now.nodes placed spans.now) changed.now }
 {
     for region in changed {
-        if !keeps_before(spans, placed, before, *region) || !keeps_after(spans, placed, after, *region) {
+        if !keeps_before(spans, placed, before, *region)
+            || !keeps_after(spans, placed, after, *region)
+        {
             return false;
         }
     }

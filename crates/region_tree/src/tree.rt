@@ -191,11 +191,7 @@ impl Tree {
         if !self.kept.fresh {
             return None;
         }
-        aliases_at(
-            self.slots.as_slice(),
-            self.kept.aliases.as_slice(),
-            region,
-        )
+        aliases_at(self.slots.as_slice(), self.kept.aliases.as_slice(), region)
     }
 
     /// The regions that are reached in a space, by ascending id: its root, and the children and the alias target of each

@@ -37,7 +37,7 @@ use Rattle.view_laws.proofs.SortedLaws.{any_in, filter_in, filter_out, each_in, 
 
 -- what tests call the same is the same
 
-bool_same : (x y : Bool) → bool_eq x y ≡ true → x ≡ y
+pub bool_same : (x y : Bool) → bool_eq x y ≡ true → x ≡ y
 bool_same true y h = sym h
 bool_same false true h = absurd (grind arith)
 bool_same false false h = refl
@@ -73,7 +73,7 @@ device_same x y h =
     let kind = device_kind_same x.kind y.kind a.0 in let regs = eqb-true x.regs y.regs a.1 in let ops = ops_same x.ops y.ops b.1 in
     λ i. record { kind = kind i; regs = regs i; ops = ops i }
 
-kind_same : (x y : Kind) → is_same_kind x y ≡ true → x ≡ y
+pub kind_same : (x y : Kind) → is_same_kind x y ≡ true → x ≡ y
 kind_same Container Container h = refl
 kind_same Ram Ram h = refl
 kind_same Rom Rom h = refl
@@ -86,7 +86,7 @@ kind_same Reserve Reserve h = refl
 kind_same Host Host h = refl
 kind_same x y h = absurd (grind arith)
 
-region_same : (x y : Option RegionId) → is_same_region x y ≡ true → x ≡ y
+pub region_same : (x y : Option RegionId) → is_same_region x y ≡ true → x ≡ y
 region_same None None h = refl
 region_same (Some r) (Some q) h = ap (λ (z : RegionId). Some z) (same_region r q (eqb-true r.0 q.0 h))
 region_same None (Some q) h = absurd (grind arith)
@@ -96,7 +96,7 @@ region_same (Some r) None h = absurd (grind arith)
 abbrev shape : Node → Node
 shape n = record n { entries = []; events = [] }
 
-is_equal : (o : Ordering) → is_eq o ≡ true → o ≡ Equal
+pub is_equal : (o : Ordering) → is_eq o ≡ true → o ≡ Equal
 is_equal Less h = absurd (grind arith)
 is_equal Equal h = refl
 is_equal Greater h = absurd (grind arith)
