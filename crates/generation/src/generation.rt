@@ -1,5 +1,5 @@
 // A generation: a forest with the atlases of its spaces and the places of what it names.
-ghost use Rattle.std.specs.Prelude.{◌≡◌, ◌↔◌, ◌+◌, None, Some, IsNone, IfSome, IfOk, false, map};
+ghost use Rattle.std.specs.Prelude.{◌≡◌, ◌↔◌, ◌+◌, None, Some, IsNone, IfSome, IfOk, false, map, length, nat_lt};
 ghost use Rattle.std.specs.List.{list_any};
 ghost use Rattle.std.specs.Arc.{arc_value};
 ghost use Rattle.mem_base.specs.lists.Every.{Every};
@@ -36,6 +36,8 @@ pub struct Generation {
     guesses: Guesses,
     // Whether some region of the forest is an IOMMU region.
     has_iommu: bool,
+    // Whether some region of the forest has an ioeventfd.
+    has_events: bool,
 }
 
 impl Model for Generation {
@@ -47,7 +49,7 @@ impl Model for Generation {
 
     ghost view = { λ g. published g.number g.forest g.places.items };
 
-    ghost invariant = { λ g. IsGeneration g.forest (map (λ p. (p.0, arc_value p.1)) g.atlases.items) g.places.items g.has_iommu };
+    ghost invariant = { λ g. IsGeneration g.forest (map (λ p. (p.0, arc_value p.1)) g.atlases.items) g.places.items g.has_iommu g.has_events };
 }
 
 impl Generation {
@@ -70,11 +72,14 @@ impl Generation {
         ensures places { result.places ≡ places.items }
     {
         let has_iommu = has_iommu(forest.nodes.as_slice());
+        let has_events = has_events(forest.nodes.as_slice());
         let guesses = Guesses::none();
-        Generation::with(number, forest, atlases, places, guesses, has_iommu)
+        Generation::with(
+            number, forest, atlases, places, guesses, has_iommu, has_events,
+        )
     }
 
-    /// The same generation, where it is known whether some region is an IOMMU region, and in which the place of a region is found by
+    /// The same generation, where it is known whether some region is an IOMMU region and whether some has an ioeventfd, and in which the place of a region is found by
     /// one look where the region's number is below the number of regions, and else by halving.
     ///
     /// It takes four bytes of memory for each region, and fails only where memory runs out.
@@ -85,18 +90,22 @@ impl Generation {
         atlases: Vec<(SpaceId, Arc<Atlas, Global>)>,
         places: Vec<Place>,
         has_iommu: bool,
+        has_events: bool,
     ) -> Result<Generation, AllocError>
         requires edition { IsEdition forest places.items }
         requires atlases { map (λ p. (p.0, arc_value p.1)) atlases.items ≡ views_of forest }
         requires ascending { AscendByRegion places.items }
         requires iommu { has_iommu ≡ list_any (λ n. is_iommu n.kind) forest.nodes }
+        requires events { has_events ≡ list_any (λ n. nat_lt 0 (length n.events)) forest.nodes }
         ensures number { IfOk result (λ g. g.number ≡ number) }
         ensures forest { IfOk result (λ g. g.forest ≡ forest) }
         ensures places { IfOk result (λ g. g.places ≡ places.items) }
     {
         let regions = forest.nodes.as_slice().len();
         let guesses = Guesses::of(alloc, places.as_slice(), regions)?;
-        Ok(Generation::with(number, forest, atlases, places, guesses, has_iommu))
+        Ok(Generation::with(
+            number, forest, atlases, places, guesses, has_iommu, has_events,
+        ))
     }
 
     // The same, with these guesses where the places stand.
@@ -107,11 +116,13 @@ impl Generation {
         places: Vec<Place>,
         guesses: Guesses,
         has_iommu: bool,
+        has_events: bool,
     ) -> Generation
         requires edition { IsEdition forest places.items }
         requires atlases { map (λ p. (p.0, arc_value p.1)) atlases.items ≡ views_of forest }
         requires ascending { AscendByRegion places.items }
         requires iommu { has_iommu ≡ list_any (λ n. is_iommu n.kind) forest.nodes }
+        requires events { has_events ≡ list_any (λ n. nat_lt 0 (length n.events)) forest.nodes }
         ensures number { result.number ≡ number }
         ensures forest { result.forest ≡ forest }
         ensures places { result.places ≡ places.items }
@@ -123,6 +134,7 @@ impl Generation {
             places,
             guesses,
             has_iommu,
+            has_events,
         }
     }
 
@@ -203,6 +215,13 @@ impl Generation {
         }
     }
 
+    /// Whether some region of the forest has an ioeventfd; where none has, none is live in any space.
+    pub fn has_events(&self) -> bool
+        ensures { result ≡ list_any (λ n. nat_lt 0 (length n.events)) self.now.forest.nodes }
+    {
+        self.has_events
+    }
+
     /// Whether the region is a leaf in one of its views.
     pub fn names(&self, region: RegionId) -> bool
         ensures { result ≡ names self.now.forest region }
@@ -216,6 +235,13 @@ fn has_iommu(nodes: &[Node]) -> bool
     ensures { result ≡ list_any (λ n. is_iommu n.kind) nodes.now }
 {
     nodes.iter().any(|node| matches!(node.kind, Kind::Iommu))
+}
+
+// Whether one of these regions has an ioeventfd.
+fn has_events(nodes: &[Node]) -> bool
+    ensures { result ≡ list_any (λ n. nat_lt 0 (length n.events)) nodes.now }
+{
+    nodes.iter().any(|node| !node.events.as_slice().is_empty())
 }
 
 impl Edition for Generation {

@@ -132,6 +132,14 @@ fn copy_of(
     Ok(both)
 }
 
+// Whether some region of a forest has an ioeventfd, by the regions that have one.
+fn some_events(forest: &Forest, with_events: &[RegionId]) -> bool
+    requires events { with_events.now ≡ ids_of (filter (λ n. nat_lt 0 (length n.events)) forest.now.nodes) }
+    ensures { result ≡ list_any (λ n. nat_lt 0 (length n.events)) forest.now.nodes }
+{
+    !with_events.is_empty()
+}
+
 // Within which spans a tree may show something else than a forest; `None` where that is not known. `noted` has the regions that may have
 // changed.
 fn spans_between(
@@ -176,13 +184,16 @@ pub(crate) fn prepare<L: Ledger>(
     ensures carves { steps.new ≤ steps.old + most_carves current.now.forest tree.now }
 {
     let (forest, features) = copy_of(current.forest(), noted, tree)?;
+    let with_events = features.with_events.as_slice();
+    let has_events = some_events(&forest, with_events);
     let spans = spans_between(alloc, current.forest(), noted, tree)?;
     let Shown {
         atlases,
         reached,
         changes,
-    } = show_spaces(alloc, current, known, noted, &spans, tree, &forest, steps)?;
-    let with_events = features.with_events.as_slice();
+    } = show_spaces(
+        alloc, current, known, noted, &spans, tree, &forest, has_events, steps,
+    )?;
     let places = places_of(alloc, &forest, with_events, atlases.as_slice(), places)?;
     let number = current.number() + 1;
     let generation = Generation::indexed(
@@ -192,6 +203,7 @@ pub(crate) fn prepare<L: Ledger>(
         atlases,
         places,
         features.has_iommu,
+        has_events,
     )?;
     Ok(Prepared::new(Arc::new(alloc, generation)?, changes, reached))
 }

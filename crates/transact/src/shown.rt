@@ -1,5 +1,6 @@
 // What the spaces of a forest show that is to be published: their atlases, the regions that are reached, and what is told of them.
-ghost use Rattle.std.specs.Prelude.{◌≡◌, ◌+◌, ◌*◌, ◌≤◌, Some, IsSome, IfSome, IfOk, map};
+ghost use Rattle.std.specs.Prelude.{◌≡◌, ◌+◌, ◌*◌, ◌≤◌, Some, IsSome, IfSome, IfOk, map, length, nat_lt};
+ghost use Rattle.std.specs.List.{list_any};
 ghost use Rattle.std.specs.Arc.{arc_value};
 ghost use Rattle.mem_base.specs.declared.map.ids.RegionId.{RegionId};
 ghost use Rattle.mem_base.specs.map.Search.{root_of};
@@ -137,6 +138,7 @@ fn show_space<L: Ledger>(
     spans: &Option<Vec<Reach>>,
     tree: &Tree,
     forest: &Forest,
+    has_events: bool,
     space: SpaceId,
     steps: &mut Steps<L>,
 ) -> Result<(Arc<Atlas, Global>, Regions, Change), AllocError>
@@ -144,6 +146,7 @@ fn show_space<L: Ledger>(
     requires noted { AreNoted current.now.forest tree.now noted.now }
     requires spans { IfSome spans.now (λ spans. ShowsWithin current.now.forest tree.now spans.items) }
     requires forest { forest.now ≡ tree.now }
+    requires events { has_events ≡ list_any (λ n. nat_lt 0 (length n.events)) tree.now.nodes }
     requires there { IsSome (root_of tree.now space) }
     requires made { IsMade tree.now }
     ensures view { IfOk result (λ x. arc_value x.0 ≡ view_of tree.now space) }
@@ -154,7 +157,9 @@ fn show_space<L: Ledger>(
 {
     let (reach, touched) = reach_of(alloc, current.forest(), known, noted, tree, space)?;
     let atlas = atlas_of(alloc, current, spans, touched, tree, space, steps)?;
-    let change = change_at(alloc, current, noted, touched, forest, &atlas, space)?;
+    let change = change_at(
+        alloc, current, noted, touched, forest, has_events, &atlas, space,
+    )?;
     Ok((atlas, reach, change))
 }
 
@@ -168,12 +173,14 @@ pub(crate) fn show_spaces<L: Ledger>(
     spans: &Option<Vec<Reach>>,
     tree: &Tree,
     forest: &Forest,
+    has_events: bool,
     steps: &mut Steps<L>,
 ) -> Result<Shown, AllocError>
     requires known { known.now ≡ reached_in current.now.forest }
     requires noted { AreNoted current.now.forest tree.now noted.now }
     requires spans { IfSome spans.now (λ spans. ShowsWithin current.now.forest tree.now spans.items) }
     requires forest { forest.now ≡ tree.now }
+    requires events { has_events ≡ list_any (λ n. nat_lt 0 (length n.events)) tree.now.nodes }
     requires made { IsMade tree.now }
     ensures atlases { IfOk result (λ shown. map (λ p. (p.0, arc_value p.1)) shown.atlases.items ≡ views_of tree.now) }
     ensures reached { IfOk result (λ shown. shown.reached.items ≡ reached_in tree.now) }
@@ -185,7 +192,7 @@ pub(crate) fn show_spaces<L: Ledger>(
     let mut changes = Vec::new(alloc);
     for (space, _) in forest.spaces.as_slice() {
         let (atlas, reach, change) = show_space(
-            alloc, current, known, noted, spans, tree, forest, *space, steps,
+            alloc, current, known, noted, spans, tree, forest, has_events, *space, steps,
         )?;
         atlases.push((*space, atlas))?;
         reached.push((*space, reach))?;
