@@ -98,7 +98,8 @@ module _ (rs : List RegionId) (f g : Forest) (up : IsAscending f.nodes) (vp : Is
       one false m k = refl
 
   themselves : (h : Forest) → IsAscending h.nodes → (q : RegionId) → Every (Itself h) (children_of h.nodes q)
-  themselves h hp q = every_child (Itself h) q h.nodes (weaker (Itself h) (λ n. is_child_of q n ≡ true → Itself h n) (λ n e t. e) h.nodes (node_of-itself h.nodes hp))
+  themselves h hp q =
+      every_child (Itself h) q h.nodes (weaker (Itself h) (λ n. is_child_of q n ≡ true → Itself h n) (λ n e t. e) h.nodes (node_of-itself h.nodes hp))
 
   children_same : (d : ℕ) → Same d → (q : RegionId) (a : ℕ) → placed_child rs (placed_in f rs d) (children_of f.nodes q) a ≡ false
       → placed_child rs (placed_in g rs d) (children_of g.nodes q) a ≡ false

@@ -183,7 +183,8 @@ same_ids f g up vp all =
 pub same_are_reached : (rs : List RegionId) (f g : Forest) (s : SpaceId) → IsAscending f.nodes → IsAscending g.nodes → root_of f s ≡ root_of g s
     → KeepsWays rs f g → reached f s ≡ reached g s
 same_are_reached rs f g s up vp root k =
-    ids_filter (is_reached f s) f.nodes ∙ (λ i. filter (λ r. is_reached_same f g up vp all s root r i) (same_ids f g up vp all i)) ∙ sym (ids_filter (is_reached g s) g.nodes)
+    ids_filter (is_reached f s) f.nodes ∙ (λ i. filter (λ r. is_reached_same f g up vp all s root r i) (same_ids f g up vp all i))
+    ∙ sym (ids_filter (is_reached g s) g.nodes)
   where
     all : AllKept f g
     all r = go (is_among rs r) refl

@@ -79,8 +79,9 @@ impl Generation {
         )
     }
 
-    /// The same generation, where it is known whether some region is an IOMMU region and whether some has an ioeventfd, and in which the place of a region is found by
-    /// one look where the region's number is below the number of regions, and else by halving.
+    /// The same generation, where it is known whether some region is an IOMMU region and whether some has an ioeventfd, and in
+    /// which the place of a region is found by one look where the region's number is below the number of regions, and else by
+    /// halving.
     ///
     /// It takes four bytes of memory for each region, and fails only where memory runs out.
     pub fn indexed(

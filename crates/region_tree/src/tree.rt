@@ -1,6 +1,7 @@
 // The forest of regions: what it is seen as, and what it tells.
 
-ghost use Rattle.std.specs.Prelude.{◌≡◌, ◌≤◌, [], length, filter, nat_lt, Option, None, Some, option_copied, IsSome, IfSome, IfOk, OnOk, ◌++◌, ◌∷◌, if◌then◌else◌};
+ghost use Rattle.std.specs.Prelude.{◌≡◌, ◌≤◌, [], length, filter, nat_lt, Option, None, Some, option_copied, IsSome, IfSome};
+ghost use Rattle.std.specs.Prelude.{IfOk, OnOk, ◌++◌, ◌∷◌, if◌then◌else◌};
 ghost use Rattle.std.specs.List.{list_any};
 ghost use Rattle.mem_base.specs.map.Region.{IsAscending, node_of};
 ghost use Rattle.mem_base.specs.map.Kinds.{is_iommu};
