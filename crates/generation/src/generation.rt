@@ -1,5 +1,5 @@
 // A generation: a forest with the atlases of its spaces and the places of what it names.
-ghost use Rattle.std.specs.Prelude.{◌≡◌, ◌↔◌, ◌+◌, None, Some, IsNone, IfSome, IfOk, false, map};
+ghost use Rattle.std.specs.Prelude.{◌≡◌, ◌↔◌, ◌+◌, None, Some, IsNone, IfSome, IfOk, false, map, length, nat_lt};
 ghost use Rattle.std.specs.List.{list_any};
 ghost use Rattle.std.specs.Arc.{arc_value};
 ghost use Rattle.mem_base.specs.lists.Every.{Every};
@@ -35,6 +35,8 @@ pub struct Generation {
     guesses: Guesses,
     // Whether some region of the forest is an IOMMU region.
     has_iommu: bool,
+    // Whether some region of the forest has an ioeventfd.
+    has_events: bool,
 }
 
 impl Model for Generation {
@@ -46,7 +48,7 @@ impl Model for Generation {
 
     ghost view = { λ g. published g.number g.forest g.places.items };
 
-    ghost invariant = { λ g. IsGeneration g.forest (map (λ p. (p.0, arc_value p.1)) g.atlases.items) g.places.items g.has_iommu };
+    ghost invariant = { λ g. IsGeneration g.forest (map (λ p. (p.0, arc_value p.1)) g.atlases.items) g.places.items g.has_iommu g.has_events };
 }
 
 impl Generation {
@@ -69,12 +71,16 @@ impl Generation {
         ensures places { result.places ≡ places.items }
     {
         let has_iommu = forest.nodes.has_iommu();
+        let has_events = forest.nodes.has_events();
         let guesses = Guesses::none();
-        Generation::with(number, forest, atlases, places, guesses, has_iommu)
+        Generation::with(
+            number, forest, atlases, places, guesses, has_iommu, has_events,
+        )
     }
 
-    /// The same generation, where it is known whether some region is an IOMMU region, and in which the place of a region is found by
-    /// one look where the region's number is below the number of regions, and else by halving.
+    /// The same generation, where it is known whether some region is an IOMMU region and whether some has an ioeventfd, and in
+    /// which the place of a region is found by one look where the region's number is below the number of regions, and else by
+    /// halving.
     ///
     /// It takes four bytes of memory for each region, and fails only where memory runs out.
     pub fn indexed(
@@ -84,18 +90,22 @@ impl Generation {
         atlases: Vec<(SpaceId, Arc<Atlas, Global>)>,
         places: Vec<Place>,
         has_iommu: bool,
+        has_events: bool,
     ) -> Result<Generation, AllocError>
         requires edition { IsEdition forest places.items }
         requires atlases { map (λ p. (p.0, arc_value p.1)) atlases.items ≡ views_of forest }
         requires ascending { AscendByRegion places.items }
         requires iommu { has_iommu ≡ list_any (λ n. is_iommu n.kind) forest.nodes }
+        requires events { has_events ≡ list_any (λ n. nat_lt 0 (length n.events)) forest.nodes }
         ensures number { IfOk result (λ g. g.number ≡ number) }
         ensures forest { IfOk result (λ g. g.forest ≡ forest) }
         ensures places { IfOk result (λ g. g.places ≡ places.items) }
     {
         let regions = forest.nodes.len();
         let guesses = Guesses::of(alloc, places.as_slice(), regions)?;
-        Ok(Generation::with(number, forest, atlases, places, guesses, has_iommu))
+        Ok(Generation::with(
+            number, forest, atlases, places, guesses, has_iommu, has_events,
+        ))
     }
 
     // The same, with these guesses where the places stand.
@@ -106,11 +116,13 @@ impl Generation {
         places: Vec<Place>,
         guesses: Guesses,
         has_iommu: bool,
+        has_events: bool,
     ) -> Generation
         requires edition { IsEdition forest places.items }
         requires atlases { map (λ p. (p.0, arc_value p.1)) atlases.items ≡ views_of forest }
         requires ascending { AscendByRegion places.items }
         requires iommu { has_iommu ≡ list_any (λ n. is_iommu n.kind) forest.nodes }
+        requires events { has_events ≡ list_any (λ n. nat_lt 0 (length n.events)) forest.nodes }
         ensures number { result.number ≡ number }
         ensures forest { result.forest ≡ forest }
         ensures places { result.places ≡ places.items }
@@ -122,6 +134,7 @@ impl Generation {
             places,
             guesses,
             has_iommu,
+            has_events,
         }
     }
 
@@ -200,6 +213,13 @@ impl Generation {
             Some(node) => node.events.as_slice(),
             None => &[],
         }
+    }
+
+    /// Whether some region of the forest has an ioeventfd; where none has, none is live in any space.
+    pub fn has_events(&self) -> bool
+        ensures { result ≡ list_any (λ n. nat_lt 0 (length n.events)) self.now.forest.nodes }
+    {
+        self.has_events
     }
 
     /// Whether the region is a leaf in one of its views.

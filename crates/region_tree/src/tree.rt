@@ -1,24 +1,27 @@
 // The forest of regions: what it is seen as, and what it tells.
 
-ghost use Rattle.std.specs.Prelude.{◌≡◌, ◌≤◌, [], length, filter, nat_lt, Option, None, Some, option_copied, IsSome, IfOk, OnOk, ◌++◌, ◌∷◌, if◌then◌else◌};
+ghost use Rattle.std.specs.Prelude.{◌≡◌, ◌≤◌, [], length, filter, nat_lt, Option, None, Some, option_copied, IsSome, IfSome};
+ghost use Rattle.std.specs.Prelude.{IfOk, OnOk, ◌++◌, ◌∷◌, if◌then◌else◌};
 ghost use Rattle.std.specs.List.{list_any};
-ghost use Rattle.mem_base.specs.map.Region.{node_of};
+ghost use Rattle.mem_base.specs.map.Region.{IsAscending, node_of};
 ghost use Rattle.mem_base.specs.map.Kinds.{is_iommu};
 ghost use Rattle.mem_base.specs.map.Order.{children_of, ids_of};
+ghost use Rattle.mem_base.specs.map.Refusals.{targets};
 ghost use Rattle.mem_base.specs.map.Search.{root_of};
 ghost use Rattle.mem_base.specs.map.Forest.{IsOrderedForest, IsClosedForest};
 ghost use Rattle.mem_base.specs.map.Calls.{empty};
 ghost use Rattle.mem_base.specs.map.Steps.{reaches, depth_of, weight_of};
 ghost use Rattle.mem_base.specs.map.Touched.{reached};
 ghost use Rattle.region_slots.specs.Slots.{nodes_of, placed_of};
+ghost use Rattle.region_extents.specs.Kept.{aliases_of, aliases_in};
 ghost use Rattle.region_tree.specs.Near.{OthersAre};
 ghost use Rattle.region_tree.specs.Reach.{picked};
 
 use crate::features::Features;
 use crate::near::{is_sparse, nodes_anew, nodes_near};
 use mem_base::{Forest, MOST_DEPTH, Node, Nodes, RegionId, SpaceId, Spaces};
-use region_extents::{Kept, depth_within, kept_extent, mark_within, weight_within};
-use region_slots::{Child, Slot, Slots};
+use region_extents::{Ids, Kept, depth_within, kept_extent, mark_within, weight_within};
+use region_slots::{Child, Slot, Slots, place_of};
 use std::alloc::{AllocError, Global};
 use std::marker::Model;
 
@@ -181,6 +184,19 @@ impl Tree {
         }
     }
 
+    /// The aliases of a region, by ascending id; `None` where it is not in the forest, or where they are not kept since memory ran out.
+    ///
+    /// It takes no memory.
+    pub fn aliases(&self, region: RegionId) -> Option<&[RegionId]>
+        ensures { IfSome result (λ ids. ids.now ≡ ids_of (filter (λ n. targets region n.kind) self.now.nodes)) }
+    {
+        let _ = &self.alloc;
+        if !self.kept.fresh {
+            return None;
+        }
+        aliases_at(self.slots.as_slice(), self.kept.aliases.as_slice(), region)
+    }
+
     /// The regions that are reached in a space, by ascending id: its root, and the children and the alias target of each
     /// reached region. The list is empty where there is no such space.
     ///
@@ -270,6 +286,16 @@ impl Tree {
         };
         Ok((forest, features))
     }
+}
+
+/// The aliases of a region, of a list for each region.
+fn aliases_at<'a>(slots: &[Slot], lists: &'a [Ids], region: RegionId) -> Option<&'a [RegionId]>
+    requires ascending { IsAscending (nodes_of slots.now) }
+    requires lists { lists.now ≡ aliases_in (nodes_of slots.now) }
+    ensures { IfSome result (λ ids. ids.now ≡ aliases_of (nodes_of slots.now) region) }
+{
+    let at = place_of(slots, region)?;
+    Some(lists[at].as_slice())
 }
 
 /// The regions that are reached from one of them, by ascending id.

@@ -1,5 +1,5 @@
 -- Whether a forest shows an ioeventfd, by its regions.
-use Rattle.std.proofs.Common.{◌≡◌, ◌<◌, ◌&&◌, ◌||◌, if◌then◌else◌, Bool, true, false, ltb, List, [], ◌∷◌, length, Option, Some, None, refl}
+use Rattle.std.proofs.Common.{◌≡◌, ◌<◌, ◌&&◌, ◌||◌, if◌then◌else◌, Bool, true, false, not, eqb, ltb, List, [], ◌∷◌, length, Option, Some, None, refl}
 use Rattle.std.proofs.Common.{sym, ap, subst, ◌∙◌, arith}
 use Rattle.std.specs.Prelude.{find, filter, nat_lt, unwrap_or, option_map}
 use Rattle.std.specs.List.{list_any}
@@ -101,3 +101,26 @@ any_id p q (n ∷ ns) = go (any_id p q ns) (p n)
         → list_any q (ids_of (if b then n ∷ filter p ns else filter p ns)) ≡ ((b && q n.id) || list_any (λ n. p n && q n.id) ns)
     go rest true = ap (λ b. q n.id || b) rest
     go rest false = rest
+
+-- some region passes a test where the list of those that do is not empty
+pub some_listed : (p : Node → Bool) (nodes : List Node) → list_any p nodes ≡ ltb 0 (length (ids_of (filter p nodes)))
+some_listed p [] = refl
+some_listed p (n ∷ ns) = go (p n) (some_listed p ns)
+  where
+    go : (b : Bool) → list_any p ns ≡ ltb 0 (length (ids_of (filter p ns)))
+        → (b || list_any p ns) ≡ ltb 0 (length (ids_of (if b then n ∷ filter p ns else filter p ns)))
+    go true e = grind (arith, nat_tests)
+    go false e = e
+
+pub none_listed : (p : Node → Bool) (nodes : List Node) → list_any p nodes ≡ false → ids_of (filter p nodes) ≡ []
+none_listed p [] h = refl
+none_listed p (n ∷ ns) h = go (p n) h (none_listed p ns)
+  where
+    go : (b : Bool) → (b || list_any p ns) ≡ false → (list_any p ns ≡ false → ids_of (filter p ns) ≡ [])
+        → ids_of (if b then n ∷ filter p ns else filter p ns) ≡ []
+    go true h rest = absurd (grind arith)
+    go false h rest = rest h
+
+pub not_empty : (rs : List RegionId) → not (eqb (length rs) 0) ≡ ltb 0 (length rs)
+not_empty [] = refl
+not_empty (r ∷ rs) = grind (arith, nat_tests)

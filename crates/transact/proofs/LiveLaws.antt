@@ -20,7 +20,7 @@ use Rattle.mem_base.specs.views.Naming.{has_leaf}
 use Rattle.mem_base.specs.declared.map.forests.Node.{Node}
 use Rattle.view_laws.proofs.LiveLaws.{In, order_itself}
 use Rattle.view_laws.proofs.SortedLaws.{any_in, any_found}
-use Rattle.transact.specs.Noted.{is_among, OthersStay}
+use Rattle.change_laws.specs.Meeting.{is_among, OthersStay}
 use Rattle.transact.proofs.MadeLaws.{lives_are}
 
 abbrev change : SpaceId → List RangeEvent → List Live → List Live → Change

@@ -61,7 +61,7 @@ pub counted_after : (f g : Forest) (call : Call) → after f call ≡ Ok g → g
 counted_after f g call e = ap (λ (h : Forest). h.calls) (after-accepted f g call e).1 ∙ ap (λ n. n + 1) (calls_stay f call)
 
 -- the view of a forest at a space is its view
-view_made : (f : Forest) (s : SpaceId) → IsMade f → IsView f s (view_of f s)
+pub view_made : (f : Forest) (s : SpaceId) → IsMade f → IsView f s (view_of f s)
 view_made f s m = subst (λ g. IsView g s (view_of g s)) m.made (IsView-made m.calls s m.fitting)
 
 pub view_is : (f : Forest) (s : SpaceId) (rs : List FlatRange) → IsMade f → IsView f s rs → rs ≡ view_of f s

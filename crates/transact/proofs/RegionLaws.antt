@@ -15,7 +15,8 @@ use Rattle.mem_base.specs.map.Order.{ids_of}
 use Rattle.mem_base.specs.map.Forest.{IsMade}
 use Rattle.mem_base.specs.map.Touched.{is_reached, reached}
 use Rattle.mem_base.proofs.EveryLaws.{every_at, every_filter, every_map}
-use Rattle.transact.specs.Noted.{is_among, Ascend}
+use Rattle.change_laws.specs.Meeting.{is_among}
+use Rattle.transact.specs.Noted.{Ascend}
 use Rattle.transact.proofs.MadeLaws.{ordered_made}
 
 -- of nodes by ascending id, those that pass a test have ascending ids too

@@ -1,5 +1,5 @@
 -- What spaces show, of which some are not touched.
-use Rattle.std.proofs.Common.{◌≡◌, ℕ, zero, suc, ◌<◌, if◌then◌else◌, Bool, true, false, eqb, List, [], ◌∷◌, map, length, get_or, drop, Some}
+use Rattle.std.proofs.Common.{◌≡◌, ◌⊎◌, inl, inr, ℕ, zero, suc, ◌<◌, ◌≤◌, if◌then◌else◌, Bool, true, false, eqb, List, [], ◌∷◌, map, length, get_or, drop, Some}
 use Rattle.std.proofs.Common.{IsSome, refl, sym, ap, subst, ◌∙◌, arith}
 use Rattle.std.specs.Prelude.{find, option_map}
 use Rattle.std.proofs.lemmas.Bool.Decides.{nat_tests}
@@ -10,10 +10,16 @@ use Rattle.mem_base.specs.declared.views.flat.FlatRange.{FlatRange}
 use Rattle.mem_base.specs.lists.Every.{Every}
 use Rattle.mem_base.specs.map.Search.{is_space, root_of}
 use Rattle.mem_base.specs.map.Forest.{IsMade}
-use Rattle.mem_base.specs.map.Touched.{is_touched}
+use Rattle.mem_base.specs.map.Touched.{is_same_region, is_touched}
 use Rattle.mem_base.specs.views.Flattened.{view_of}
-use Rattle.view_laws.proofs.TouchedLaws.{untouched_view}
-use Rattle.transact.proofs.MadeLaws.{ordered_made}
+use Rattle.mem_base.specs.lists.Booleans.{bool_eq}
+use Rattle.mem_base.specs.views.View.{IsView}
+use Rattle.view_laws.proofs.TouchedLaws.{untouched_view, region_same, bool_same}
+use Rattle.change_spans.specs.declared.reaches.Reach.{Reach}
+use Rattle.change_spans.specs.declared.reaches.Span.{Span}
+use Rattle.change_spans.specs.Reaches.{has_in, IsOver, ShowsWithin}
+use Rattle.view_splice.specs.Splices.{StaysOutside}
+use Rattle.transact.proofs.MadeLaws.{ordered_made, view_made}
 
 -- an untouched space keeps its view
 pub view_stays : (f g : Forest) (s : SpaceId) → IsMade f → IsMade g → is_touched f g s ≡ false → view_of f s ≡ view_of g s
@@ -63,3 +69,24 @@ pub rooted : (f : Forest) (spaces : List (SpaceId × RegionId)) (i : ℕ) (d : S
 rooted f spaces i d e l =
     subst (λ (qs : List (SpaceId × RegionId)). IsSome (option_map (λ (p : SpaceId × RegionId). p.1) (find (is_space (get_or spaces i d).0) qs))) e
     (found_root spaces i d l)
+
+-- what a space shows differs only in the one span over all spans within which a change is seen
+pub stays_outside : (f g : Forest) (s : SpaceId) (root : RegionId) (spans : List Reach) (span : Span) → ShowsWithin f g spans → root_of f s ≡ Some root →
+    root_of g s ≡ Some root → f.global ≡ g.global → IsOver spans root span → StaysOutside f g s span.first span.last
+stays_outside f g s root spans span within is is' global over a out =
+    within s root is is' global a (elim (has_in spans root a) as (λ b. has_in spans root a ≡ b → b ≡ false) [
+      | true ↦ λ e. let o = over a e in let low = o.0 in let high = o.1 in absurd (apart low high out)
+      | false ↦ λ e. refl
+    ] refl)
+  where
+    apart : span.first ≤ a → a ≤ span.last → (a < span.first) ⊎ (span.last < a) → ⊥
+    apart low high (inl l) = absurd (omega arith)
+    apart low high (inr l) = absurd (omega arith)
+
+-- the view of the generation, rendered again within that span, is the view of the forest
+pub view_within : (f g : Forest) (s : SpaceId) (root : RegionId) (spans : List Reach) (span : Span) (old new : List FlatRange) → IsMade f →
+    ShowsWithin f g spans → is_same_region (root_of f s) (root_of g s) ≡ true → bool_eq f.global g.global ≡ true → root_of g s ≡ Some root →
+    IsOver spans root span → old ≡ view_of f s → ((h : Forest) → IsView h s old → StaysOutside h g s span.first span.last → IsView g s new) → IsView g s new
+view_within f g s root spans span old new made within roots global is over shown again =
+    again f (subst (IsView f s) (sym shown) (view_made f s made))
+    (stays_outside f g s root spans span within (region_same (root_of f s) (root_of g s) roots ∙ is) is (bool_same f.global g.global global) over)

@@ -4,17 +4,12 @@ use Rattle.std.proofs.Common.{refl, sym, ap, subst, ◌∙◌, inl, inr, arith}
 use Rattle.std.specs.Prelude.{find, not, filter, option_map, IsSome}
 use Rattle.std.specs.List.{list_any}
 use Rattle.std.proofs.lemmas.Bool.Decides.{nat_tests}
-use Rattle.std.proofs.lemmas.Cmp.{int_cmp_total, tied_itself}
 use Rattle.mem_base.specs.declared.map.ids.RegionId.{RegionId}
 use Rattle.mem_base.specs.declared.map.ids.SpaceId.{SpaceId}
 use Rattle.mem_base.specs.declared.map.forests.Node.{Node}
 use Rattle.mem_base.specs.declared.map.forests.Forest.{Forest}
 use Rattle.mem_base.specs.declared.map.kinds.Kind.{Kind}
 use Rattle.mem_base.specs.declared.map.kinds.Kind.TheVariants.{Container, Ram, Rom, RomDevice, Io, Iommu, Alias, Reserve, Host}
-use Rattle.mem_base.specs.declared.map.kinds.Device.{Device}
-use Rattle.mem_base.specs.declared.map.kinds.DeviceKind.{DeviceKind}
-use Rattle.mem_base.specs.declared.map.kinds.DeviceKind.TheVariants.{Latch, Count, Bell, Fault}
-use Rattle.mem_base.specs.declared.map.kinds.Ops.{Ops}
 use Rattle.mem_base.specs.lists.Booleans.{bool_eq}
 use Rattle.mem_base.specs.lists.Every.{Every, HasElement}
 use Rattle.mem_base.specs.map.Region.{IsAscending, has_id, node_of, is_in, is_child_of}
@@ -24,83 +19,20 @@ use Rattle.mem_base.specs.map.Search.{is_space, root_of}
 use Rattle.mem_base.specs.map.Steps.{Steps, steps_of, steps_from, steps_at, reaches}
 use Rattle.mem_base.specs.map.Depths.{Leads, stays, onward}
 use Rattle.mem_base.specs.map.Forest.{IsMade, IsRegion, HasTarget}
-use Rattle.mem_base.specs.map.Touched.{is_reached, is_reached_from, reached, is_same_region, is_same_device_kind, is_same_ops, is_same_device}
-use Rattle.mem_base.specs.map.Touched.{is_same_kind, looks_alike, stays_alike, is_touched}
+use Rattle.mem_base.specs.map.Touched.{is_reached, is_reached_from, reached, is_same_region, stays_alike, is_touched}
 use Rattle.mem_base.proofs.ForestLaws.{id_of, node_of-itself, every_node_of}
 use Rattle.map_laws.proofs.DepthLaws.{reaches_is}
 use Rattle.view_laws.proofs.Tests.{none_is_not_some, same_some, same_region}
 use Rattle.view_laws.proofs.LiveLaws.{In, every_in}
+use Rattle.view_laws.proofs.TouchedLaws.{found_in_list, ascending_filter, unique, region_same}
+use Rattle.change_laws.proofs.AlikeLaws.{stays_itself}
 use Rattle.view_laws.proofs.SortedLaws.{any_in, any_found, each_in, filter_in, filter_out, map_in, map_out, sorted_in, sorted_out}
-use Rattle.transact.specs.Noted.{is_among, OthersStay, is_parent_among, is_placed_among, stay_away}
+use Rattle.change_laws.specs.Meeting.{is_among, OthersStay}
+use Rattle.transact.specs.Noted.{is_parent_among, is_placed_among, stay_away}
 use Rattle.transact.proofs.MadeLaws.{ordered_made, closed_made}
 use Rattle.transact.proofs.TouchedLaws.{is_other, touched_by}
 
--- a region looks like itself
-
-bool_itself : (b : Bool) → bool_eq b b ≡ true
-bool_itself true = refl
-bool_itself false = refl
-
-number_itself : (n : ℕ) → eqb n n ≡ true
-number_itself n = eq-eqb n n refl
-
-device_kind_itself : (k : DeviceKind) → is_same_device_kind k k ≡ true
-device_kind_itself Latch = refl
-device_kind_itself Count = refl
-device_kind_itself Bell = refl
-device_kind_itself Fault = refl
-
-ops_itself : (x : Ops) → is_same_ops x x ≡ true
-ops_itself x =
-    let a = number_itself x.valid_min in let b = number_itself x.valid_max in let c = bool_itself x.valid_unaligned in
-    let d = number_itself x.impl_min in let e = number_itself x.impl_max in let h = bool_itself x.impl_unaligned in let i = bool_itself x.big in
-    rw (a, b, c, d, e, h, i) refl
-
-device_itself : (x : Device) → is_same_device x x ≡ true
-device_itself x = let a = device_kind_itself x.kind in let b = number_itself x.regs in let c = ops_itself x.ops in rw (a, b, c) refl
-
-kind_itself : (k : Kind) → is_same_kind k k ≡ true
-kind_itself Container = refl
-kind_itself Ram = refl
-kind_itself Rom = refl
-kind_itself (RomDevice x) = device_itself x
-kind_itself (Io x) = device_itself x
-kind_itself Iommu = refl
-kind_itself (Alias r x) = let a = number_itself r.0 in let b = number_itself x in rw (a, b) refl
-kind_itself Reserve = refl
-kind_itself Host = refl
-
-region_itself : (o : Option RegionId) → is_same_region o o ≡ true
-region_itself None = refl
-region_itself (Some r) = number_itself r.0
-
-same_root : (x y : Option RegionId) → is_same_region x y ≡ true → x ≡ y
-same_root None None h = refl
-same_root (Some r) (Some q) h = ap (λ (z : RegionId). Some z) (same_region r q (grind (arith, nat_tests, h)))
-same_root None (Some q) h = absurd (grind arith)
-same_root (Some r) None h = absurd (grind arith)
-
-looks_itself : (n : Node) → looks_alike n n ≡ true
-looks_itself n =
-    let a = kind_itself n.kind in let b = number_itself n.size in let c = region_itself n.parent in let d = number_itself n.offset in
-    let e = tied_itself int_cmp_total n.priority in let h = number_itself n.placing in let i = bool_itself n.enabled in
-    let j = bool_itself n.readonly in let k = bool_itself n.nonvolatile in let l = bool_itself n.romd in
-    let m = bool_itself n.unmergeable in let o = number_itself n.log in
-    rw (a, b, c, d, e, h, i, j, k, l, m, o) refl
-
-stays_itself : (o : Option Node) → stays_alike o o ≡ true
-stays_itself None = refl
-stays_itself (Some n) = looks_itself n
-
 -- regions of lists
-
-found_in_list : (nodes : List Node) (q : RegionId) (n : Node) → node_of nodes q ≡ Some n → In n nodes
-found_in_list [] q n e = none_is_not_some n e
-found_in_list (x ∷ xs) q n e = go (has_id q x) e (found_in_list xs q n)
-  where
-    go : (b : Bool) → (if b then Some x else node_of xs q) ≡ Some n → (node_of xs q ≡ Some n → In n xs) → In n (x ∷ xs)
-    go true e rest = inl (sym (same_some x n e))
-    go false e rest = inr (rest e)
 
 element_in : {A : Type 0} (xs : List A) (x : A) → HasElement xs x → In x xs
 element_in [] x h = h
@@ -116,46 +48,12 @@ none_any : {A : Type 0} (test : A → Bool) (xs : List A) → ((x : A) → In x 
 none_any test [] h = refl
 none_any test (x ∷ xs) h = let a = h x (inl refl) in let b = none_any test xs (λ y m. h y (inr m)) in rw (a, b) refl
 
-ascending_filter : (test : Node → Bool) (xs : List Node) → IsAscending xs → IsAscending (filter test xs)
-ascending_filter test [] h = tt
-ascending_filter test (x ∷ xs) h = go (test x) (ascending_filter test xs h.1)
-  where
-    go : (b : Bool) → IsAscending (filter test xs) → IsAscending (if b then x ∷ filter test xs else filter test xs)
-    go true rest = (each_in (λ m. x.id.0 < m.id.0) (filter test xs) (λ z m. every_in (λ m. x.id.0 < m.id.0) z xs h.0 (filter_in test z xs m).0), rest)
-    go false rest = rest
-
--- ascending regions of which each list has those of the other are the same
-unique : (xs ys : List Node) → IsAscending xs → IsAscending ys → ((z : Node) → In z xs → In z ys) → ((z : Node) → In z ys → In z xs) → xs ≡ ys
-unique [] [] h k f g = refl
-unique [] (y ∷ ys) h k f g = absurd (g y (inl refl))
-unique (x ∷ xs) [] h k f g = absurd (f x (inl refl))
-unique (x ∷ xs) (y ∷ ys) h k f g =
-    let same : x ≡ y = head (f x (inl refl)) (g y (inl refl)) in
-    let rest : xs ≡ ys = unique xs ys h.1 k.1
-    (λ z m. tail y ys (f z (inr m)) (λ e. later x xs h.0 z m (e ∙ sym same)))
-    (λ z m. tail x xs (g z (inr m)) (λ e. later y ys k.0 z m (e ∙ same))) in
-    λ i. same i ∷ rest i
-  where
-    head : In x (y ∷ ys) → In y (x ∷ xs) → x ≡ y
-    head (inl e) m = e
-    head (inr l) (inl e) = sym e
-    head (inr l) (inr m) =
-        let p = every_in (λ z. x.id.0 < z.id.0) y xs h.0 m in let q = every_in (λ z. y.id.0 < z.id.0) x ys k.0 l in absurd (omega arith)
-
-    tail : {z : Node} (w : Node) (ws : List Node) → In z (w ∷ ws) → (z ≡ w → ⊥) → In z ws
-    tail w ws (inl e) ne = absurd (ne e)
-    tail w ws (inr m) ne = m
-
-    later : (w : Node) (ws : List Node) → Every (λ z. w.id.0 < z.id.0) ws → (z : Node) → In z ws → z ≡ w → ⊥
-    later w ws h z m e =
-        let l = every_in (λ z. w.id.0 < z.id.0) z ws h m in let s = ap (λ (n : Node). n.id.0) e in absurd (omega arith)
-
 leads_on : {steps : Steps} {r x : RegionId} (y : RegionId) → Leads steps r x → HasElement (steps x) y → Leads steps r y
 leads_on y stays e = onward y e stays
 leads_on y (onward q among l) e = onward q among (leads_on y l e)
 
 among_it : (rs : List RegionId) (r : RegionId) → In r rs → is_among rs r ≡ true
-among_it rs r m = any_in (λ (q : RegionId). eqb q.0 r.0) r rs m (number_itself r.0)
+among_it rs r m = any_in (λ (q : RegionId). eqb q.0 r.0) r rs m (eq-eqb r.0 r.0 refl)
 
 it_among : (rs : List RegionId) (r : RegionId) → is_among rs r ≡ true → In r rs
 it_among rs r h =
@@ -370,7 +268,7 @@ module _ (f g : Forest) (s : SpaceId) (noted : List RegionId) (made_f : IsMade f
         ((reaches_is f (ordered_made f made_f) r x).1 t.0, t.1)
 
   one_root : root_of f s ≡ root_of g s
-  one_root = same_root (root_of f s) (root_of g s) roots
+  one_root = region_same (root_of f s) (root_of g s) roots
 
   comes_too : (x : RegionId) → is_reached f s x ≡ true → is_reached g s x ≡ true
   comes_too x = go (root_of f s) refl

@@ -1,5 +1,5 @@
 -- Whether a space is touched, by the regions that are reached in it.
-use Rattle.std.proofs.Common.{◌≡◌, ℕ, ◌==◌, ◌||◌, not, Bool, true, false, eqb, List, [], ◌∷◌, map, filter, Option, Some, None, refl, sym, ap, ◌∙◌, arith}
+use Rattle.std.proofs.Common.{◌≡◌, ℕ, ◌==◌, ◌&&◌, ◌||◌, not, Bool, true, false, eqb, List, [], ◌∷◌, map, filter, Option, Some, None, refl, sym, ap, ◌∙◌, arith}
 use Rattle.std.specs.Prelude.{find, option_map, unwrap_or}
 use Rattle.std.specs.List.{list_any}
 use Rattle.std.proofs.lemmas.Bool.Decides.{nat_tests}
@@ -14,6 +14,9 @@ use Rattle.mem_base.specs.map.Region.{node_of}
 use Rattle.mem_base.specs.map.Order.{ids_of}
 use Rattle.mem_base.specs.map.Search.{is_space, root_of}
 use Rattle.mem_base.specs.map.Touched.{is_same_region, is_reached_from, reached, stays_alike, is_touched}
+use Rattle.change_laws.specs.Meeting.{is_among, OthersStay}
+use Rattle.change_laws.specs.Touching.{is_touching, is_touched_by}
+use Rattle.change_laws.proofs.TouchingLaws.{touched_by_changed}
 use Rattle.transact.specs.Desks.{regions_at, reached_in}
 
 -- the region is not the same in both forests
@@ -78,3 +81,27 @@ known_some f s known rs e found = go (find (λ p. p.0.0 == s.0) known) found (kn
     go : (o : Option (SpaceId × List RegionId)) → Some rs ≡ option_map (λ p. p.1) o → regions_at o ≡ reached f s → rs ≡ reached f s
     go None h at = absurd (none-some rs (sym h))
     go (Some p) h at = ap (λ o. unwrap_or o rs) h ∙ at
+
+-- whether a space with one root and one global logging is touched, by the regions that may have changed
+pub touched_by_noted : (f g : Forest) (s : SpaceId) (rs : List RegionId) (b : Bool) → OthersStay f g rs →
+    is_same_region (root_of f s) (root_of g s) ≡ true → bool_eq f.global g.global ≡ true → b ≡ list_any (is_touching f g s) rs → b ≡ is_touched f g s
+touched_by_noted f g s rs b others roots global e =
+    let by : is_touched_by rs f g s ≡ list_any (is_touching f g s) rs = rw (roots, global) refl in
+    e ∙ sym (touched_by_changed rs f g s others ∙ by)
+
+and_none : (a b c : Bool) → c ≡ b → c ≡ false → (a && b) ≡ false
+and_none true b c e f = sym e ∙ f
+and_none false b c e f = refl
+
+-- a region that does not differ touches nothing
+pub touches_not : (f g : Forest) (s : SpaceId) (r : RegionId) (b : Bool) → b ≡ is_other f g r → b ≡ false → false ≡ is_touching f g s r
+touches_not f g s r b e stays = sym (and_none (is_among (reached f s) r || is_among (reached g s) r) (is_other f g r) b e stays)
+
+and_all : (a b c : Bool) → c ≡ b → c ≡ true → (a && b) ≡ a
+and_all true b c e t = sym e ∙ t
+and_all false b c e t = refl
+
+-- one that does touches a space in which it is reached
+pub touches_where : (f g : Forest) (s : SpaceId) (r : RegionId) (b : Bool) → b ≡ is_other f g r → b ≡ true →
+    (is_among (reached f s) r || is_among (reached g s) r) ≡ is_touching f g s r
+touches_where f g s r b e differs = sym (and_all (is_among (reached f s) r || is_among (reached g s) r) (is_other f g r) b e differs)

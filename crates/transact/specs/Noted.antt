@@ -6,38 +6,15 @@ use Rattle.std.specs.List.{list_any}
 use Rattle.mem_base.specs.declared.map.ids.RegionId.{RegionId}
 use Rattle.mem_base.specs.declared.map.forests.Node.{Node}
 use Rattle.mem_base.specs.declared.map.forests.Forest.{Forest}
-use Rattle.mem_base.specs.declared.map.calls.Call.{Call}
-use Rattle.mem_base.specs.declared.map.calls.Call.TheVariants as calls
 use Rattle.mem_base.specs.lists.Every.{EveryPair}
 use Rattle.mem_base.specs.map.Region.{node_of}
-use Rattle.mem_base.specs.map.Edits.{edits}
-
--- the one region that an accepted call changes, if any: one that is made, placed, moved, taken out, edited or dropped
-abbrev pub changes : Forest → Call → Option RegionId
-changes f (calls.Region kind size) = Some (record { 0 = f.made })
-changes f (calls.Add parent offset child priority) = Some child
-changes f (calls.Del parent child) = Some child
-changes f (calls.Move child offset) = Some child
-changes f (calls.Drop region) = Some region
-changes f call = edits call
-
-abbrev pub listed : Option RegionId → List RegionId
-listed None = []
-listed (Some r) = r ∷ []
-
--- the region is among these
-abbrev pub is_among : List RegionId → RegionId → Bool
-is_among rs r = list_any (λ q. q.0 == r.0) rs
+use Rattle.change_laws.specs.Meeting.{is_among, OthersStay}
 
 -- the regions stand by ascending id
 abbrev pub Ascend : List RegionId → Type 0
 Ascend rs = EveryPair (λ q r. q.0 < r.0) rs
 
--- each region that is not among these is the same in both forests
-abbrev pub OthersStay : Forest → Forest → List RegionId → Type 0
-OthersStay f g rs = (r : RegionId) → is_among rs r ≡ false → node_of f.nodes r ≡ node_of g.nodes r
-
--- so it is of what was noted, if anything was
+-- each region that was not noted, if any were, is the same in both forests
 abbrev pub AreNoted : Forest → Forest → Option (List RegionId) → Type 0
 AreNoted f g noted = IfSome noted (OthersStay f g)
 

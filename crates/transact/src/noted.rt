@@ -5,7 +5,9 @@ ghost use Rattle.mem_base.specs.declared.map.forests.Forest.{Forest};
 ghost use Rattle.mem_base.specs.map.Region.{node_of};
 ghost use Rattle.mem_base.specs.map.Calls.{after, answer_of};
 ghost use Rattle.mem_base.specs.views.Naming.{has_leaf};
-ghost use Rattle.transact.specs.Noted.{changes, is_among, is_parent_among, is_placed_among, stay_away, AreNoted};
+ghost use Rattle.change_laws.specs.Meeting.{is_among};
+ghost use Rattle.change_laws.specs.Calls.{changes};
+ghost use Rattle.transact.specs.Noted.{is_parent_among, is_placed_among, stay_away, AreNoted};
 
 use crate::regions::Regions;
 use flat_lookup::Atlas;

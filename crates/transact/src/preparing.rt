@@ -1,5 +1,5 @@
 // Preparing the generation that comes next.
-ghost use Rattle.std.specs.Prelude.{◌≡◌, ◌+◌, ◌<◌, ◌≤◌, ◌&&◌, ◌^◌, if◌then◌else◌, None, IfOk, map, filter, length, nat_lt};
+ghost use Rattle.std.specs.Prelude.{◌≡◌, ◌+◌, ◌<◌, ◌≤◌, ◌&&◌, ◌^◌, if◌then◌else◌, None, IfOk, IfSome, map, filter, length, nat_lt};
 ghost use Rattle.std.specs.List.{list_any};
 ghost use Rattle.std.specs.Arc.{arc_value};
 ghost use Rattle.mem_base.specs.map.Kinds.{is_iommu};
@@ -8,6 +8,7 @@ ghost use Rattle.mem_base.specs.map.Forest.{IsMade};
 ghost use Rattle.mem_base.specs.views.Naming.{has_leaf, names, shows_events};
 ghost use Rattle.mem_base.specs.access.Places.{is_notifiers};
 ghost use Rattle.mem_base.specs.machine.Desk.{shown_places};
+ghost use Rattle.change_spans.specs.Reaches.{ShowsWithin};
 ghost use Rattle.generation.specs.Published.{views_of};
 ghost use Rattle.transact.specs.Desks.{reached_in};
 ghost use Rattle.transact.specs.Marks.{AreLeafMarks};
@@ -19,6 +20,7 @@ use crate::noted::Noted;
 use crate::prepared::Prepared;
 use crate::regions::Regions;
 use crate::shown::{Shown, show_spaces};
+use change_spans::{Reach, spans_of};
 use flat_lookup::Atlas;
 use generation::{Generation, is_leaf_among};
 use mem_base::{Edition, Forest, Place, RegionId, SpaceId};
@@ -130,6 +132,36 @@ fn copy_of(
     Ok(both)
 }
 
+// Whether some region of a forest has an ioeventfd, by the regions that have one.
+fn some_events(forest: &Forest, with_events: &[RegionId]) -> bool
+    requires events { with_events.now ≡ ids_of (filter (λ n. nat_lt 0 (length n.events)) forest.now.nodes) }
+    ensures { result ≡ list_any (λ n. nat_lt 0 (length n.events)) forest.now.nodes }
+{
+    !with_events.is_empty()
+}
+
+// Within which spans a tree may show something else than a forest; `None` where that is not known. `noted` has the regions that may have
+// changed.
+fn spans_between(
+    alloc: Global,
+    old: &Forest,
+    noted: &Option<Noted>,
+    tree: &Tree,
+) -> Result<Option<Vec<Reach>>, AllocError>
+    requires old_made { IsMade old.now }
+    requires made { IsMade tree.now }
+    requires noted { AreNoted old.now tree.now noted.now }
+    ensures { IfOk result (λ spans. IfSome spans (λ spans. ShowsWithin old.now tree.now spans.items)) }
+{
+    match noted {
+        Some(noted) => {
+            let spans = spans_of(alloc, old, tree, noted.as_slice())?;
+            Ok(spans)
+        }
+        None => Ok(None),
+    }
+}
+
 /// The generation that publishes the forest of a tree after the current one, and what listeners are told of it.
 ///
 /// `known` has the regions that are reached in each space of the current generation, `noted` those that may have changed since;
@@ -152,12 +184,16 @@ pub(crate) fn prepare<L: Ledger>(
     ensures carves { steps.new ≤ steps.old + most_carves current.now.forest tree.now }
 {
     let (forest, features) = copy_of(current.forest(), noted, tree)?;
+    let with_events = features.with_events.as_slice();
+    let has_events = some_events(&forest, with_events);
+    let spans = spans_between(alloc, current.forest(), noted, tree)?;
     let Shown {
         atlases,
         reached,
         changes,
-    } = show_spaces(alloc, current, known, noted, tree, &forest, steps)?;
-    let with_events = features.with_events.as_slice();
+    } = show_spaces(
+        alloc, current, known, noted, &spans, tree, &forest, has_events, steps,
+    )?;
     let places = places_of(alloc, &forest, with_events, atlases.as_slice(), places)?;
     let number = current.number() + 1;
     let generation = Generation::indexed(
@@ -167,6 +203,7 @@ pub(crate) fn prepare<L: Ledger>(
         atlases,
         places,
         features.has_iommu,
+        has_events,
     )?;
     Ok(Prepared::new(Arc::new(alloc, generation)?, changes, reached))
 }

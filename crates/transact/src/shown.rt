@@ -1,12 +1,17 @@
 // What the spaces of a forest show that is to be published: their atlases, the regions that are reached, and what is told of them.
-ghost use Rattle.std.specs.Prelude.{◌≡◌, ◌+◌, ◌*◌, ◌≤◌, Some, IsSome, IfOk, map};
+ghost use Rattle.std.specs.Prelude.{◌≡◌, ◌+◌, ◌*◌, ◌≤◌, Some, IsSome, IfSome, IfOk, map, length, nat_lt};
+ghost use Rattle.std.specs.List.{list_any};
 ghost use Rattle.std.specs.Arc.{arc_value};
+ghost use Rattle.mem_base.specs.declared.map.ids.RegionId.{RegionId};
 ghost use Rattle.mem_base.specs.map.Search.{root_of};
+ghost use Rattle.mem_base.specs.map.Steps.{weight_of};
 ghost use Rattle.mem_base.specs.map.Forest.{IsMade};
 ghost use Rattle.mem_base.specs.map.Touched.{reached, is_touched};
+ghost use Rattle.mem_base.specs.views.View.{IsView};
 ghost use Rattle.mem_base.specs.views.Flattened.{view_of};
 ghost use Rattle.mem_base.specs.views.LiveEvents.{ShareNoLive};
 ghost use Rattle.mem_base.specs.views.Listening.{change_of, changes_between};
+ghost use Rattle.change_spans.specs.Reaches.{ShowsWithin};
 ghost use Rattle.generation.specs.Published.{views_of};
 ghost use Rattle.transact.specs.Desks.{reached_in};
 ghost use Rattle.transact.specs.Noted.{AreNoted};
@@ -14,17 +19,19 @@ ghost use Rattle.transact.specs.Preparing.{weight_at, carves_of, most_carves};
 
 use crate::changes::change_at;
 use crate::noted::Noted;
-use crate::regions::{Regions, reach_of};
+use crate::regions::{Regions, is_same_space, reach_of};
+use change_spans::{Reach, hull};
 use flat_lookup::Atlas;
 use flat_render::render;
 use flat_simplify::simplify;
 use generation::Generation;
-use mem_base::{Change, Changes, Forest, SpaceId};
+use mem_base::{Change, Changes, Forest, SpaceId, View};
 use region_tree::Tree;
 use std::alloc::{AllocError, Global};
 use std::sync::Arc;
 use std::sync::ledger::Ledger;
 use step_counter::Steps;
+use view_splice::render_again;
 
 /// Of each space of a forest, in order of making, its atlas, the regions that are reached in it, and how it differs from the
 /// current generation.
@@ -35,19 +42,59 @@ pub(crate) struct Shown {
     pub(crate) changes: Changes,
 }
 
-// The atlas of a space, rendered.
+// The view of a space. Where it is known within which spans it differs from the current generation, only what lies in them is rendered.
+fn view_again<L: Ledger>(
+    alloc: Global,
+    current: &Generation,
+    spans: &Option<Vec<Reach>>,
+    tree: &Tree,
+    space: SpaceId,
+    steps: &mut Steps<L>,
+) -> Result<View, AllocError>
+    requires spans { IfSome spans.now (λ spans. ShowsWithin current.now.forest tree.now spans.items) }
+    requires there { IsSome (root_of tree.now space) }
+    ensures view { IfOk result (λ view. IsView tree.now space view) }
+    ensures carves { (root : RegionId) → root_of tree.now space ≡ Some root
+        → steps.new ≤ steps.old + weight_of tree.now.nodes root * weight_of tree.now.nodes root }
+{
+    let old = current.forest();
+    if let Some(spans) = spans
+        && let Some(atlas) = current.atlas(space)
+        && is_same_space(old, tree, space)
+        && let Some(root) = tree.root(space)
+    {
+        let span = hull(spans.as_slice(), root);
+        let view = render_again(
+            alloc,
+            tree,
+            space,
+            atlas.view(),
+            span.first,
+            span.last,
+            steps,
+        )?;
+        return Ok(view);
+    }
+    let pieces = render(alloc, tree, space, steps)?;
+    Ok(simplify(pieces))
+}
+
+// The atlas of a space, of which what may have changed is rendered.
 fn rendered<L: Ledger>(
     alloc: Global,
+    current: &Generation,
+    spans: &Option<Vec<Reach>>,
     tree: &Tree,
     space: SpaceId,
     steps: &mut Steps<L>,
 ) -> Result<Arc<Atlas, Global>, AllocError>
+    requires spans { IfSome spans.now (λ spans. ShowsWithin current.now.forest tree.now spans.items) }
     requires there { IsSome (root_of tree.now space) }
     requires made { IsMade tree.now }
     ensures view { IfOk result (λ atlas. arc_value atlas ≡ view_of tree.now space) }
     ensures carves { let w = weight_at tree.now.nodes (root_of tree.now space) in steps.new ≤ steps.old + w * w }
 {
-    let view = simplify(render(alloc, tree, space, steps)?);
+    let view = view_again(alloc, current, spans, tree, space, steps)?;
     match Atlas::new(alloc, view) {
         Ok(atlas) => Ok(Arc::new(alloc, atlas)?),
         Err((e, _)) => Err(e),
@@ -58,11 +105,13 @@ fn rendered<L: Ledger>(
 fn atlas_of<L: Ledger>(
     alloc: Global,
     current: &Generation,
+    spans: &Option<Vec<Reach>>,
     touched: bool,
     tree: &Tree,
     space: SpaceId,
     steps: &mut Steps<L>,
 ) -> Result<Arc<Atlas, Global>, AllocError>
+    requires spans { IfSome spans.now (λ spans. ShowsWithin current.now.forest tree.now spans.items) }
     requires touched { touched ≡ is_touched current.now.forest tree.now space }
     requires there { IsSome (root_of tree.now space) }
     requires made { IsMade tree.now }
@@ -70,7 +119,7 @@ fn atlas_of<L: Ledger>(
     ensures carves { steps.new ≤ steps.old + carves_of current.now.forest tree.now space }
 {
     if touched {
-        let atlas = rendered(alloc, tree, space, steps)?;
+        let atlas = rendered(alloc, current, spans, tree, space, steps)?;
         return Ok(atlas);
     }
     let _ = current.forest();
@@ -86,14 +135,18 @@ fn show_space<L: Ledger>(
     current: &Generation,
     known: &[(SpaceId, Regions)],
     noted: &Option<Noted>,
+    spans: &Option<Vec<Reach>>,
     tree: &Tree,
     forest: &Forest,
+    has_events: bool,
     space: SpaceId,
     steps: &mut Steps<L>,
 ) -> Result<(Arc<Atlas, Global>, Regions, Change), AllocError>
     requires known { known.now ≡ reached_in current.now.forest }
     requires noted { AreNoted current.now.forest tree.now noted.now }
+    requires spans { IfSome spans.now (λ spans. ShowsWithin current.now.forest tree.now spans.items) }
     requires forest { forest.now ≡ tree.now }
+    requires events { has_events ≡ list_any (λ n. nat_lt 0 (length n.events)) tree.now.nodes }
     requires there { IsSome (root_of tree.now space) }
     requires made { IsMade tree.now }
     ensures view { IfOk result (λ x. arc_value x.0 ≡ view_of tree.now space) }
@@ -103,25 +156,31 @@ fn show_space<L: Ledger>(
     ensures carves { steps.new ≤ steps.old + carves_of current.now.forest tree.now space }
 {
     let (reach, touched) = reach_of(alloc, current.forest(), known, noted, tree, space)?;
-    let atlas = atlas_of(alloc, current, touched, tree, space, steps)?;
-    let change = change_at(alloc, current, noted, touched, forest, &atlas, space)?;
+    let atlas = atlas_of(alloc, current, spans, touched, tree, space, steps)?;
+    let change = change_at(
+        alloc, current, noted, touched, forest, has_events, &atlas, space,
+    )?;
     Ok((atlas, reach, change))
 }
 
 /// What the spaces of a tree show, which is this forest. `known` has the regions that are reached in each space of the current
-/// generation, `noted` those that may have changed since.
+/// generation, `noted` those that may have changed since, and `spans` within which that may be seen.
 pub(crate) fn show_spaces<L: Ledger>(
     alloc: Global,
     current: &Generation,
     known: &[(SpaceId, Regions)],
     noted: &Option<Noted>,
+    spans: &Option<Vec<Reach>>,
     tree: &Tree,
     forest: &Forest,
+    has_events: bool,
     steps: &mut Steps<L>,
 ) -> Result<Shown, AllocError>
     requires known { known.now ≡ reached_in current.now.forest }
     requires noted { AreNoted current.now.forest tree.now noted.now }
+    requires spans { IfSome spans.now (λ spans. ShowsWithin current.now.forest tree.now spans.items) }
     requires forest { forest.now ≡ tree.now }
+    requires events { has_events ≡ list_any (λ n. nat_lt 0 (length n.events)) tree.now.nodes }
     requires made { IsMade tree.now }
     ensures atlases { IfOk result (λ shown. map (λ p. (p.0, arc_value p.1)) shown.atlases.items ≡ views_of tree.now) }
     ensures reached { IfOk result (λ shown. shown.reached.items ≡ reached_in tree.now) }
@@ -133,7 +192,7 @@ pub(crate) fn show_spaces<L: Ledger>(
     let mut changes = Vec::new(alloc);
     for (space, _) in forest.spaces.as_slice() {
         let (atlas, reach, change) = show_space(
-            alloc, current, known, noted, tree, forest, *space, steps,
+            alloc, current, known, noted, spans, tree, forest, has_events, *space, steps,
         )?;
         atlases.push((*space, atlas))?;
         reached.push((*space, reach))?;

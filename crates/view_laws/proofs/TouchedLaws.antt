@@ -37,7 +37,7 @@ use Rattle.view_laws.proofs.SortedLaws.{any_in, filter_in, filter_out, each_in, 
 
 -- what tests call the same is the same
 
-bool_same : (x y : Bool) → bool_eq x y ≡ true → x ≡ y
+pub bool_same : (x y : Bool) → bool_eq x y ≡ true → x ≡ y
 bool_same true y h = sym h
 bool_same false true h = absurd (grind arith)
 bool_same false false h = refl
@@ -73,7 +73,7 @@ device_same x y h =
     let kind = device_kind_same x.kind y.kind a.0 in let regs = eqb-true x.regs y.regs a.1 in let ops = ops_same x.ops y.ops b.1 in
     λ i. record { kind = kind i; regs = regs i; ops = ops i }
 
-kind_same : (x y : Kind) → is_same_kind x y ≡ true → x ≡ y
+pub kind_same : (x y : Kind) → is_same_kind x y ≡ true → x ≡ y
 kind_same Container Container h = refl
 kind_same Ram Ram h = refl
 kind_same Rom Rom h = refl
@@ -86,7 +86,7 @@ kind_same Reserve Reserve h = refl
 kind_same Host Host h = refl
 kind_same x y h = absurd (grind arith)
 
-region_same : (x y : Option RegionId) → is_same_region x y ≡ true → x ≡ y
+pub region_same : (x y : Option RegionId) → is_same_region x y ≡ true → x ≡ y
 region_same None None h = refl
 region_same (Some r) (Some q) h = ap (λ (z : RegionId). Some z) (same_region r q (eqb-true r.0 q.0 h))
 region_same None (Some q) h = absurd (grind arith)
@@ -96,7 +96,7 @@ region_same (Some r) None h = absurd (grind arith)
 abbrev shape : Node → Node
 shape n = record n { entries = []; events = [] }
 
-is_equal : (o : Ordering) → is_eq o ≡ true → o ≡ Equal
+pub is_equal : (o : Ordering) → is_eq o ≡ true → o ≡ Equal
 is_equal Less h = absurd (grind arith)
 is_equal Equal h = refl
 is_equal Greater h = absurd (grind arith)
@@ -218,7 +218,7 @@ ascending_shapes (x ∷ xs) h = (go xs h.0, ascending_shapes xs h.1)
     go [] k = tt
     go (y ∷ ys) k = (k.0, go ys k.1)
 
-ascending_filter : (test : Node → Bool) (xs : List Node) → IsAscending xs → IsAscending (filter test xs)
+pub ascending_filter : (test : Node → Bool) (xs : List Node) → IsAscending xs → IsAscending (filter test xs)
 ascending_filter test [] h = tt
 ascending_filter test (x ∷ xs) h = go (test x) (ascending_filter test xs h.1)
   where
@@ -227,7 +227,7 @@ ascending_filter test (x ∷ xs) h = go (test x) (ascending_filter test xs h.1)
     go false rest = rest
 
 -- ascending regions that are the same by their elements are the same
-unique : (xs ys : List Node) → IsAscending xs → IsAscending ys → ((z : Node) → In z xs → In z ys) → ((z : Node) → In z ys → In z xs) → xs ≡ ys
+pub unique : (xs ys : List Node) → IsAscending xs → IsAscending ys → ((z : Node) → In z xs → In z ys) → ((z : Node) → In z ys → In z xs) → xs ≡ ys
 unique [] [] h k f g = refl
 unique [] (y ∷ ys) h k f g = absurd (g y (inl refl))
 unique (x ∷ xs) [] h k f g = absurd (f x (inl refl))
@@ -251,6 +251,15 @@ unique (x ∷ xs) (y ∷ ys) h k f g =
     later : (w : Node) (ws : List Node) → Every (λ z. w.id.0 < z.id.0) ws → (z : Node) → In z ws → z ≡ w → ⊥
     later w ws h z m e =
         let l = every_in (λ z. w.id.0 < z.id.0) z ws h m in let s = ap (λ (n : Node). n.id.0) e in absurd (omega arith)
+
+-- a region that is found is one of the list
+pub found_in_list : (nodes : List Node) (q : RegionId) (n : Node) → node_of nodes q ≡ Some n → In n nodes
+found_in_list [] q n e = none_is_not_some n e
+found_in_list (x ∷ xs) q n e = go (has_id q x) e (found_in_list xs q n)
+  where
+    go : (b : Bool) → (if b then Some x else node_of xs q) ≡ Some n → (node_of xs q ≡ Some n → In n xs) → In n (x ∷ xs)
+    go true e rest = inl (sym (same_some x n e))
+    go false e rest = inr (rest e)
 
 -- which regions a step leads to
 
@@ -329,14 +338,6 @@ module _ (f g : Forest) (up : IsAscending f.nodes) (vp : IsAscending g.nodes) (g
 
   kids_ascend : (nodes : List Node) (r : RegionId) → IsAscending nodes → IsAscending (kids nodes r)
   kids_ascend nodes r h = ascending_shapes (filter (is_child_of r) nodes) (ascending_filter (is_child_of r) nodes h)
-
-  found_in_list : (nodes : List Node) (q : RegionId) (n : Node) → node_of nodes q ≡ Some n → In n nodes
-  found_in_list [] q n e = none_is_not_some n e
-  found_in_list (x ∷ xs) q n e = go (has_id q x) e (found_in_list xs q n)
-    where
-      go : (b : Bool) → (if b then Some x else node_of xs q) ≡ Some n → (node_of xs q ≡ Some n → In n xs) → In n (x ∷ xs)
-      go true e rest = inl (sym (same_some x n e))
-      go false e rest = inr (rest e)
 
   -- a child in one forest is a child in the other, with the same shape
   module _ (m : ℕ) (r : RegionId) (k : Checked (suc (suc m)) r) where

@@ -85,30 +85,40 @@ pub(crate) fn made(alloc: Global, calls: &[Call]) -> Result<Tree, Refusal> {
     Ok(tree)
 }
 
-/// The ranges of space 0, with a counter of their own.
-fn counted<L: Ledger>(alloc: Global, tree: &Tree, blank: Blank) -> Result<Pieces, AllocError>
-    requires space { IsSome (root_of tree.now (record { 0 = 0 })) }
+/// The ranges of a space, with a counter of their own.
+fn counted<L: Ledger>(
+    alloc: Global,
+    tree: &Tree,
+    space: SpaceId,
+    blank: Blank,
+) -> Result<Pieces, AllocError>
+    requires space { IsSome (root_of tree.now space) }
     requires name { blank.name ≡ L.name }
     requires parts { blank.parts ≡ L.parts }
     requires some { 0 < L.parts }
 {
     let mut steps = Steps::<L>::new(blank);
-    render(alloc, tree, SpaceId(0), &mut steps)
+    render(alloc, tree, space, &mut steps)
 }
 
-/// The ranges of space 0, not counted; none where there is no such space.
-fn rendered(alloc: Global, tree: &Tree) -> Result<Pieces, AllocError> {
-    if tree.root(SpaceId(0)).is_none() {
+/// The ranges of a space, not counted; none where there is no such space.
+fn rendered(alloc: Global, tree: &Tree, space: SpaceId) -> Result<Pieces, AllocError> {
+    if tree.root(space).is_none() {
         let paths = Paths::new(Vec::new(alloc), Vec::new(alloc));
         return Ok(Pieces::new(Vec::new(alloc), paths));
     }
-    counted::<Brand>(alloc, tree, Blank::new(1))
+    counted::<Brand>(alloc, tree, space, Blank::new(1))
+}
+
+/// The view of a space.
+pub(crate) fn viewed_in(alloc: Global, tree: &Tree, space: SpaceId) -> Result<View, AllocError> {
+    let pieces = rendered(alloc, tree, space)?;
+    Ok(simplify(pieces))
 }
 
 /// The view of space 0.
 pub(crate) fn viewed(alloc: Global, tree: &Tree) -> Result<View, AllocError> {
-    let pieces = rendered(alloc, tree)?;
-    Ok(simplify(pieces))
+    viewed_in(alloc, tree, SpaceId(0))
 }
 
 /// The ioeventfds that a view of this tree shows.

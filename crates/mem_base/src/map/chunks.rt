@@ -108,6 +108,13 @@ pub(crate) fn any_chunk_has_iommu(chunks: &[Arc<Chunk, Global>]) -> bool
     chunks.iter().any(|chunk| chunk.has_iommu())
 }
 
+/// Whether one of these chunks has a region with ioeventfds.
+pub(crate) fn any_chunk_has_events(chunks: &[Arc<Chunk, Global>]) -> bool
+    ensures { result ≡ list_any (λ c. any_events (arc_value c)) chunks.now }
+{
+    chunks.iter().any(|chunk| chunk.has_events())
+}
+
 /// How many regions these chunks have.
 pub(crate) fn count_in(chunks: &[Arc<Chunk, Global>]) -> usize
     requires ascending { IsAscending (flat_map arc_value chunks.now) }

@@ -2,11 +2,13 @@
 ghost use Rattle.std.specs.Prelude.{◌≡◌, ◌↔◌, ◌<◌, [], None, Some, IsNone, IfSome, option_map, length, flat_map};
 ghost use Rattle.std.specs.Arc.{arc_value};
 ghost use Rattle.mem_base.specs.lists.Every.{Every};
-ghost use Rattle.mem_base.specs.map.Chunks.{any_iommu};
+ghost use Rattle.mem_base.specs.map.Chunks.{any_events, any_iommu};
 ghost use Rattle.mem_base.specs.map.Region.{IsAscending, node_of};
 ghost use Rattle.mem_base.specs.map.Search.{itself};
 
-use crate::map::chunks::{Chunk, any_chunk_has_iommu, count_in, node_halved, node_near};
+use crate::map::chunks::{
+    Chunk, any_chunk_has_events, any_chunk_has_iommu, count_in, node_halved, node_near,
+};
 use crate::{Attrs, Client, Entries, Events, Kind, RegionId, Size, SpaceId, Spot};
 use std::alloc::Global;
 use std::marker::Model;
@@ -125,6 +127,13 @@ impl Nodes {
         ensures { result ≡ any_iommu self.now }
     {
         any_chunk_has_iommu(self.chunks())
+    }
+
+    /// Whether one of them has ioeventfds. Each chunk is looked at, and no region.
+    pub fn has_events(&self) -> bool
+        ensures { result ≡ any_events self.now }
+    {
+        any_chunk_has_events(self.chunks())
     }
 
     /// The region with this id, or `None` exactly where there is none: by one look where no region was dropped, since regions are

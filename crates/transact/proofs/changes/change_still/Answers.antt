@@ -2,7 +2,7 @@ use Rattle.std.proofs.Common.{rules, ◌≡◌, false, ap, subst, ◌∙◌}
 use Rattle.std.specs.List.{list_any}
 use Rattle.mem_base.specs.views.Naming.{has_leaf}
 use Rattle.mem_base.specs.views.Walk.{walk}
-use Rattle.transact.specs.Noted.{OthersStay}
+use Rattle.change_laws.specs.Meeting.{OthersStay}
 use Rattle.transact.proofs.LiveLaws.{lives_stay, still_change}
 use Rattle.transact.proofs.changes.change_still.Goals as goal
 

@@ -3,8 +3,8 @@ use Rattle.mem_base.specs.lists.Booleans.{bool_eq}
 use Rattle.mem_base.specs.map.Search.{root_of}
 use Rattle.mem_base.specs.map.Touched.{reached, is_same_region}
 use Rattle.view_laws.proofs.Tests.{both_of}
-use Rattle.transact.specs.Noted.{OthersStay, Ascend, stay_away}
-use Rattle.transact.proofs.RegionLaws.{reached_ascend}
+use Rattle.change_laws.specs.Meeting.{OthersStay}
+use Rattle.transact.specs.Noted.{stay_away}
 use Rattle.transact.proofs.TouchedLaws.{known_some}
 use Rattle.transact.proofs.StayLaws.{reach_stays, not_touched}
 use Rattle.transact.proofs.regions.reach_of.Goals as goal
@@ -32,6 +32,3 @@ returns-clause-touched c =
     let away : stay_away c.in-Some.noted g.nodes (reached f s) ≡ true =
     subst (λ rs. stay_away c.in-Some.noted g.nodes rs ≡ true) known (sym c.stay_away.ensures ∙ c.if-stay_away.true) in
     sym (not_touched f g s c.in-Some.noted c.requires.old_made c.requires.new_made others same.0 away same.1)
-
-pub new-requires : goal.new-requires
-new-requires c = subst Ascend (sym c.in_ok-reach.ensures) (reached_ascend c.args.new.now c.args.space c.requires.new_made)

@@ -1,7 +1,8 @@
 use Rattle.std.proofs.Common.{◌≡◌, ◌||◌, drop}
 use Rattle.std.specs.List.{list_any}
 use Rattle.mem_base.specs.map.Region.{node_of}
-use Rattle.transact.specs.Noted.{is_among, is_placed_among}
+use Rattle.change_laws.specs.Meeting.{is_among}
+use Rattle.transact.specs.Noted.{is_placed_among}
 use Rattle.transact.proofs.noted.Noted.any_near.Given as goal
 
 -- one that is near is among those that are left, if there is one

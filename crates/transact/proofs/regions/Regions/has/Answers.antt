@@ -2,7 +2,8 @@ use Rattle.std.proofs.Common.{rules, ◌≡◌, sym, ap, subst, ◌∙◌}
 use Rattle.std.specs.Arc.{arc_value}
 use Rattle.std.proofs.lemmas.List.Sorted.{answers_always}
 use Rattle.mem_base.specs.declared.map.ids.RegionId.{RegionId}
-use Rattle.transact.specs.Noted.{is_among, Ascend}
+use Rattle.change_laws.specs.Meeting.{is_among}
+use Rattle.transact.specs.Noted.{Ascend}
 use Rattle.transact.proofs.RegionLaws.{region_found, region_missing}
 use Rattle.transact.proofs.regions.Regions.has.Goals as goal
 

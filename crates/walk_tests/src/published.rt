@@ -1,0 +1,269 @@
+// Drawn desks with several spaces, which are changed by drawn calls: the view of each space that is published is the one that is rendered
+// from nothing, and what is told of the change is told as by membership.
+ghost use Rattle.std.specs.Prelude.{◌≡◌, ◌<◌};
+
+use crate::draws::{any_call, building, draw};
+use crate::maps::{add, alias, latch, region, viewed_in};
+use crate::plain::{plain_walk, without};
+use backed_desk::BackedDesk;
+use generation::Generation;
+use ioevents::live;
+use mem_base::{Applied, Call, Change, Kind, Lives, Refusal, RegionId, SpaceId, View};
+use rand_pcg::Lcg64Xsh32;
+use region_tree::Tree;
+use std::alloc::{AllocError, Global};
+use std::marker::Brand;
+use std::sync::ledger::{Blank, Ledger};
+use std::test::Fail;
+use step_counter::Steps;
+use transact::{Prepared, Step};
+
+/// How many desks are drawn, and how many changes and transactions of each are published: 10,000.
+const DESKS: u64 = 50;
+
+const CHANGES: u32 = 200;
+
+/// The words of a pool.
+const WORDS: usize = 1 << 17;
+
+/// A desk, a tree on which the same calls are done, and the generator that draws them.
+#[derive(Drop)]
+struct Drawn {
+    desk: BackedDesk,
+    tree: Tree,
+    rng: Lcg64Xsh32,
+    made: u32,
+}
+
+/// Makes a space over a region.
+fn space(number: u32, root: u32) -> Call {
+    Call::Space {
+        space: SpaceId(number),
+        root: RegionId(root),
+    }
+}
+
+/// Two containers of 16 pages, an alias of the one in the other, and an alias of that over a space of its own.
+fn beginnings() -> [Call; 16] {
+    let inside = Call::Add {
+        parent: RegionId(5),
+        offset: 0x3800,
+        child: RegionId(6),
+        priority: 1,
+    };
+    let shared = Call::Add {
+        parent: RegionId(5),
+        offset: 0x800,
+        child: RegionId(1),
+        priority: 0,
+    };
+    [
+        region(Kind::Container, 0x1_0000),
+        region(Kind::Ram, 0x6000),
+        region(Kind::Ram, 0x2000),
+        region(latch(), 0x2000),
+        region(latch(), 0x1000),
+        region(Kind::Container, 0x1_0000),
+        alias(0x7000, 0, 0x1800),
+        alias(0x9000, 5, 0x2000),
+        space(0, 0),
+        space(1, 5),
+        space(2, 7),
+        inside,
+        shared,
+        add(0x8000, 2, 0),
+        add(0x2000, 3, 1),
+        add(0xc000, 4, 0),
+    ]
+}
+
+impl Drawn {
+    /// Does a call in the transaction that is open, or a quiet one, if it is not refused.
+    fn call(&mut self, call: &Call) -> Result<(), Refusal> {
+        if self.desk.desk().depth() == 0 && !call.is_quiet() {
+            return Ok(());
+        }
+        match self.desk.call(call) {
+            Ok(applied) => {
+                if let Applied::Made(_) = applied {
+                    self.made = self.made.saturating_add(1);
+                }
+                self.tree.apply(call)?;
+            }
+            Err(Refusal::Memory) => return Err(Refusal::Memory),
+            Err(_) => {}
+        }
+        Ok(())
+    }
+
+    fn build(&mut self) -> Result<(), Refusal> {
+        for call in beginnings() {
+            self.call(&call)?;
+        }
+        for _ in 0..20 {
+            let call = building(&mut self.rng, self.made);
+            self.call(&call)?;
+        }
+        Ok(())
+    }
+
+    fn call_some(&mut self) -> Result<(), Refusal> {
+        let calls = draw(&mut self.rng, 5).saturating_add(1);
+        for _ in 0..calls {
+            let call = any_call(&mut self.rng, self.made);
+            self.call(&call)?;
+        }
+        Ok(())
+    }
+
+    /// Commits, and says whether all is published and told as it is to be.
+    fn commit<L: Ledger>(&mut self, alloc: Global, steps: &mut Steps<L>) -> Result<bool, Refusal> {
+        match self.desk.commit_prepare(steps)? {
+            Step::Ready(prepared) => {
+                let is_so = is_right(alloc, self.desk.desk().current(), &self.tree, &prepared)?;
+                self.desk.done(prepared);
+                Ok(is_so)
+            }
+            Step::Inner | Step::Empty => Ok(true),
+        }
+    }
+
+    /// The same of a transaction of one to five calls.
+    fn transact<L: Ledger>(
+        &mut self,
+        alloc: Global,
+        steps: &mut Steps<L>,
+    ) -> Result<bool, Refusal> {
+        self.desk.begin()?;
+        self.call_some()?;
+        self.commit(alloc, steps)
+    }
+
+    /// The same of a call that is a change of its own, if it is not refused.
+    fn change<L: Ledger>(&mut self, alloc: Global, steps: &mut Steps<L>) -> Result<bool, Refusal> {
+        let call = any_call(&mut self.rng, self.made);
+        if call.is_quiet() || self.desk.desk().depth() != 0 {
+            self.call(&call)?;
+            return Ok(true);
+        }
+        match self.desk.call_prepare(&call, steps) {
+            Ok(prepared) => {
+                self.tree.apply(&call)?;
+                let is_so = is_right(alloc, self.desk.desk().current(), &self.tree, &prepared)?;
+                self.desk.done(prepared);
+                Ok(is_so)
+            }
+            Err(Refusal::Memory) => Err(Refusal::Memory),
+            Err(_) => Ok(true),
+        }
+    }
+
+    fn step<L: Ledger>(&mut self, alloc: Global, steps: &mut Steps<L>) -> Result<bool, Refusal> {
+        if draw(&mut self.rng, 3) == 0 {
+            return self.transact(alloc, steps);
+        }
+        self.change(alloc, steps)
+    }
+}
+
+/// What a generation shows of a space; nothing where there is no such space.
+fn shown(alloc: Global, generation: &Generation, space: SpaceId) -> Result<View, AllocError> {
+    let mut ranges = Vec::new(alloc);
+    if let Some(atlas) = generation.atlas(space) {
+        ranges.extend_from_slice(atlas.view().as_slice())?;
+    }
+    Ok(View::new(ranges))
+}
+
+/// Whether ioeventfds are lost and gained as by membership.
+fn is_gained(
+    alloc: Global,
+    change: &Change,
+    before: &Lives,
+    after: &Lives,
+) -> Result<bool, AllocError> {
+    let lost = without(alloc, before.as_slice(), after.as_slice())?;
+    let gained = without(alloc, after.as_slice(), before.as_slice())?;
+    Ok(change.lost.as_slice() == lost.as_slice() && change.gained.as_slice() == gained.as_slice())
+}
+
+/// Whether a change of a space is told as by membership, and the space shows what is rendered from nothing.
+fn is_told(
+    alloc: Global,
+    old: &Generation,
+    tree: &Tree,
+    new: &Generation,
+    change: &Change,
+) -> Result<bool, AllocError> {
+    let before = shown(alloc, old, change.space)?;
+    let after = viewed_in(alloc, tree, change.space)?;
+    let told = plain_walk(alloc, before.as_slice(), after.as_slice())?;
+    if shown(alloc, new, change.space)?.as_slice() != after.as_slice() {
+        return Ok(false);
+    }
+    if change.walk.as_slice() != told.as_slice() {
+        return Ok(false);
+    }
+    let was = live(alloc, &before, old.forest())?;
+    let is = live(alloc, &after, new.forest())?;
+    is_gained(alloc, change, &was, &is)
+}
+
+/// The same of all spaces.
+fn is_right(
+    alloc: Global,
+    old: &Generation,
+    tree: &Tree,
+    prepared: &Prepared,
+) -> Result<bool, AllocError> {
+    for change in prepared.changes().as_slice() {
+        if !is_told(alloc, old, tree, prepared.generation(), change)? {
+            return Ok(false);
+        }
+    }
+    Ok(true)
+}
+
+/// How many changes of a drawn desk are right, up to the first that is not.
+fn right_ones<L: Ledger>(
+    alloc: Global,
+    drawn: &mut Drawn,
+    steps: &mut Steps<L>,
+) -> Result<u32, Refusal> {
+    drawn.desk.begin()?;
+    drawn.build()?;
+    if !drawn.commit(alloc, steps)? {
+        return Ok(0);
+    }
+    for right in 0..CHANGES {
+        if !drawn.step(alloc, steps)? {
+            return Ok(right);
+        }
+    }
+    Ok(CHANGES)
+}
+
+fn all_right<L: Ledger>(alloc: Global, seed: u64, blank: Blank) -> Result<u32, Refusal>
+    requires name { blank.name ≡ L.name }
+    requires parts { blank.parts ≡ L.parts }
+    requires some { 0 < L.parts }
+{
+    let mut steps = Steps::<L>::new(blank);
+    let mut drawn = Drawn {
+        desk: BackedDesk::new(alloc, WORDS)?,
+        tree: Tree::new(alloc),
+        rng: Lcg64Xsh32::new(seed, 54),
+        made: 0,
+    };
+    let right = right_ones(alloc, &mut drawn, &mut steps);
+    right
+}
+
+#[test]
+fn drawn_desks_show_what_is_rendered_from_nothing(rt: HostRuntime) -> Result<(), Fail> {
+    for seed in 0..DESKS {
+        let right = all_right::<Brand>(rt.alloc(), seed, Blank::new(1))?;
+        assert!(rt; right == CHANGES, "seed {seed}: {right}");
+    }
+    Ok(())
+}
