@@ -1,10 +1,9 @@
 -- Laws of loads of words in a row.
-use Rattle.std.proofs.Common.{◌≡◌, ℕ, ◌+◌, ◌*◌, ◌/◌, ◌%◌, ◌^◌, ◌<◌, ◌≤◌, false, true, List, [], ◌∷◌, ◌++◌, length, Some, sym, refl, ap, ◌∙◌, subst, arith}
+use Rattle.std.proofs.Common.{◌≡◌, ℕ, ◌+◌, ◌*◌, ◌<◌, ◌≤◌, false, true, List, [], ◌∷◌, ◌++◌, length, Some, sym, refl, ap, ◌∙◌, subst, arith}
 use Rattle.std.proofs.Common.{append_assoc, append-nil}
 use Rattle.std.proofs.lemmas.List.{length-append}
 use Rattle.std.proofs.lemmas.Bool.{lt-ltb}
 use Rattle.std.specs.List.{list_any}
-use Rattle.std.specs.Int.{bytes_low_first}
 use Rattle.mem_base.specs.declared.map.forests.Forest.{Forest}
 use Rattle.mem_base.specs.declared.access.cells.Place.{Place}
 use Rattle.mem_base.specs.declared.access.cells.WordStep.TheVariants.{Load}
@@ -113,7 +112,3 @@ ready_load number forest places z p v at word role near room inside h =
 -- the data and registers of such a place are words of it
 pub holds_data : (f : Forest) (ps : List Place) (p : Place) → IsEdition f ps → list_any (is_same_place p) ps ≡ true → data_words p.bytes + p.regs ≤ p.words
 holds_data f ps p law there = let fits = fits_extent f ps p law there in omega arith
-
--- the eight bytes of a word, in either form
-pub eight_bytes : (v : ℕ) → bytes_low_first 0 8 v ≡ bytes_of v 8 false
-eight_bytes v = let first : v % 256 ≡ v / 256 ^ 0 % 256 = omega arith in ap (λ b. b ∷ bytes_low_first 1 7 v) first

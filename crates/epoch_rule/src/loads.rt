@@ -1,13 +1,25 @@
 // Loads of words in a row by a pass. What does not change from one word to the next is looked at once: it would be fetched again
 // at each word otherwise, since a compiler may not keep what it has read over an atomic step.
-ghost use Rattle.std.specs.Prelude.{◌≡◌, ◌+◌, ◌/◌, ◌%◌, ◌^◌, ◌≤◌, ◌<◌, length, Some};
+ghost use Rattle.std.specs.Prelude.{◌≡◌, ◌+◌, ◌/◌, ◌%◌, ◌^◌, ◌≤◌, ◌<◌, false, length, Some};
 ghost use Rattle.mem_base.specs.access.Places.{data_words};
+ghost use Rattle.mem_base.specs.access.Words.{bytes_of};
 ghost use Rattle.epoch_rule.specs.Copies.{Suits};
 ghost use Rattle.epoch_rule.specs.Loads.{HasLoaded, IsAtPlace, StaysPass};
 
 use crate::board::{LINE_WORDS, SharedTable, TableSeat};
 use crate::touches::step_word;
 use mem_base::{Edition, Hand, PassId, Place, WordStep};
+
+/// Puts the eight bytes of a word, the lowest first.
+#[inline(always)]
+fn put_word(word: u64, out: &mut [u8])
+    requires room { length out.old ≡ 8 }
+    ensures bytes { out.new ≡ bytes_of word 8 false }
+{
+    if let Some(part) = out.as_mut_array::<8>() {
+        *part = word.to_le_bytes();
+    }
+}
 
 /// One load of each word of a place in a row, from word `first` on, ascending, for a pass that is entered in an edition that
 /// carries the place.
@@ -46,6 +58,6 @@ pub(crate) fn load_each<E: Edition + Drop>(
             first + i,
             WordStep::Load,
         );
-        out[8 * i..8 * i + 8].copy_from_slice(&word.to_le_bytes());
+        put_word(word, &mut out[8 * i..8 * i + 8]);
     }
 }

@@ -3,7 +3,7 @@ use Rattle.std.proofs.lemmas.List.{length-take-le}
 use Rattle.std.proofs.lemmas.Slice.{take-put_mid}
 use Rattle.mem_base.specs.access.Words.{bytes_of}
 use Rattle.epoch_rule.specs.Loads.{HasLoaded}
-use Rattle.epoch_rule.proofs.LoadLaws.{at_load, eight_bytes, loaded_more, ready_load, stays_load}
+use Rattle.epoch_rule.proofs.LoadLaws.{at_load, loaded_more, ready_load, stays_load}
 use Rattle.epoch_rule.proofs.loads.load_each.Goals as goal
 
 pub step_word-word-requires-clause-ready : goal.step_word-word-requires-clause-ready
@@ -27,8 +27,8 @@ loop-i-preserved g c =
     let r : ℕ = c.step_word-word.result in
     let told = c.step_word-word.ensures.told in
     let before = c.args.seat.now.me.0 in
-    let got : List ℕ = c.copy_from_slice.new.self in
-    let bytes : got ≡ bytes_of r 8 false = c.copy_from_slice.ensures.after ∙ c.to_le_bytes.ensures ∙ eight_bytes r in
+    let got : List ℕ = c.put_word.new.out in
+    let bytes : got ≡ bytes_of r 8 false = c.put_word.ensures.bytes in
     let long : length got ≡ 8 = ap (λ l. length l) bytes in
     let most : 8 * i + 8 ≤ length out = omega (arith, c.loop-i-test.true, c.loop-i.auto.out) in
     let size : length (take (8 * i) out) ≡ 8 * i = length-take-le (8 * i) out (omega (arith, most)) in
