@@ -2,6 +2,7 @@ pub mod ActorSteps
 pub mod AddsLaws
 pub mod EntrySteps
 pub mod LeastLaws
+pub mod LoadLaws
 pub mod OpeningLaws
 pub mod PassLaws
 pub mod PublishLaws

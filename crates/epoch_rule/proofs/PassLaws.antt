@@ -164,16 +164,18 @@ pub suits_on : (t u : TableId) (z y : Sizes) → t ≡ u → z ≡ y → Suits t
 suits_on t u z y a b h = subst (λ (x : TableId × Sizes). Suits x.0 x.1) (λ i. (a i, b i)) h
 
 -- a pass that has seen more, and stands where it stood, stands as it did
+pub entered_still : {E : Type 0} (number : E → ℕ) (forest : E → Forest) (places : E → List Place) (p : ℕ) (v w : View) (e : E) → w.sizes ≡ v.sizes
+    → IsPrefix v.seen w.seen → pass_seen p w ≡ pass_seen p v → IsEnteredIn number forest places p v e → IsEnteredIn number forest places p w e
+entered_still number forest places p v w e sizes begins same s = record {
+  entered = ap (λ (h : PassState). h.entered) same ∙ s.entered;
+  published = published_more v.seen w.seen begins (number e) s.published;
+  shows = s.shows ∙ sym (generation_stays v.seen w.seen begins (number e) s.published);
+  roomy = subst (λ (z : Sizes). PlacesFit z.words (shown_by forest places e)) (sym sizes) s.roomy;
+}
+
 pub stands_still : {E Z : Type 0} (number : E → ℕ) (forest : E → Forest) (places : E → List Place) (p : ℕ) (me new : Me (Option (Arc E Z)) View)
     (o : Option (Arc E Z)) → new.1 ≡ me.1 → new.0.sizes ≡ me.0.sizes → IsPrefix me.0.seen new.0.seen → pass_seen p new.0 ≡ pass_seen p me.0
     → HasItsEdition number forest places p me o → HasItsEdition number forest places p new o
 stands_still number forest places p me new None bare sizes begins same s = (same ∙ s.0, bare ∙ s.1)
-stands_still number forest places p me new (Some a) bare sizes begins same s = (
-  record {
-    entered = ap (λ (h : PassState). h.entered) same ∙ s.0.entered;
-    published = published_more me.0.seen new.0.seen begins (number (arc_value a)) s.0.published;
-    shows = s.0.shows ∙ sym (generation_stays me.0.seen new.0.seen begins (number (arc_value a)) s.0.published);
-    roomy = subst (λ (z : Sizes). PlacesFit z.words (shown_by forest places (arc_value a))) (sym sizes) s.0.roomy;
-  },
-  bare ∙ s.1,
-)
+stands_still number forest places p me new (Some a) bare sizes begins same s =
+    (entered_still number forest places p me.0 new.0 (arc_value a) sizes begins same s.0, bare ∙ s.1)

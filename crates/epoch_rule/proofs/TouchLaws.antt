@@ -93,7 +93,7 @@ marks f ps p page k there near = ⊎_elim
     (one_of (λ q. IsRegionPlace k.pool_words f q ⊎ IsNotifiersPlace k.pool_words f q) p ps k.places_of.each there)
 
 -- such a place has the words of its bytes and registers
-fits_extent : (f : Forest) (ps : List Place) (p : Place) → IsEdition f ps → list_any (is_same_place p) ps ≡ true
+pub fits_extent : (f : Forest) (ps : List Place) (p : Place) → IsEdition f ps → list_any (is_same_place p) ps ≡ true
     → p.words ≡ words_of (extent p.bytes p.regs)
 fits_extent f ps p k there = ⊎_elim
     (λ (h : IsRegionPlace k.pool_words f p). region_fits (node_of f.nodes p.region) h.fits)
@@ -226,8 +226,8 @@ ready_writer z v at word touch role kind may = record {
 
 -- what a touch told, as the caller sees it
 
-wrote : (hand : Hand) (v : View) (e : Event) (p : Place) (r : ℕ) (w : View) → actor_of e ≡ actor_of_hand hand → ComesNext (actor_of_hand hand) v e (At p) r w
-    → Wrote hand v.sizes v.seen (history_entry e (At p) r ∷ []) w.seen
+pub wrote : (hand : Hand) (v : View) (e : Event) (p : Place) (r : ℕ) (w : View) → actor_of e ≡ actor_of_hand hand
+    → ComesNext (actor_of_hand hand) v e (At p) r w → Wrote hand v.sizes v.seen (history_entry e (At p) r ∷ []) w.seen
 wrote hand v e p r w mine h = record {
   begins = begins_added (actor_of_hand hand) v e (At p) r w h;
   lawful = h.lawful;

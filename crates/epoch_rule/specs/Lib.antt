@@ -4,6 +4,7 @@ pub mod Values
 pub mod Wrote
 pub mod Plays
 pub mod Touches
+pub mod Loads
 pub mod Shown
 pub mod Writing
 pub mod Calls

@@ -15,6 +15,7 @@ mod closing;
 mod handing;
 mod hands;
 mod laws;
+mod loads;
 mod opening;
 mod passes;
 mod plans;

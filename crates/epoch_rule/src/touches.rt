@@ -41,7 +41,7 @@ pub enum Touch {
 }
 
 #[inline(always)]
-fn step_word<E: Edition + Drop>(
+pub(crate) fn step_word<E: Edition + Drop>(
     shared: &SharedTable<E>,
     seat: &mut TableSeat<E>,
     index: usize,
