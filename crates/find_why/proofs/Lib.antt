@@ -1,0 +1,4 @@
+mod LookedLaws
+mod SeenLaws
+mod WithinLaws
+mod HopLaws

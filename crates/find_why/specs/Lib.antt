@@ -1,0 +1,4 @@
+pub mod Reasons
+pub mod Looked
+pub mod Seen
+pub mod Hops

@@ -1,0 +1,8 @@
+use Rattle.std.proofs.Common.{◌≡◌, take}
+use Rattle.std.specs.Prelude.{flat_map}
+use Rattle.map_lint.specs.Faults.{findings_of}
+use Rattle.map_lint.proofs.lint.Given as goal
+
+-- what looks wrong in the regions so far
+abbrev pub invariant-loop-node : goal.invariant-loop-node
+invariant-loop-node l = l.found ≡ flat_map (findings_of l.generation.forest) (take l.node-index l.node-items)

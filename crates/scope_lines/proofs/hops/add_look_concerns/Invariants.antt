@@ -1,0 +1,10 @@
+use Rattle.std.proofs.Common.{◌≡◌, ◌++◌, drop}
+use Rattle.std.specs.Prelude.{flat_map}
+use Rattle.script_names.specs.Tables.{printed_names}
+use Rattle.scope_lines.specs.Whys.{concern}
+use Rattle.scope_lines.proofs.hops.add_look_concerns.Given as goal
+
+abbrev pub invariant-loop-look : goal.invariant-loop-look
+invariant-loop-look l =
+    l.line ++ flat_map (λ k. flat_map (concern (printed_names l.names) l.region) k.trials) (drop l.look-index l.looks)
+    ≡ l.fn.line ++ flat_map (λ k. flat_map (concern (printed_names l.names) l.region) k.trials) l.looks
