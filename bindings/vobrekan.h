@@ -75,6 +75,13 @@ extern "C" {
 #define VB_PERM_BOTH 3
 #define VB_ACCESS_ERROR 1
 #define VB_ACCESS_DECODE 2
+#define VB_WAY_CHUNKS 0
+#define VB_WAY_QEMU 1
+#define VB_REACHED_MEMORY 0
+#define VB_REACHED_CALLBACK 1
+#define VB_REACHED_NOTIFIER 2
+#define VB_REACHED_MARK 3
+#define VB_REACHED_NOTHING 4
 #define VB_TOLD_BEGIN 0
 #define VB_TOLD_DELETE 1
 #define VB_TOLD_ADD 2
@@ -164,6 +171,28 @@ typedef struct vb_found {
     /* Whether some region answers. Where none does, all but `last` is 0. */
     bool is_there;
 } vb_found;
+
+/* One thing that an access reaches. `what` is 0 memory, 1 a callback of a device, 2 a notifier, 3 a mark of a page, 4 nothing. It is
+ * about `len` bytes of the access, those from byte `at` of it on; a mark is about none. */
+typedef struct vb_reached {
+    /* The offset in the region, or the page that is marked, of 4,096 bytes, from 0 on. */
+    uint64_t offset;
+    /* The number that a callback takes. */
+    uint64_t value;
+    uint64_t at;
+    uint64_t len;
+    uint32_t what;
+    /* The region whose memory, callback or page it is. */
+    uint32_t region;
+    /* The number of the notifier, or of the client for whom a page is marked: 0 display, 1 code, 2 migration. */
+    uint32_t number;
+    /* The size of a callback, in bytes. */
+    uint8_t size;
+    /* Whether a callback takes a number; else it answers one, of whose bytes in the order of addresses the first `len` are read. */
+    bool takes;
+    /* Whether the first of these bytes is the highest. */
+    bool big;
+} vb_reached;
 
 /* An ioeventfd as a view shows it. Its address is `distance` bytes from 0: below it where a view shows only the end of its bytes. */
 typedef struct vb_live_event {
@@ -263,6 +292,20 @@ vb_answer vb_drop(vb_machine *handle, uint32_t region);
 /* What listeners were told: the call at an index, counted from the first that was ever made, where there is one. `value` of the
  * answer is how many there are, so that a caller that keeps its index polls: it reads on from there until it comes to `value`. */
 vb_answer vb_delivery(vb_machine *handle, size_t index, vb_listener_call *out);
+
+/* What a read of `len` bytes of a space reaches in the current generation, in order and nothing else, for a monitor that has the memory
+ * and the devices itself: it makes the callbacks, reads its memory, and takes 0 where nothing is. `way` is 0 for this machine's way, in
+ * which each range takes its own bytes, and 1 for QEMU's, in which a device takes whole pieces that the end of its range does not
+ * cut. Memory of the host is reached as RAM is. QEMU's core, `address_space_read`.
+ *
+ * `out` has as many things as there is room for; `value` of the answer is how many there are, and `other` the number of the
+ * generation. It is refused with code 9 where the access goes on past the last address (or, in QEMU's way, meets the last 7 offsets of
+ * a device of 2^64 bytes), and with 22 for another way; then nothing is written, and neither where memory runs out. */
+vb_answer vb_plan_read(vb_machine *handle, uint32_t way, uint32_t space, uint64_t addr, size_t len, vb_reached *out, size_t out_len);
+
+/* What a write of bytes to a space reaches, as `vb_plan_read` tells it of a read: callbacks come with the numbers that they take, and
+ * pages that are logged are to be marked. QEMU's core, `address_space_write`. */
+vb_answer vb_plan_write(vb_machine *handle, uint32_t way, uint32_t space, uint64_t addr, const uint8_t *bytes, size_t bytes_len, vb_reached *out, size_t out_len);
 
 /* Makes a container: a region that only groups others. `size` is in bytes, and 2^64 - 1 stands for 2^64, here and below. */
 vb_answer vb_container(vb_machine *handle, uint64_t size);

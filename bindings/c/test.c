@@ -261,6 +261,61 @@ static void test_listeners(void)
     vb_free(&m);
 }
 
+/* What accesses reach: a PC's configuration ports, and memory of the host. */
+static void test_plans(void)
+{
+    vb_machine m = VB_MACHINE_INIT;
+    vb_reached list[16];
+    vb_device wide = { .kind = VB_DEVICE_LATCH, .regs = 1, .valid_min = 1, .valid_max = 4, .impl_min = 4, .impl_max = 4 };
+    vb_device narrow = { .kind = VB_DEVICE_LATCH, .regs = 1, .valid_min = 1, .valid_max = 1, .impl_min = 1, .impl_max = 1 };
+    uint8_t value[4] = { 0x10, 0x08, 0x00, 0x80 };
+    memset(list, 0xaa, sizeof list);
+    refused(vb_plan_read(&m, VB_WAY_CHUNKS, 0, 0, 4, list, 16), VB_NO_MACHINE, 0, 0, "a plan without a machine");
+    done(vb_new(&m, 1 << 12), "a machine");
+    uint32_t io = made(vb_container(&m, 0x10000), "ports");
+    uint32_t config = made(vb_io(&m, 8, &wide), "the configuration ports");
+    uint32_t reset = made(vb_io(&m, 1, &narrow), "the reset register");
+    uint32_t host = made(vb_host(&m, 0x2000), "memory of the host");
+    done(vb_space(&m, 0, io), "a space");
+    done(vb_add(&m, io, 0xcf8, config, 0), "the configuration ports");
+    done(vb_add(&m, io, 0xcf9, reset, 1), "the reset register over them");
+    done(vb_add(&m, io, 0x2000, host, 0), "memory of the host");
+    done(vb_log(&m, host, VB_CLIENT_MIGRATION, true), "its pages are logged");
+
+    vb_answer told = vb_plan_write(&m, VB_WAY_QEMU, 0, 0xcf8, value, 4, list, 16);
+    check(told.code == VB_DONE && told.value == 1 && told.other == 5, "in QEMU's way one callback takes outl 0xcf8");
+    check(list[0].what == VB_REACHED_CALLBACK && list[0].region == config && list[0].offset == 0 && list[0].size == 4 && list[0].takes
+              && list[0].value == 0x80000810 && list[0].at == 0 && list[0].len == 4,
+        "with its whole number");
+    told = vb_plan_write(&m, VB_WAY_CHUNKS, 0, 0xcf8, value, 4, list, 16);
+    check(told.value == 3 && list[1].region == reset && list[1].value == 8 && list[2].region == config && list[2].offset == 2
+              && list[2].value == 0x8000 && list[2].at == 2 && list[2].len == 2,
+        "by chunks the reset register takes its byte");
+    for (uint32_t way = 0; way < 2; way++) {
+        told = vb_plan_write(&m, way, 0, 0xcf9, value, 1, list, 16);
+        check(told.value == 1 && list[0].region == reset && list[0].value == 0x10, "outb 0xcf9");
+        told = vb_plan_read(&m, way, 0, 0xcfc, 4, list, 16);
+        check(told.value == 1 && list[0].region == config && list[0].offset == 4 && list[0].size == 4 && !list[0].takes, "inl 0xcfc");
+        told = vb_plan_write(&m, way, 0, 0x2ffe, value, 4, list, 16);
+        check(told.value == 3 && list[0].what == VB_REACHED_MEMORY && list[0].region == host && list[0].offset == 0xffe && list[0].len == 4
+                  && list[1].what == VB_REACHED_MARK && list[1].offset == 0 && list[1].number == VB_CLIENT_MIGRATION && list[2].offset == 1,
+            "memory of the host, and the marks of two pages");
+        told = vb_plan_read(&m, way, 0, 0x3ffe, 4, list, 16);
+        check(told.value == 2 && list[1].what == VB_REACHED_NOTHING && list[1].at == 2 && list[1].len == 2, "its end, and nothing there");
+        told = vb_plan_read(&m, way, 9, 0, 4, list, 16);
+        check(told.value == 1 && list[0].what == VB_REACHED_NOTHING && list[0].len == 4, "a space that is not there");
+        told = vb_plan_read(&m, way, 0, 0, 0, list, 16);
+        check(told.code == VB_DONE && told.value == 0, "no byte");
+        refused(vb_plan_read(&m, way, 0, UINT64_MAX, 2, list, 16), VB_BAD_SIZE, 0, 0, "past the last address");
+        refused(vb_plan_read(&m, way, 0, 2, SIZE_MAX, list, 16), VB_BAD_SIZE, 0, 0, "far past it");
+    }
+    memset(list, 0xaa, sizeof list);
+    told = vb_plan_write(&m, VB_WAY_CHUNKS, 0, 0xcf8, value, 4, list, 1);
+    check(told.value == 3 && list[0].region == config && list[1].region == 0xaaaaaaaa, "a buffer that is too small has the first of them");
+    refused(vb_plan_read(&m, 2, 0, 0, 4, list, 16), VB_ARGUMENT, 0, 2, "another way");
+    vb_free(&m);
+}
+
 /* What answers say. */
 static void test_texts(void)
 {
@@ -297,6 +352,7 @@ int main(void)
 {
     test_listeners();
     test_texts();
+    test_plans();
     test_handles();
     test_map();
     test_accesses();

@@ -70,6 +70,21 @@ class Tests(unittest.TestCase):
         later = machine.told(len(first))
         self.assertTrue(any(it.what == c.VB_TOLD_DELETE and it.range.region == uart for it in later))
 
+    def test_a_write_to_a_pcs_configuration_port(self):
+        machine = Machine(1 << 12)
+        with machine:
+            io = machine.container(0x10000)
+            config = machine.io(8, Device(regs=1, valid_min=1, valid_max=4, impl_min=4, impl_max=4))
+            reset = machine.io(1, Device(regs=1, valid_min=1, valid_max=1, impl_min=1, impl_max=1))
+            machine.space(0, io)
+            machine.add(io, 0xCF8, config)
+            machine.add(io, 0xCF9, reset, 1)
+        data = (0x80000810).to_bytes(4, "little")
+        whole = [(it.region, it.offset, it.size, it.value) for it in machine.plan_write(0, 0xCF8, data, c.VB_WAY_QEMU)]
+        self.assertEqual(whole, [(config, 0, 4, 0x80000810)])
+        parts = [(it.region, it.offset, it.size, it.value) for it in machine.plan_write(0, 0xCF8, data)]
+        self.assertEqual(parts, [(config, 0, 4, 0x10), (reset, 0, 1, 8), (config, 2, 4, 0x8000)])
+
 
 if __name__ == "__main__":
     ran = unittest.main(argv=sys.argv[:1], exit=False, verbosity=0).result

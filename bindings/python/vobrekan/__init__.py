@@ -206,6 +206,25 @@ class Machine:
         given = (ctypes.c_uint8 * max(len(data), 1)).from_buffer_copy(bytes(data) or b"\0")
         return accepted(LIBRARY.vb_write(self.handle, by, space, addr, given, len(data))).what
 
+    def plan_read(self, space, addr, count, way=c.VB_WAY_CHUNKS):
+        """What a read reaches, in order, for a caller that has the memory and the devices itself."""
+        return self.plan(lambda out: LIBRARY.vb_plan_read(self.handle, way, space, addr, count, out, len(out)))
+
+    def plan_write(self, space, addr, data, way=c.VB_WAY_CHUNKS):
+        """What a write reaches, in order."""
+        given = (ctypes.c_uint8 * max(len(data), 1)).from_buffer_copy(bytes(data) or b"\0")
+        return self.plan(lambda out: LIBRARY.vb_plan_write(self.handle, way, space, addr, given, len(data), out, len(out)))
+
+    @staticmethod
+    def plan(ask):
+        count = 8
+        while True:
+            out = (c.vb_reached * count)()
+            whole = accepted(ask(out)).value
+            if whole <= count:
+                return list(out[:whole])
+            count = whole
+
     def load(self, region, offset, data):
         given = (ctypes.c_uint8 * max(len(data), 1)).from_buffer_copy(bytes(data) or b"\0")
         accepted(LIBRARY.vb_load(self.handle, region, offset, given, len(data)))

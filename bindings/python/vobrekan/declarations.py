@@ -63,6 +63,13 @@ VB_PERM_WRITE = 2
 VB_PERM_BOTH = 3
 VB_ACCESS_ERROR = 1
 VB_ACCESS_DECODE = 2
+VB_WAY_CHUNKS = 0
+VB_WAY_QEMU = 1
+VB_REACHED_MEMORY = 0
+VB_REACHED_CALLBACK = 1
+VB_REACHED_NOTIFIER = 2
+VB_REACHED_MARK = 3
+VB_REACHED_NOTHING = 4
 VB_TOLD_BEGIN = 0
 VB_TOLD_DELETE = 1
 VB_TOLD_ADD = 2
@@ -160,6 +167,24 @@ class vb_found(Structure):
     ]
 
 
+class vb_reached(Structure):
+    """One thing that an access reaches. `what` is 0 memory, 1 a callback of a device, 2 a notifier, 3 a mark of a page, 4 nothing. It is
+    about `len` bytes of the access, those from byte `at` of it on; a mark is about none."""
+
+    _fields_ = [
+        ("offset", c_uint64),
+        ("value", c_uint64),
+        ("at", c_uint64),
+        ("len", c_uint64),
+        ("what", c_uint32),
+        ("region", c_uint32),
+        ("number", c_uint32),
+        ("size", c_uint8),
+        ("takes", c_bool),
+        ("big", c_bool),
+    ]
+
+
 class vb_live_event(Structure):
     """An ioeventfd as a view shows it. Its address is `distance` bytes from 0: below it where a view shows only the end of its bytes."""
 
@@ -210,6 +235,8 @@ FUNCTIONS = {
     "vb_unevent": ([POINTER(vb_machine), c_uint32, POINTER(vb_ioevent)], vb_answer),
     "vb_drop": ([POINTER(vb_machine), c_uint32], vb_answer),
     "vb_delivery": ([POINTER(vb_machine), c_size_t, POINTER(vb_listener_call)], vb_answer),
+    "vb_plan_read": ([POINTER(vb_machine), c_uint32, c_uint32, c_uint64, c_size_t, POINTER(vb_reached), c_size_t], vb_answer),
+    "vb_plan_write": ([POINTER(vb_machine), c_uint32, c_uint32, c_uint64, POINTER(c_uint8), c_size_t, POINTER(vb_reached), c_size_t], vb_answer),
     "vb_container": ([POINTER(vb_machine), c_uint64], vb_answer),
     "vb_ram": ([POINTER(vb_machine), c_uint64], vb_answer),
     "vb_rom": ([POINTER(vb_machine), c_uint64], vb_answer),

@@ -1,2 +1,3 @@
 mod AskedLaws
 mod Values
+mod PlanLaws

@@ -4,5 +4,6 @@ pub mod Arguments
 pub mod Asked
 pub mod Deliveries
 pub mod Handles
+pub mod Plans
 pub mod Shown
 pub mod Texts

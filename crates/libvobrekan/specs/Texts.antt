@@ -90,8 +90,7 @@ text_of_code code =
     if code == 0 then codes "done" else
     (if code == 22 then codes "an argument stands for nothing" else
     (if code == 23 then codes "the handle has no machine" else
-    (if code == 24 then codes "the handle has a machine already" else
-    (if code == 25 then codes "the text is no script" else codes "this is no answer of the library"))))
+    (if code == 24 then codes "the handle has a machine already" else codes "this is no answer of the library")))
 
 -- what an answer says
 abbrev pub text_where : Option Refusal → ℕ → List ℕ

@@ -13,6 +13,7 @@ mod changes;
 mod deliveries;
 mod handle;
 mod loose;
+mod plans;
 mod regions;
 mod script;
 mod shown;

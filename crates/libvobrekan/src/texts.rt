@@ -118,7 +118,6 @@ fn text_of_code(code: u32) -> &'static str
         22 => "an argument stands for nothing",
         23 => "the handle has no machine",
         24 => "the handle has a machine already",
-        25 => "the text is no script",
         _ => "this is no answer of the library",
     }
 }

@@ -1,7 +1,7 @@
 //! How long calls take through a handle: the least of five rounds, a call.
 use std::hint::black_box;
 use std::time::Instant;
-use vobrekan::{Device, Kind, Machine, PassId, RegionId, SpaceId, WHOLE};
+use vobrekan::{Device, Kind, Machine, PassId, RegionId, SpaceId, WHOLE, Way};
 
 const SPACE: SpaceId = SpaceId(0);
 const CPU: PassId = PassId(0);
@@ -51,6 +51,8 @@ fn main() {
     println!("{:8.0}  read a word of memory, by a pass", least(500_000, |_| _ = black_box(machine.read(CPU, SPACE, 8, &mut [0; 8]))));
     println!("{:8.0}  write a word of memory, by a pass", least(500_000, |i| _ = black_box(machine.write(CPU, SPACE, 8, &u64::from(i).to_le_bytes()))));
     println!("{:8.0}  read a word of a device, by a pass", least(500_000, |_| _ = black_box(machine.read(CPU, SPACE, 0x2000, &mut [0; 8]))));
+    println!("{:8.0}  the plan of a read of 8 bytes of a device", least(500_000, |_| _ = black_box(machine.plan_read(Way::Qemu, SPACE, 0x2000, 8))));
+    println!("{:8.0}  the plan of a read of 8 bytes of memory", least(500_000, |_| _ = black_box(machine.plan_read(Way::Chunks, SPACE, 8, 8))));
     let moved = leaves[1000];
     println!("{:8.0}  move a region, and publish", least(200, |i| _ = black_box(machine.move_to(moved, u64::from(i % 2) * 0x800 + 0xc000))));
     println!("{:8.0}  make a machine, and free it", least(1_000, |_| _ = black_box(Machine::new(64))));

@@ -111,6 +111,13 @@ pub const VB_PERM_WRITE: u32 = 2;
 pub const VB_PERM_BOTH: u32 = 3;
 pub const VB_ACCESS_ERROR: u32 = 1;
 pub const VB_ACCESS_DECODE: u32 = 2;
+pub const VB_WAY_CHUNKS: u32 = 0;
+pub const VB_WAY_QEMU: u32 = 1;
+pub const VB_REACHED_MEMORY: u32 = 0;
+pub const VB_REACHED_CALLBACK: u32 = 1;
+pub const VB_REACHED_NOTIFIER: u32 = 2;
+pub const VB_REACHED_MARK: u32 = 3;
+pub const VB_REACHED_NOTHING: u32 = 4;
 pub const VB_TOLD_BEGIN: u32 = 0;
 pub const VB_TOLD_DELETE: u32 = 1;
 pub const VB_TOLD_ADD: u32 = 2;
@@ -213,6 +220,30 @@ pub struct vb_found {
     pub is_there: bool,
 }
 
+/// One thing that an access reaches. `what` is 0 memory, 1 a callback of a device, 2 a notifier, 3 a mark of a page, 4 nothing. It is
+/// about `len` bytes of the access, those from byte `at` of it on; a mark is about none.
+#[repr(C)]
+#[derive(Clone, Copy, Debug, Default, PartialEq, Eq)]
+pub struct vb_reached {
+    /// The offset in the region, or the page that is marked, of 4,096 bytes, from 0 on.
+    pub offset: u64,
+    /// The number that a callback takes.
+    pub value: u64,
+    pub at: u64,
+    pub len: u64,
+    pub what: u32,
+    /// The region whose memory, callback or page it is.
+    pub region: u32,
+    /// The number of the notifier, or of the client for whom a page is marked: 0 display, 1 code, 2 migration.
+    pub number: u32,
+    /// The size of a callback, in bytes.
+    pub size: u8,
+    /// Whether a callback takes a number; else it answers one, of whose bytes in the order of addresses the first `len` are read.
+    pub takes: bool,
+    /// Whether the first of these bytes is the highest.
+    pub big: bool,
+}
+
 /// An ioeventfd as a view shows it. Its address is `distance` bytes from 0: below it where a view shows only the end of its bytes.
 #[repr(C)]
 #[derive(Clone, Copy, Debug, Default, PartialEq, Eq)]
@@ -313,6 +344,20 @@ unsafe extern "C" {
     /// What listeners were told: the call at an index, counted from the first that was ever made, where there is one. `value` of the
     /// answer is how many there are, so that a caller that keeps its index polls: it reads on from there until it comes to `value`.
     pub fn vb_delivery(handle: *mut vb_machine, index: usize, out: *mut vb_listener_call) -> vb_answer;
+
+    /// What a read of `len` bytes of a space reaches in the current generation, in order and nothing else, for a monitor that has the memory
+    /// and the devices itself: it makes the callbacks, reads its memory, and takes 0 where nothing is. `way` is 0 for this machine's way, in
+    /// which each range takes its own bytes, and 1 for QEMU's, in which a device takes whole pieces that the end of its range does not
+    /// cut. Memory of the host is reached as RAM is. QEMU's core, `address_space_read`.
+    ///
+    /// `out` has as many things as there is room for; `value` of the answer is how many there are, and `other` the number of the
+    /// generation. It is refused with code 9 where the access goes on past the last address (or, in QEMU's way, meets the last 7 offsets of
+    /// a device of 2^64 bytes), and with 22 for another way; then nothing is written, and neither where memory runs out.
+    pub fn vb_plan_read(handle: *mut vb_machine, way: u32, space: u32, addr: u64, len: usize, out: *mut vb_reached, out_len: usize) -> vb_answer;
+
+    /// What a write of bytes to a space reaches, as `vb_plan_read` tells it of a read: callbacks come with the numbers that they take, and
+    /// pages that are logged are to be marked. QEMU's core, `address_space_write`.
+    pub fn vb_plan_write(handle: *mut vb_machine, way: u32, space: u32, addr: u64, bytes: *const u8, bytes_len: usize, out: *mut vb_reached, out_len: usize) -> vb_answer;
 
     /// Makes a container: a region that only groups others. `size` is in bytes, and 2^64 - 1 stands for 2^64, here and below.
     pub fn vb_container(handle: *mut vb_machine, size: u64) -> vb_answer;

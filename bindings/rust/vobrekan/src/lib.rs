@@ -4,12 +4,14 @@
 //! changed is published at once, or by the end of a [`Transaction`]; look-ups and accesses go by what is published. Each method
 //! is one call of the library `libvobrekan`, and what the call does is proved there.
 
+mod bus;
 mod refusal;
 
 use std::ops::{Deref, DerefMut};
 use std::ptr::null_mut;
 use vobrekan_sys as sys;
 
+pub use bus::Bus;
 pub use refusal::{Refusal, What};
 
 use refusal::accepted;
@@ -43,6 +45,8 @@ pub use sys::vb_found as Found;
 pub use sys::vb_ioevent as Ioevent;
 /// A call of a listener.
 pub use sys::vb_listener_call as ListenerCall;
+/// One thing that an access reaches.
+pub use sys::vb_reached as Reached;
 
 /// What a region is.
 #[derive(Clone, Copy, Debug, PartialEq, Eq)]
@@ -61,6 +65,15 @@ pub enum Kind {
     Reserve,
     /// RAM whose bytes the caller keeps.
     Host,
+}
+
+/// By which rule the plan of an access is made.
+#[derive(Clone, Copy, Debug, PartialEq, Eq)]
+pub enum Way {
+    /// Each range takes its own bytes.
+    Chunks = 0,
+    /// A device takes whole pieces, which the end of its range does not cut: QEMU's rule.
+    Qemu = 1,
 }
 
 /// Who asks which pages were written.
