@@ -37,7 +37,8 @@ pub next_of : (ops : Ops) (offset n done : ℕ) (p : Piece) (now later : List Pi
 next_of ops offset n done p now later good inside fits is list =
     next_given ops (offset + done) (n - done) p later good (omega (arith, inside, fits)) (sym is ∙ list)
 
-pub within_of : (ops : Ops) (offset n done : ℕ) (p : Piece) (later : List Piece) → done ≤ n → NextPiece ops (offset + done) (n - done) p later → done + p.size ≤ n
+pub within_of : (ops : Ops) (offset n done : ℕ) (p : Piece) (later : List Piece) → done ≤ n → NextPiece ops (offset + done) (n - done) p later → done
+    + p.size ≤ n
 within_of ops offset n done p later inside np = let h = np.most in omega (arith, h, inside)
 
 -- all are done where none is left

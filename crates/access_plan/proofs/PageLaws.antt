@@ -31,7 +31,8 @@ page_then f w k left s a x e seen crosses used = go (found_at f s a) refl
     go None h = cc
     go (Some y) h = let same : y.0 ≡ x = cc in
         ap (λ o. in_pages (trail_at f w (Some (trail_within f w k)) o).hops left) h
-        ∙ ap (λ b. in_pages (if b then through (Some (trail_within f w k)) y (used_at f w y.0.leaf y.0.offset) else trail (hop y None ∷ []) (Leaf y.0)).hops left)
+        ∙ ap (λ b. in_pages (if b then through (Some (trail_within f w k)) y (used_at f w y.0.leaf y.0.offset) else trail (hop y None ∷ []) (Leaf
+        y.0)).hops left)
         (ap (λ (z : Spot). translates f z.leaf) same ∙ crosses)
         ∙ ap (λ u. in_pages (through (Some (trail_within f w k)) y u).hops left) (ap (λ (z : Spot). used_at f w z.leaf z.offset) same ∙ used)
         ∙ ap (λ (z : Spot). in_pages (trail_within f w k e.space (translated_address e z.offset)).hops (in_page (Some e) z.offset left)) same
@@ -62,7 +63,8 @@ first_of ops offset left few p now later good some is fits list now_is =
     head (suc n) l e = cc
 
 -- what is given of them is one
-pub first_all : (ops : Ops) (offset left few : ℕ) (o : Option Piece) (now later : List Piece) → AreGood ops → 1 ≤ left → few ≡ min left 8 → offset + few ≤ 2 ^ 64
+pub first_all : (ops : Ops) (offset left few : ℕ) (o : Option Piece) (now later : List Piece) → AreGood ops → 1 ≤ left → few ≡ min left 8 → offset +
+    few ≤ 2 ^ 64
     → now ≡ pieces ops offset few → MatchOption o ((now ≡ []) × (later ≡ [])) (λ p. now ≡ p ∷ later)
     → MatchOption o (2 ^ 64 < offset + 8) (λ p. p ≡ piece_at ops offset left) × IfSome o (λ p. IsCut ops p) × IfSome o (λ p. IsSize p.size)
     × IfSome o (λ p. p.size ≤ left)

@@ -21,7 +21,8 @@ use Rattle.access_plan.specs.Rounds.{IsDeviceOf, IsRound}
 use Rattle.access_plan.proofs.ListLaws.{moved_length}
 
 -- a round that ends at a device takes its first piece
-pub device_round : (f : Forest) (w : Bool) (s : SpaceId) (a left at reach : ℕ) (bs : List ℕ) (x y : List Reach) (target : Target) (spot : Spot) (ops : Ops) (p : Piece)
+pub device_round : (f : Forest) (w : Bool) (s : SpaceId) (a left at reach : ℕ) (bs : List ℕ) (x y : List Reach) (target : Target) (spot : Spot) (ops
+    : Ops) (p : Piece)
     → target ≡ (trail_of f w s a).target → IsDeviceOf f w target spot ops → reach ≡ in_pages (trail_of f w s a).hops left → p ≡ piece_at ops spot.offset reach
     → IsSize p.size → p.size ≤ reach → reach ≤ left → (w ≡ true → at + left ≤ length bs)
     → Adds (moved w bs) x y (in_piece spot.leaf ops (events_of f spot.leaf) p (part at p.size (moved w bs))) at (at + p.size)

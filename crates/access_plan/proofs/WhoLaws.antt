@@ -78,7 +78,8 @@ module _ (f : Forest) (spot : Spot) (write : Bool) (n : Node) (is : node_of f.no
       → IsAnswerer f spot write w
   memory_there w k same = answers_as_memory w same (go k)
     where
-      go : (n.kind ≡ Ram) ⊎ ((n.kind ≡ Rom) ⊎ (n.kind ≡ Host)) → answerer_with_host f write (Leaf spot) ≡ plans.by_memory_unless (write && spot.attrs.readonly) spot
+      go : (n.kind ≡ Ram) ⊎ ((n.kind ≡ Rom) ⊎ (n.kind ≡ Host)) → answerer_with_host f write (Leaf spot)
+          ≡ plans.by_memory_unless (write && spot.attrs.readonly) spot
       go (inl e) = found Ram e refl
       go (inr (inl e)) = found Rom e refl
       go (inr (inr e)) = host_so Host true e refl

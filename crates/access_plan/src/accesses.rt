@@ -24,7 +24,8 @@ fn chunks(
 ) -> Result<(), AllocError>
     requires addresses { addr + len ≤ 2 ^ 64 }
     requires within { write ≡ true → len ≤ length bytes.now }
-    ensures { IfOk result (λ _. Adds (moved write bytes.now) list.old.items list.new.items (chunks_with_host g.now.forest write space addr len (moved write bytes.now)) 0 len) }
+    ensures { IfOk result (λ _. Adds (moved write bytes.now) list.old.items list.new.items (chunks_with_host g.now.forest write space addr len (moved
+        write bytes.now)) 0 len) }
 {
     let mut done = 0;
     while done < len {

@@ -48,7 +48,8 @@ fn memory(
     len: usize,
 ) -> Result<(), AllocError>
     requires within { write ≡ true → at + len ≤ length bytes.now }
-    ensures { IfOk result (λ _. Adds (moved write bytes.now) list.old.items list.new.items (in_memory spot.now (part at len (moved write bytes.now))) at (at + len)) }
+    ensures { IfOk result (λ _. Adds (moved write bytes.now) list.old.items list.new.items (in_memory spot.now (part at len (moved write bytes.now)))
+        at (at + len)) }
 {
     list.push(Reach::Memory {
         region: spot.leaf,

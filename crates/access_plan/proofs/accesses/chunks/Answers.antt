@@ -42,7 +42,8 @@ loop-done-preserved c =
     let later : List Reached = flat_map (chunk_in f w s a t) (chunks f w s (a + (done + count)) (n - (done + count))) in (
       omega (arith, most, less),
       underway_then t c.args.list.now.items c.loop-done.list.items c.target.new.list.items (chunks_with_host f w s a n t)
-          (flat_map (chunk_in f w s a t) (chunks f w s (a + done) (n - done))) (reached (answerer_with_host f w leads) (part done count t)) later 0 done (done + count)
+          (flat_map (chunk_in f w s a t) (chunks f w s (a + done) (n - done))) (reached (answerer_with_host f w leads) (part done count t)) later 0
+          done (done + count)
           c.loop-done.invariant.1 (chunk_then f w s a t done n count leads less c.first_chunk-leads.ensures.target c.first_chunk-leads.ensures.len)
           c.in_ok-target.ensures,
     )

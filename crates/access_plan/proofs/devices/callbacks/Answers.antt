@@ -24,7 +24,8 @@ loop-offset-init c =
     let end : c.args.at ≡ c.args.at + 0 = omega arith in (
       0,
       subst (λ l. Tiles piece 0 l) (sym found) (tiles_all ops piece c.requires.good c.requires.size),
-      subst (λ n. IsUnderway t c.args.list.now.items c.args.list.now.items (map step (callbacks ops piece)) (map step (map (callback_of piece) c.accesses-places.result)) c.args.at n) end
+      subst (λ n. IsUnderway t c.args.list.now.items c.args.list.now.items (map step (callbacks ops piece)) (map step (map (callback_of piece)
+          c.accesses-places.result)) c.args.at n) end
           (subst (λ l. IsUnderway t c.args.list.now.items c.args.list.now.items (map step (callbacks ops piece)) l c.args.at c.args.at) list
           (underway_none t c.args.list.now.items (map step (callbacks ops piece)) c.args.at)),
     )
@@ -55,7 +56,8 @@ loop-offset-preserved c =
     ∙ callback_meant region ops piece t at o s done skipped start most refl in
     let end : at + done + c.min-count.result ≡ at + (done + min s piece.size) = omega (arith, count) in
     let one = adds_as t c.loop-offset.list.items c.push.new.self.items (callback region o s (request_of c.request_at.result) ∷ [])
-    (step (callback_of piece (o, s)) ∷ []) (at + done) (at + (done + min s piece.size)) (at + done) (at + (done + min s piece.size)) (ap (λ r. r ∷ []) asked) refl refl
+    (step (callback_of piece (o, s)) ∷ []) (at + done) (at + (done + min s piece.size)) (at + done) (at + (done + min s piece.size)) (ap (λ r. r ∷
+    []) asked) refl refl
     (adds_one t c.loop-offset.list.items c.push.new.self.items (reach.Callback region o s c.request_at.result skipped c.min-count.result) (at + done)
     (at + (done + min s piece.size)) c.in_ok-push.ensures.items (here, end)) in (
       done + min s piece.size,

@@ -28,25 +28,36 @@ loop-next-init c =
     let end : c.args.at ≡ c.args.at + 0 = omega arith in (
       omega arith,
       c.cut-pieces.ensures ∙ (λ i. pieces ops (here i) (left i)),
-      subst (λ m. IsUnderway u c.args.list.now.items c.args.list.now.items whole (flat_map (piece_in c.args.region ops events c.args.offset t) c.cut-pieces.result)
+      subst (λ m. IsUnderway u c.args.list.now.items c.args.list.now.items whole (flat_map (piece_in c.args.region ops events c.args.offset t)
+          c.cut-pieces.result)
           c.args.at m) end
-          (subst (λ l. IsUnderway u c.args.list.now.items c.args.list.now.items whole l c.args.at c.args.at) all (underway_none u c.args.list.now.items whole c.args.at)),
+          (subst (λ l. IsUnderway u c.args.list.now.items c.args.list.now.items whole l c.args.at c.args.at) all (underway_none u
+          c.args.list.now.items whole c.args.at)),
     )
 
 pub piece-requires-clause-cut : goal.piece-requires-clause-cut
-piece-requires-clause-cut c = (next_of c.args.ops.now c.args.offset c.args.len c.loop-next.done c.in-Some.next c.loop-next.pieces c.next.new.self c.requires.good c.loop-next.invariant.0 c.requires.offsets c.loop-next.invariant.1 c.in-Some.ensures).cut
+piece-requires-clause-cut c = (next_of c.args.ops.now c.args.offset c.args.len c.loop-next.done c.in-Some.next c.loop-next.pieces c.next.new.self
+    c.requires.good c.loop-next.invariant.0 c.requires.offsets c.loop-next.invariant.1 c.in-Some.ensures).cut
 
 pub piece-requires-clause-size : goal.piece-requires-clause-size
-piece-requires-clause-size c = (next_of c.args.ops.now c.args.offset c.args.len c.loop-next.done c.in-Some.next c.loop-next.pieces c.next.new.self c.requires.good c.loop-next.invariant.0 c.requires.offsets c.loop-next.invariant.1 c.in-Some.ensures).sized
+piece-requires-clause-size c = (next_of c.args.ops.now c.args.offset c.args.len c.loop-next.done c.in-Some.next c.loop-next.pieces c.next.new.self
+    c.requires.good c.loop-next.invariant.0 c.requires.offsets c.loop-next.invariant.1 c.in-Some.ensures).sized
 
 pub piece-requires-clause-within : goal.piece-requires-clause-within
-piece-requires-clause-within c = λ w. let h = c.requires.within w in let m = within_of c.args.ops.now c.args.offset c.args.len c.loop-next.done c.in-Some.next c.next.new.self c.loop-next.invariant.0 (next_of c.args.ops.now c.args.offset c.args.len c.loop-next.done c.in-Some.next c.loop-next.pieces c.next.new.self c.requires.good c.loop-next.invariant.0 c.requires.offsets c.loop-next.invariant.1 c.in-Some.ensures) in omega (arith, h, m)
+piece-requires-clause-within c = λ w. let h = c.requires.within w in let m = within_of c.args.ops.now c.args.offset c.args.len c.loop-next.done
+    c.in-Some.next c.next.new.self c.loop-next.invariant.0 (next_of c.args.ops.now c.args.offset c.args.len c.loop-next.done c.in-Some.next
+    c.loop-next.pieces c.next.new.self c.requires.good c.loop-next.invariant.0 c.requires.offsets c.loop-next.invariant.1 c.in-Some.ensures) in omega
+    (arith, h, m)
 
 pub piece-requires-clause-bound : goal.piece-requires-clause-bound
-piece-requires-clause-bound c = let h = c.requires.bound in let m = within_of c.args.ops.now c.args.offset c.args.len c.loop-next.done c.in-Some.next c.next.new.self c.loop-next.invariant.0 (next_of c.args.ops.now c.args.offset c.args.len c.loop-next.done c.in-Some.next c.loop-next.pieces c.next.new.self c.requires.good c.loop-next.invariant.0 c.requires.offsets c.loop-next.invariant.1 c.in-Some.ensures) in omega (arith, h, m)
+piece-requires-clause-bound c = let h = c.requires.bound in let m = within_of c.args.ops.now c.args.offset c.args.len c.loop-next.done c.in-Some.next
+    c.next.new.self c.loop-next.invariant.0 (next_of c.args.ops.now c.args.offset c.args.len c.loop-next.done c.in-Some.next c.loop-next.pieces
+    c.next.new.self c.requires.good c.loop-next.invariant.0 c.requires.offsets c.loop-next.invariant.1 c.in-Some.ensures) in omega (arith, h, m)
 
 pub overflow_add-done : goal.overflow_add-done
-overflow_add-done c = let h = c.requires.bound in let m = within_of c.args.ops.now c.args.offset c.args.len c.loop-next.done c.in-Some.next c.next.new.self c.loop-next.invariant.0 (next_of c.args.ops.now c.args.offset c.args.len c.loop-next.done c.in-Some.next c.loop-next.pieces c.next.new.self c.requires.good c.loop-next.invariant.0 c.requires.offsets c.loop-next.invariant.1 c.in-Some.ensures) in omega (arith, h, m)
+overflow_add-done c = let h = c.requires.bound in let m = within_of c.args.ops.now c.args.offset c.args.len c.loop-next.done c.in-Some.next
+    c.next.new.self c.loop-next.invariant.0 (next_of c.args.ops.now c.args.offset c.args.len c.loop-next.done c.in-Some.next c.loop-next.pieces
+    c.next.new.self c.requires.good c.loop-next.invariant.0 c.requires.offsets c.loop-next.invariant.1 c.in-Some.ensures) in omega (arith, h, m)
 
 pub loop-next-preserved : goal.loop-next-preserved
 loop-next-preserved c =
@@ -61,8 +72,11 @@ loop-next-preserved c =
     let f : Piece → List Reached = piece_in region ops events offset t in
     let p : Piece = c.in-Some.next in
     let done : ℕ = c.loop-next.done in
-    let np = next_of c.args.ops.now c.args.offset c.args.len c.loop-next.done c.in-Some.next c.loop-next.pieces c.next.new.self c.requires.good c.loop-next.invariant.0 c.requires.offsets c.loop-next.invariant.1 c.in-Some.ensures in
-    let fits : done + p.size ≤ n = within_of c.args.ops.now c.args.offset c.args.len c.loop-next.done c.in-Some.next c.next.new.self c.loop-next.invariant.0 (next_of c.args.ops.now c.args.offset c.args.len c.loop-next.done c.in-Some.next c.loop-next.pieces c.next.new.self c.requires.good c.loop-next.invariant.0 c.requires.offsets c.loop-next.invariant.1 c.in-Some.ensures) in
+    let np = next_of c.args.ops.now c.args.offset c.args.len c.loop-next.done c.in-Some.next c.loop-next.pieces c.next.new.self c.requires.good
+    c.loop-next.invariant.0 c.requires.offsets c.loop-next.invariant.1 c.in-Some.ensures in
+    let fits : done + p.size ≤ n = within_of c.args.ops.now c.args.offset c.args.len c.loop-next.done c.in-Some.next c.next.new.self
+    c.loop-next.invariant.0 (next_of c.args.ops.now c.args.offset c.args.len c.loop-next.done c.in-Some.next c.loop-next.pieces c.next.new.self
+    c.requires.good c.loop-next.invariant.0 c.requires.offsets c.loop-next.invariant.1 c.in-Some.ensures) in
     let here : offset + done + p.size ≡ offset + (done + p.size) = omega arith in
     let left : n - done - p.size ≡ n - (done + p.size) = omega arith in
     let end : at + done + p.size ≡ at + (done + p.size) = omega arith in

@@ -17,7 +17,8 @@ returns-in_ok-marks c =
     let t : Transfer = moved true c.args.bytes.now in
     let first : Adds t c.args.list.now.items c.push.new.self.items (memory spot.leaf spot.offset (part at n t) ∷ []) at (at + n) =
     adds_one t c.args.list.now.items c.push.new.self.items (reach.Memory spot.leaf spot.offset at n) at (at + n) c.in_ok-push.ensures.items (refl, refl) in
-    subst (λ b. Adds (moved b c.args.bytes.now) c.args.list.now.items c.marks.new.list.items (in_memory spot (part at n (moved b c.args.bytes.now))) at (at + n))
+    subst (λ b. Adds (moved b c.args.bytes.now) c.args.list.now.items c.marks.new.list.items (in_memory spot (part at n (moved b c.args.bytes.now)))
+    at (at + n))
     (sym w)
     (subst (λ rs. Adds t c.args.list.now.items c.marks.new.list.items rs at (at + n))
     (memory_written spot c.args.bytes.now at n (c.requires.within w))
