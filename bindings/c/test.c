@@ -1,0 +1,361 @@
+/* Tests of the library from C: a machine behind a handle. */
+#include <stdio.h>
+#include <stdlib.h>
+#include <string.h>
+
+#include "../vobrekan.h"
+
+static int passed, failed;
+
+static void check(bool is_so, const char *what)
+{
+    if (is_so) {
+        passed++;
+    } else {
+        failed++;
+        printf("failed: %s\n", what);
+    }
+}
+
+/* An answer is a refusal that names this. */
+static void refused(vb_answer answer, uint32_t code, uint32_t what, uint64_t value, const char *text)
+{
+    bool is_so = answer.code == code && answer.what == what && answer.value == value;
+    if (!is_so) {
+        printf("code %u what %u value %llu: ", answer.code, answer.what, (unsigned long long)answer.value);
+    }
+    check(is_so, text);
+}
+
+/* The region that a call made. */
+static uint32_t made(vb_answer answer, const char *text)
+{
+    check(answer.code == VB_DONE && answer.what == 1, text);
+    return (uint32_t)answer.value;
+}
+
+static void done(vb_answer answer, const char *text)
+{
+    if (answer.code != VB_DONE) {
+        printf("code %u: ", answer.code);
+    }
+    check(answer.code == VB_DONE, text);
+}
+
+static void test_handles(void)
+{
+    vb_machine m = VB_MACHINE_INIT;
+    vb_found found;
+    vb_flat_range range;
+    uint8_t byte = 0;
+    refused(vb_begin(&m), VB_NO_MACHINE, 0, 0, "begin without a machine");
+    refused(vb_commit(&m), VB_NO_MACHINE, 0, 0, "commit without a machine");
+    refused(vb_ram(&m, 4096), VB_NO_MACHINE, 0, 0, "RAM without a machine");
+    refused(vb_move(&m, 0, 0), VB_NO_MACHINE, 0, 0, "a move without a machine");
+    refused(vb_listen(&m, 0, 0, 0), VB_NO_MACHINE, 0, 0, "a listener without a machine");
+    refused(vb_reap(&m), VB_NO_MACHINE, 0, 0, "a reap without a machine");
+    refused(vb_notified(&m, 0), VB_NO_MACHINE, 0, 0, "a notifier without a machine");
+    refused(vb_find(&m, 0, 0, &found), VB_NO_MACHINE, 0, 0, "a look-up without a machine");
+    refused(vb_range(&m, 0, 0, &range), VB_NO_MACHINE, 0, 0, "a view without a machine");
+    refused(vb_read(&m, 0, 0, 0, &byte, 1), VB_NO_MACHINE, 0, 0, "a read without a machine");
+    refused(vb_write(&m, 0, 0, 0, &byte, 1), VB_NO_MACHINE, 0, 0, "a write without a machine");
+    refused(vb_load(&m, 0, 0, &byte, 1), VB_NO_MACHINE, 0, 0, "a load without a machine");
+    vb_free(&m);
+    refused(vb_new(&m, (1 << 26) + 1), VB_ARGUMENT, 0, (1 << 26) + 1, "a pool that is too large");
+    done(vb_new(&m, 0), "a machine without words");
+    refused(vb_new(&m, 0), VB_HAS_MACHINE, 0, 0, "a second machine");
+    refused(vb_ram(&m, 4096), VB_NO_BACKING, 0, 515, "RAM without words");
+    vb_free(&m);
+    vb_free(&m);
+    refused(vb_ram(&m, 4096), VB_NO_MACHINE, 0, 0, "a machine that was freed");
+}
+
+static void test_arguments(vb_machine *m)
+{
+    vb_device device = { .kind = 4, .regs = 1, .valid_min = 1, .valid_max = 4, .impl_min = 1, .impl_max = 4 };
+    uint8_t byte = 0;
+    refused(vb_io(m, 16, &device), VB_ARGUMENT, 0, 4, "a kind of device that there is not");
+    refused(vb_rom_device(m, 4096, &device), VB_ARGUMENT, 0, 4, "a ROM device of such a kind");
+    device.kind = VB_DEVICE_LATCH;
+    device.valid_max = 3;
+    refused(vb_io(m, 16, &device), VB_BAD_OPS, 0, 0, "an access size of 3 bytes");
+    refused(vb_log(m, 0, 3, true), VB_ARGUMENT, 0, 3, "a client that there is not");
+    refused(vb_map(m, 0, 0, 4096, 0, 0, 4), VB_ARGUMENT, 0, 4, "a permission that there is not");
+    refused(vb_read(m, 16, 0, 0, &byte, 1), VB_ARGUMENT, 0, 16, "a read by pass 16");
+    refused(vb_write(m, UINT32_MAX, 0, 0, &byte, 1), VB_ARGUMENT, 0, UINT32_MAX, "a write by a pass that there is not");
+    refused(vb_notified(m, 64), VB_ARGUMENT, 0, 64, "notifier 64");
+    refused(vb_ram(m, 0), VB_BAD_SIZE, 0, 0, "RAM of no size");
+    refused(vb_ram(m, 100), VB_BAD_SIZE, 0, 0, "RAM of no whole page");
+    refused(vb_alias(m, 4096, 77, 0), VB_UNKNOWN, VB_SORT_REGION, 77, "an alias of nothing");
+    refused(vb_space(m, 5, 77), VB_UNKNOWN, VB_SORT_REGION, 77, "a space without a root");
+    refused(vb_del(m, 77, 78), VB_UNKNOWN, VB_SORT_REGION, 77, "a container that is not there");
+    refused(vb_drop(m, UINT32_MAX), VB_UNKNOWN, VB_SORT_REGION, UINT32_MAX, "the greatest id");
+    refused(vb_unlisten(m, 9), VB_UNKNOWN, VB_SORT_LISTENER, 9, "a listener that is not there");
+    refused(vb_listen(m, 9, 8, INT32_MIN), VB_UNKNOWN, VB_SORT_SPACE, 8, "a listener of a space that is not there");
+    refused(vb_commit(m), VB_NO_TRANSACTION, 0, 0, "a commit without a transaction");
+}
+
+/* A PC in small: memory below, a device over it, and a ROM at the top. */
+static void test_map(void)
+{
+    vb_machine m = VB_MACHINE_INIT;
+    vb_found found;
+    vb_flat_range range;
+    vb_device device = { .kind = VB_DEVICE_LATCH, .regs = 1, .valid_min = 1, .valid_max = 4, .impl_min = 1, .impl_max = 4 };
+    done(vb_new(&m, 1 << 16), "a machine");
+    test_arguments(&m);
+    done(vb_begin(&m), "a transaction");
+    uint32_t system = made(vb_container(&m, UINT64_MAX), "a container of 2^64 bytes");
+    uint32_t ram = made(vb_ram(&m, 0x10000), "RAM");
+    uint32_t rom = made(vb_rom(&m, 0x1000), "ROM");
+    uint32_t uart = made(vb_io(&m, 0x100, &device), "a device");
+    uint32_t host = made(vb_host(&m, 0x100000000), "host memory");
+    uint32_t low = made(vb_alias(&m, 0x1000, ram, 0x2000), "an alias");
+    done(vb_space(&m, 1, system), "a space");
+    done(vb_add(&m, system, 0, ram, 0), "RAM at 0");
+    done(vb_add(&m, system, 0x1000, uart, 1), "a device over it");
+    done(vb_add(&m, system, 0xfffff000, rom, 0), "ROM below 4 GiB");
+    done(vb_add(&m, system, 0x100000000, host, 0), "host memory above 4 GiB");
+    done(vb_add(&m, system, 0x20000, low, -1), "an alias");
+    refused(vb_add(&m, system, 0, uart, 0), VB_HAS_CONTAINER, 0, system, "a device in two places");
+    refused(vb_find(&m, 1, 0, &found), VB_UNKNOWN, VB_SORT_SPACE, 1, "nothing is published inside of the transaction");
+    vb_answer published = vb_commit(&m);
+    check(published.code == VB_DONE && published.other == 1, "the commit publishes generation 1");
+
+    done(vb_find(&m, 1, 0x10, &found), "a look-up");
+    check(found.is_there && found.region == ram && found.offset == 0x10 && found.last == 0xfff && found.kind == VB_KIND_RAM, "RAM is found");
+    done(vb_find(&m, 1, 0x1004, &found), "a look-up");
+    check(found.is_there && found.region == uart && found.offset == 4 && found.last == 0x10ff && found.kind == VB_KIND_IO, "the device is found");
+    done(vb_find(&m, 1, 0x20000, &found), "a look-up");
+    check(found.is_there && found.region == ram && found.offset == 0x2000 && found.last == 0x20fff, "the alias leads to RAM");
+    done(vb_find(&m, 1, 0x10000, &found), "a look-up");
+    check(!found.is_there && found.last == 0x1ffff, "a hole, with its end");
+    done(vb_find(&m, 1, UINT64_MAX, &found), "a look-up");
+    check(!found.is_there && found.last == UINT64_MAX, "the last address");
+    done(vb_find(&m, 1, 0x100000000, &found), "a look-up");
+    check(found.region == host && found.kind == VB_KIND_HOST && found.last == 0x1ffffffff, "host memory");
+    refused(vb_find(&m, 2, 0, &found), VB_UNKNOWN, VB_SORT_SPACE, 2, "a space that is not there");
+
+    vb_answer count = vb_range(&m, 1, 0, &range);
+    check(count.code == VB_DONE && count.value == 6 && count.other == 1, "six ranges");
+    uint64_t starts[6] = { 0, 0x1000, 0x1100, 0x20000, 0xfffff000, 0x100000000 };
+    uint64_t lasts[6] = { 0xfff, 0x10ff, 0xffff, 0x20fff, 0xffffffff, 0x1ffffffff };
+    for (size_t i = 0; i < 6; i++) {
+        vb_range(&m, 1, i, &range);
+        check(range.start == starts[i] && range.last == lasts[i], "a range of the view");
+    }
+    check(range.region == host && !range.readonly, "the last range");
+    vb_range(&m, 1, 4, &range);
+    check(range.region == rom && range.readonly, "ROM is read-only");
+    vb_range(&m, 1, 99, &range);
+    check(range.region == rom, "past the last range nothing is written");
+    refused(vb_range(&m, 7, 0, &range), VB_UNKNOWN, VB_SORT_SPACE, 7, "a view that is not there");
+
+    vb_answer moved = vb_move(&m, uart, 0x3000);
+    check(moved.code == VB_DONE && moved.other == 2, "a move publishes generation 2");
+    done(vb_find(&m, 1, 0x1004, &found), "a look-up");
+    check(found.region == ram && found.last == 0x2fff, "the device is elsewhere");
+    done(vb_enable(&m, rom, false), "the ROM is off");
+    done(vb_find(&m, 1, 0xfffff000, &found), "a look-up");
+    check(!found.is_there, "a ROM that is off is not found");
+    done(vb_listen(&m, 3, 1, 0), "a listener");
+    refused(vb_listen(&m, 3, 1, 0), VB_NAME_TAKEN, VB_SORT_LISTENER, 3, "the same listener");
+    done(vb_unlisten(&m, 3), "it leaves");
+    refused(vb_add(&m, ram, 0, system, 0), VB_LOOP, 0, ram, "a loop");
+    refused(vb_resize(&m, ram, 0x2000), VB_WRONG_KIND, 0, ram, "RAM keeps its size");
+    refused(vb_drop(&m, ram), VB_HAS_CONTAINER, 0, system, "a region in use");
+    vb_free(&m);
+}
+
+static void test_accesses(void)
+{
+    vb_machine m = VB_MACHINE_INIT;
+    vb_device device = { .kind = VB_DEVICE_LATCH, .regs = 1, .valid_min = 1, .valid_max = 4, .impl_min = 1, .impl_max = 4 };
+    vb_ioevent event = { .offset = 8, .size = 4, .matched = false, .value = 0, .number = 5 };
+    uint8_t word[8] = { 1, 2, 3, 4, 5, 6, 7, 8 }, out[8] = { 0 };
+    done(vb_new(&m, 1 << 14), "a machine");
+    uint32_t system = made(vb_container(&m, 0x100000), "a container");
+    uint32_t ram = made(vb_ram(&m, 0x1000), "RAM");
+    uint32_t rom = made(vb_rom(&m, 0x1000), "ROM");
+    uint32_t latch = made(vb_io(&m, 0x100, &device), "a device");
+    done(vb_space(&m, 0, system), "a space");
+    done(vb_add(&m, system, 0, ram, 0), "RAM");
+    done(vb_add(&m, system, 0x1000, rom, 0), "ROM");
+    done(vb_add(&m, system, 0x2000, latch, 0), "a device");
+    done(vb_event(&m, latch, &event), "an ioeventfd");
+    refused(vb_event(&m, latch, &event), VB_EVENT_TAKEN, 0, 0, "the same ioeventfd");
+    vb_answer ended = vb_write(&m, 0, 0, 0xffc, word, 4);
+    check(ended.code == VB_DONE && ended.what == 0 && ended.value == 5, "a write to RAM, in generation 5");
+    ended = vb_read(&m, 15, 0, 0xffc, out, 4);
+    check(ended.code == VB_DONE && ended.what == 0 && memcmp(out, word, 4) == 0, "it is read again");
+    done(vb_load(&m, rom, 0, word, 8), "the ROM is loaded");
+    refused(vb_load(&m, rom, 0xffc, word, 8), VB_BAD_SIZE, 0, 0, "a load past the end");
+    refused(vb_load(&m, latch, 0, word, 8), VB_WRONG_KIND, 0, latch, "a load into a device");
+    ended = vb_read(&m, 0, 0, 0x1000, out, 8);
+    check(ended.what == 0 && memcmp(out, word, 8) == 0, "the ROM is read");
+    ended = vb_write(&m, 0, 0, 0x2000, word, 4);
+    check(ended.what == 0, "a write to the device");
+    ended = vb_read(&m, 0, 0, 0x2000, out, 4);
+    check(ended.what == 0 && memcmp(out, word, 4) == 0, "the device gives what was written last");
+    ended = vb_write(&m, 0, 0, 0x2008, word, 4);
+    check(ended.what == 0, "a write that sets a notifier");
+    vb_answer taken = vb_notified(&m, 5);
+    check(taken.code == VB_DONE && taken.value != 0, "the notifier was set");
+    taken = vb_notified(&m, 5);
+    check(taken.code == VB_DONE && taken.value == 0, "it was taken");
+    ended = vb_read(&m, 0, 0, 0x8000, out, 4);
+    check(ended.code == VB_DONE && (ended.what & VB_ACCESS_DECODE) != 0, "nothing answers there");
+    ended = vb_read(&m, 0, 9, 0, out, 0);
+    check(ended.code == VB_DONE && ended.what == 0, "no byte of no space");
+    done(vb_unevent(&m, latch, &event), "the ioeventfd is taken away");
+    done(vb_del(&m, system, latch), "the device is taken out");
+    done(vb_drop(&m, latch), "and dropped");
+    vb_answer reaped = vb_reap(&m);
+    check(reaped.code == VB_DONE && reaped.value <= 1, "a reap");
+    vb_free(&m);
+}
+
+/* What listeners were told, read by an index that the caller keeps. */
+static void test_listeners(void)
+{
+    vb_machine m = VB_MACHINE_INIT;
+    vb_listener_call call;
+    vb_device device = { .kind = VB_DEVICE_LATCH, .regs = 1, .valid_min = 1, .valid_max = 4, .impl_min = 1, .impl_max = 4 };
+    vb_ioevent event = { .offset = 8, .size = 4, .matched = true, .value = 3, .number = 5 };
+    memset(&call, 0, sizeof call);
+    done(vb_new(&m, 1 << 14), "a machine");
+    uint32_t system = made(vb_container(&m, 0x10000), "a container");
+    uint32_t ram = made(vb_ram(&m, 0x1000), "RAM");
+    uint32_t latch = made(vb_io(&m, 0x100, &device), "a device");
+    done(vb_space(&m, 0, system), "a space");
+    done(vb_add(&m, system, 0x2000, ram, 0), "RAM");
+    done(vb_listen(&m, 7, 0, 0), "a listener");
+    vb_answer told = vb_delivery(&m, 0, &call);
+    check(told.code == VB_DONE && told.value == 3 && call.what == VB_TOLD_BEGIN && call.listener == 7, "it is told that its calls begin");
+    vb_delivery(&m, 1, &call);
+    check(call.what == VB_TOLD_ADD && call.range.start == 0x2000 && call.range.last == 0x2fff && call.range.region == ram, "of RAM");
+    vb_delivery(&m, 2, &call);
+    check(call.what == VB_TOLD_COMMIT, "and that they end");
+    vb_delivery(&m, 3, &call);
+    check(call.what == VB_TOLD_COMMIT, "past the last call nothing is written");
+    done(vb_move(&m, ram, 0x4000), "RAM moves");
+    told = vb_delivery(&m, 4, &call);
+    check(told.value == 7 && call.what == VB_TOLD_DELETE && call.range.start == 0x2000, "it is gone there");
+    vb_delivery(&m, 5, &call);
+    check(call.what == VB_TOLD_ADD && call.range.start == 0x4000, "it is here");
+    done(vb_begin(&m), "a transaction");
+    done(vb_add(&m, system, 0, latch, 0), "a device");
+    done(vb_event(&m, latch, &event), "an ioeventfd");
+    check(vb_delivery(&m, 0, &call).value == 7, "nothing is told inside of the transaction");
+    done(vb_commit(&m), "its end");
+    bool is_found = false;
+    told = vb_delivery(&m, 0, &call);
+    for (size_t i = 7; i < told.value; i++) {
+        vb_delivery(&m, i, &call);
+        if (call.what == VB_TOLD_EVENT_ADD) {
+            is_found = call.event.distance == 8 && !call.event.is_below && call.event.number == 5 && call.event.matched
+                && call.event.value == 3 && call.event.size == 4;
+        }
+    }
+    check(is_found, "the ioeventfd is told");
+    vb_free(&m);
+}
+
+/* What accesses reach: a PC's configuration ports, and memory of the host. */
+static void test_plans(void)
+{
+    vb_machine m = VB_MACHINE_INIT;
+    vb_reached list[16];
+    vb_device wide = { .kind = VB_DEVICE_LATCH, .regs = 1, .valid_min = 1, .valid_max = 4, .impl_min = 4, .impl_max = 4 };
+    vb_device narrow = { .kind = VB_DEVICE_LATCH, .regs = 1, .valid_min = 1, .valid_max = 1, .impl_min = 1, .impl_max = 1 };
+    uint8_t value[4] = { 0x10, 0x08, 0x00, 0x80 };
+    memset(list, 0xaa, sizeof list);
+    refused(vb_plan_read(&m, VB_WAY_CHUNKS, 0, 0, 4, list, 16), VB_NO_MACHINE, 0, 0, "a plan without a machine");
+    done(vb_new(&m, 1 << 12), "a machine");
+    uint32_t io = made(vb_container(&m, 0x10000), "ports");
+    uint32_t config = made(vb_io(&m, 8, &wide), "the configuration ports");
+    uint32_t reset = made(vb_io(&m, 1, &narrow), "the reset register");
+    uint32_t host = made(vb_host(&m, 0x2000), "memory of the host");
+    done(vb_space(&m, 0, io), "a space");
+    done(vb_add(&m, io, 0xcf8, config, 0), "the configuration ports");
+    done(vb_add(&m, io, 0xcf9, reset, 1), "the reset register over them");
+    done(vb_add(&m, io, 0x2000, host, 0), "memory of the host");
+    done(vb_log(&m, host, VB_CLIENT_MIGRATION, true), "its pages are logged");
+
+    vb_answer told = vb_plan_write(&m, VB_WAY_QEMU, 0, 0xcf8, value, 4, list, 16);
+    check(told.code == VB_DONE && told.value == 1 && told.other == 5, "in QEMU's way one callback takes outl 0xcf8");
+    check(list[0].what == VB_REACHED_CALLBACK && list[0].region == config && list[0].offset == 0 && list[0].size == 4 && list[0].takes
+              && list[0].value == 0x80000810 && list[0].at == 0 && list[0].len == 4,
+        "with its whole number");
+    told = vb_plan_write(&m, VB_WAY_CHUNKS, 0, 0xcf8, value, 4, list, 16);
+    check(told.value == 3 && list[1].region == reset && list[1].value == 8 && list[2].region == config && list[2].offset == 2
+              && list[2].value == 0x8000 && list[2].at == 2 && list[2].len == 2,
+        "by chunks the reset register takes its byte");
+    for (uint32_t way = 0; way < 2; way++) {
+        told = vb_plan_write(&m, way, 0, 0xcf9, value, 1, list, 16);
+        check(told.value == 1 && list[0].region == reset && list[0].value == 0x10, "outb 0xcf9");
+        told = vb_plan_read(&m, way, 0, 0xcfc, 4, list, 16);
+        check(told.value == 1 && list[0].region == config && list[0].offset == 4 && list[0].size == 4 && !list[0].takes, "inl 0xcfc");
+        told = vb_plan_write(&m, way, 0, 0x2ffe, value, 4, list, 16);
+        check(told.value == 3 && list[0].what == VB_REACHED_MEMORY && list[0].region == host && list[0].offset == 0xffe && list[0].len == 4
+                  && list[1].what == VB_REACHED_MARK && list[1].offset == 0 && list[1].number == VB_CLIENT_MIGRATION && list[2].offset == 1,
+            "memory of the host, and the marks of two pages");
+        told = vb_plan_read(&m, way, 0, 0x3ffe, 4, list, 16);
+        check(told.value == 2 && list[1].what == VB_REACHED_NOTHING && list[1].at == 2 && list[1].len == 2, "its end, and nothing there");
+        told = vb_plan_read(&m, way, 9, 0, 4, list, 16);
+        check(told.value == 1 && list[0].what == VB_REACHED_NOTHING && list[0].len == 4, "a space that is not there");
+        told = vb_plan_read(&m, way, 0, 0, 0, list, 16);
+        check(told.code == VB_DONE && told.value == 0, "no byte");
+        refused(vb_plan_read(&m, way, 0, UINT64_MAX, 2, list, 16), VB_BAD_SIZE, 0, 0, "past the last address");
+        refused(vb_plan_read(&m, way, 0, 2, SIZE_MAX, list, 16), VB_BAD_SIZE, 0, 0, "far past it");
+    }
+    memset(list, 0xaa, sizeof list);
+    told = vb_plan_write(&m, VB_WAY_CHUNKS, 0, 0xcf8, value, 4, list, 1);
+    check(told.value == 3 && list[0].region == config && list[1].region == 0xaaaaaaaa, "a buffer that is too small has the first of them");
+    refused(vb_plan_read(&m, 2, 0, 0, 4, list, 16), VB_ARGUMENT, 0, 2, "another way");
+    vb_free(&m);
+}
+
+/* What answers say. */
+static void test_texts(void)
+{
+    static const struct {
+        vb_answer answer;
+        const char *text;
+    } rows[] = {
+        { { VB_DONE, 0, 0, 0 }, "done" },
+        { { VB_UNKNOWN, VB_SORT_REGION, 7, 0 }, "region 7 is not there" },
+        { { VB_NAME_TAKEN, VB_SORT_SPACE, 1, 0 }, "address space 1 is there already" },
+        { { VB_LOOP, 0, 3, 0 }, "region 3 cannot be the container: it is the child itself, or is reached from it" },
+        { { VB_NO_TRANSACTION, 0, 0, 0 }, "no transaction is open" },
+        { { VB_PAGE_OVERLAP, 0, 0x1000, 0 }, "the translation meets the one at 0x1000" },
+        { { VB_NO_BACKING, 0, 515, 0 }, "no hole of the pool has 515 words" },
+        { { VB_HELD, 0, 2, 9 }, "pass 2 may still use generation 9" },
+        { { VB_MEMORY, 0, 0, 0 }, "out of memory" },
+        { { VB_ARGUMENT, 0, 4, 0 }, "an argument stands for nothing" },
+        { { VB_NO_MACHINE, 0, 0, 0 }, "the handle has no machine" },
+        { { 99, 0, 0, 0 }, "this is no answer of the library" },
+        { { VB_UNKNOWN, 6, 0, 0 }, "this is no answer of the library" },
+        { { VB_UNKNOWN, VB_SORT_REGION, 1ull << 32, 0 }, "this is no answer of the library" },
+    };
+    for (size_t i = 0; i < sizeof rows / sizeof rows[0]; i++) {
+        uint8_t out[128];
+        size_t whole = 0, len = strlen(rows[i].text);
+        memset(out, 0xaa, sizeof out);
+        bool is_so = vb_print(&rows[i].answer, out, 4, &whole) == 0 && whole == len && memcmp(out, rows[i].text, 4) == 0 && out[4] == 0xaa
+            && vb_print(&rows[i].answer, out, sizeof out, &whole) == 0 && memcmp(out, rows[i].text, len) == 0 && out[len] == 0xaa;
+        check(is_so, rows[i].text);
+    }
+}
+
+int main(void)
+{
+    test_listeners();
+    test_texts();
+    test_plans();
+    test_handles();
+    test_map();
+    test_accesses();
+    printf("%d passed, %d failed\n", passed, failed);
+    return failed != 0;
+}

@@ -1,0 +1,261 @@
+"""Made by bindings/declare from crates/libvobrekan/src."""
+from ctypes import POINTER, Structure, c_bool, c_int32, c_size_t, c_uint8, c_uint32, c_uint64, c_void_p
+
+VB_DONE = 0  # It is done.
+VB_UNKNOWN = 1  # Something that the call names is not there: `what` is its sort, `value` its number.
+VB_NAME_TAKEN = 2  # The space or the listener is there already: `what` is its sort, `value` its number.
+VB_HAS_CONTAINER = 3  # The region is in the container `value`.
+VB_NOT_CHILD = 4  # The region `value` is in another container than the one named, or in none.
+VB_ALIAS_PARENT = 5  # `value` is an alias, which takes no children.
+VB_LOOP = 6  # `value` would be its own container, or is reached from the region to be placed in it.
+VB_TOO_DEEP = 7  # Some region would have the depth `value`, above 32.
+VB_TOO_WIDE = 8  # Some region would have the weight `value`, above 65,536.
+VB_BAD_SIZE = 9  # The size, or the range of bytes, is not valid.
+VB_BAD_OPS = 10  # No device has such access sizes, registers or ioeventfd.
+VB_WRONG_KIND = 11  # The region `value` is of another kind than the call is for.
+VB_NO_TRANSACTION = 12  # No transaction is open.
+VB_TOO_NESTED = 13  # 64 transactions are open.
+VB_IN_USE = 14  # The region is used by `value`: `what` is 0 for a region, 1 for a space.
+VB_PAGE_OVERLAP = 15  # The translation meets the one at the offset `value`.
+VB_BAD_PAGE = 16  # The page of a translation is no power of two, or not aligned to its size.
+VB_LIMIT_REACHED = 17  # The count `what` stands at its limit `value`.
+VB_NO_BACKING = 18  # No hole of the pool has `value` words.
+VB_HELD = 19  # The pass `value` may still use the generation `other`.
+VB_EVENT_TAKEN = 20  # The region has this ioeventfd.
+VB_MEMORY = 21  # Out of memory.
+VB_ARGUMENT = 22  # An argument, `value`, stands for nothing.
+VB_NO_MACHINE = 23  # The handle has no machine.
+VB_HAS_MACHINE = 24  # The handle has a machine.
+
+VB_SORT_REGION = 0
+VB_SORT_SPACE = 1
+VB_SORT_LISTENER = 2
+VB_SORT_WATCHER = 3
+VB_SORT_ENTRY = 4
+VB_SORT_EVENT = 5
+VB_LIMIT_REGIONS = 0
+VB_LIMIT_MADE = 1
+VB_LIMIT_SPACES = 2
+VB_LIMIT_LISTENERS = 3
+VB_LIMIT_ENTRIES = 4
+VB_LIMIT_EVENTS = 5
+VB_LIMIT_CALLS = 6
+VB_LIMIT_WATCHERS = 7
+VB_KIND_CONTAINER = 0
+VB_KIND_RAM = 1
+VB_KIND_ROM = 2
+VB_KIND_ROM_DEVICE = 3
+VB_KIND_IO = 4
+VB_KIND_IOMMU = 5
+VB_KIND_ALIAS = 6
+VB_KIND_RESERVE = 7
+VB_KIND_HOST = 8
+VB_DEVICE_LATCH = 0
+VB_DEVICE_COUNT = 1
+VB_DEVICE_BELL = 2
+VB_DEVICE_FAULT = 3
+VB_CLIENT_DISPLAY = 0
+VB_CLIENT_CODE = 1
+VB_CLIENT_MIGRATION = 2
+VB_PERM_NOTHING = 0
+VB_PERM_READ = 1
+VB_PERM_WRITE = 2
+VB_PERM_BOTH = 3
+VB_ACCESS_ERROR = 1
+VB_ACCESS_DECODE = 2
+VB_WAY_CHUNKS = 0
+VB_WAY_QEMU = 1
+VB_REACHED_MEMORY = 0
+VB_REACHED_CALLBACK = 1
+VB_REACHED_NOTIFIER = 2
+VB_REACHED_MARK = 3
+VB_REACHED_NOTHING = 4
+VB_TOLD_BEGIN = 0
+VB_TOLD_DELETE = 1
+VB_TOLD_ADD = 2
+VB_TOLD_KEEP = 3
+VB_TOLD_LOG_START = 4
+VB_TOLD_LOG_STOP = 5
+VB_TOLD_EVENT_ADD = 6
+VB_TOLD_EVENT_DEL = 7
+VB_TOLD_COMMIT = 8
+
+
+class vb_machine(Structure):
+    """What C keeps of a machine: a pointer, which is null where there is none."""
+
+    _fields_ = [
+        ("at", c_void_p),
+    ]
+
+
+class vb_answer(Structure):
+    """What a call answers: a code, and what it names.
+
+    The code is 0 where it is done. 1 to 20 are the refusals of the machine, numbered as the lines of a script number them, and
+    above these stand those of the library itself. A refused call changes nothing."""
+
+    _fields_ = [
+        ("code", c_uint32),
+        ("what", c_uint32),
+        ("value", c_uint64),
+        ("other", c_uint64),
+    ]
+
+
+class vb_device(Structure):
+    """A device: what its registers do, how many words of 8 bytes they are, and its access sizes in bytes.
+
+    The kinds are 0 latch, 1 counter, 2 bell and 3 fault."""
+
+    _fields_ = [
+        ("kind", c_uint32),
+        ("regs", c_uint32),
+        ("valid_min", c_uint8),
+        ("valid_max", c_uint8),
+        ("valid_unaligned", c_bool),
+        ("impl_min", c_uint8),
+        ("impl_max", c_uint8),
+        ("impl_unaligned", c_bool),
+        ("big", c_bool),
+    ]
+
+
+class vb_ioevent(Structure):
+    """An ioeventfd: a write of `size` bytes at `offset` in its device sets the notifier `number`, where it is any write or
+    writes `value`."""
+
+    _fields_ = [
+        ("offset", c_uint64),
+        ("value", c_uint64),
+        ("number", c_uint32),
+        ("size", c_uint8),
+        ("matched", c_bool),
+    ]
+
+
+class vb_flat_range(Structure):
+    """A range of a view: the addresses `start` to `last` inclusive are answered by a region, from `offset` in it on."""
+
+    _fields_ = [
+        ("start", c_uint64),
+        ("last", c_uint64),
+        ("offset", c_uint64),
+        ("region", c_uint32),
+        ("log", c_uint8),
+        ("readonly", c_bool),
+        ("nonvolatile", c_bool),
+        ("romd", c_bool),
+        ("unmergeable", c_bool),
+    ]
+
+
+class vb_found(Structure):
+    """What an address leads to: the byte of a region, if there is one, and the last address after it that is answered alike."""
+
+    _fields_ = [
+        ("last", c_uint64),
+        ("offset", c_uint64),
+        ("region", c_uint32),
+        ("kind", c_uint32),
+        ("log", c_uint8),
+        ("readonly", c_bool),
+        ("nonvolatile", c_bool),
+        ("romd", c_bool),
+        ("unmergeable", c_bool),
+        ("is_there", c_bool),
+    ]
+
+
+class vb_reached(Structure):
+    """One thing that an access reaches. `what` is 0 memory, 1 a callback of a device, 2 a notifier, 3 a mark of a page, 4 nothing. It is
+    about `len` bytes of the access, those from byte `at` of it on; a mark is about none."""
+
+    _fields_ = [
+        ("offset", c_uint64),
+        ("value", c_uint64),
+        ("at", c_uint64),
+        ("len", c_uint64),
+        ("what", c_uint32),
+        ("region", c_uint32),
+        ("number", c_uint32),
+        ("size", c_uint8),
+        ("takes", c_bool),
+        ("big", c_bool),
+    ]
+
+
+class vb_live_event(Structure):
+    """An ioeventfd as a view shows it. Its address is `distance` bytes from 0: below it where a view shows only the end of its bytes."""
+
+    _fields_ = [
+        ("distance", c_uint64),
+        ("value", c_uint64),
+        ("number", c_uint32),
+        ("size", c_uint8),
+        ("matched", c_bool),
+        ("is_below", c_bool),
+    ]
+
+
+class vb_listener_call(Structure):
+    """One call of a listener. `what` is 0 begin, 1 a range is gone, 2 it is there, 3 it stays, 4 logging starts, 5 logging stops, 6 an
+    ioeventfd is there, 7 it is gone, 8 commit."""
+
+    _fields_ = [
+        ("what", c_uint32),
+        ("listener", c_uint32),
+        ("range", vb_flat_range),
+        ("event", vb_live_event),
+        ("from", c_uint8),
+        ("to", c_uint8),
+    ]
+
+
+# each function: its parameters, and its result
+FUNCTIONS = {
+    "vb_read": ([POINTER(vb_machine), c_uint32, c_uint32, c_uint64, POINTER(c_uint8), c_size_t], vb_answer),
+    "vb_write": ([POINTER(vb_machine), c_uint32, c_uint32, c_uint64, POINTER(c_uint8), c_size_t], vb_answer),
+    "vb_space": ([POINTER(vb_machine), c_uint32, c_uint32], vb_answer),
+    "vb_add": ([POINTER(vb_machine), c_uint32, c_uint64, c_uint32, c_int32], vb_answer),
+    "vb_del": ([POINTER(vb_machine), c_uint32, c_uint32], vb_answer),
+    "vb_move": ([POINTER(vb_machine), c_uint32, c_uint64], vb_answer),
+    "vb_resize": ([POINTER(vb_machine), c_uint32, c_uint64], vb_answer),
+    "vb_retarget": ([POINTER(vb_machine), c_uint32, c_uint64], vb_answer),
+    "vb_enable": ([POINTER(vb_machine), c_uint32, c_bool], vb_answer),
+    "vb_readonly": ([POINTER(vb_machine), c_uint32, c_bool], vb_answer),
+    "vb_nonvolatile": ([POINTER(vb_machine), c_uint32, c_bool], vb_answer),
+    "vb_unmergeable": ([POINTER(vb_machine), c_uint32, c_bool], vb_answer),
+    "vb_romd": ([POINTER(vb_machine), c_uint32, c_bool], vb_answer),
+    "vb_log": ([POINTER(vb_machine), c_uint32, c_uint32, c_bool], vb_answer),
+    "vb_global": ([POINTER(vb_machine), c_bool], vb_answer),
+    "vb_map": ([POINTER(vb_machine), c_uint32, c_uint64, c_uint64, c_uint32, c_uint64, c_uint32], vb_answer),
+    "vb_unmap": ([POINTER(vb_machine), c_uint32, c_uint64], vb_answer),
+    "vb_event": ([POINTER(vb_machine), c_uint32, POINTER(vb_ioevent)], vb_answer),
+    "vb_unevent": ([POINTER(vb_machine), c_uint32, POINTER(vb_ioevent)], vb_answer),
+    "vb_drop": ([POINTER(vb_machine), c_uint32], vb_answer),
+    "vb_delivery": ([POINTER(vb_machine), c_size_t, POINTER(vb_listener_call)], vb_answer),
+    "vb_plan_read": ([POINTER(vb_machine), c_uint32, c_uint32, c_uint64, c_size_t, POINTER(vb_reached), c_size_t], vb_answer),
+    "vb_plan_write": ([POINTER(vb_machine), c_uint32, c_uint32, c_uint64, POINTER(c_uint8), c_size_t, POINTER(vb_reached), c_size_t], vb_answer),
+    "vb_container": ([POINTER(vb_machine), c_uint64], vb_answer),
+    "vb_ram": ([POINTER(vb_machine), c_uint64], vb_answer),
+    "vb_rom": ([POINTER(vb_machine), c_uint64], vb_answer),
+    "vb_host": ([POINTER(vb_machine), c_uint64], vb_answer),
+    "vb_iommu": ([POINTER(vb_machine), c_uint64], vb_answer),
+    "vb_reserve": ([POINTER(vb_machine), c_uint64], vb_answer),
+    "vb_alias": ([POINTER(vb_machine), c_uint64, c_uint32, c_uint64], vb_answer),
+    "vb_io": ([POINTER(vb_machine), c_uint64, POINTER(vb_device)], vb_answer),
+    "vb_rom_device": ([POINTER(vb_machine), c_uint64, POINTER(vb_device)], vb_answer),
+    "vb_range": ([POINTER(vb_machine), c_uint32, c_size_t, POINTER(vb_flat_range)], vb_answer),
+    "vb_find": ([POINTER(vb_machine), c_uint32, c_uint64, POINTER(vb_found)], vb_answer),
+    "vb_print": ([POINTER(vb_answer), POINTER(c_uint8), c_size_t, POINTER(c_size_t)], c_uint32),
+    "vb_new": ([POINTER(vb_machine), c_size_t], vb_answer),
+    "vb_free": ([POINTER(vb_machine)], None),
+    "vb_begin": ([POINTER(vb_machine)], vb_answer),
+    "vb_commit": ([POINTER(vb_machine)], vb_answer),
+    "vb_listen": ([POINTER(vb_machine), c_uint32, c_uint32, c_int32], vb_answer),
+    "vb_unlisten": ([POINTER(vb_machine), c_uint32], vb_answer),
+    "vb_load": ([POINTER(vb_machine), c_uint32, c_uint64, POINTER(c_uint8), c_size_t], vb_answer),
+    "vb_notified": ([POINTER(vb_machine), c_uint32], vb_answer),
+    "vb_reap": ([POINTER(vb_machine)], vb_answer),
+}

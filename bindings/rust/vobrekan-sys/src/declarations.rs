@@ -1,0 +1,434 @@
+// Made by bindings/declare from crates/libvobrekan/src.
+
+/// It is done.
+pub const VB_DONE: u32 = 0;
+
+/// Something that the call names is not there: `what` is its sort, `value` its number.
+pub const VB_UNKNOWN: u32 = 1;
+
+/// The space or the listener is there already: `what` is its sort, `value` its number.
+pub const VB_NAME_TAKEN: u32 = 2;
+
+/// The region is in the container `value`.
+pub const VB_HAS_CONTAINER: u32 = 3;
+
+/// The region `value` is in another container than the one named, or in none.
+pub const VB_NOT_CHILD: u32 = 4;
+
+/// `value` is an alias, which takes no children.
+pub const VB_ALIAS_PARENT: u32 = 5;
+
+/// `value` would be its own container, or is reached from the region to be placed in it.
+pub const VB_LOOP: u32 = 6;
+
+/// Some region would have the depth `value`, above 32.
+pub const VB_TOO_DEEP: u32 = 7;
+
+/// Some region would have the weight `value`, above 65,536.
+pub const VB_TOO_WIDE: u32 = 8;
+
+/// The size, or the range of bytes, is not valid.
+pub const VB_BAD_SIZE: u32 = 9;
+
+/// No device has such access sizes, registers or ioeventfd.
+pub const VB_BAD_OPS: u32 = 10;
+
+/// The region `value` is of another kind than the call is for.
+pub const VB_WRONG_KIND: u32 = 11;
+
+/// No transaction is open.
+pub const VB_NO_TRANSACTION: u32 = 12;
+
+/// 64 transactions are open.
+pub const VB_TOO_NESTED: u32 = 13;
+
+/// The region is used by `value`: `what` is 0 for a region, 1 for a space.
+pub const VB_IN_USE: u32 = 14;
+
+/// The translation meets the one at the offset `value`.
+pub const VB_PAGE_OVERLAP: u32 = 15;
+
+/// The page of a translation is no power of two, or not aligned to its size.
+pub const VB_BAD_PAGE: u32 = 16;
+
+/// The count `what` stands at its limit `value`.
+pub const VB_LIMIT_REACHED: u32 = 17;
+
+/// No hole of the pool has `value` words.
+pub const VB_NO_BACKING: u32 = 18;
+
+/// The pass `value` may still use the generation `other`.
+pub const VB_HELD: u32 = 19;
+
+/// The region has this ioeventfd.
+pub const VB_EVENT_TAKEN: u32 = 20;
+
+/// Out of memory.
+pub const VB_MEMORY: u32 = 21;
+
+/// An argument, `value`, stands for nothing.
+pub const VB_ARGUMENT: u32 = 22;
+
+/// The handle has no machine.
+pub const VB_NO_MACHINE: u32 = 23;
+
+/// The handle has a machine.
+pub const VB_HAS_MACHINE: u32 = 24;
+
+pub const VB_SORT_REGION: u32 = 0;
+pub const VB_SORT_SPACE: u32 = 1;
+pub const VB_SORT_LISTENER: u32 = 2;
+pub const VB_SORT_WATCHER: u32 = 3;
+pub const VB_SORT_ENTRY: u32 = 4;
+pub const VB_SORT_EVENT: u32 = 5;
+pub const VB_LIMIT_REGIONS: u32 = 0;
+pub const VB_LIMIT_MADE: u32 = 1;
+pub const VB_LIMIT_SPACES: u32 = 2;
+pub const VB_LIMIT_LISTENERS: u32 = 3;
+pub const VB_LIMIT_ENTRIES: u32 = 4;
+pub const VB_LIMIT_EVENTS: u32 = 5;
+pub const VB_LIMIT_CALLS: u32 = 6;
+pub const VB_LIMIT_WATCHERS: u32 = 7;
+pub const VB_KIND_CONTAINER: u32 = 0;
+pub const VB_KIND_RAM: u32 = 1;
+pub const VB_KIND_ROM: u32 = 2;
+pub const VB_KIND_ROM_DEVICE: u32 = 3;
+pub const VB_KIND_IO: u32 = 4;
+pub const VB_KIND_IOMMU: u32 = 5;
+pub const VB_KIND_ALIAS: u32 = 6;
+pub const VB_KIND_RESERVE: u32 = 7;
+pub const VB_KIND_HOST: u32 = 8;
+pub const VB_DEVICE_LATCH: u32 = 0;
+pub const VB_DEVICE_COUNT: u32 = 1;
+pub const VB_DEVICE_BELL: u32 = 2;
+pub const VB_DEVICE_FAULT: u32 = 3;
+pub const VB_CLIENT_DISPLAY: u32 = 0;
+pub const VB_CLIENT_CODE: u32 = 1;
+pub const VB_CLIENT_MIGRATION: u32 = 2;
+pub const VB_PERM_NOTHING: u32 = 0;
+pub const VB_PERM_READ: u32 = 1;
+pub const VB_PERM_WRITE: u32 = 2;
+pub const VB_PERM_BOTH: u32 = 3;
+pub const VB_ACCESS_ERROR: u32 = 1;
+pub const VB_ACCESS_DECODE: u32 = 2;
+pub const VB_WAY_CHUNKS: u32 = 0;
+pub const VB_WAY_QEMU: u32 = 1;
+pub const VB_REACHED_MEMORY: u32 = 0;
+pub const VB_REACHED_CALLBACK: u32 = 1;
+pub const VB_REACHED_NOTIFIER: u32 = 2;
+pub const VB_REACHED_MARK: u32 = 3;
+pub const VB_REACHED_NOTHING: u32 = 4;
+pub const VB_TOLD_BEGIN: u32 = 0;
+pub const VB_TOLD_DELETE: u32 = 1;
+pub const VB_TOLD_ADD: u32 = 2;
+pub const VB_TOLD_KEEP: u32 = 3;
+pub const VB_TOLD_LOG_START: u32 = 4;
+pub const VB_TOLD_LOG_STOP: u32 = 5;
+pub const VB_TOLD_EVENT_ADD: u32 = 6;
+pub const VB_TOLD_EVENT_DEL: u32 = 7;
+pub const VB_TOLD_COMMIT: u32 = 8;
+
+/// What C keeps of a machine: a pointer, which is null where there is none.
+#[repr(C)]
+#[derive(Debug)]
+pub struct vb_machine {
+    pub at: *mut core::ffi::c_void,
+}
+
+/// What a call answers: a code, and what it names.
+///
+/// The code is 0 where it is done. 1 to 20 are the refusals of the machine, numbered as the lines of a script number them, and
+/// above these stand those of the library itself. A refused call changes nothing.
+#[repr(C)]
+#[derive(Clone, Copy, Debug, Default, PartialEq, Eq)]
+pub struct vb_answer {
+    pub code: u32,
+    /// Which sort of thing `value` is: of a refusal that may name several, or 1 where a region was made.
+    pub what: u32,
+    /// The region that was made, what a refusal names, a limit, or a count.
+    pub value: u64,
+    /// The number of the generation that a call published, 0 where none was; of a pass that holds a publish up, its generation.
+    pub other: u64,
+}
+
+/// A device: what its registers do, how many words of 8 bytes they are, and its access sizes in bytes.
+///
+/// The kinds are 0 latch, 1 counter, 2 bell and 3 fault.
+#[repr(C)]
+#[derive(Clone, Copy, Debug, Default, PartialEq, Eq)]
+pub struct vb_device {
+    pub kind: u32,
+    pub regs: u32,
+    pub valid_min: u8,
+    pub valid_max: u8,
+    pub valid_unaligned: bool,
+    pub impl_min: u8,
+    pub impl_max: u8,
+    pub impl_unaligned: bool,
+    pub big: bool,
+}
+
+/// An ioeventfd: a write of `size` bytes at `offset` in its device sets the notifier `number`, where it is any write or
+/// writes `value`.
+#[repr(C)]
+#[derive(Clone, Copy, Debug, Default, PartialEq, Eq)]
+pub struct vb_ioevent {
+    pub offset: u64,
+    pub value: u64,
+    pub number: u32,
+    pub size: u8,
+    /// Whether only a write of `value` counts.
+    pub matched: bool,
+}
+
+/// A range of a view: the addresses `start` to `last` inclusive are answered by a region, from `offset` in it on.
+#[repr(C)]
+#[derive(Clone, Copy, Debug, Default, PartialEq, Eq)]
+pub struct vb_flat_range {
+    pub start: u64,
+    pub last: u64,
+    pub offset: u64,
+    pub region: u32,
+    /// The logging mask: bits 0 display, 1 code, 2 migration.
+    pub log: u8,
+    pub readonly: bool,
+    pub nonvolatile: bool,
+    /// The mode of a ROM device.
+    pub romd: bool,
+    pub unmergeable: bool,
+}
+
+/// What an address leads to: the byte of a region, if there is one, and the last address after it that is answered alike.
+#[repr(C)]
+#[derive(Clone, Copy, Debug, Default, PartialEq, Eq)]
+pub struct vb_found {
+    /// The last address of the range that holds the address, or of the hole that does.
+    pub last: u64,
+    /// The offset in the region, in bytes.
+    pub offset: u64,
+    pub region: u32,
+    /// 0 container, 1 RAM, 2 ROM, 3 ROM device, 4 device, 5 IOMMU region, 6 alias, 7 reservation, 8 host memory.
+    pub kind: u32,
+    /// The logging mask: bits 0 display, 1 code, 2 migration.
+    pub log: u8,
+    pub readonly: bool,
+    pub nonvolatile: bool,
+    /// The mode of a ROM device.
+    pub romd: bool,
+    pub unmergeable: bool,
+    /// Whether some region answers. Where none does, all but `last` is 0.
+    pub is_there: bool,
+}
+
+/// One thing that an access reaches. `what` is 0 memory, 1 a callback of a device, 2 a notifier, 3 a mark of a page, 4 nothing. It is
+/// about `len` bytes of the access, those from byte `at` of it on; a mark is about none.
+#[repr(C)]
+#[derive(Clone, Copy, Debug, Default, PartialEq, Eq)]
+pub struct vb_reached {
+    /// The offset in the region, or the page that is marked, of 4,096 bytes, from 0 on.
+    pub offset: u64,
+    /// The number that a callback takes.
+    pub value: u64,
+    pub at: u64,
+    pub len: u64,
+    pub what: u32,
+    /// The region whose memory, callback or page it is.
+    pub region: u32,
+    /// The number of the notifier, or of the client for whom a page is marked: 0 display, 1 code, 2 migration.
+    pub number: u32,
+    /// The size of a callback, in bytes.
+    pub size: u8,
+    /// Whether a callback takes a number; else it answers one, of whose bytes in the order of addresses the first `len` are read.
+    pub takes: bool,
+    /// Whether the first of these bytes is the highest.
+    pub big: bool,
+}
+
+/// An ioeventfd as a view shows it. Its address is `distance` bytes from 0: below it where a view shows only the end of its bytes.
+#[repr(C)]
+#[derive(Clone, Copy, Debug, Default, PartialEq, Eq)]
+pub struct vb_live_event {
+    pub distance: u64,
+    pub value: u64,
+    /// The notifier.
+    pub number: u32,
+    /// The size of the write, in bytes.
+    pub size: u8,
+    /// Whether only a write of `value` counts.
+    pub matched: bool,
+    pub is_below: bool,
+}
+
+/// One call of a listener. `what` is 0 begin, 1 a range is gone, 2 it is there, 3 it stays, 4 logging starts, 5 logging stops, 6 an
+/// ioeventfd is there, 7 it is gone, 8 commit.
+#[repr(C)]
+#[derive(Clone, Copy, Debug, Default, PartialEq, Eq)]
+pub struct vb_listener_call {
+    pub what: u32,
+    pub listener: u32,
+    pub range: vb_flat_range,
+    pub event: vb_live_event,
+    /// The logging mask before, where logging starts or stops.
+    pub from: u8,
+    /// The logging mask after it.
+    pub to: u8,
+}
+
+unsafe extern "C" {
+    /// Reads bytes of a space by a pass, 0 to 15, as many as there is room for. A pass that is out enters the current generation
+    /// before it and leaves after it. QEMU's core, `address_space_read`.
+    ///
+    /// `what` of the answer has 1 where a device answered with an error and 2 where nothing answered some byte; `value` is the number
+    /// of the generation. A greater pass is refused.
+    pub fn vb_read(handle: *mut vb_machine, pass: u32, space: u32, addr: u64, out: *mut u8, out_len: usize) -> vb_answer;
+
+    /// Writes bytes to a space by a pass, as `vb_read` reads them. QEMU's core, `address_space_write`.
+    pub fn vb_write(handle: *mut vb_machine, pass: u32, space: u32, addr: u64, bytes: *const u8, bytes_len: usize) -> vb_answer;
+
+    /// Makes an address space with this root.
+    pub fn vb_space(handle: *mut vb_machine, space: u32, root: u32) -> vb_answer;
+
+    /// Places a region in a container, `offset` bytes into it. Of two children that hold an address, the one of higher priority is
+    /// found.
+    pub fn vb_add(handle: *mut vb_machine, parent: u32, offset: u64, child: u32, priority: i32) -> vb_answer;
+
+    /// Takes a region out of its container.
+    pub fn vb_del(handle: *mut vb_machine, parent: u32, child: u32) -> vb_answer;
+
+    /// Moves a region in its container.
+    pub fn vb_move(handle: *mut vb_machine, child: u32, offset: u64) -> vb_answer;
+
+    /// Gives a region another size: any region but memory.
+    pub fn vb_resize(handle: *mut vb_machine, region: u32, size: u64) -> vb_answer;
+
+    /// Moves the window of an alias in its target.
+    pub fn vb_retarget(handle: *mut vb_machine, alias: u32, offset: u64) -> vb_answer;
+
+    /// Switches a region on or off: one that is off is left out wherever it stands.
+    pub fn vb_enable(handle: *mut vb_machine, region: u32, on: bool) -> vb_answer;
+
+    /// Switches whether what is found through the region is read-only.
+    pub fn vb_readonly(handle: *mut vb_machine, region: u32, on: bool) -> vb_answer;
+
+    /// Switches whether what is found through the region is non-volatile.
+    pub fn vb_nonvolatile(handle: *mut vb_machine, region: u32, on: bool) -> vb_answer;
+
+    /// Switches whether ranges that are found through the region end where the path to their leaf changes.
+    pub fn vb_unmergeable(handle: *mut vb_machine, region: u32, on: bool) -> vb_answer;
+
+    /// Switches the mode of a ROM device.
+    pub fn vb_romd(handle: *mut vb_machine, region: u32, on: bool) -> vb_answer;
+
+    /// Switches the logging of a region for one client: 0 display, 1 code, 2 migration. Another is refused.
+    pub fn vb_log(handle: *mut vb_machine, region: u32, client: u32, on: bool) -> vb_answer;
+
+    /// Switches global logging.
+    pub fn vb_global(handle: *mut vb_machine, on: bool) -> vb_answer;
+
+    /// Puts a translation into the table of an IOMMU region: the page at `iova` goes on at `translated` in a space. `perm` is 0
+    /// nothing, 1 reads, 2 writes, 3 both; another is refused.
+    pub fn vb_map(handle: *mut vb_machine, region: u32, iova: u64, size: u64, space: u32, translated: u64, perm: u32) -> vb_answer;
+
+    /// Takes a translation out.
+    pub fn vb_unmap(handle: *mut vb_machine, region: u32, iova: u64) -> vb_answer;
+
+    /// Gives a device an ioeventfd.
+    pub fn vb_event(handle: *mut vb_machine, region: u32, event: *const vb_ioevent) -> vb_answer;
+
+    /// Takes an ioeventfd away: the one with this offset, size, value and `matched`. Its notifier does not matter.
+    pub fn vb_unevent(handle: *mut vb_machine, region: u32, event: *const vb_ioevent) -> vb_answer;
+
+    /// Drops a region that nothing uses. A `vb_reap` gives its memory back.
+    pub fn vb_drop(handle: *mut vb_machine, region: u32) -> vb_answer;
+
+    /// What listeners were told: the call at an index, counted from the first that was ever made, where there is one. `value` of the
+    /// answer is how many there are, so that a caller that keeps its index polls: it reads on from there until it comes to `value`.
+    pub fn vb_delivery(handle: *mut vb_machine, index: usize, out: *mut vb_listener_call) -> vb_answer;
+
+    /// What a read of `len` bytes of a space reaches in the current generation, in order and nothing else, for a monitor that has the memory
+    /// and the devices itself: it makes the callbacks, reads its memory, and takes 0 where nothing is. `way` is 0 for this machine's way, in
+    /// which each range takes its own bytes, and 1 for QEMU's, in which a device takes whole pieces that the end of its range does not
+    /// cut. Memory of the host is reached as RAM is. QEMU's core, `address_space_read`.
+    ///
+    /// `out` has as many things as there is room for; `value` of the answer is how many there are, and `other` the number of the
+    /// generation. It is refused with code 9 where the access goes on past the last address (or, in QEMU's way, meets the last 7 offsets of
+    /// a device of 2^64 bytes), and with 22 for another way; then nothing is written, and neither where memory runs out.
+    pub fn vb_plan_read(handle: *mut vb_machine, way: u32, space: u32, addr: u64, len: usize, out: *mut vb_reached, out_len: usize) -> vb_answer;
+
+    /// What a write of bytes to a space reaches, as `vb_plan_read` tells it of a read: callbacks come with the numbers that they take, and
+    /// pages that are logged are to be marked. QEMU's core, `address_space_write`.
+    pub fn vb_plan_write(handle: *mut vb_machine, way: u32, space: u32, addr: u64, bytes: *const u8, bytes_len: usize, out: *mut vb_reached, out_len: usize) -> vb_answer;
+
+    /// Makes a container: a region that only groups others. `size` is in bytes, and 2^64 - 1 stands for 2^64, here and below.
+    pub fn vb_container(handle: *mut vb_machine, size: u64) -> vb_answer;
+
+    /// Makes RAM. Its size is whole pages of 4,096 bytes, at most 512 MiB.
+    pub fn vb_ram(handle: *mut vb_machine, size: u64) -> vb_answer;
+
+    /// Makes ROM: memory that a guest only reads, and that `vb_load` fills.
+    pub fn vb_rom(handle: *mut vb_machine, size: u64) -> vb_answer;
+
+    /// Makes host memory: RAM whose bytes the caller keeps.
+    pub fn vb_host(handle: *mut vb_machine, size: u64) -> vb_answer;
+
+    /// Makes an IOMMU region, whose table is empty at first.
+    pub fn vb_iommu(handle: *mut vb_machine, size: u64) -> vb_answer;
+
+    /// Makes a reservation: a range that is claimed and has no callbacks.
+    pub fn vb_reserve(handle: *mut vb_machine, size: u64) -> vb_answer;
+
+    /// Makes an alias: a window on `target`, from `offset` in it on.
+    pub fn vb_alias(handle: *mut vb_machine, size: u64, target: u32, offset: u64) -> vb_answer;
+
+    /// Makes a device. A kind of device that there is not is refused.
+    pub fn vb_io(handle: *mut vb_machine, size: u64, device: *const vb_device) -> vb_answer;
+
+    /// Makes a ROM device. A kind of device that there is not is refused.
+    pub fn vb_rom_device(handle: *mut vb_machine, size: u64, device: *const vb_device) -> vb_answer;
+
+    /// The range at an index of the current view of a space, by ascending address: `out` has it, where there is one. `value` of the
+    /// answer is the number of ranges, and `other` that of the generation.
+    pub fn vb_range(handle: *mut vb_machine, space: u32, index: usize, out: *mut vb_flat_range) -> vb_answer;
+
+    /// What an address of a space leads to in the current generation: the byte of a region, and how far it goes on alike. QEMU's
+    /// core, `memory_region_find`. `other` of the answer is the number of the generation.
+    pub fn vb_find(handle: *mut vb_machine, space: u32, addr: u64, out: *mut vb_found) -> vb_answer;
+
+    /// What an answer says to a person, in ASCII: `out` has as many bytes of it as there is room for, and `whole` is how many there are.
+    ///
+    /// It answers 0, or 21 where memory ran out: then nothing is written. Any answer is taken, one that no call gives too.
+    pub fn vb_print(answer: *const vb_answer, out: *mut u8, out_len: usize, whole: *mut usize) -> u32;
+
+    /// Makes a machine over a pool of this many words of 8 bytes, at most 2^26, for a handle that has none.
+    ///
+    /// The memory of RAM, ROM and ROM devices, their marks, and the registers of devices are in the pool.
+    pub fn vb_new(handle: *mut vb_machine, words: usize) -> vb_answer;
+
+    /// Frees the machine of a handle, if it has one. The handle has none then.
+    pub fn vb_free(handle: *mut vb_machine);
+
+    /// Opens a transaction, inside of those that are open. What is changed in it is published by the `vb_commit` that closes the
+    /// outermost one.
+    pub fn vb_begin(handle: *mut vb_machine) -> vb_answer;
+
+    /// Closes a transaction. The outermost one publishes what is pending, and `other` of the answer is the number of the generation
+    /// that is current then.
+    pub fn vb_commit(handle: *mut vb_machine) -> vb_answer;
+
+    /// A listener joins a space, and is told what the current generation shows there. `vb_delivery` reads what listeners were told.
+    pub fn vb_listen(handle: *mut vb_machine, listener: u32, space: u32, priority: i32) -> vb_answer;
+
+    /// A listener leaves its space, and is told that what the current generation shows there is gone.
+    pub fn vb_unlisten(handle: *mut vb_machine, listener: u32) -> vb_answer;
+
+    /// Loads bytes into a region that has bytes, ROM among them, from an offset in it on. No page is marked.
+    pub fn vb_load(handle: *mut vb_machine, region: u32, offset: u64, bytes: *const u8, bytes_len: usize) -> vb_answer;
+
+    /// Takes a notifier, 0 to 63: `value` of the answer is what stood in its word, and 0 stands there then. A greater number is
+    /// refused.
+    pub fn vb_notified(handle: *mut vb_machine, number: u32) -> vb_answer;
+
+    /// Releases the dropped regions that no generation in use names: their memory is free again. `value` of the answer is their
+    /// number.
+    pub fn vb_reap(handle: *mut vb_machine) -> vb_answer;
+}

@@ -1,0 +1,382 @@
+//! The memory map of a guest: QEMU's memory regions and address spaces, as proved software behind a safe interface.
+//!
+//! A [`Machine`] has regions in containers, address spaces whose roots they are, and memory and devices behind them. What is
+//! changed is published at once, or by the end of a [`Transaction`]; look-ups and accesses go by what is published. Each method
+//! is one call of the library `libvobrekan`, and what the call does is proved there.
+
+mod bus;
+mod refusal;
+
+use std::ops::{Deref, DerefMut};
+use std::ptr::null_mut;
+use vobrekan_sys as sys;
+
+pub use bus::Bus;
+pub use refusal::{Refusal, What};
+
+use refusal::accepted;
+
+/// A memory region, by its number.
+#[derive(Clone, Copy, Debug, PartialEq, Eq, PartialOrd, Ord, Hash)]
+pub struct RegionId(pub u32);
+
+/// An address space, by a number of the caller's.
+#[derive(Clone, Copy, Debug, PartialEq, Eq, PartialOrd, Ord, Hash)]
+pub struct SpaceId(pub u32);
+
+/// A listener, by a number of the caller's.
+#[derive(Clone, Copy, Debug, PartialEq, Eq, PartialOrd, Ord, Hash)]
+pub struct ListenerId(pub u32);
+
+/// A pass, 0 to 15: what one virtual CPU reads and writes with.
+#[derive(Clone, Copy, Debug, PartialEq, Eq, PartialOrd, Ord, Hash)]
+pub struct PassId(pub u32);
+
+/// The size that stands for 2^64 bytes.
+pub const WHOLE: u64 = u64::MAX;
+
+/// A device: its kind, its registers and its access sizes.
+pub use sys::vb_device as Device;
+/// A range of a view.
+pub use sys::vb_flat_range as FlatRange;
+/// What an address leads to.
+pub use sys::vb_found as Found;
+/// An ioeventfd.
+pub use sys::vb_ioevent as Ioevent;
+/// A call of a listener.
+pub use sys::vb_listener_call as ListenerCall;
+/// One thing that an access reaches.
+pub use sys::vb_reached as Reached;
+
+/// What a region is.
+#[derive(Clone, Copy, Debug, PartialEq, Eq)]
+pub enum Kind {
+    /// Only groups its children.
+    Container,
+    Ram,
+    Rom,
+    RomDevice(Device),
+    Io(Device),
+    /// A translation to another address space.
+    Iommu,
+    /// A window on another region, from this offset in it on.
+    Alias(RegionId, u64),
+    /// An address range that is claimed and has no callbacks.
+    Reserve,
+    /// RAM whose bytes the caller keeps.
+    Host,
+}
+
+/// By which rule the plan of an access is made.
+#[derive(Clone, Copy, Debug, PartialEq, Eq)]
+pub enum Way {
+    /// Each range takes its own bytes.
+    Chunks = 0,
+    /// A device takes whole pieces, which the end of its range does not cut: QEMU's rule.
+    Qemu = 1,
+}
+
+/// Who asks which pages were written.
+#[derive(Clone, Copy, Debug, PartialEq, Eq)]
+pub enum Client {
+    Display,
+    Code,
+    Migration,
+}
+
+/// Which accesses a translation lets through.
+#[derive(Clone, Copy, Debug, PartialEq, Eq)]
+pub enum Perm {
+    Nothing,
+    Read,
+    Write,
+    Both,
+}
+
+/// How an access ended, and the number of the generation in which it ran.
+#[derive(Clone, Copy, Debug, PartialEq, Eq)]
+pub struct Access {
+    /// A device answered with an error.
+    pub error: bool,
+    /// Nothing answered some byte.
+    pub decode: bool,
+    pub generation: u64,
+}
+
+/// A machine.
+#[derive(Debug)]
+pub struct Machine(sys::vb_machine);
+
+// The library proves that a handle may go to another thread. A call takes `&mut self`, so one works on it at a time.
+unsafe impl Send for Machine {}
+
+impl Drop for Machine {
+    fn drop(&mut self) {
+        unsafe { sys::vb_free(&mut self.0) }
+    }
+}
+
+/// The number of the generation that was published, if one was.
+fn published(answer: sys::vb_answer) -> Option<u64> {
+    (answer.other != 0).then_some(answer.other)
+}
+
+impl Machine {
+    /// A machine over a pool of this many words of 8 bytes, at most 2^26: the memory of RAM, ROM and ROM devices, their marks,
+    /// and the registers of devices are in the pool.
+    pub fn new(words: usize) -> Result<Machine, Refusal> {
+        let mut machine = Machine(sys::vb_machine { at: null_mut() });
+        accepted(unsafe { sys::vb_new(&mut machine.0, words) })?;
+        Ok(machine)
+    }
+
+    /// Makes a region. It is in no container.
+    pub fn region(&mut self, kind: Kind, size: u64) -> Result<RegionId, Refusal> {
+        let at = &mut self.0;
+        let answer = accepted(unsafe {
+            match kind {
+                Kind::Container => sys::vb_container(at, size),
+                Kind::Ram => sys::vb_ram(at, size),
+                Kind::Rom => sys::vb_rom(at, size),
+                Kind::RomDevice(device) => sys::vb_rom_device(at, size, &device),
+                Kind::Io(device) => sys::vb_io(at, size, &device),
+                Kind::Iommu => sys::vb_iommu(at, size),
+                Kind::Alias(target, offset) => sys::vb_alias(at, size, target.0, offset),
+                Kind::Reserve => sys::vb_reserve(at, size),
+                Kind::Host => sys::vb_host(at, size),
+            }
+        })?;
+        Ok(RegionId(answer.value as u32))
+    }
+
+    /// Makes an address space with this root.
+    pub fn space(&mut self, space: SpaceId, root: RegionId) -> Result<Option<u64>, Refusal> {
+        Ok(published(accepted(unsafe { sys::vb_space(&mut self.0, space.0, root.0) })?))
+    }
+
+    /// Places a region in a container.
+    pub fn add(&mut self, parent: RegionId, offset: u64, child: RegionId, priority: i32) -> Result<Option<u64>, Refusal> {
+        Ok(published(accepted(unsafe { sys::vb_add(&mut self.0, parent.0, offset, child.0, priority) })?))
+    }
+
+    /// Takes a region out of its container.
+    pub fn del(&mut self, parent: RegionId, child: RegionId) -> Result<Option<u64>, Refusal> {
+        Ok(published(accepted(unsafe { sys::vb_del(&mut self.0, parent.0, child.0) })?))
+    }
+
+    /// Moves a region in its container.
+    pub fn move_to(&mut self, child: RegionId, offset: u64) -> Result<Option<u64>, Refusal> {
+        Ok(published(accepted(unsafe { sys::vb_move(&mut self.0, child.0, offset) })?))
+    }
+
+    /// Gives a region another size: any region but memory.
+    pub fn resize(&mut self, region: RegionId, size: u64) -> Result<Option<u64>, Refusal> {
+        Ok(published(accepted(unsafe { sys::vb_resize(&mut self.0, region.0, size) })?))
+    }
+
+    /// Moves the window of an alias in its target.
+    pub fn retarget(&mut self, alias: RegionId, offset: u64) -> Result<Option<u64>, Refusal> {
+        Ok(published(accepted(unsafe { sys::vb_retarget(&mut self.0, alias.0, offset) })?))
+    }
+
+    /// Switches a region on or off: one that is off is left out wherever it stands.
+    pub fn enable(&mut self, region: RegionId, on: bool) -> Result<Option<u64>, Refusal> {
+        Ok(published(accepted(unsafe { sys::vb_enable(&mut self.0, region.0, on) })?))
+    }
+
+    /// Switches whether what is found through the region is read-only.
+    pub fn readonly(&mut self, region: RegionId, on: bool) -> Result<Option<u64>, Refusal> {
+        Ok(published(accepted(unsafe { sys::vb_readonly(&mut self.0, region.0, on) })?))
+    }
+
+    /// Switches whether what is found through the region is non-volatile.
+    pub fn nonvolatile(&mut self, region: RegionId, on: bool) -> Result<Option<u64>, Refusal> {
+        Ok(published(accepted(unsafe { sys::vb_nonvolatile(&mut self.0, region.0, on) })?))
+    }
+
+    /// Switches whether ranges that are found through the region end where the path to their leaf changes.
+    pub fn unmergeable(&mut self, region: RegionId, on: bool) -> Result<Option<u64>, Refusal> {
+        Ok(published(accepted(unsafe { sys::vb_unmergeable(&mut self.0, region.0, on) })?))
+    }
+
+    /// Switches the mode of a ROM device.
+    pub fn romd(&mut self, region: RegionId, on: bool) -> Result<Option<u64>, Refusal> {
+        Ok(published(accepted(unsafe { sys::vb_romd(&mut self.0, region.0, on) })?))
+    }
+
+    /// Switches the logging of a region for one client.
+    pub fn log(&mut self, region: RegionId, client: Client, on: bool) -> Result<Option<u64>, Refusal> {
+        let client = match client {
+            Client::Display => sys::VB_CLIENT_DISPLAY,
+            Client::Code => sys::VB_CLIENT_CODE,
+            Client::Migration => sys::VB_CLIENT_MIGRATION,
+        };
+        Ok(published(accepted(unsafe { sys::vb_log(&mut self.0, region.0, client, on) })?))
+    }
+
+    /// Switches global logging.
+    pub fn global(&mut self, on: bool) -> Result<Option<u64>, Refusal> {
+        Ok(published(accepted(unsafe { sys::vb_global(&mut self.0, on) })?))
+    }
+
+    /// Puts a translation into the table of an IOMMU region: the page at `iova` goes on at an address of a space.
+    pub fn map(&mut self, region: RegionId, iova: u64, size: u64, to: (SpaceId, u64), perm: Perm) -> Result<Option<u64>, Refusal> {
+        let perm = match perm {
+            Perm::Nothing => sys::VB_PERM_NOTHING,
+            Perm::Read => sys::VB_PERM_READ,
+            Perm::Write => sys::VB_PERM_WRITE,
+            Perm::Both => sys::VB_PERM_BOTH,
+        };
+        Ok(published(accepted(unsafe { sys::vb_map(&mut self.0, region.0, iova, size, to.0.0, to.1, perm) })?))
+    }
+
+    /// Takes a translation out.
+    pub fn unmap(&mut self, region: RegionId, iova: u64) -> Result<Option<u64>, Refusal> {
+        Ok(published(accepted(unsafe { sys::vb_unmap(&mut self.0, region.0, iova) })?))
+    }
+
+    /// Gives a device an ioeventfd.
+    pub fn event(&mut self, region: RegionId, event: &Ioevent) -> Result<Option<u64>, Refusal> {
+        Ok(published(accepted(unsafe { sys::vb_event(&mut self.0, region.0, event) })?))
+    }
+
+    /// Takes an ioeventfd away.
+    pub fn unevent(&mut self, region: RegionId, event: &Ioevent) -> Result<Option<u64>, Refusal> {
+        Ok(published(accepted(unsafe { sys::vb_unevent(&mut self.0, region.0, event) })?))
+    }
+
+    /// Drops a region that nothing uses.
+    pub fn drop_region(&mut self, region: RegionId) -> Result<(), Refusal> {
+        accepted(unsafe { sys::vb_drop(&mut self.0, region.0) })?;
+        Ok(())
+    }
+
+    /// Releases the dropped regions that no generation in use names, and answers how many they were.
+    pub fn reap(&mut self) -> Result<u64, Refusal> {
+        Ok(accepted(unsafe { sys::vb_reap(&mut self.0) })?.value)
+    }
+
+    /// Opens a transaction: what is changed through it is published when it is committed, or dropped.
+    pub fn transaction(&mut self) -> Result<Transaction<'_>, Refusal> {
+        accepted(unsafe { sys::vb_begin(&mut self.0) })?;
+        Ok(Transaction { machine: self, is_open: true })
+    }
+
+    /// A listener joins a space.
+    pub fn listen(&mut self, listener: ListenerId, space: SpaceId, priority: i32) -> Result<(), Refusal> {
+        accepted(unsafe { sys::vb_listen(&mut self.0, listener.0, space.0, priority) })?;
+        Ok(())
+    }
+
+    /// A listener leaves its space.
+    pub fn unlisten(&mut self, listener: ListenerId) -> Result<(), Refusal> {
+        accepted(unsafe { sys::vb_unlisten(&mut self.0, listener.0) })?;
+        Ok(())
+    }
+
+    /// What an address of a space leads to, and how far it goes on alike.
+    pub fn find(&mut self, space: SpaceId, addr: u64) -> Result<Found, Refusal> {
+        let mut found = Found::default();
+        accepted(unsafe { sys::vb_find(&mut self.0, space.0, addr, &mut found) })?;
+        Ok(found)
+    }
+
+    /// The ranges of the view of a space, by ascending address.
+    pub fn view(&mut self, space: SpaceId) -> Result<Vec<FlatRange>, Refusal> {
+        let mut ranges = Vec::new();
+        loop {
+            let mut range = FlatRange::default();
+            let count = accepted(unsafe { sys::vb_range(&mut self.0, space.0, ranges.len(), &mut range) })?.value;
+            if ranges.len() as u64 >= count {
+                return Ok(ranges);
+            }
+            ranges.push(range);
+        }
+    }
+
+    /// The calls that listeners got from the index `from` on, counted from the first that was ever made: a caller that goes on from
+    /// where it came to misses none.
+    pub fn told(&mut self, from: usize) -> Result<Vec<ListenerCall>, Refusal> {
+        let mut calls = Vec::new();
+        loop {
+            let mut call = ListenerCall::default();
+            let index = from.saturating_add(calls.len());
+            let count = accepted(unsafe { sys::vb_delivery(&mut self.0, index, &mut call) })?.value;
+            if index as u64 >= count {
+                return Ok(calls);
+            }
+            calls.push(call);
+        }
+    }
+
+    /// Reads bytes of a space, as many as there is room for.
+    pub fn read(&mut self, pass: PassId, space: SpaceId, addr: u64, out: &mut [u8]) -> Result<Access, Refusal> {
+        let answer = unsafe { sys::vb_read(&mut self.0, pass.0, space.0, addr, out.as_mut_ptr(), out.len()) };
+        Ok(access(accepted(answer)?))
+    }
+
+    /// Writes bytes to a space.
+    pub fn write(&mut self, pass: PassId, space: SpaceId, addr: u64, bytes: &[u8]) -> Result<Access, Refusal> {
+        let answer = unsafe { sys::vb_write(&mut self.0, pass.0, space.0, addr, bytes.as_ptr(), bytes.len()) };
+        Ok(access(accepted(answer)?))
+    }
+
+    /// Loads bytes into a region that has bytes, ROM among them.
+    pub fn load(&mut self, region: RegionId, offset: u64, bytes: &[u8]) -> Result<(), Refusal> {
+        accepted(unsafe { sys::vb_load(&mut self.0, region.0, offset, bytes.as_ptr(), bytes.len()) })?;
+        Ok(())
+    }
+
+    /// Takes a notifier, 0 to 63: whether a write has set it since it was last taken.
+    pub fn notified(&mut self, number: u32) -> Result<bool, Refusal> {
+        Ok(accepted(unsafe { sys::vb_notified(&mut self.0, number) })?.value != 0)
+    }
+}
+
+fn access(answer: sys::vb_answer) -> Access {
+    Access {
+        error: answer.what & sys::VB_ACCESS_ERROR != 0,
+        decode: answer.what & sys::VB_ACCESS_DECODE != 0,
+        generation: answer.value,
+    }
+}
+
+/// A transaction that is open. It is committed where it is dropped; then a refusal to publish is not told, and the transaction
+/// stays open in the machine.
+#[derive(Debug)]
+pub struct Transaction<'a> {
+    machine: &'a mut Machine,
+    is_open: bool,
+}
+
+impl Transaction<'_> {
+    /// Closes the transaction, and answers the number of the generation that the outermost one publishes. Where it is refused,
+    /// the transaction is tried once more where it is dropped.
+    pub fn commit(mut self) -> Result<Option<u64>, Refusal> {
+        let answer = accepted(unsafe { sys::vb_commit(&mut self.machine.0) })?;
+        self.is_open = false;
+        Ok(published(answer))
+    }
+}
+
+impl Drop for Transaction<'_> {
+    fn drop(&mut self) {
+        if self.is_open {
+            unsafe { sys::vb_commit(&mut self.machine.0) };
+        }
+    }
+}
+
+impl Deref for Transaction<'_> {
+    type Target = Machine;
+
+    fn deref(&self) -> &Machine {
+        self.machine
+    }
+}
+
+impl DerefMut for Transaction<'_> {
+    fn deref_mut(&mut self) -> &mut Machine {
+        self.machine
+    }
+}

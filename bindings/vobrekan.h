@@ -1,0 +1,387 @@
+/* The machine of a guest's memory, as a library. Made by bindings/declare from crates/libvobrekan/src.
+ *
+ * No pointer may be null, also where a length is 0. One call at a time works on a handle; a handle may pass from thread to
+ * thread. A handle begins as VB_MACHINE_INIT. */
+#ifndef VOBREKAN_H
+#define VOBREKAN_H
+
+#include <stdbool.h>
+#include <stddef.h>
+#include <stdint.h>
+
+#ifdef __cplusplus
+extern "C" {
+#endif
+
+#define VB_DONE 0 /* It is done. */
+#define VB_UNKNOWN 1 /* Something that the call names is not there: `what` is its sort, `value` its number. */
+#define VB_NAME_TAKEN 2 /* The space or the listener is there already: `what` is its sort, `value` its number. */
+#define VB_HAS_CONTAINER 3 /* The region is in the container `value`. */
+#define VB_NOT_CHILD 4 /* The region `value` is in another container than the one named, or in none. */
+#define VB_ALIAS_PARENT 5 /* `value` is an alias, which takes no children. */
+#define VB_LOOP 6 /* `value` would be its own container, or is reached from the region to be placed in it. */
+#define VB_TOO_DEEP 7 /* Some region would have the depth `value`, above 32. */
+#define VB_TOO_WIDE 8 /* Some region would have the weight `value`, above 65,536. */
+#define VB_BAD_SIZE 9 /* The size, or the range of bytes, is not valid. */
+#define VB_BAD_OPS 10 /* No device has such access sizes, registers or ioeventfd. */
+#define VB_WRONG_KIND 11 /* The region `value` is of another kind than the call is for. */
+#define VB_NO_TRANSACTION 12 /* No transaction is open. */
+#define VB_TOO_NESTED 13 /* 64 transactions are open. */
+#define VB_IN_USE 14 /* The region is used by `value`: `what` is 0 for a region, 1 for a space. */
+#define VB_PAGE_OVERLAP 15 /* The translation meets the one at the offset `value`. */
+#define VB_BAD_PAGE 16 /* The page of a translation is no power of two, or not aligned to its size. */
+#define VB_LIMIT_REACHED 17 /* The count `what` stands at its limit `value`. */
+#define VB_NO_BACKING 18 /* No hole of the pool has `value` words. */
+#define VB_HELD 19 /* The pass `value` may still use the generation `other`. */
+#define VB_EVENT_TAKEN 20 /* The region has this ioeventfd. */
+#define VB_MEMORY 21 /* Out of memory. */
+#define VB_ARGUMENT 22 /* An argument, `value`, stands for nothing. */
+#define VB_NO_MACHINE 23 /* The handle has no machine. */
+#define VB_HAS_MACHINE 24 /* The handle has a machine. */
+
+#define VB_SORT_REGION 0
+#define VB_SORT_SPACE 1
+#define VB_SORT_LISTENER 2
+#define VB_SORT_WATCHER 3
+#define VB_SORT_ENTRY 4
+#define VB_SORT_EVENT 5
+#define VB_LIMIT_REGIONS 0
+#define VB_LIMIT_MADE 1
+#define VB_LIMIT_SPACES 2
+#define VB_LIMIT_LISTENERS 3
+#define VB_LIMIT_ENTRIES 4
+#define VB_LIMIT_EVENTS 5
+#define VB_LIMIT_CALLS 6
+#define VB_LIMIT_WATCHERS 7
+#define VB_KIND_CONTAINER 0
+#define VB_KIND_RAM 1
+#define VB_KIND_ROM 2
+#define VB_KIND_ROM_DEVICE 3
+#define VB_KIND_IO 4
+#define VB_KIND_IOMMU 5
+#define VB_KIND_ALIAS 6
+#define VB_KIND_RESERVE 7
+#define VB_KIND_HOST 8
+#define VB_DEVICE_LATCH 0
+#define VB_DEVICE_COUNT 1
+#define VB_DEVICE_BELL 2
+#define VB_DEVICE_FAULT 3
+#define VB_CLIENT_DISPLAY 0
+#define VB_CLIENT_CODE 1
+#define VB_CLIENT_MIGRATION 2
+#define VB_PERM_NOTHING 0
+#define VB_PERM_READ 1
+#define VB_PERM_WRITE 2
+#define VB_PERM_BOTH 3
+#define VB_ACCESS_ERROR 1
+#define VB_ACCESS_DECODE 2
+#define VB_WAY_CHUNKS 0
+#define VB_WAY_QEMU 1
+#define VB_REACHED_MEMORY 0
+#define VB_REACHED_CALLBACK 1
+#define VB_REACHED_NOTIFIER 2
+#define VB_REACHED_MARK 3
+#define VB_REACHED_NOTHING 4
+#define VB_TOLD_BEGIN 0
+#define VB_TOLD_DELETE 1
+#define VB_TOLD_ADD 2
+#define VB_TOLD_KEEP 3
+#define VB_TOLD_LOG_START 4
+#define VB_TOLD_LOG_STOP 5
+#define VB_TOLD_EVENT_ADD 6
+#define VB_TOLD_EVENT_DEL 7
+#define VB_TOLD_COMMIT 8
+
+/* What C keeps of a machine: a pointer, which is null where there is none. */
+typedef struct vb_machine {
+    void *at;
+} vb_machine;
+
+/* What a call answers: a code, and what it names.
+ *
+ * The code is 0 where it is done. 1 to 20 are the refusals of the machine, numbered as the lines of a script number them, and
+ * above these stand those of the library itself. A refused call changes nothing. */
+typedef struct vb_answer {
+    uint32_t code;
+    /* Which sort of thing `value` is: of a refusal that may name several, or 1 where a region was made. */
+    uint32_t what;
+    /* The region that was made, what a refusal names, a limit, or a count. */
+    uint64_t value;
+    /* The number of the generation that a call published, 0 where none was; of a pass that holds a publish up, its generation. */
+    uint64_t other;
+} vb_answer;
+
+/* A device: what its registers do, how many words of 8 bytes they are, and its access sizes in bytes.
+ *
+ * The kinds are 0 latch, 1 counter, 2 bell and 3 fault. */
+typedef struct vb_device {
+    uint32_t kind;
+    uint32_t regs;
+    uint8_t valid_min;
+    uint8_t valid_max;
+    bool valid_unaligned;
+    uint8_t impl_min;
+    uint8_t impl_max;
+    bool impl_unaligned;
+    bool big;
+} vb_device;
+
+/* An ioeventfd: a write of `size` bytes at `offset` in its device sets the notifier `number`, where it is any write or
+ * writes `value`. */
+typedef struct vb_ioevent {
+    uint64_t offset;
+    uint64_t value;
+    uint32_t number;
+    uint8_t size;
+    /* Whether only a write of `value` counts. */
+    bool matched;
+} vb_ioevent;
+
+/* A range of a view: the addresses `start` to `last` inclusive are answered by a region, from `offset` in it on. */
+typedef struct vb_flat_range {
+    uint64_t start;
+    uint64_t last;
+    uint64_t offset;
+    uint32_t region;
+    /* The logging mask: bits 0 display, 1 code, 2 migration. */
+    uint8_t log;
+    bool readonly;
+    bool nonvolatile;
+    /* The mode of a ROM device. */
+    bool romd;
+    bool unmergeable;
+} vb_flat_range;
+
+/* What an address leads to: the byte of a region, if there is one, and the last address after it that is answered alike. */
+typedef struct vb_found {
+    /* The last address of the range that holds the address, or of the hole that does. */
+    uint64_t last;
+    /* The offset in the region, in bytes. */
+    uint64_t offset;
+    uint32_t region;
+    /* 0 container, 1 RAM, 2 ROM, 3 ROM device, 4 device, 5 IOMMU region, 6 alias, 7 reservation, 8 host memory. */
+    uint32_t kind;
+    /* The logging mask: bits 0 display, 1 code, 2 migration. */
+    uint8_t log;
+    bool readonly;
+    bool nonvolatile;
+    /* The mode of a ROM device. */
+    bool romd;
+    bool unmergeable;
+    /* Whether some region answers. Where none does, all but `last` is 0. */
+    bool is_there;
+} vb_found;
+
+/* One thing that an access reaches. `what` is 0 memory, 1 a callback of a device, 2 a notifier, 3 a mark of a page, 4 nothing. It is
+ * about `len` bytes of the access, those from byte `at` of it on; a mark is about none. */
+typedef struct vb_reached {
+    /* The offset in the region, or the page that is marked, of 4,096 bytes, from 0 on. */
+    uint64_t offset;
+    /* The number that a callback takes. */
+    uint64_t value;
+    uint64_t at;
+    uint64_t len;
+    uint32_t what;
+    /* The region whose memory, callback or page it is. */
+    uint32_t region;
+    /* The number of the notifier, or of the client for whom a page is marked: 0 display, 1 code, 2 migration. */
+    uint32_t number;
+    /* The size of a callback, in bytes. */
+    uint8_t size;
+    /* Whether a callback takes a number; else it answers one, of whose bytes in the order of addresses the first `len` are read. */
+    bool takes;
+    /* Whether the first of these bytes is the highest. */
+    bool big;
+} vb_reached;
+
+/* An ioeventfd as a view shows it. Its address is `distance` bytes from 0: below it where a view shows only the end of its bytes. */
+typedef struct vb_live_event {
+    uint64_t distance;
+    uint64_t value;
+    /* The notifier. */
+    uint32_t number;
+    /* The size of the write, in bytes. */
+    uint8_t size;
+    /* Whether only a write of `value` counts. */
+    bool matched;
+    bool is_below;
+} vb_live_event;
+
+/* One call of a listener. `what` is 0 begin, 1 a range is gone, 2 it is there, 3 it stays, 4 logging starts, 5 logging stops, 6 an
+ * ioeventfd is there, 7 it is gone, 8 commit. */
+typedef struct vb_listener_call {
+    uint32_t what;
+    uint32_t listener;
+    vb_flat_range range;
+    vb_live_event event;
+    /* The logging mask before, where logging starts or stops. */
+    uint8_t from;
+    /* The logging mask after it. */
+    uint8_t to;
+} vb_listener_call;
+
+/* A handle that has no machine. */
+#define VB_MACHINE_INIT { 0 }
+
+/* Reads bytes of a space by a pass, 0 to 15, as many as there is room for. A pass that is out enters the current generation
+ * before it and leaves after it. QEMU's core, `address_space_read`.
+ *
+ * `what` of the answer has 1 where a device answered with an error and 2 where nothing answered some byte; `value` is the number
+ * of the generation. A greater pass is refused. */
+vb_answer vb_read(vb_machine *handle, uint32_t pass, uint32_t space, uint64_t addr, uint8_t *out, size_t out_len);
+
+/* Writes bytes to a space by a pass, as `vb_read` reads them. QEMU's core, `address_space_write`. */
+vb_answer vb_write(vb_machine *handle, uint32_t pass, uint32_t space, uint64_t addr, const uint8_t *bytes, size_t bytes_len);
+
+/* Makes an address space with this root. */
+vb_answer vb_space(vb_machine *handle, uint32_t space, uint32_t root);
+
+/* Places a region in a container, `offset` bytes into it. Of two children that hold an address, the one of higher priority is
+ * found. */
+vb_answer vb_add(vb_machine *handle, uint32_t parent, uint64_t offset, uint32_t child, int32_t priority);
+
+/* Takes a region out of its container. */
+vb_answer vb_del(vb_machine *handle, uint32_t parent, uint32_t child);
+
+/* Moves a region in its container. */
+vb_answer vb_move(vb_machine *handle, uint32_t child, uint64_t offset);
+
+/* Gives a region another size: any region but memory. */
+vb_answer vb_resize(vb_machine *handle, uint32_t region, uint64_t size);
+
+/* Moves the window of an alias in its target. */
+vb_answer vb_retarget(vb_machine *handle, uint32_t alias, uint64_t offset);
+
+/* Switches a region on or off: one that is off is left out wherever it stands. */
+vb_answer vb_enable(vb_machine *handle, uint32_t region, bool on);
+
+/* Switches whether what is found through the region is read-only. */
+vb_answer vb_readonly(vb_machine *handle, uint32_t region, bool on);
+
+/* Switches whether what is found through the region is non-volatile. */
+vb_answer vb_nonvolatile(vb_machine *handle, uint32_t region, bool on);
+
+/* Switches whether ranges that are found through the region end where the path to their leaf changes. */
+vb_answer vb_unmergeable(vb_machine *handle, uint32_t region, bool on);
+
+/* Switches the mode of a ROM device. */
+vb_answer vb_romd(vb_machine *handle, uint32_t region, bool on);
+
+/* Switches the logging of a region for one client: 0 display, 1 code, 2 migration. Another is refused. */
+vb_answer vb_log(vb_machine *handle, uint32_t region, uint32_t client, bool on);
+
+/* Switches global logging. */
+vb_answer vb_global(vb_machine *handle, bool on);
+
+/* Puts a translation into the table of an IOMMU region: the page at `iova` goes on at `translated` in a space. `perm` is 0
+ * nothing, 1 reads, 2 writes, 3 both; another is refused. */
+vb_answer vb_map(vb_machine *handle, uint32_t region, uint64_t iova, uint64_t size, uint32_t space, uint64_t translated, uint32_t perm);
+
+/* Takes a translation out. */
+vb_answer vb_unmap(vb_machine *handle, uint32_t region, uint64_t iova);
+
+/* Gives a device an ioeventfd. */
+vb_answer vb_event(vb_machine *handle, uint32_t region, const vb_ioevent *event);
+
+/* Takes an ioeventfd away: the one with this offset, size, value and `matched`. Its notifier does not matter. */
+vb_answer vb_unevent(vb_machine *handle, uint32_t region, const vb_ioevent *event);
+
+/* Drops a region that nothing uses. A `vb_reap` gives its memory back. */
+vb_answer vb_drop(vb_machine *handle, uint32_t region);
+
+/* What listeners were told: the call at an index, counted from the first that was ever made, where there is one. `value` of the
+ * answer is how many there are, so that a caller that keeps its index polls: it reads on from there until it comes to `value`. */
+vb_answer vb_delivery(vb_machine *handle, size_t index, vb_listener_call *out);
+
+/* What a read of `len` bytes of a space reaches in the current generation, in order and nothing else, for a monitor that has the memory
+ * and the devices itself: it makes the callbacks, reads its memory, and takes 0 where nothing is. `way` is 0 for this machine's way, in
+ * which each range takes its own bytes, and 1 for QEMU's, in which a device takes whole pieces that the end of its range does not
+ * cut. Memory of the host is reached as RAM is. QEMU's core, `address_space_read`.
+ *
+ * `out` has as many things as there is room for; `value` of the answer is how many there are, and `other` the number of the
+ * generation. It is refused with code 9 where the access goes on past the last address (or, in QEMU's way, meets the last 7 offsets of
+ * a device of 2^64 bytes), and with 22 for another way; then nothing is written, and neither where memory runs out. */
+vb_answer vb_plan_read(vb_machine *handle, uint32_t way, uint32_t space, uint64_t addr, size_t len, vb_reached *out, size_t out_len);
+
+/* What a write of bytes to a space reaches, as `vb_plan_read` tells it of a read: callbacks come with the numbers that they take, and
+ * pages that are logged are to be marked. QEMU's core, `address_space_write`. */
+vb_answer vb_plan_write(vb_machine *handle, uint32_t way, uint32_t space, uint64_t addr, const uint8_t *bytes, size_t bytes_len, vb_reached *out, size_t out_len);
+
+/* Makes a container: a region that only groups others. `size` is in bytes, and 2^64 - 1 stands for 2^64, here and below. */
+vb_answer vb_container(vb_machine *handle, uint64_t size);
+
+/* Makes RAM. Its size is whole pages of 4,096 bytes, at most 512 MiB. */
+vb_answer vb_ram(vb_machine *handle, uint64_t size);
+
+/* Makes ROM: memory that a guest only reads, and that `vb_load` fills. */
+vb_answer vb_rom(vb_machine *handle, uint64_t size);
+
+/* Makes host memory: RAM whose bytes the caller keeps. */
+vb_answer vb_host(vb_machine *handle, uint64_t size);
+
+/* Makes an IOMMU region, whose table is empty at first. */
+vb_answer vb_iommu(vb_machine *handle, uint64_t size);
+
+/* Makes a reservation: a range that is claimed and has no callbacks. */
+vb_answer vb_reserve(vb_machine *handle, uint64_t size);
+
+/* Makes an alias: a window on `target`, from `offset` in it on. */
+vb_answer vb_alias(vb_machine *handle, uint64_t size, uint32_t target, uint64_t offset);
+
+/* Makes a device. A kind of device that there is not is refused. */
+vb_answer vb_io(vb_machine *handle, uint64_t size, const vb_device *device);
+
+/* Makes a ROM device. A kind of device that there is not is refused. */
+vb_answer vb_rom_device(vb_machine *handle, uint64_t size, const vb_device *device);
+
+/* The range at an index of the current view of a space, by ascending address: `out` has it, where there is one. `value` of the
+ * answer is the number of ranges, and `other` that of the generation. */
+vb_answer vb_range(vb_machine *handle, uint32_t space, size_t index, vb_flat_range *out);
+
+/* What an address of a space leads to in the current generation: the byte of a region, and how far it goes on alike. QEMU's
+ * core, `memory_region_find`. `other` of the answer is the number of the generation. */
+vb_answer vb_find(vb_machine *handle, uint32_t space, uint64_t addr, vb_found *out);
+
+/* What an answer says to a person, in ASCII: `out` has as many bytes of it as there is room for, and `whole` is how many there are.
+ *
+ * It answers 0, or 21 where memory ran out: then nothing is written. Any answer is taken, one that no call gives too. */
+uint32_t vb_print(const vb_answer *answer, uint8_t *out, size_t out_len, size_t *whole);
+
+/* Makes a machine over a pool of this many words of 8 bytes, at most 2^26, for a handle that has none.
+ *
+ * The memory of RAM, ROM and ROM devices, their marks, and the registers of devices are in the pool. */
+vb_answer vb_new(vb_machine *handle, size_t words);
+
+/* Frees the machine of a handle, if it has one. The handle has none then. */
+void vb_free(vb_machine *handle);
+
+/* Opens a transaction, inside of those that are open. What is changed in it is published by the `vb_commit` that closes the
+ * outermost one. */
+vb_answer vb_begin(vb_machine *handle);
+
+/* Closes a transaction. The outermost one publishes what is pending, and `other` of the answer is the number of the generation
+ * that is current then. */
+vb_answer vb_commit(vb_machine *handle);
+
+/* A listener joins a space, and is told what the current generation shows there. `vb_delivery` reads what listeners were told. */
+vb_answer vb_listen(vb_machine *handle, uint32_t listener, uint32_t space, int32_t priority);
+
+/* A listener leaves its space, and is told that what the current generation shows there is gone. */
+vb_answer vb_unlisten(vb_machine *handle, uint32_t listener);
+
+/* Loads bytes into a region that has bytes, ROM among them, from an offset in it on. No page is marked. */
+vb_answer vb_load(vb_machine *handle, uint32_t region, uint64_t offset, const uint8_t *bytes, size_t bytes_len);
+
+/* Takes a notifier, 0 to 63: `value` of the answer is what stood in its word, and 0 stands there then. A greater number is
+ * refused. */
+vb_answer vb_notified(vb_machine *handle, uint32_t number);
+
+/* Releases the dropped regions that no generation in use names: their memory is free again. `value` of the answer is their
+ * number. */
+vb_answer vb_reap(vb_machine *handle);
+
+#ifdef __cplusplus
+}
+#endif
+
+#endif

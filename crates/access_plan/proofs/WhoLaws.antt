@@ -1,0 +1,107 @@
+-- Laws of who answers at a leaf.
+use Rattle.std.proofs.Common.{◌≡◌, ℕ, ◌+◌, ◌^◌, ◌≤◌, ◌&&◌, not, ◌⊎◌, inl, inr, Bool, true, false, Some, None, if◌then◌else◌, refl, sym, ap, subst, ◌∙◌, arith}
+use Rattle.std.specs.Prelude.{IfSome, [], option_map, unwrap_or}
+use Rattle.mem_base.specs.declared.map.forests.Node.{Node}
+use Rattle.mem_base.specs.declared.map.forests.Forest.{Forest}
+use Rattle.mem_base.specs.declared.map.spots.Spot.{Spot}
+use Rattle.mem_base.specs.declared.map.kinds.Kind.{Kind}
+use Rattle.mem_base.specs.declared.map.kinds.Kind.TheVariants.{Ram, Rom, RomDevice, Io, Host}
+use Rattle.mem_base.specs.declared.map.kinds.Device.{Device}
+use Rattle.mem_base.specs.declared.access.accesses.Target.TheVariants.{Leaf}
+use Rattle.mem_base.specs.map.Region.{node_of}
+use Rattle.mem_base.specs.map.Kinds.{device_of}
+use Rattle.mem_base.specs.map.Devices.{is_good_device}
+use Rattle.mem_base.specs.map.TableRefusals.{bad_device}
+use Rattle.mem_base.specs.map.Forest.{IsMade, IsRegion, IsClosedForest}
+use Rattle.mem_base.specs.views.LiveEvents.{events_of}
+use Rattle.mem_base.proofs.ForestLaws.{every_node_of}
+use Rattle.map_laws.proofs.RefusalLaws.{refuse_if-none}
+use Rattle.map_laws.proofs.SoundCallLaws.{IsClosedForest-made}
+use Rattle.access_cut.specs.Conditions.{IsGood}
+use Rattle.access_run.specs.Leaves.{IsLeafRun}
+use Rattle.access_run.proofs.GoodLaws.{good_ops}
+use Rattle.mem_base.specs.access.Plans as plans
+use Rattle.access_plan.specs.HostPlans.{is_host_kind, is_host, answerer_with_host}
+use Rattle.access_plan.specs.declared.answerers.Answerer.{Answerer}
+use Rattle.access_plan.specs.declared.answerers.Answerer.TheVariants as who
+use Rattle.access_plan.specs.Answering.{memory_unless, rom_device, meant, IsSoundDevice, IsSound, IsAnswerer}
+
+-- a device in a forest that calls made
+sound_device : (f : Forest) → IsMade f → (spot : Spot) (n : Node) → node_of f.nodes spot.leaf ≡ Some n → (device : Device) → device_of n.kind ≡ Some device
+    → IsSoundDevice f spot device.ops
+sound_device f made spot n is device e = record { good = good_ops device (go (is_good_device device) refl (refuse_if-none _ _ none)); fits = fits }
+  where
+    closed : IsClosedForest f
+    closed = subst IsClosedForest made.made (IsClosedForest-made made.calls made.fitting)
+
+    region : IsRegion f.nodes n
+    region = (every_node_of (IsRegion f.nodes) f.nodes spot.leaf n is closed.regions).0
+
+    none : bad_device (Some device) ≡ None
+    none = sym (ap bad_device e) ∙ region.device
+
+    go : (b : Bool) → is_good_device device ≡ b → not b ≡ false → IsGood device
+    go true e h = e
+    go false e h = cc
+
+    fits : (bytes : ℕ) → IsLeafRun f spot bytes → spot.offset + bytes ≤ 2 ^ 64
+    fits bytes run =
+        let within : spot.offset + bytes ≤ n.size = subst (λ o. IfSome o (λ n. spot.offset + bytes ≤ n.size)) is run.within in
+        let size : n.size ≤ 2 ^ 64 = region.size in omega (arith, within, size)
+
+module _ (f : Forest) (spot : Spot) (write : Bool) (n : Node) (is : node_of f.nodes spot.leaf ≡ Some n) where
+  abbrev by_host : Bool → plans.Answerer
+  by_host b = if b then plans.by_memory_unless (write && spot.attrs.readonly) spot else plans.answerer f write (Leaf spot)
+
+  host_so : (k : Kind) (b : Bool) → n.kind ≡ k → is_host_kind k ≡ b → answerer_with_host f write (Leaf spot) ≡ by_host b
+  host_so k b e h = ap by_host (ap is_host is ∙ ap is_host_kind e ∙ h)
+
+  found : (k : Kind) → n.kind ≡ k → is_host_kind k ≡ false → answerer_with_host f write (Leaf spot) ≡ plans.answerer_at k n spot write
+  found k e h = host_so k false e h ∙ ap (λ o. plans.answerer_in o spot write) is ∙ ap (λ k. plans.answerer_at k n spot write) e
+
+  memory_meant : (b : Bool) → plans.by_memory_unless b spot ≡ meant f spot (memory_unless b)
+  memory_meant true = refl
+  memory_meant false = refl
+
+  sound_memory : (b : Bool) → IsSound f spot (memory_unless b)
+  sound_memory true = tt
+  sound_memory false = tt
+
+  answers_as_memory : (w : Answerer) → w ≡ memory_unless (write && spot.attrs.readonly)
+      → answerer_with_host f write (Leaf spot) ≡ plans.by_memory_unless (write && spot.attrs.readonly) spot → IsAnswerer f spot write w
+  answers_as_memory w same e = subst (IsAnswerer f spot write) (sym same) (record {
+    is = e ∙ memory_meant (write && spot.attrs.readonly);
+    sound = sound_memory (write && spot.attrs.readonly);
+  })
+
+  pub memory_there : (w : Answerer) → (n.kind ≡ Ram) ⊎ ((n.kind ≡ Rom) ⊎ (n.kind ≡ Host)) → w ≡ memory_unless (write && spot.attrs.readonly)
+      → IsAnswerer f spot write w
+  memory_there w k same = answers_as_memory w same (go k)
+    where
+      go : (n.kind ≡ Ram) ⊎ ((n.kind ≡ Rom) ⊎ (n.kind ≡ Host)) → answerer_with_host f write (Leaf spot)
+          ≡ plans.by_memory_unless (write && spot.attrs.readonly) spot
+      go (inl e) = found Ram e refl
+      go (inr (inl e)) = found Rom e refl
+      go (inr (inr e)) = host_so Host true e refl
+
+  device_meant : (device : Device) → plans.by_device_of n device spot ≡ meant f spot (who.Device device.ops)
+  device_meant device = let v : n.events ≡ events_of f spot.leaf = sym (ap (λ o. unwrap_or (option_map (λ (n : Node). n.events) o) []) is) in
+      (λ i. plans.by_device spot.leaf spot.offset device.ops (v i))
+
+  pub rom_device_there : IsMade f → (device : Device) → n.kind ≡ RomDevice device → (w : Answerer) → w ≡ rom_device (spot.attrs.romd && not write) device.ops
+      → IsAnswerer f spot write w
+  rom_device_there made device k w same = subst (IsAnswerer f spot write) (sym same) (record {
+    is = found (RomDevice device) k refl ∙ go (spot.attrs.romd && not write);
+    sound = sound (spot.attrs.romd && not write);
+  })
+    where
+      go : (b : Bool) → (if b then plans.by_memory spot else plans.by_device_of n device spot) ≡ meant f spot (rom_device b device.ops)
+      go true = refl
+      go false = device_meant device
+
+      sound : (b : Bool) → IsSound f spot (rom_device b device.ops)
+      sound true = tt
+      sound false = sound_device f made spot n is device (ap device_of k)
+
+  pub io_there : IsMade f → (device : Device) → n.kind ≡ Io device → IsAnswerer f spot write (who.Device device.ops)
+  io_there made device k = record { is = found (Io device) k refl ∙ device_meant device; sound = sound_device f made spot n is device (ap device_of k) }

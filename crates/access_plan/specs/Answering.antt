@@ -1,0 +1,39 @@
+-- Who answers at a leaf, as the code keeps it.
+use Rattle.std.specs.Prelude.{◌≡◌, ℕ, ◌+◌, ◌^◌, ◌≤◌, Bool, if◌then◌else◌}
+use Rattle.mem_base.specs.declared.map.forests.Forest.{Forest}
+use Rattle.mem_base.specs.declared.map.spots.Spot.{Spot}
+use Rattle.mem_base.specs.declared.map.kinds.Ops.{Ops}
+use Rattle.mem_base.specs.declared.access.accesses.Target.TheVariants.{Leaf}
+use Rattle.mem_base.specs.views.LiveEvents.{events_of}
+use Rattle.mem_base.specs.access.Plans as plans
+use Rattle.access_cut.specs.Conditions.{AreGood}
+use Rattle.access_run.specs.Leaves.{IsLeafRun}
+use Rattle.access_plan.specs.HostPlans.{answerer_with_host}
+use Rattle.access_plan.specs.declared.answerers.Answerer.{Answerer}
+use Rattle.access_plan.specs.declared.answerers.Answerer.TheVariants.{Memory, Device, Nobody}
+
+abbrev pub memory_unless : Bool → Answerer
+memory_unless shut = if shut then Nobody else Memory
+
+abbrev pub rom_device : Bool → Ops → Answerer
+rom_device direct ops = if direct then Memory else Device ops
+
+-- the definition's answerer
+abbrev pub meant : Forest → Spot → Answerer → plans.Answerer
+meant f spot Memory = plans.by_memory spot
+meant f spot (Device ops) = plans.by_device spot.leaf spot.offset ops (events_of f spot.leaf)
+meant f spot Nobody = plans.by_nobody
+
+-- the sizes of a device are good, and offsets in its region have 64 bits
+pub record IsSoundDevice (f : Forest) (spot : Spot) (ops : Ops) : Type 0 where
+  pub good : AreGood ops
+  pub fits : (bytes : ℕ) → IsLeafRun f spot bytes → spot.offset + bytes ≤ 2 ^ 64
+
+abbrev pub IsSound : Forest → Spot → Answerer → Type 0
+IsSound f spot (Device ops) = IsSoundDevice f spot ops
+IsSound f spot _ = Unit {0}
+
+-- this answers a write, or a read, at the spot
+pub record IsAnswerer (f : Forest) (spot : Spot) (write : Bool) (who : Answerer) : Type 0 where
+  pub is : answerer_with_host f write (Leaf spot) ≡ meant f spot who
+  pub sound : IsSound f spot who

@@ -1,0 +1,5 @@
+pub mod Answering
+pub mod HostLaws
+pub mod HostPlans
+pub mod Lists
+pub mod Rounds

@@ -1,0 +1,112 @@
+// What an access reaches by QEMU's core, round by round.
+ghost use Rattle.std.specs.Prelude.{◌≡◌, ◌≤◌, ◌<◌, ◌+◌, ◌^◌, IfOk, IfSome, IfNone, MatchOption, length, true};
+ghost use Rattle.mem_base.specs.access.AccessSteps.{part};
+ghost use Rattle.mem_base.specs.access.Pieces.{piece_at};
+ghost use Rattle.access_cut.specs.Conditions.{AreGood, IsCut};
+ghost use Rattle.access_run.specs.Sizes.{IsSize};
+ghost use Rattle.access_plan.specs.HostPlans.{MeetsEnd, answerer_with_host};
+ghost use Rattle.access_plan.specs.Lists.{moved};
+ghost use Rattle.access_plan.specs.Rounds.{AddsRound, AddsRounds, IsDeviceAt};
+
+use crate::answerers::{Answerer, answerer_of};
+use crate::devices::piece;
+use crate::leaves::target;
+use crate::lists::Reach;
+use crate::pages::in_pages;
+use access_cut::cut;
+use access_run::first_chunk;
+use generation::Generation;
+use mem_base::{Ops, Piece, SpaceId, Spot, Target};
+use std::alloc::AllocError;
+
+// The first piece of the bytes of a device from an offset on. None where it may end past the last offset that there is.
+fn first_piece(ops: &Ops, offset: u64, left: u64) -> Option<Piece>
+    requires good { AreGood ops.now }
+    requires some { 1 ≤ left }
+    ensures value { MatchOption result (2 ^ 64 < offset + 8) (λ p. p ≡ piece_at ops.now offset left) }
+    ensures cut { IfSome result (λ p. IsCut ops.now p) }
+    ensures size { IfSome result (λ p. IsSize p.size) }
+    ensures most { IfSome result (λ p. p.size ≤ left) }
+{
+    let few = left.min(8);
+    if offset > u64::MAX - (few - 1) {
+        return None;
+    }
+    cut(ops, offset, few).next()
+}
+
+// The device at which a route ends, from a spot on, if it ends at one.
+fn device_at(g: &Generation, leads: &Target, write: bool) -> Option<(Spot, Ops)>
+    ensures { IsDeviceAt g.now.forest write leads.now result }
+{
+    match leads {
+        Target::Leaf(spot) => match answerer_of(g, spot, write) {
+            Answerer::Device(ops) => Some((*spot, ops)),
+            _ => None,
+        },
+        Target::Unassigned => None,
+    }
+}
+
+// What one round reaches, and how many bytes it takes. None where it meets the last offsets of a device.
+fn round(
+    list: &mut Vec<Reach>,
+    g: &Generation,
+    space: SpaceId,
+    addr: u64,
+    write: bool,
+    bytes: &[u8],
+    at: usize,
+    left: usize,
+) -> Result<Option<usize>, AllocError>
+    requires some { 1 ≤ left }
+    requires addresses { addr + left ≤ 2 ^ 64 }
+    requires within { write ≡ true → at + left ≤ length bytes.now }
+    requires bound { at + left < 2 ^ 64 }
+    ensures { IfOk result (AddsRound g.now.forest write space addr left (moved write bytes.now) list.old.items list.new.items at) }
+{
+    let (leads, shared) = first_chunk(g, space, addr, left, write);
+    let Some((spot, ops)) = device_at(g, &leads, write) else {
+        target(list, g, &leads, write, bytes, at, shared)?;
+        return Ok(Some(shared));
+    };
+    let reach = in_pages(g, space, addr, write, left as u64);
+    let Some(first) = first_piece(&ops, spot.offset, reach) else {
+        return Ok(None);
+    };
+    piece(list, g, spot.leaf, &ops, &first, write, bytes, at)?;
+    Ok(Some(first.size as usize))
+}
+
+/// What the rounds of an access reach. False where one meets the last offsets of a device.
+pub(crate) fn rounds(
+    list: &mut Vec<Reach>,
+    g: &Generation,
+    space: SpaceId,
+    addr: u64,
+    write: bool,
+    bytes: &[u8],
+    len: usize,
+) -> Result<bool, AllocError>
+    requires addresses { addr + len ≤ 2 ^ 64 }
+    requires within { write ≡ true → len ≤ length bytes.now }
+    ensures { IfOk result (AddsRounds g.now.forest write space addr len (moved write bytes.now) list.old.items list.new.items) }
+{
+    let mut done = 0;
+    while done < len {
+        match round(
+            list,
+            g,
+            space,
+            addr + done as u64,
+            write,
+            bytes,
+            done,
+            len - done,
+        )? {
+            Some(count) => done += count,
+            None => return Ok(false),
+        }
+    }
+    Ok(true)
+}

@@ -1,0 +1,3 @@
+mod AskedLaws
+mod Values
+mod PlanLaws

@@ -1,0 +1,78 @@
+// Accesses by passes.
+ghost use Rattle.std.specs.Prelude.{◌≡◌, ◌<◌, ◌≤◌};
+ghost use Rattle.mem_base.specs.access.AccessSteps.{writing};
+ghost use Rattle.libvobrekan.specs.Accesses.{HasAccessed, HasRead, access_told};
+ghost use Rattle.libvobrekan.specs.Answers.{bad_argument};
+ghost use Rattle.libvobrekan.specs.Arguments.{pass_at, space_at};
+ghost use Rattle.libvobrekan.specs.Asked.{IsRefused};
+
+use crate::answers::{Answer, bad_argument, no_machine};
+use crate::handle::Handle;
+use mem_base::{Access, MOST_PASSES, PassId, SpaceId};
+use std::alloc::Global;
+
+// How an access ended.
+fn ended(access: Access) -> Answer
+    ensures { result ≡ access_told access }
+{
+    let error = if access.result.error { 1 } else { 0 };
+    let decode = if access.result.decode { 2 } else { 0 };
+    Answer {
+        code: 0,
+        what: error + decode,
+        value: access.number,
+        other: 0,
+    }
+}
+
+/// Reads bytes of a space by a pass, 0 to 15, as many as there is room for. A pass that is out enters the current generation
+/// before it and leaves after it. QEMU's core, `address_space_read`.
+///
+/// `what` of the answer has 1 where a device answered with an error and 2 where nothing answered some byte; `value` is the number
+/// of the generation. A greater pass is refused.
+#[unsafe(no_mangle)]
+pub extern "C" fn vb_read(
+    alloc: Global,
+    handle: &mut Handle,
+    pass: u32,
+    space: u32,
+    addr: u64,
+    out: &mut [u8],
+) -> Answer
+    ensures read { pass < 16 → HasRead handle.old.machine (pass_at pass) (space_at space) addr out.old result out.new handle.new.machine }
+    ensures argument { 16 ≤ pass → IsRefused handle.old.machine (bad_argument pass) result handle.new.machine × (out.new ≡ out.old) }
+{
+    if pass >= MOST_PASSES {
+        return bad_argument(u64::from(pass));
+    }
+    let Some(mut machine) = handle.take(alloc) else {
+        return no_machine();
+    };
+    let access = machine.read(PassId(pass), SpaceId(space), addr, out);
+    handle.put(alloc, machine);
+    ended(access)
+}
+
+/// Writes bytes to a space by a pass, as `vb_read` reads them. QEMU's core, `address_space_write`.
+#[unsafe(no_mangle)]
+pub extern "C" fn vb_write(
+    alloc: Global,
+    handle: &mut Handle,
+    pass: u32,
+    space: u32,
+    addr: u64,
+    bytes: &[u8],
+) -> Answer
+    ensures written { pass < 16 → HasAccessed handle.old.machine (pass_at pass) (space_at space) addr (writing bytes.now) result handle.new.machine }
+    ensures argument { 16 ≤ pass → IsRefused handle.old.machine (bad_argument pass) result handle.new.machine }
+{
+    if pass >= MOST_PASSES {
+        return bad_argument(u64::from(pass));
+    }
+    let Some(mut machine) = handle.take(alloc) else {
+        return no_machine();
+    };
+    let access = machine.write(PassId(pass), SpaceId(space), addr, bytes);
+    handle.put(alloc, machine);
+    ended(access)
+}
