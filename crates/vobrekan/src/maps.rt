@@ -1,7 +1,8 @@
 // The map, and what it tells.
 ghost use Rattle.std.specs.Prelude.{◌≡◌, ◌↔◌, ◌<◌, IfOk, IsSome, Some, None, IsNone, IfSome, option_copied};
 ghost use Rattle.mem_base.specs.map.Region.{node_of};
-ghost use Rattle.mem_base.specs.map.Search.{Finds, found_at, look, root_of};
+ghost use Rattle.mem_base.specs.map.Search.{found_at, look, root_of};
+ghost use Rattle.mem_base.specs.map.Paths.{Finds};
 ghost use Rattle.mem_base.specs.map.Calls.{empty};
 ghost use Rattle.mem_base.specs.map.Forest.{IsClosedForest};
 ghost use Rattle.mem_base.specs.views.View.{IsView};

@@ -9,10 +9,10 @@ use std::alloc::AllocError;
 ///
 /// QEMU's core has `memory_region_transaction_begin` and `memory_region_transaction_commit`, where no change is taken back.
 #[derive(Drop)]
-pub struct Transaction<'a> {
-    pub map: &'a mut Map,
+pub struct Transaction<'a, M: Drop> {
+    pub map: &'a mut M,
     /// The map as it would be.
-    pub draft: Map,
+    pub draft: M,
 }
 
 impl Map {
@@ -28,7 +28,7 @@ impl Map {
     }
 
     /// Begins a transaction, with a copy of the map to draft on. It fails only where memory runs out.
-    pub fn begin(&mut self) -> Result<Transaction<'_>, AllocError>
+    pub fn begin(&mut self) -> Result<Transaction<'_, Map>, AllocError>
         ensures same_map { IfOk result (λ t. t.map.ghost_name ≡ self.entry.ghost_name) }
         ensures draft { IfOk result (λ t. t.draft ≡ self.old) }
     {
@@ -37,7 +37,7 @@ impl Map {
     }
 }
 
-impl Transaction<'_> {
+impl Transaction<'_, Map> {
     /// Makes the map what was drafted. It takes no memory and cannot fail.
     pub fn commit(self)
         ensures { self.exit.0.now ≡ self.entry.draft }
