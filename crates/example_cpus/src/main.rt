@@ -75,7 +75,7 @@ fn round<R: Wait>(rt: &R, cpu: &mut Cpu<'_>, count: u32) -> bool {
 fn work<R: Wait>(rt: &R, cpu: &mut Cpu<'_>) {
     for count in 0..ROUNDS {
         if round(rt, cpu, count) {
-            cpu.good += 1;
+            cpu.good = cpu.good.saturating_add(1);
         }
     }
 }

@@ -11,12 +11,13 @@ const MEMORY: SpaceId = SpaceId(0);
 
 const GIB: u64 = 1 << 30;
 
-// The regions of a PC that this example speaks of.
+// The names by which regions are printed.
 #[derive(Drop)]
-struct Pc {
-    map: Map,
-    named: [(RegionId, &'static str); 5],
+struct Names {
+    ram: RegionId,
     video: RegionId,
+    bar: RegionId,
+    apic: RegionId,
 }
 
 fn size(bytes: u64) -> Result<Size> {
@@ -24,7 +25,7 @@ fn size(bytes: u64) -> Result<Size> {
 }
 
 // Memory, video memory in front of it, devices in the hole below 4 GiB, and the firmware at its end.
-fn build(rt: &HostRuntime) -> Result<Pc> {
+fn build(rt: &HostRuntime) -> Result<(Map, Names)> {
     let device = Device::plain(DeviceKind::Latch);
     let mut map = Map::new(rt.alloc());
     let system = map.container(Size::new(1 << 64).context("no such size")?)?;
@@ -42,45 +43,50 @@ fn build(rt: &HostRuntime) -> Result<Pc> {
     map.add(system, 0xfee0_0000, apic, 1)?;
     map.add(system, 0xfffc_0000, bios, 0)?;
     map.space(MEMORY, system)?;
-    Ok(Pc {
-        map,
-        named: [
-            (ram, "ram"),
-            (video, "video"),
-            (bar, "bar"),
-            (apic, "apic"),
-            (bios, "bios"),
-        ],
+    let names = Names {
+        ram,
         video,
-    })
+        bar,
+        apic,
+    };
+    Ok((map, names))
 }
 
-fn name(pc: &Pc, region: RegionId) -> &'static str {
-    match pc.named.iter().find(|(id, _)| *id == region) {
-        Some((_, name)) => name,
-        None => "?",
+fn name(names: &Names, region: RegionId) -> &'static str {
+    match region {
+        r if r == names.ram => "ram",
+        r if r == names.video => "video",
+        r if r == names.bar => "bar",
+        r if r == names.apic => "apic",
+        _ => "bios",
     }
 }
 
 // A line a range: its addresses, the region that answers there, and the offset in it.
-fn print(rt: &HostRuntime, pc: &Pc) -> Result<()> {
-    let view = pc.map.view(MEMORY)?.context("no such space")?;
+fn print(rt: &HostRuntime, map: &Map, names: &Names) -> Result<()> {
+    let view = map.view(MEMORY)?.context("no such space")?;
     for range in view.as_slice() {
         let (start, last, offset) = (range.start, range.last, range.offset);
-        let leaf = name(pc, range.leaf);
+        let leaf = name(names, range.leaf);
         println!(rt; "{start:#013x} to {last:#013x}  {leaf:<6}from {offset:#x}")?;
     }
     Ok(())
 }
 
-fn run(rt: &HostRuntime) -> Result<()> {
-    let mut pc = build(rt)?;
-    print(rt, &pc)?;
-    println!(rt; "with the video memory off, as a transaction:")?;
-    let mut change = pc.map.begin()?;
-    change.draft.enable(pc.video, false)?;
+// Switches a region off, in a transaction: were the call refused, the map would stay as it is.
+fn hide(map: &mut Map, region: RegionId) -> Result<()> {
+    let mut change = map.begin()?;
+    change.draft.enable(region, false)?;
     change.commit();
-    print(rt, &pc)
+    Ok(())
+}
+
+fn run(rt: &HostRuntime) -> Result<()> {
+    let (mut map, names) = build(rt)?;
+    print(rt, &map, &names)?;
+    println!(rt; "with the video memory off, as a transaction:")?;
+    hide(&mut map, names.video)?;
+    print(rt, &map, &names)
 }
 
 fn main(rt: HostRuntime) -> ExitCode {
