@@ -1,0 +1,121 @@
+// The map, and what it tells.
+ghost use Rattle.std.specs.Prelude.{◌≡◌, ◌↔◌, ◌<◌, IfOk, IsSome, Some, None, IsNone, IfSome, option_copied};
+ghost use Rattle.mem_base.specs.map.Region.{node_of};
+ghost use Rattle.mem_base.specs.map.Search.{found_at, look, root_of};
+ghost use Rattle.mem_base.specs.map.Paths.{Finds};
+ghost use Rattle.mem_base.specs.map.Calls.{empty};
+ghost use Rattle.mem_base.specs.map.Forest.{IsClosedForest};
+ghost use Rattle.mem_base.specs.views.View.{IsView};
+
+use flat_render::render;
+use flat_simplify::simplify;
+use mem_base::{Forest, Node, Path, RegionId, SpaceId, Spot, View};
+use region_tree::Tree;
+use std::alloc::{AllocError, Global};
+use std::marker::{Brand, Model};
+use std::sync::ledger::{Blank, Ledger};
+use step_counter::Steps;
+
+/// A map of guest memory: regions, and the address spaces whose roots some of them are. It is seen as a `Forest`.
+///
+/// Regions are made by calls that answer their ids, and put into containers by others. Each call is tried against the rules first;
+/// one that is refused says why, and changes nothing. QEMU's manual, "The memory API".
+#[derive(Debug, Drop)]
+pub struct Map {
+    pub(crate) alloc: Global,
+    pub(crate) tree: Tree,
+}
+
+impl Model for Map {
+    ghost use Rattle.mem_base.specs.declared.map.forests.Forest.{Forest};
+
+    ghost Value = { Forest };
+
+    ghost view = { λ m. m.tree };
+}
+
+// The view of a space that is there. Nobody reads the count of its steps.
+fn view_of<L: Ledger>(
+    alloc: Global,
+    tree: &Tree,
+    space: SpaceId,
+    blank: Blank,
+) -> Result<View, AllocError>
+    requires space { IsSome (root_of tree.now space) }
+    requires name { blank.name ≡ L.name }
+    requires parts { blank.parts ≡ L.parts }
+    requires some { 0 < L.parts }
+    ensures { IfOk result (λ view. IsView tree.now space view) }
+{
+    let mut steps = Steps::<L>::new(blank);
+    let pieces = render(alloc, tree, space, &mut steps)?;
+    Ok(simplify(pieces))
+}
+
+impl Map {
+    /// The empty map: no region, no address space. It takes no memory.
+    pub fn new(alloc: Global) -> Map
+        ensures { result ≡ empty }
+    {
+        Map {
+            alloc,
+            tree: Tree::new(alloc),
+        }
+    }
+
+    /// The region with this id: `None` exactly where the map has none.
+    pub fn node(&self, region: RegionId) -> Option<&Node>
+        ensures value { option_copied result ≡ node_of self.now.nodes region }
+        ensures sound { IsClosedForest self.now }
+    {
+        self.tree.node(region)
+    }
+
+    /// The root of an address space: `None` exactly where the map has no such space.
+    pub fn root(&self, space: SpaceId) -> Option<RegionId>
+        ensures { result ≡ root_of self.now space }
+    {
+        self.tree.root(space)
+    }
+
+    /// All regions and spaces as plain data, in a copy. It fails only where memory runs out.
+    pub fn forest(&self) -> Result<Forest, AllocError>
+        ensures { IfOk result (λ forest. forest ≡ self.now) }
+    {
+        self.tree.forest()
+    }
+
+    /// The region that answers an address of a space, the offset in it, and what it is like there: what the manual's search finds
+    /// from the space's root on. `None` exactly where the search finds nothing, or there is no such space. It takes no memory.
+    ///
+    /// QEMU's manual, "The memory API"; QEMU's core, `address_space_lookup_region`.
+    pub fn find(&self, space: SpaceId, addr: u64) -> Option<Spot>
+        ensures value { result ≡ look self.now space addr }
+        ensures manual { (root : RegionId) → root_of self.now space ≡ Some root → Finds self.now root addr (found_at self.now space addr) }
+    {
+        tree_find::find(&self.tree, space, addr)
+    }
+
+    /// The same with the path on which the region is found: the regions passed, from the root to the one that answers.
+    pub fn find_path(&self, space: SpaceId, addr: u64) -> Option<(Spot, Path)>
+        ensures value { result ≡ found_at self.now space addr }
+        ensures manual { (root : RegionId) → root_of self.now space ≡ Some root → Finds self.now root addr result }
+    {
+        tree_find::find_path(&self.tree, space, addr)
+    }
+
+    /// What a space shows, as ranges that ascend: at each address what `find` answers there. `None` exactly where the map has no
+    /// such space. QEMU's core, `generate_memory_topology`, and the monitor's `info mtree -f`.
+    ///
+    /// It fails only where memory runs out.
+    pub fn view(&self, space: SpaceId) -> Result<Option<View>, AllocError>
+        ensures none { IfOk result (λ o. IsNone o ↔ root_of self.now space ≡ None) }
+        ensures view { IfOk result (λ o. IfSome o (λ view. IsView self.now space view)) }
+    {
+        if self.tree.root(space).is_none() {
+            return Ok(None);
+        }
+        let view = view_of::<Brand>(self.alloc, &self.tree, space, Blank::new(1))?;
+        Ok(Some(view))
+    }
+}
