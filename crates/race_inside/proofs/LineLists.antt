@@ -1,5 +1,5 @@
 -- The lines of the actors, dealt one after another.
-use Rattle.std.proofs.Common.{◌≡◌, ◌≢◌, ℕ, ◌+◌, ◌<◌, ◌==◌, Bool, true, false, List, [], ◌∷◌, ◌++◌, All, length, drop, get_or, set, append_assoc, append-nil}
+use Rattle.std.proofs.Common.{◌≡◌, ◌≢◌, ℕ, ◌+◌, ◌<◌, ◌==◌, Bool, true, false, List, [], ◌∷◌, ◌++◌, All, length, drop, get_or, append_assoc, append-nil}
 use Rattle.std.proofs.Common.{refl, sym, ap, subst, ◌∙◌, arith}
 use Rattle.std.proofs.Common.{if◌then◌else◌}
 use Rattle.std.specs.Prelude.{slice_index_or}
@@ -7,7 +7,6 @@ use Rattle.std.proofs.lemmas.Bool.Decides.{nat_tests}
 use Rattle.std.proofs.lemmas.List.{at_drop_more, get_or-set_same, get_or-set_other, length-set, map_push}
 use Rattle.std.proofs.lemmas.List.Elements.{All-nil, All-push}
 use Rattle.mem_base.specs.map.Limits.{most_passes}
-use Rattle.mem_base.specs.declared.script.commands.Command.{Command}
 use Rattle.run_laws.specs.Fitting.{FitsCommand}
 use Rattle.race_outside.proofs.CopyLaws.{is_pass}
 use Rattle.mem_base.specs.script.Scripts.{Line}
@@ -20,7 +19,7 @@ use Rattle.race_actors.specs.Lines as passes
 use Rattle.race_actors.specs.declared.tasks.BlockLine.{BlockLine}
 use Rattle.race_actors.specs.Laws.{AreTasksOf}
 use Rattle.race_inside.specs.declared.rooms.PassWork.{PassWork}
-use Rattle.race_inside.specs.Rooms.{AreIdle, AreWorksOf, DealsTo, IsIdle, IsTaskOf, TakesLine, copy_room}
+use Rattle.race_inside.specs.Rooms.{AreIdle, AreWorksOf, DealsTo, IsTaskOf, TakesLine, copy_room}
 
 -- whatever the tasks of the lines that are left are, these and they are the tasks of all
 abbrev pub AreTasksSoFar : Known → ℕ → List Line → List Line → List BlockLine → Type 0
@@ -91,7 +90,7 @@ pub record AreDealt (k : Known) (whole left : List Line) (own : List DeskLine) (
   pub desk : AreLinesSoFar whole left own
   pub desk_fits : All desks.FitsLine own
   pub all : length works ≡ most_passes
-  pub works : (p : ℕ) (d : PassWork) → p < length works → IsDealt k whole left p (get_or works p d)
+  pub each : (p : ℕ) (d : PassWork) → p < length works → IsDealt k whole left p (get_or works p d)
 
 pub none_dealt : (k : Known) (whole left : List Line) (own : List DeskLine) (works : List PassWork) → left ≡ whole → own ≡ [] → AreIdle works
     → AreDealt k whole left own works
@@ -99,7 +98,7 @@ none_dealt k whole left own works same none idle = record {
   desk = (λ i. lines_meant (none i) ++ lines_by desk_number (block (same i)));
   desk_fits = subst (All desks.FitsLine) (sym none) (All-nil desks.FitsLine);
   all = idle.all;
-  works = λ p d near. let i = idle.each p d near in (
+  each = λ p d near. let i = idle.each p d near in (
     none_so_far k p whole left (get_or works p d).lines.items same i.no_lines,
     subst (All (passes.FitsLine copy_room)) (sym i.no_lines) (All-nil (passes.FitsLine copy_room)),
     i.bounce,
@@ -164,9 +163,9 @@ one_dealt k whole left rest line own own_after works after true is fits desks_ow
       desk_fits = subst (All desks.FitsLine) (sym t.put) (All-push desks.FitsLine own t.added h.desk_fits
           (subst (λ (l : Line). FitsCommand l.1) (sym t.meant) fits));
       all = ap length deals.1 ∙ h.all;
-      works = subst (λ (ws : List PassWork). (p : ℕ) (d : PassWork) → p < length ws → IsDealt k whole rest p (get_or ws p d)) (sym deals.1)
+      each = subst (λ (ws : List PassWork). (p : ℕ) (d : PassWork) → p < length ws → IsDealt k whole rest p (get_or ws p d)) (sym deals.1)
           (λ p d near. let all = h.all in passed_by k whole left rest line p (get_or works p d) is
-          (no_pass (actor_number line.1) p desks_own (omega (arith, near, all))) (h.works p d near));
+          (no_pass (actor_number line.1) p desks_own (omega (arith, near, all))) (h.each p d near));
     }
 one_dealt k whole left rest line own own_after works after false is fits other deals h =
     let who : ℕ = actor_number line.1 in
@@ -177,8 +176,8 @@ one_dealt k whole left rest line own own_after works after false is fits other d
       desk = subst (AreLinesSoFar whole rest) (sym deals.0) (not_the_desks whole left rest line own is other h.desk);
       desk_fits = subst (All desks.FitsLine) (sym deals.0) h.desk_fits;
       all = long ∙ h.all;
-      works = λ p d within. each_dealt k whole left rest line who works after p d (who == p) is refl t near refl
-          (h.works p d (omega (arith, within, long))) (λ later. h.works who later near);
+      each = λ p d within. each_dealt k whole left rest line who works after p d (who == p) is refl t near refl
+          (h.each p d (omega (arith, within, long))) (λ later. h.each who later near);
     }
 
 -- all lines are dealt
@@ -186,7 +185,7 @@ pub all_dealt : (k : Known) (whole left : List Line) (own : List DeskLine) (work
     → (lines_meant own ≡ lines_by desk_number (block whole)) × AreWorksOf k whole works
 all_dealt k whole left own works none h = (
   sym (append-nil (lines_meant own)) ∙ ap (λ (ls : List Line). lines_meant own ++ lines_by desk_number (block ls)) (sym none) ∙ h.desk,
-  λ p d near. let w = h.works p d near in record {
+  λ p d near. let w = h.each p d near in record {
     tasks = all_so_far k p whole left (get_or works p d).lines.items none w.0;
     fits = subst (λ (room : ℕ). All (passes.FitsLine room) (get_or works p d).lines.items) (sym w.2) w.1;
   },
