@@ -1,4 +1,0 @@
-use Rattle.library_example.proofs.printed.print_view.Given as goal
-
-abbrev pub ghosts-view_of : goal.ghosts-view_of
-ghosts-view_of a = record { name = a.blank.name; parts = a.blank.parts }
