@@ -1,10 +1,9 @@
-//! What is wrong with a script: of a text at fault the line, the token at which the grammar fails and what may stand there.
-//!
-//! The token that is marked is the first one up to which the line begins no line of the language.
+//! What is wrong with a script, in words: of each refusal and each cause what it means, what to do, and an example.
 #![tactic(auto)]
 
-mod marks;
-mod parts;
+mod lines;
+mod texts;
+mod topics;
 
-pub use marks::{Mark, Wanted, mark};
-pub use parts::{Keyword, Operand};
+pub use texts::{add_bad, add_refused, add_topic};
+pub use topics::{Topic, topic_of};
