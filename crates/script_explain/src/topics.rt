@@ -118,7 +118,7 @@ fn of_refusal_6(code: &[u8]) -> Option<Topic>
         Some(Topic {
             code: "F10",
             name: "bad-ops",
-            what: "access sizes that are not 1, 2, 4 or 8, or the least above the greatest; registers not from 1 to 512; an ioeventfd of another size or a notifier above 63",
+            what: "access sizes other than 1, 2, 4 and 8, or the least above the greatest; registers not from 1 to 512; a notifier above 63",
             advice: "write valid A-B and impl A-B with A at most B",
             example: "region d io 0x10 latch valid 3-4",
             answer: "refused 1 F10 bad-ops",
@@ -137,7 +137,7 @@ fn of_refusal_11(code: &[u8]) -> Option<Topic>
             code: "F11",
             name: "wrong-kind",
             what: "the region is of another kind than the line is for",
-            advice: "load writes to memory, retarget takes an alias, map an iommu, event a device or memory that a device backs, romd a ROM device",
+            advice: "load takes memory, retarget an alias, map an iommu, romd a ROM device, event a device or memory that one backs",
             example: "region r ram 4K\nretarget r 0",
             answer: "refused 2 F11 wrong-kind r",
         })

@@ -1,5 +1,6 @@
 -- A label that gets a number, and ranges that get the numbers of their labels.
-use Rattle.std.proofs.Common.{◌≡◌, ℕ, ◌+◌, ◌-◌, ◌<◌, ◌≤◌, ◌^◌, Bool, true, false, cond, List, [], ◌∷◌, ◌++◌, length, take, get_or, Option, Some, None, refl, sym, ap, ◌∙◌, subst, arith}
+use Rattle.std.proofs.Common.{◌≡◌, ℕ, ◌+◌, ◌-◌, ◌<◌, ◌≤◌, ◌^◌, Bool, true, false, cond, List, []}
+use Rattle.std.proofs.Common.{◌∷◌, ◌++◌, length, take, get_or, Option, Some, None, refl, sym, ap, ◌∙◌, subst, arith}
 use Rattle.std.specs.Str.{bytes_eq}
 use Rattle.std.proofs.lemmas.List.{length-append, take_more}
 use Rattle.std.proofs.lemmas.Option.{none-some, same_Some}
@@ -92,7 +93,8 @@ snoc bound names (a ∷ rs) (b ∷ qs) r q h s = (h.0, snoc bound names rs qs r 
 snoc bound names [] (b ∷ qs) r q h s = absurd h
 snoc bound names (a ∷ rs) [] r q h s = absurd h
 
-pub one_range_more : (old new : List (Text × ℕ)) (names : Names) (ranges items after : List FlatRange) (i : ℕ) (q : FlatRange) (d : FlatRange) → i < length ranges
+pub one_range_more : (old new : List (Text × ℕ)) (names : Names) (ranges items after : List FlatRange) (i : ℕ) (q : FlatRange) (d : FlatRange)
+    → i < length ranges
     → Grows old new → Renumbered old names (take i ranges) items → number_of new (label_of names (get_or ranges i d).leaf) ≡ Some q.leaf.0
     → q ≡ record (get_or ranges i d) { leaf = q.leaf } → after ≡ items ++ q ∷ [] → Renumbered new names (take (i + 1) ranges) after
 one_range_more old new names ranges items after i q d below g h number same is =
@@ -112,7 +114,8 @@ ranges_again bound names from end (r ∷ rs) (q ∷ qs) h is =
     let at : (from ≤ r.start) × (r.start ≤ r.last) × (r.offset + (r.last - r.start) < 2 ^ 64) × IsRanges (r.last + 1) end rs = is in (
       omega (arith, at.0, start),
       omega (arith, at.1, start, last),
-      subst (λ (n : ℕ). n < 2 ^ 64) (ap (λ n. n + (r.last - r.start)) (sym offset) ∙ ap (λ n. q.offset + (n - r.start)) (sym last) ∙ ap (λ n. q.offset + (q.last - n)) (sym start)) at.2,
+      subst (λ (n : ℕ). n < 2 ^ 64) (ap (λ n. n + (r.last - r.start)) (sym offset) ∙ ap (λ n. q.offset + (n - r.start)) (sym last)
+          ∙ ap (λ n. q.offset + (q.last - n)) (sym start)) at.2,
       subst (λ (n : ℕ). IsRanges (n + 1) end qs) (sym last) (ranges_again bound names (r.last + 1) end rs qs h.1 at.3),
     )
 ranges_again bound names from end [] (q ∷ qs) h is = absurd h

@@ -1,5 +1,6 @@
 -- Rows that are made one after another.
-use Rattle.std.proofs.Common.{◌≡◌, ℕ, ◌+◌, ◌-◌, ◌^◌, ◌<◌, ◌≤◌, Bool, true, false, cond, List, [], ◌∷◌, ◌++◌, take, get_or, length, refl, sym, ap, ◌∙◌, subst, arith, nat_lt}
+use Rattle.std.proofs.Common.{◌≡◌, ℕ, ◌+◌, ◌-◌, ◌^◌, ◌<◌, ◌≤◌, Bool, true, false, cond, List}
+use Rattle.std.proofs.Common.{[], ◌∷◌, ◌++◌, take, get_or, length, refl, sym, ap, ◌∙◌, subst, arith, nat_lt}
 use Rattle.std.proofs.lemmas.Bool.Decides.{nat_tests}
 use Rattle.std.proofs.Common.{add-one, drop, drop-cons}
 use Rattle.std.proofs.lemmas.List.{take_more, take_all}
@@ -77,7 +78,8 @@ row_more ranges i next rows after d below h e =
     let a = ahead ranges i next rows d below h in
     let r : FlatRange = get_or ranges i d in
     subst (RowsSoFar ranges (i + 1) ((get_or ranges i d).last + 1)) (sym e) (record {
-      tiles = tiles_both 0 next ((get_or ranges i d).last + 1) rows (with_hole next (get_or ranges i d)) h.tiles (one_tiles next (get_or ranges i d) a.low a.order);
+      tiles = tiles_both 0 next ((get_or ranges i d).last + 1) rows (with_hole next (get_or ranges i d)) h.tiles (one_tiles next
+          (get_or ranges i d) a.low a.order);
       same = ranges_both rows (with_hole next (get_or ranges i d)) ∙ ap (λ rs. rs ++ ranges_of (with_hole next (get_or ranges i d))) h.same
           ∙ ap (λ rs. take i ranges ++ rs) (one_range next (get_or ranges i d)) ∙ sym (take_more ranges i d below);
       rest = a.after;
@@ -85,7 +87,8 @@ row_more ranges i next rows after d below h e =
 
 -- At the end
 
-pub closed_tiles : (ranges : List FlatRange) (i next : ℕ) (rows : List Row) → length ranges ≤ i → RowsSoFar ranges i next rows → 2 ^ 64 ≤ next → Tiles 0 (2 ^ 64) rows
+pub closed_tiles : (ranges : List FlatRange) (i next : ℕ) (rows : List Row) → length ranges ≤ i → RowsSoFar ranges i next rows → 2 ^ 64 ≤ next
+    → Tiles 0 (2 ^ 64) rows
 closed_tiles ranges i next rows all h top =
     let below : next ≤ 2 ^ 64 = lies_below next (2 ^ 64) (drop i ranges) h.rest in
     let same : next ≡ 2 ^ 64 = omega (arith, below, top) in

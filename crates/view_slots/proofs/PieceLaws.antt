@@ -1,5 +1,6 @@
 -- What a range shows that was cut into pieces.
-use Rattle.std.proofs.Common.{◌≡◌, ◌==◌, ℕ, ◌+◌, ◌-◌, ◌^◌, ◌<◌, ◌≤◌, ◌⊎◌, inl, inr, Bool, true, false, cond, List, [], ◌∷◌, ◌++◌, Option, Some, None, refl, sym, ap, ◌∙◌, subst, arith, nat_lt, nat_le, ◌&&◌}
+use Rattle.std.proofs.Common.{◌≡◌, ◌==◌, ℕ, ◌+◌, ◌-◌, ◌^◌, ◌<◌, ◌≤◌, ◌⊎◌, inl, inr, Bool, true, false, cond}
+use Rattle.std.proofs.Common.{List, [], ◌∷◌, ◌++◌, Option, Some, None, refl, sym, ap, ◌∙◌, subst, arith, nat_lt, nat_le, ◌&&◌}
 use Rattle.std.proofs.Common.{append_assoc}
 use Rattle.std.specs.Option.{option_or}
 use Rattle.std.proofs.lemmas.Bool.Decides.{nat_tests}
@@ -66,7 +67,8 @@ pieces_lie edges r (p ∷ q ∷ ps) order fits h =
 
 -- What the pieces show
 
-seen_in : (r : FlatRange) (a : ℕ) (b : Bool) → holds r a ≡ b → seen r a ≡ cond b (Some (record { leaf = r.leaf; offset = r.offset + (a - r.start); attrs = r.attrs })) None
+seen_in : (r : FlatRange) (a : ℕ) (b : Bool) → holds r a ≡ b
+    → seen r a ≡ cond b (Some (record { leaf = r.leaf; offset = r.offset + (a - r.start); attrs = r.attrs })) None
 seen_in r a b e = ap (λ c. cond c (Some (record { leaf = r.leaf; offset = r.offset + (a - r.start); attrs = r.attrs })) None) e
 
 split_seen : (r : FlatRange) (edge a : ℕ) → r.start < edge → edge ≤ r.last → option_or (seen (before r edge) a) (seen (from_on r edge) a) ≡ seen r a

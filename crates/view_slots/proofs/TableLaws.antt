@@ -1,5 +1,6 @@
 -- Tables of slots.
-use Rattle.std.proofs.Common.{◌≡◌, ◌==◌, ℕ, ◌+◌, ◌-◌, ◌^◌, ◌<◌, ◌≤◌, ◌⊎◌, inl, inr, Bool, true, false, cond, List, [], ◌∷◌, ◌++◌, Option, Some, None, refl, sym, ap, ◌∙◌, subst, arith, nat_lt, nat_le, ◌&&◌, true≢false}
+use Rattle.std.proofs.Common.{◌≡◌, ◌==◌, ℕ, ◌+◌, ◌-◌, ◌^◌, ◌<◌, ◌≤◌, ◌⊎◌, inl, inr, Bool, true, false, cond, List}
+use Rattle.std.proofs.Common.{[], ◌∷◌, ◌++◌, Option, Some, None, refl, sym, ap, ◌∙◌, subst, arith, nat_lt, nat_le, ◌&&◌, true≢false}
 use Rattle.std.proofs.Common.{is_some, zero, suc, length, take, get_or}
 use Rattle.std.proofs.lemmas.List.{take_all, take_more}
 use Rattle.std.specs.Option.{option_or}
@@ -188,7 +189,8 @@ lies_at from end (x ∷ xs) (suc i) d h below =
     lies_at (x.last + 1) end xs i d h.3 (let lt : suc i < suc (length xs) = below in omega (arith, lt))
 
 -- the edges of a view
-pub ends_there : (edges found : List ℕ) (view ranges : List FlatRange) → found ≡ edges → ranges ≡ view → Every (HasEnds edges) view → Every (HasEnds found) ranges
+pub ends_there : (edges found : List ℕ) (view ranges : List FlatRange) → found ≡ edges → ranges ≡ view → Every (HasEnds edges) view
+    → Every (HasEnds found) ranges
 ends_there edges found view ranges e r h =
     subst (λ (es : List ℕ). Every (HasEnds es) ranges) (sym e) (subst (Every (HasEnds edges)) (sym r) h)
 
@@ -199,7 +201,8 @@ table_whole edges names others ranges slots i all t = subst (λ (rs : List FlatR
 
 -- Slots that show a page alike
 
-inside : (r : FlatRange) (a : ℕ) (s : Spot) → seen r a ≡ Some s → (r.start ≤ a) × (a ≤ r.last) × (record { leaf = r.leaf; offset = r.offset + (a - r.start); attrs = r.attrs } ≡ s)
+inside : (r : FlatRange) (a : ℕ) (s : Spot) → seen r a ≡ Some s
+    → (r.start ≤ a) × (a ≤ r.last) × (record { leaf = r.leaf; offset = r.offset + (a - r.start); attrs = r.attrs } ≡ s)
 inside r a s e = by (holds r a) refl e
   where
     by : (b : Bool) → holds r a ≡ b → cond b (Some (record { leaf = r.leaf; offset = r.offset + (a - r.start); attrs = r.attrs })) None ≡ Some s
@@ -234,8 +237,14 @@ alike_keep edges r q a s here there r_top q_top e f =
     let y = inside q a s f in
     let low : r.start ≤ a = x.0 in
     let start : r.start ≡ q.start = equal_numbers r.start q.start (not_later edges r q a here there y.0 x.1) (not_later edges q r a there here x.0 y.1) in
-    let last : r.last ≡ q.last = equal_numbers r.last q.last (not_longer edges r q a here there q_top y.0 x.1) (not_longer edges q r a there here r_top x.0 y.1) in
-    let spots : record { leaf = r.leaf; offset = r.offset + (a - r.start); attrs = r.attrs } ≡ record { leaf = q.leaf; offset = q.offset + (a - q.start); attrs = q.attrs } =
+    let last : r.last ≡ q.last = equal_numbers r.last q.last (not_longer edges r q a here there q_top y.0 x.1)
+    (not_longer edges q r a there here r_top x.0 y.1) in
+    let spots : record { leaf = r.leaf; offset = r.offset + (a - r.start); attrs = r.attrs } ≡ record {
+      leaf = q.leaf;
+      offset = q.offset +
+          (a - q.start);
+      attrs = q.attrs;
+    } =
     x.2 ∙ sym y.2 in
     let leaf : r.leaf ≡ q.leaf = ap (λ (z : Spot). z.leaf) spots in
     let attrs : r.attrs ≡ q.attrs = ap (λ (z : Spot). z.attrs) spots in
