@@ -1,6 +1,6 @@
 // A view beside the monitor's lines.
-ghost use Rattle.std.specs.Prelude.{◌≡◌, ◌==◌, IfOk, None, Some};
-ghost use Rattle.std.specs.List.{list_any};
+ghost use Rattle.std.specs.Prelude.{◌≡◌, ◌<◌, ◌==◌, IfOk, None, Some, length};
+ghost use Rattle.std.specs.List.{list_any, slice_get};
 ghost use Rattle.script_names.specs.Tables.{printed_names};
 ghost use Rattle.view_check.specs.Shown.{AreShown, first_difference, is_memory, is_shown, same_place};
 
@@ -44,6 +44,20 @@ pub fn is_shown(
     is_named_after(alloc, names.region_name(range.leaf), row.name.as_bytes())
 }
 
+fn row_at(rows: &[FlatRow], at: usize) -> &FlatRow
+    requires { at < length rows.now }
+    ensures { slice_get rows.now at ≡ Some result.now }
+{
+    &rows[at]
+}
+
+fn range_at(view: &[FlatRange], at: usize) -> &FlatRange
+    requires { at < length view.now }
+    ensures { slice_get view.now at ≡ Some result.now }
+{
+    &view[at]
+}
+
 /// The number, counted from 0, of the first of the monitor's lines that tells another range than the view has there, or of the first
 /// that one of them has and the other has not; none where the view is the one that the lines tell.
 pub fn first_difference(
@@ -58,7 +72,9 @@ pub fn first_difference(
 {
     let mut at = 0usize;
     while at < rows.len() && at < view.len() {
-        if !is_shown(alloc, names, memory, &rows[at], &view[at])? {
+        let row = row_at(rows, at);
+        let range = range_at(view, at);
+        if !is_shown(alloc, names, memory, row, range)? {
             return Ok(Some(at));
         }
         at += 1;
