@@ -9,14 +9,20 @@ use Rattle.view_check.proofs.compared.first_difference.Goals.{then-loop-at-test+
 pub returns-then-not-branch-clause-first : goal.returns-then-not-branch-clause-first
 returns-then-not-branch-clause-first c =
     sym (found_here (printed_names c.args.names.now) c.args.memory.now c.loop-at.at c.args.rows.now c.args.view.now c.row_at-row.result.now
-    c.range_at-range.result.now _ c.loop-at-test.true c.if-at-view.true (sym (get_or_from_slice_get c.args.rows.now c.loop-at.at _ c.row_at-row.result.now c.row_at-row.ensures)) (sym (get_or_from_slice_get c.args.view.now c.loop-at.at _ c.range_at-range.result.now c.range_at-range.ensures)) (search rules) c.loop-at.invariant.rest)
+    c.range_at-range.result.now _ c.loop-at-test.true c.if-at-view.true
+    (sym (get_or_from_slice_get c.args.rows.now c.loop-at.at _ c.row_at-row.result.now c.row_at-row.ensures))
+    (sym (get_or_from_slice_get c.args.view.now c.loop-at.at _ c.range_at-range.result.now c.range_at-range.ensures))
+    (search rules) c.loop-at.invariant.rest)
 
 pub loop-at-preserved : goal.loop-at-preserved
 loop-at-preserved c = record {
   rows = omega (arith, c.loop-at-test.true);
   view = omega (arith, c.if-at-view.true);
   rest = next_shown (printed_names c.args.names.now) c.args.memory.now c.loop-at.at c.args.rows.now c.args.view.now c.row_at-row.result.now
-      c.range_at-range.result.now _ c.loop-at-test.true c.if-at-view.true (sym (get_or_from_slice_get c.args.rows.now c.loop-at.at _ c.row_at-row.result.now c.row_at-row.ensures)) (sym (get_or_from_slice_get c.args.view.now c.loop-at.at _ c.range_at-range.result.now c.range_at-range.ensures)) (search rules) c.loop-at.invariant.rest;
+      c.range_at-range.result.now _ c.loop-at-test.true c.if-at-view.true
+      (sym (get_or_from_slice_get c.args.rows.now c.loop-at.at _ c.row_at-row.result.now c.row_at-row.ensures))
+      (sym (get_or_from_slice_get c.args.view.now c.loop-at.at _ c.range_at-range.result.now c.range_at-range.ensures))
+      (search rules) c.loop-at.invariant.rest;
 }
 
 pub returns-then-rows-view-clause-same : goal.returns-then-rows-view-clause-same
@@ -37,8 +43,10 @@ returns-else-rows-view-clause-first c =
     let view : c.loop-at.at ≤ length c.args.view.now = c.loop-at.invariant.view in
     let differ = c.if-rows-view.false in
     elim c.loop-at-test.branch [
-      | then-loop-at-test+else-at-view w ↦ view_differs (printed_names c.args.names.now) c.args.memory.now c.loop-at.at c.args.rows.now c.args.view.now w.loop-at-test.true
+      | then-loop-at-test+else-at-view w ↦ view_differs (printed_names c.args.names.now) c.args.memory.now c.loop-at.at c.args.rows.now
+          c.args.view.now w.loop-at-test.true
           (omega (arith, w.if-at-view.false)) h
-      | else-loop-at-test w ↦ rows_differ (printed_names c.args.names.now) c.args.memory.now c.loop-at.at c.args.rows.now c.args.view.now (omega (arith, w.loop-at-test.false))
+      | else-loop-at-test w ↦ rows_differ (printed_names c.args.names.now) c.args.memory.now c.loop-at.at c.args.rows.now
+          c.args.view.now (omega (arith, w.loop-at-test.false))
           (omega (arith, w.loop-at-test.false, differ, rows, view)) h
     ]
