@@ -1,4 +1,6 @@
 //! The text of a script: its commands are done one after another over a machine, and each writes its lines to a sink.
+//!
+//! A `Session` is what stands between two commands, for whoever looks at the machine between them.
 #![tactic(auto)]
 
 mod desk;
@@ -14,4 +16,5 @@ mod worlds;
 pub use faults::RunFault;
 pub use machine::Machine;
 pub use runs::run_on;
+pub use session::Session;
 pub use worlds::run;

@@ -18,8 +18,11 @@ use std::alloc::{AllocError, Global};
 use std::marker::Model;
 
 /// The machine, and what is known of the names that a script made and of its watchers, as its commands so far left them.
+///
+/// `run_on` does a script's commands over one, one after another. Whoever wants to look between two commands does the same. It is
+/// seen as what is known of names and the machine's world (`Standing`), which together are the state of the run (`state_of`).
 #[derive(Drop)]
-pub(crate) struct Session<M: Machine + Drop> {
+pub struct Session<M: Machine + Drop> {
     alloc: Global,
     machine: M,
     known: KnownNames,
@@ -60,8 +63,8 @@ fn pass_of(command: &Command) -> Option<PassId>
 }
 
 impl<M: Machine + Drop> Session<M> {
-    // A machine on which no command was done yet.
-    pub(crate) fn new(alloc: Global, machine: M) -> Session<M>
+    /// A session over a machine on which no command was done yet, with no names. It takes no memory.
+    pub fn new(alloc: Global, machine: M) -> Session<M>
         ensures known { result.known ≡ known_at_first }
         ensures world { result.world ≡ M.world machine }
     {
@@ -73,9 +76,14 @@ impl<M: Machine + Drop> Session<M> {
         }
     }
 
-    // Does a command, and adds what it writes to a text. After each of the desk's commands, refused ones too, the watchers catch
-    // up; the ends of a block do nothing in a plain run.
-    pub(crate) fn step(
+    /// Does the command of line `number`, and adds what it writes to a text: its own lines, then the calls that listeners got by it.
+    /// A refused command writes its refusal, and that is no error. After each of the desk's commands, refused ones too, the watchers
+    /// catch up; the ends of a block do nothing.
+    ///
+    /// The caller has made the session, and done each command before this one with `Ok`; the numbers in the command are those of one
+    /// that was read from a text. It fails only where memory runs out; the session may then have done a part of the command, and is
+    /// to be dropped.
+    pub fn step(
         &mut self,
         text: &mut Line,
         number: u32,
@@ -108,5 +116,19 @@ impl<M: Machine + Drop> Session<M> {
                 command,
             ),
         }
+    }
+
+    /// The machine, as the commands so far left it.
+    pub fn machine(&self) -> &M
+        ensures { M.world result.now ≡ self.now.world }
+    {
+        &self.machine
+    }
+
+    /// What is known of the names that the commands so far made, and of their watchers.
+    pub fn known(&self) -> &KnownNames
+        ensures { result.now ≡ self.now.known }
+    {
+        &self.known
     }
 }

@@ -1,0 +1,5 @@
+pub mod Names
+pub mod Parts
+pub mod Reads
+pub mod Rows
+pub mod Texts
