@@ -16,7 +16,7 @@ use std::marker::Model;
 pub(crate) struct Regions<'a> {
     pub(crate) alloc: Global,
     forest: &'a Forest,
-    lists: ChildLists<'a>,
+    lists: ChildLists,
 }
 
 impl<'a> Model for Regions<'a> {

@@ -28,7 +28,7 @@ use std::alloc::{AllocError, Global};
 /// Adds what looks wrong in one region.
 fn add_findings(
     found: &mut Findings,
-    lists: &ChildLists<'_>,
+    lists: &ChildLists,
     generation: &Generation,
     node: &Node,
 ) -> Result<(), AllocError>
@@ -54,7 +54,7 @@ pub fn lint(alloc: Global, generation: &Generation) -> Result<Findings, AllocErr
     let nodes = &generation.forest().nodes;
     let lists = ChildLists::of(alloc, nodes)?;
     let mut found = Findings::new(alloc);
-    for node in nodes.as_slice() {
+    for node in lists.nodes() {
         add_findings(&mut found, &lists, generation, node)?;
     }
     Ok(found)

@@ -67,12 +67,7 @@ fn is_such(test: Test, node: &Node, other: &Node) -> bool
 }
 
 /// The first child of a container that is such, in the order of search.
-fn first_among(
-    test: Test,
-    lists: &ChildLists<'_>,
-    container: RegionId,
-    node: &Node,
-) -> Option<RegionId>
+fn first_among(test: Test, lists: &ChildLists, container: RegionId, node: &Node) -> Option<RegionId>
     requires { IsSome (node_of lists.now container) }
     ensures { result ≡ option_map (λ m. m.id) (find (is_such test node.now) (children_of lists.now container)) }
 {
@@ -89,7 +84,7 @@ fn first_among(
 }
 
 /// The first sibling that is such, in the order of search.
-pub(crate) fn first_such(test: Test, lists: &ChildLists<'_>, node: &Node) -> Option<RegionId>
+pub(crate) fn first_such(test: Test, lists: &ChildLists, node: &Node) -> Option<RegionId>
     ensures { result ≡ option_map (λ m. m.id) (find (is_such test node.now) (siblings_of lists.now node.now.parent)) }
 {
     let Some(container) = node.parent else {

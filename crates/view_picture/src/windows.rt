@@ -62,13 +62,15 @@ struct Standing {
 // order is tried first.
 fn children_of(
     alloc: Global,
-    nodes: &[Node],
+    nodes: &Nodes,
     region: RegionId,
 ) -> Result<Vec<(i32, u64, u32, u64)>, AllocError> {
     let mut children = Vec::new(alloc);
-    for node in nodes {
-        if node.parent == Some(region) {
-            children.push((node.priority, node.placing, node.id.0, node.offset))?;
+    for chunk in nodes.chunks() {
+        for node in chunk.as_slice() {
+            if node.parent == Some(region) {
+                children.push((node.priority, node.placing, node.id.0, node.offset))?;
+            }
         }
     }
     children.sort()?;
@@ -78,7 +80,7 @@ fn children_of(
 // Puts the children of a region where they stand, the one that is tried first before the others.
 fn put_children(
     alloc: Global,
-    nodes: &[Node],
+    nodes: &Nodes,
     region: RegionId,
     frame: Frame,
     depth: u32,
@@ -115,7 +117,7 @@ fn put_held(
             })?;
             Ok(())
         }
-        _ => put_children(alloc, nodes.as_slice(), node.id, frame, depth, left),
+        _ => put_children(alloc, nodes, node.id, frame, depth, left),
     }
 }
 
