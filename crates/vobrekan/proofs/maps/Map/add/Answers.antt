@@ -8,7 +8,7 @@ use Rattle.vobrekan.proofs.maps.Map.add.Goals as goal
 pub returns : goal.returns
 returns c =
     let done = subst (λ (z : ℤ). after c.self.inside.tree (Add c.args.parent c.args.offset c.args.child z) ≡ Ok c.apply.new.self)
-        (to_z-of_z w32 c.args.priority c.ranges.priority) c.in_ok-apply.ensures.applied.0 in
+    (to_z-of_z w32 c.args.priority c.ranges.priority) c.in_ok-apply.ensures.applied.0 in
     record {
       done = subst (λ (f : Forest). after f (Add c.args.parent c.args.offset c.args.child c.args.priority) ≡ Ok c.apply.new.self) c.self.view_is done;
       refused = search rules;
