@@ -1,5 +1,5 @@
 -- A number among numbers in order, found by halves.
-use Rattle.std.proofs.Common.{◌≡◌, ◌≢◌, ◌==◌, ℕ, suc, ◌<◌, ◌≤◌, true, false, eqb, List, [], ◌∷◌, length, get_or, Err, refl, sym, arith}
+use Rattle.std.proofs.Common.{◌≡◌, ◌≢◌, ◌==◌, ℕ, suc, ◌<◌, ◌≤◌, Bool, true, false, eqb, List, [], ◌∷◌, length, get_or, Err, refl, sym, ap, arith}
 use Rattle.std.specs.List.Sorted.{IsBinarySearchResult, IsNonDecreasingBy, IsPermutation}
 use Rattle.std.specs.declared.cmp.Ordering.TheVariants.{Equal}
 use Rattle.std.specs.Ordering.{nat_cmp, ordering_index}
@@ -10,7 +10,7 @@ use Rattle.std.proofs.lemmas.List.Sorted.{list_any-IsPermutation}
 use Rattle.mem_base.specs.declared.map.ids.RegionId.{RegionId}
 use Rattle.mem_base.specs.declared.views.flat.FlatRange.{FlatRange}
 use Rattle.mem_base.specs.views.Naming.{has_leaf}
-use Rattle.flat_lookup.specs.Leaves.{has_number, leaf_numbers, AreLeavesOf}
+use Rattle.flat_lookup.specs.Leaves.{has_number, leaf_numbers, is_noted}
 
 -- a number that stands nowhere is not there
 missing : (n : ℕ) (ns : List ℕ) → ((k d : ℕ) → k < length ns → get_or ns k d ≢ n) → has_number n ns ≡ false
@@ -38,9 +38,9 @@ module _ (ns : List ℕ) (n : ℕ) where
       let b : i ≤ k → n < get_or ns k d = λ c. ranked _ n _ (sym (parts.1 k d c m)) in
       grind (arith, a, b))
 
--- sorting keeps what is there
-pub sorted_leaves : (rs : List FlatRange) (ns : List ℕ) → IsPermutation (leaf_numbers rs) ns → AreLeavesOf rs ns
-sorted_leaves rs ns p n = sym (list_any-IsPermutation (λ m. m == n) (leaf_numbers rs) ns p)
+-- sorting the others keeps what is noted
+pub sorted_others : (marks : List Bool) (before after : List ℕ) → IsPermutation before after → (n : ℕ) → is_noted marks after n ≡ is_noted marks before n
+sorted_others marks before after p n = ap (get_or marks n) (sym (list_any-IsPermutation (λ m. m == n) before after p))
 
 -- a leaf of some range is one of the leaves
 pub leaf_is : (region : RegionId) (rs : List FlatRange) → has_number region.0 (leaf_numbers rs) ≡ has_leaf region rs

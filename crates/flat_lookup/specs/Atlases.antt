@@ -1,5 +1,5 @@
 -- An atlas: ranges, with levels over their starts.
-use Rattle.std.specs.Prelude.{ℕ, ◌+◌, ◌-◌, ◌*◌, ◌^◌, ◌<◌, ◌≤◌, false, nat_lt, nat_le, slice_index, slice_index_or, if◌then◌else◌, List, [], ◌∷◌, map, length}
+use Rattle.std.specs.Prelude.{ℕ, Bool, ◌+◌, ◌-◌, ◌*◌, ◌^◌, ◌<◌, ◌≤◌, false, nat_lt, nat_le, slice_index, slice_index_or, if◌then◌else◌, List, [], ◌∷◌, map, length}
 use Rattle.mem_base.specs.declared.views.flat.FlatRange.{FlatRange}
 use Rattle.flat_lookup.specs.Levels.{IsBuilt}
 use Rattle.flat_lookup.specs.Leaves.{AreLeavesOf}
@@ -33,7 +33,7 @@ pub record HasLevels (rs : List FlatRange) (levels : List (List ℕ)) : Type 0 w
   pub built : 0 < length rs → IsBuilt (starts_of rs) levels
 
 -- an atlas: its levels are over the starts of its ranges, and its leaves are theirs
-pub record IsAtlas (rs : List FlatRange) (levels : List (List ℕ)) (leaves : List ℕ) : Type 0 where
+pub record IsAtlas (rs : List FlatRange) (levels : List (List ℕ)) (leaves : List Bool × List ℕ) : Type 0 where
   pub levels_over : HasLevels rs levels
   pub leaves_of : AreLeavesOf rs leaves
 

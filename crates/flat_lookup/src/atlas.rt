@@ -67,8 +67,8 @@ fn parts(alloc: Global, ranges: &[FlatRange]) -> Result<(Vec<Level>, Leaves), Al
 }
 
 impl Atlas {
-    /// The atlas of a view. Out of memory, the view is given back. It takes time linear in the ranges,
-    /// but for the sorting of their leaves.
+    /// The atlas of a view. Out of memory, the view is given back. It takes time linear in the ranges, but for leaves whose
+    /// numbers are at least sixteen times as high as the ranges are many: those are sorted.
     pub fn new(alloc: Global, view: View) -> Result<Atlas, (AllocError, View)>
         ensures value { MatchResult result (λ atlas. atlas ≡ view) (λ e. e.1 ≡ view) }
     {
@@ -147,7 +147,8 @@ impl Atlas {
         (ranges[at].spot(addr), end_after(ranges, at, addr))
     }
 
-    /// Whether some range has this leaf. It takes no memory, and time that grows with the logarithm of the ranges.
+    /// Whether some range has this leaf. It takes no memory, and one look where the region's number is low; at most the time that
+    /// grows with the logarithm of the ranges.
     pub fn has_leaf(&self, region: RegionId) -> bool
         ensures { result ≡ has_leaf region self.now }
     {
