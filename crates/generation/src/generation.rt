@@ -17,7 +17,7 @@ ghost use Rattle.mem_base.specs.access.EditionPlaces.{IsEdition};
 ghost use Rattle.generation.specs.Published.{views_of, AscendByRegion};
 
 use crate::atlases::{atlas_among, is_leaf_among};
-use crate::places::{Guesses, place_near};
+use crate::places::Placed;
 use flat_lookup::Atlas;
 use mem_base::{Edition, Entry, Forest, Ioevent, Kind, Node, Place, RegionId, SpaceId};
 use std::alloc::{AllocError, Global};
@@ -30,9 +30,7 @@ pub struct Generation {
     number: u64,
     forest: Forest,
     atlases: Vec<(SpaceId, Arc<Atlas, Global>)>,
-    places: Vec<Place>,
-    // Where the places stand: each guess is tried before it is used.
-    guesses: Guesses,
+    places: Placed,
     // Whether some region of the forest is an IOMMU region.
     has_iommu: bool,
     // Whether some region of the forest has an ioeventfd.
@@ -46,9 +44,9 @@ impl Model for Generation {
 
     ghost Value = { Published };
 
-    ghost view = { λ g. published g.number g.forest g.places.items };
+    ghost view = { λ g. published g.number g.forest g.places };
 
-    ghost invariant = { λ g. IsGeneration g.forest (map (λ p. (p.0, arc_value p.1)) g.atlases.items) g.places.items g.has_iommu g.has_events };
+    ghost invariant = { λ g. IsGeneration g.forest (map (λ p. (p.0, arc_value p.1)) g.atlases.items) g.places g.has_iommu g.has_events };
 }
 
 impl Generation {
@@ -72,10 +70,8 @@ impl Generation {
     {
         let has_iommu = forest.nodes.has_iommu();
         let has_events = forest.nodes.has_events();
-        let guesses = Guesses::none();
-        Generation::with(
-            number, forest, atlases, places, guesses, has_iommu, has_events,
-        )
+        let places = Placed::plain(places);
+        Generation::with(number, forest, atlases, places, has_iommu, has_events)
     }
 
     /// The same generation, where it is known whether some region is an IOMMU region and whether some has an ioeventfd, and in
@@ -102,37 +98,58 @@ impl Generation {
         ensures places { IfOk result (λ g. g.places ≡ places.items) }
     {
         let regions = forest.nodes.len();
-        let guesses = Guesses::of(alloc, places.as_slice(), regions)?;
-        Ok(Generation::with(
-            number, forest, atlases, places, guesses, has_iommu, has_events,
-        ))
+        let places = Placed::indexed(alloc, places, regions)?;
+        Ok(Generation::with(number, forest, atlases, places, has_iommu, has_events))
     }
 
-    // The same, with these guesses where the places stand.
+    /// A generation that has the places of another one, with which it shares them.
+    ///
+    /// It takes no memory where the other one was made by `indexed`, or in this way from such a one; else the places are copied. It
+    /// fails only where memory runs out.
+    pub fn with_places_of(
+        alloc: Global,
+        other: &Generation,
+        number: u64,
+        forest: Forest,
+        atlases: Vec<(SpaceId, Arc<Atlas, Global>)>,
+        has_iommu: bool,
+        has_events: bool,
+    ) -> Result<Generation, AllocError>
+        requires edition { IsEdition forest other.now.places }
+        requires atlases { map (λ p. (p.0, arc_value p.1)) atlases.items ≡ views_of forest }
+        requires iommu { has_iommu ≡ list_any (λ n. is_iommu n.kind) forest.nodes }
+        requires events { has_events ≡ list_any (λ n. nat_lt 0 (length n.events)) forest.nodes }
+        ensures number { IfOk result (λ g. g.number ≡ number) }
+        ensures forest { IfOk result (λ g. g.forest ≡ forest) }
+        ensures places { IfOk result (λ g. g.places ≡ other.now.places) }
+    {
+        let places = other.places.again(alloc)?;
+        Ok(Generation::with(number, forest, atlases, places, has_iommu, has_events))
+    }
+
+    // A generation of all its parts.
     fn with(
         number: u64,
         forest: Forest,
         atlases: Vec<(SpaceId, Arc<Atlas, Global>)>,
-        places: Vec<Place>,
-        guesses: Guesses,
+        places: Placed,
         has_iommu: bool,
         has_events: bool,
     ) -> Generation
-        requires edition { IsEdition forest places.items }
+        requires edition { IsEdition forest places }
         requires atlases { map (λ p. (p.0, arc_value p.1)) atlases.items ≡ views_of forest }
-        requires ascending { AscendByRegion places.items }
+        requires ascending { AscendByRegion places }
         requires iommu { has_iommu ≡ list_any (λ n. is_iommu n.kind) forest.nodes }
         requires events { has_events ≡ list_any (λ n. nat_lt 0 (length n.events)) forest.nodes }
         ensures number { result.number ≡ number }
         ensures forest { result.forest ≡ forest }
-        ensures places { result.places ≡ places.items }
+        ensures places { result.places ≡ places }
     {
         Generation {
             number,
             forest,
             atlases,
             places,
-            guesses,
             has_iommu,
             has_events,
         }
@@ -144,6 +161,13 @@ impl Generation {
         ensures made { IsMade self.now.forest }
     {
         &self.forest
+    }
+
+    /// The places of the regions that it names, and the notifiers' where a leaf has an ioeventfd, by ascending id of their regions.
+    pub fn places(&self) -> &[Place]
+        ensures { result.now ≡ self.now.places }
+    {
+        self.places.as_slice()
     }
 
     /// The node of a region: `None` exactly where the forest has no such region. It is found by one look where no region was
@@ -242,6 +266,6 @@ impl Edition for Generation {
     }
 
     fn place_of(&self, region: RegionId) -> Option<Place> {
-        place_near(self.places.as_slice(), self.guesses.at(region), region)
+        self.places.place_of(region)
     }
 }
