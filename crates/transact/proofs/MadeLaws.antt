@@ -1,5 +1,5 @@
 -- Forests that accepted calls make.
-use Rattle.std.proofs.Common.{◌≡◌, ℕ, zero, suc, ◌+◌, ◌<◌, not, Bool, true, false, List, [], ◌∷◌, ◌++◌, Option, Some, None, Ok, refl, sym}
+use Rattle.std.proofs.Common.{◌≡◌, ℕ, zero, suc, ◌+◌, ◌<◌, not, Bool, true, false, List, [], Option, Some, None, Ok, refl, sym}
 use Rattle.std.proofs.Common.{ap, subst, ◌∙◌, arith}
 use Rattle.mem_base.specs.declared.map.ids.SpaceId.{SpaceId}
 use Rattle.mem_base.specs.declared.map.forests.Node.{Node}
@@ -19,16 +19,15 @@ use Rattle.mem_base.specs.map.Devices.{is_access_size}
 use Rattle.mem_base.specs.map.Events.{is_good_event}
 use Rattle.mem_base.specs.map.TableRefusals.{bad_event}
 use Rattle.mem_base.specs.map.Changes.{changed}
-use Rattle.mem_base.specs.map.Calls.{after, after_all, left_by, empty}
-use Rattle.mem_base.specs.map.Forest.{FitsTypes, IsMade, IsOrderedForest, IsClosedForest, IsRegion}
+use Rattle.mem_base.specs.map.Calls.{after}
+use Rattle.mem_base.specs.map.Forest.{IsMade, IsClosedForest, IsRegion}
 use Rattle.mem_base.specs.views.View.{IsView}
 use Rattle.mem_base.specs.views.Flattened.{view_of}
 use Rattle.mem_base.specs.views.LiveEvents.{lives_of, lives_in}
-use Rattle.mem_base.proofs.EveryLaws.{weaker, every_push}
+use Rattle.mem_base.proofs.EveryLaws.{weaker}
 use Rattle.mem_base.proofs.ForestLaws.{every_node_of}
 use Rattle.mem_base.proofs.ViewLaws.{IsView-unique}
-use Rattle.map_laws.proofs.CallLaws.{IsOrderedForest-made, after-accepted}
-use Rattle.map_laws.proofs.SoundCallLaws.{IsClosedForest-made}
+use Rattle.map_laws.proofs.CallLaws.{after-accepted}
 use Rattle.map_laws.proofs.OffsetLaws.{IsView-made}
 use Rattle.map_laws.proofs.RefusalLaws.{refuse_if-none}
 use Rattle.view_laws.specs.LiveLists.{HaveBytes}

@@ -1,5 +1,5 @@
 -- A space near which no region is noted is not touched, and the same regions are reached in it.
-use Rattle.std.proofs.Common.{◌≡◌, ℕ, ◌<◌, ◌||◌, if◌then◌else◌, Bool, true, false, eqb, eq-eqb, List, [], ◌∷◌, Option, Some, None}
+use Rattle.std.proofs.Common.{◌≡◌, ◌||◌, if◌then◌else◌, Bool, true, false, eqb, eq-eqb, List, [], ◌∷◌, Option, Some, None}
 use Rattle.std.proofs.Common.{refl, sym, ap, subst, ◌∙◌, inl, inr, arith}
 use Rattle.std.specs.Prelude.{find, not, filter, option_map, IsSome}
 use Rattle.std.specs.List.{list_any}
@@ -9,10 +9,10 @@ use Rattle.mem_base.specs.declared.map.ids.SpaceId.{SpaceId}
 use Rattle.mem_base.specs.declared.map.forests.Node.{Node}
 use Rattle.mem_base.specs.declared.map.forests.Forest.{Forest}
 use Rattle.mem_base.specs.declared.map.kinds.Kind.{Kind}
-use Rattle.mem_base.specs.declared.map.kinds.Kind.TheVariants.{Container, Ram, Rom, RomDevice, Io, Iommu, Alias, Reserve, Host}
+use Rattle.mem_base.specs.declared.map.kinds.Kind.TheVariants.{Alias}
 use Rattle.mem_base.specs.lists.Booleans.{bool_eq}
 use Rattle.mem_base.specs.lists.Every.{Every, HasElement}
-use Rattle.mem_base.specs.map.Region.{IsAscending, has_id, node_of, is_in, is_child_of}
+use Rattle.mem_base.specs.map.Region.{node_of, is_in, is_child_of}
 use Rattle.mem_base.specs.map.Kinds.{target_of}
 use Rattle.mem_base.specs.map.Order.{trial_order, children_of, ids_of}
 use Rattle.mem_base.specs.map.Search.{is_space, root_of}
@@ -26,7 +26,7 @@ use Rattle.view_laws.proofs.Tests.{none_is_not_some, same_some, same_region}
 use Rattle.view_laws.proofs.LiveLaws.{In, every_in}
 use Rattle.view_laws.proofs.TouchedLaws.{found_in_list, ascending_filter, unique, region_same}
 use Rattle.change_laws.proofs.AlikeLaws.{stays_itself}
-use Rattle.view_laws.proofs.SortedLaws.{any_in, any_found, each_in, filter_in, filter_out, map_in, map_out, sorted_in, sorted_out}
+use Rattle.view_laws.proofs.SortedLaws.{any_in, any_found, filter_in, filter_out, map_in, map_out, sorted_in, sorted_out}
 use Rattle.change_laws.specs.Meeting.{is_among, OthersStay}
 use Rattle.transact.specs.Noted.{is_parent_among, is_placed_among, stay_away}
 use Rattle.transact.proofs.MadeLaws.{ordered_made, closed_made}

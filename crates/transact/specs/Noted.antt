@@ -1,7 +1,7 @@
 -- The regions that calls may have changed since the current generation, and what of a space cannot be another where none of
 -- them is near it.
 -- QEMU's core renders every space again when a transaction ends; that the changed regions are noted is this project's own.
-use Rattle.std.specs.Prelude.{◌≡◌, ◌==◌, ◌<◌, ◌||◌, not, Bool, false, List, [], ◌∷◌, Option, Some, None, IfSome}
+use Rattle.std.specs.Prelude.{◌<◌, ◌||◌, not, Bool, false, List, Option, Some, None, IfSome}
 use Rattle.std.specs.List.{list_any}
 use Rattle.mem_base.specs.declared.map.ids.RegionId.{RegionId}
 use Rattle.mem_base.specs.declared.map.forests.Node.{Node}

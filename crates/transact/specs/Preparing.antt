@@ -1,6 +1,7 @@
 -- What is prepared before a generation becomes current, and how often that may carve.
-use Rattle.std.specs.Prelude.{◌≡◌, ℕ, ◌+◌, ◌*◌, ◌⊎◌, true, false, if◌then◌else◌, List, [], ◌∷◌, ◌++◌, Option, Some, None, Ok}
-use Rattle.std.specs.List.{sum_by}
+use Rattle.std.specs.Prelude.{◌≡◌, ℕ, Bool, ◌+◌, ◌*◌, ◌⊎◌, true, false, if◌then◌else◌, List, [], ◌∷◌, ◌++◌, Option, option_map, unwrap_or, Some, None, Ok, Vec}
+use Rattle.std.specs.declared.alloc.Global.{Global}
+use Rattle.std.specs.List.{list_any, sum_by}
 use Rattle.mem_base.specs.declared.map.ids.RegionId.{RegionId}
 use Rattle.mem_base.specs.declared.map.ids.SpaceId.{SpaceId}
 use Rattle.mem_base.specs.declared.map.forests.Forest.{Forest}
@@ -12,7 +13,9 @@ use Rattle.mem_base.specs.map.Search.{root_of}
 use Rattle.mem_base.specs.map.Steps.{weight_of}
 use Rattle.mem_base.specs.map.Calls.{after}
 use Rattle.mem_base.specs.map.Touched.{is_touched}
-use Rattle.mem_base.specs.access.Places.{notifiers_place}
+use Rattle.mem_base.specs.declared.views.flat.FlatRange.{FlatRange}
+use Rattle.mem_base.specs.views.Naming.{has_leaf}
+use Rattle.mem_base.specs.access.Places.{is_notifiers, notifiers_place}
 use Rattle.mem_base.specs.views.Listening.{changes_between}
 use Rattle.mem_base.specs.machine.Committed.{transaction}
 use Rattle.mem_base.specs.machine.Desk.{shown_places}
@@ -27,6 +30,14 @@ pub record AreDeskPlaces (f : Forest) (places : List Place) : Type 0 where
   pub parts : places ≡ regions ++ notifiers_place pool_words ∷ []
   pub backs : BacksForest pool_words f regions
   pub ascending : AscendByRegion places
+
+-- a generation with these atlases has the place: its region is a leaf in one of their views, or it is the notifiers', where `notifies`
+abbrev pub is_shown_in : {X : Type 0} → (X → List FlatRange) → List (SpaceId × X) → Bool → Place → Bool
+is_shown_in view atlases notifies q = if is_notifiers q.region then notifies else list_any (λ p. has_leaf q.region (view p.1)) atlases
+
+-- these places, or where there are none here those of a generation
+abbrev pub places_or : Published → Option (Vec Place Global) → List Place
+places_or current places = unwrap_or (option_map (λ list. list.items) places) current.places
 
 -- the generation that publishes a forest after this one
 abbrev pub next_of : Published → Forest → List Place → Published

@@ -1,19 +1,19 @@
 // Preparing the generation that comes next.
-ghost use Rattle.std.specs.Prelude.{◌≡◌, ◌+◌, ◌<◌, ◌≤◌, ◌&&◌, ◌^◌, if◌then◌else◌, None, IfOk, IfSome, map, filter, length, nat_lt};
+ghost use Rattle.std.specs.Prelude.{◌≡◌, ◌+◌, ◌<◌, ◌≤◌, ◌^◌, ◌++◌, None, IfOk, IfSome, map, filter, length, take, drop, nat_lt};
 ghost use Rattle.std.specs.List.{list_any};
 ghost use Rattle.std.specs.Arc.{arc_value};
 ghost use Rattle.mem_base.specs.map.Kinds.{is_iommu};
 ghost use Rattle.mem_base.specs.map.Order.{ids_of};
 ghost use Rattle.mem_base.specs.map.Forest.{IsMade};
 ghost use Rattle.mem_base.specs.views.Naming.{has_leaf, names, shows_events};
-ghost use Rattle.mem_base.specs.access.Places.{is_notifiers};
 ghost use Rattle.mem_base.specs.machine.Desk.{shown_places};
 ghost use Rattle.change_spans.specs.Reaches.{ShowsWithin};
-ghost use Rattle.generation.specs.Published.{views_of};
+ghost use Rattle.mem_base.specs.access.EditionPlaces.{IsEdition};
+ghost use Rattle.generation.specs.Published.{views_of, published, AscendByRegion};
 ghost use Rattle.transact.specs.Desks.{reached_in};
 ghost use Rattle.transact.specs.Marks.{AreLeafMarks};
 ghost use Rattle.transact.specs.Noted.{AreNoted};
-ghost use Rattle.transact.specs.Preparing.{AreDeskPlaces, readied, most_carves};
+ghost use Rattle.transact.specs.Preparing.{is_shown_in, AreDeskPlaces, places_or, readied, most_carves};
 
 use crate::marks::{is_leaf, leaf_marks};
 use crate::noted::Noted;
@@ -65,7 +65,7 @@ fn is_shown(
     place: &Place,
 ) -> bool
     requires { AreLeafMarks arc_value atlases.now marks.now }
-    ensures { result ≡ (if is_notifiers place.now.region then notifies else list_any (λ p. has_leaf place.now.region (arc_value p.1)) atlases.now) }
+    ensures { result ≡ is_shown_in arc_value atlases.now notifies place.now }
 {
     if place.region.0 == RegionId::NOTIFIERS.0 {
         return notifies;
@@ -73,44 +73,136 @@ fn is_shown(
     is_leaf(atlases, marks, place.region)
 }
 
-// The places that a generation has of these. `regions` is about how many regions there are.
+// How many of the first of these places were looked at, and how many of the first of some others are just those of them that a
+// generation has: up to the first place that it has and that is not the next one of the others.
+fn agreeing(
+    atlases: &[(SpaceId, Arc<Atlas, Global>)],
+    marks: &[bool],
+    notifies: bool,
+    places: &[Place],
+    others: &[Place],
+) -> (usize, usize)
+    requires { AreLeafMarks arc_value atlases.now marks.now }
+    ensures seen { result.0 ≤ length places.now }
+    ensures count { result.1 ≤ length others.now }
+    ensures kept { take result.1 others.now ++ filter (is_shown_in arc_value atlases.now notifies) (drop result.0 places.now)
+        ≡ filter (is_shown_in arc_value atlases.now notifies) places.now }
+{
+    let mut at = 0;
+    for (i, place) in places.iter().enumerate() {
+        if is_shown(atlases, marks, notifies, place) {
+            if at >= others.len() || others[at] != *place {
+                return (i, at);
+            }
+            at += 1;
+        }
+    }
+    (places.len(), at)
+}
+
+// These places, and of the others those that a generation has.
 fn kept(
     alloc: Global,
     atlases: &[(SpaceId, Arc<Atlas, Global>)],
-    regions: usize,
+    marks: &[bool],
     notifies: bool,
-    places: &[Place],
+    first: &[Place],
+    others: &[Place],
 ) -> Result<Vec<Place>, AllocError>
-    ensures { IfOk result (λ list. list.items ≡ filter (λ q. if is_notifiers q.region then notifies else list_any
-        (λ p. has_leaf q.region (arc_value p.1)) atlases.now) places.now) }
+    requires { AreLeafMarks arc_value atlases.now marks.now }
+    ensures { IfOk result (λ list. list.items ≡ first.now ++ filter (is_shown_in arc_value atlases.now notifies) others.now) }
 {
-    let marks = leaf_marks(alloc, atlases, regions)?;
-    let mut list = Vec::with_capacity(alloc, places.len())?;
-    for place in places {
-        if is_shown(atlases, marks.as_slice(), notifies, place) {
+    let mut list = Vec::with_capacity(alloc, first.len().saturating_add(others.len()))?;
+    list.extend_from_slice(first)?;
+    for place in others {
+        if is_shown(atlases, marks, notifies, place) {
             list.push(*place)?;
         }
     }
     Ok(list)
 }
 
-// The places that a generation of the forest has: of just the regions that it names, and the notifiers' where a leaf has
-// an ioeventfd. `with_events` has the regions that have one.
+// The places that a generation has of these; `None` where they are just those of the current generation.
 fn places_of(
     alloc: Global,
+    current: &Generation,
+    atlases: &[(SpaceId, Arc<Atlas, Global>)],
+    regions: usize,
+    notifies: bool,
+    places: &[Place],
+) -> Result<Option<Vec<Place>>, AllocError>
+    ensures { IfOk result (λ list. places_or current.now list ≡ filter (is_shown_in arc_value atlases.now notifies) places.now) }
+{
+    let marks = leaf_marks(alloc, atlases, regions)?;
+    let marks = marks.as_slice();
+    let old = current.places();
+    let (seen, count) = agreeing(atlases, marks, notifies, places, old);
+    if seen == places.len() && count == old.len() {
+        return Ok(None);
+    }
+    let list = kept(
+        alloc,
+        atlases,
+        marks,
+        notifies,
+        &old[..count],
+        &places[seen..],
+    )?;
+    Ok(Some(list))
+}
+
+// The places that a generation of the forest has: of just the regions that it names, and the notifiers' where a leaf has
+// an ioeventfd. `None` where they are those of the current generation. `with_events` has the regions that have an ioeventfd.
+fn shown_places(
+    alloc: Global,
+    current: &Generation,
     forest: &Forest,
     with_events: &[RegionId],
     atlases: &[(SpaceId, Arc<Atlas, Global>)],
     places: &[Place],
-) -> Result<Vec<Place>, AllocError>
+) -> Result<Option<Vec<Place>>, AllocError>
     requires views { map (λ p. (p.0, arc_value p.1)) atlases.now ≡ views_of forest.now }
     requires events { with_events.now ≡ ids_of (filter (λ n. nat_lt 0 (length n.events)) forest.now.nodes) }
-    ensures { IfOk result (λ list. list.items ≡ shown_places forest.now places.now) }
+    ensures { IfOk result (λ list. places_or current.now list ≡ shown_places forest.now places.now) }
 {
     let notifies = shows_events(forest, with_events, atlases);
     let regions = forest.nodes.len();
-    let list = kept(alloc, atlases, regions, notifies, places)?;
+    let list = places_of(alloc, current, atlases, regions, notifies, places)?;
     Ok(list)
+}
+
+// The generation that comes after the current one, with these places, or where there are none here with the current one's.
+fn generation_after(
+    alloc: Global,
+    current: &Generation,
+    forest: Forest,
+    atlases: Vec<(SpaceId, Arc<Atlas, Global>)>,
+    places: Option<Vec<Place>>,
+    has_iommu: bool,
+    has_events: bool,
+) -> Result<Generation, AllocError>
+    requires number { current.now.number + 1 < 2 ^ 64 }
+    requires edition { IsEdition forest (places_or current.now places) }
+    requires atlases { map (λ p. (p.0, arc_value p.1)) atlases.items ≡ views_of forest }
+    requires ascending { AscendByRegion (places_or current.now places) }
+    requires iommu { has_iommu ≡ list_any (λ n. is_iommu n.kind) forest.nodes }
+    requires events { has_events ≡ list_any (λ n. nat_lt 0 (length n.events)) forest.nodes }
+    ensures { IfOk result (λ g. g ≡ published (current.now.number + 1) forest (places_or current.now places)) }
+{
+    let number = current.number() + 1;
+    let generation = match places {
+        Some(places) => {
+            Generation::indexed(
+                alloc, number, forest, atlases, places, has_iommu, has_events,
+            )?
+        }
+        None => {
+            Generation::with_places_of(
+                alloc, current, number, forest, atlases, has_iommu, has_events,
+            )?
+        }
+    };
+    Ok(generation)
 }
 
 // The forest of a tree, and what a generation asks of all its regions: from a forest that differs from it in the noted regions alone,
@@ -194,11 +286,17 @@ pub(crate) fn prepare<L: Ledger>(
     } = show_spaces(
         alloc, current, known, noted, &spans, tree, &forest, has_events, steps,
     )?;
-    let places = places_of(alloc, &forest, with_events, atlases.as_slice(), places)?;
-    let number = current.number() + 1;
-    let generation = Generation::indexed(
+    let places = shown_places(
         alloc,
-        number,
+        current,
+        &forest,
+        with_events,
+        atlases.as_slice(),
+        places,
+    )?;
+    let generation = generation_after(
+        alloc,
+        current,
         forest,
         atlases,
         places,

@@ -1,4 +1,4 @@
-use Rattle.std.proofs.Common.{◌≡◌, sym, ◌∙◌}
+use Rattle.std.proofs.Common.{sym, ◌∙◌}
 use Rattle.std.specs.Prelude.{nat_lt, length}
 use Rattle.change_laws.proofs.EventlessLaws.{none_is_live}
 use Rattle.transact.proofs.EventLaws.{none_listed}

@@ -1,4 +1,4 @@
-use Rattle.std.proofs.Common.{◌≡◌, ltb, not, length, sym, ap, ◌∙◌}
+use Rattle.std.proofs.Common.{ltb, not, length, sym, ap, ◌∙◌}
 use Rattle.mem_base.specs.declared.map.ids.RegionId.{RegionId}
 use Rattle.std.specs.Prelude.{List, nat_lt}
 use Rattle.transact.proofs.EventLaws.{some_listed, not_empty}

@@ -1,4 +1,4 @@
-use Rattle.std.proofs.Common.{◌≡◌, true, ap, sym, ◌∙◌}
+use Rattle.std.proofs.Common.{◌≡◌, ap, sym, ◌∙◌}
 use Rattle.mem_base.specs.map.Touched.{reached}
 use Rattle.change_laws.specs.Meeting.{is_among}
 use Rattle.transact.proofs.TouchedLaws.{known_reach, either_first, either_second, touches_where}

@@ -1,7 +1,7 @@
 use Rattle.std.proofs.Common.{◌∙◌}
 use Rattle.std.specs.Arc.{arc_value}
 use Rattle.transact.proofs.PlacedLaws.{kept_places}
-use Rattle.transact.proofs.preparing.places_of.Goals as goal
+use Rattle.transact.proofs.preparing.shown_places.Goals as goal
 
 pub returns : goal.returns
 returns c =
