@@ -1,5 +1,6 @@
 -- Laws of who answers at a leaf.
-use Rattle.std.proofs.Common.{◌≡◌, ℕ, ◌+◌, ◌%◌, ◌^◌, ◌≤◌, ◌&&◌, not, ◌⊎◌, inl, inr, Bool, true, false, Some, None, if◌then◌else◌, refl, sym, ap, subst, ◌∙◌, arith, eqb-true}
+use Rattle.std.proofs.Common.{◌≡◌, ℕ, ◌+◌, ◌%◌, ◌^◌, ◌≤◌, ◌&&◌, not, ◌⊎◌, inl, inr, Bool, true, false, Some, None}
+use Rattle.std.proofs.Common.{if◌then◌else◌, refl, sym, ap, subst, ◌∙◌, arith, eqb-true}
 use Rattle.std.specs.Prelude.{IfSome, IsSome, IsSomeAnd, is_some, [], option_map, unwrap_or, ◌==◌, ◌||◌, nat_lt}
 use Rattle.mem_base.specs.declared.map.forests.Node.{Node}
 use Rattle.mem_base.specs.declared.map.forests.Forest.{Forest}
@@ -31,7 +32,11 @@ use Rattle.access_plan.specs.Answering.{memory_unless, rom_device, meant, IsSoun
 -- a device in a forest that calls made
 sound_device : (f : Forest) → IsMade f → (spot : Spot) (n : Node) → node_of f.nodes spot.leaf ≡ Some n → (device : Device) → device_of n.kind ≡ Some device
     → IsSoundDevice f spot device.ops
-sound_device f made spot n is device e = record { kind = subst (λ o. IsSomeAnd o (λ n. IsSome (device_of n.kind))) (sym is) (ap is_some e); good = good_ops device (go (is_good_device device) refl (refuse_if-none _ _ none)); fits = fits }
+sound_device f made spot n is device e = record {
+  kind = subst (λ o. IsSomeAnd o (λ n. IsSome (device_of n.kind))) (sym is) (ap is_some e);
+  good = good_ops device (go (is_good_device device) refl (refuse_if-none _ _ none));
+  fits = fits;
+}
   where
     closed : IsClosedForest f
     closed = subst IsClosedForest made.made (IsClosedForest-made made.calls made.fitting)
