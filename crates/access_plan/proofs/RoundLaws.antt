@@ -1,49 +1,11 @@
 -- Laws of the rounds of QEMU's core.
-use Rattle.std.proofs.Common.{◌≡◌, ℕ, zero, suc, ◌+◌, ◌-◌, ◌<◌, ◌≤◌, Bool, true, List, ◌++◌, length, refl, sym, ap, subst, ◌∙◌, arith}
+use Rattle.std.proofs.Common.{◌≡◌, ℕ, zero, suc, ◌+◌, ◌-◌, ◌<◌, ◌≤◌, Bool, ◌++◌, refl, sym, ap, ◌∙◌, arith}
 use Rattle.mem_base.specs.declared.map.ids.SpaceId.{SpaceId}
 use Rattle.mem_base.specs.declared.map.forests.Forest.{Forest}
-use Rattle.mem_base.specs.declared.map.spots.Spot.{Spot}
-use Rattle.mem_base.specs.declared.map.kinds.Ops.{Ops}
 use Rattle.mem_base.specs.declared.access.accesses.Target.{Target}
-use Rattle.mem_base.specs.declared.access.accesses.Piece.{Piece}
-use Rattle.mem_base.specs.views.LiveEvents.{events_of}
-use Rattle.mem_base.specs.access.AccessSteps.{Transfer, reading, length_of, part}
-use Rattle.mem_base.specs.access.Pieces.{piece, piece_at, size_at, is_valid}
-use Rattle.mem_base.specs.access.Trails.{trail_of, chunks, first_length}
-use Rattle.mem_base.specs.access.Plans.{Answerer, by_device, in_piece}
-use Rattle.mem_base.specs.access.CorePlans.{in_pages, taken_by, reached_at_once}
-use Rattle.access_run.specs.Sizes.{IsSize}
-use Rattle.access_run.proofs.DeviceLaws.{size_few}
-use Rattle.access_plan.specs.declared.lists.Reach.{Reach}
-use Rattle.access_plan.specs.HostPlans.{answerer_with_host, taken_at, round_at, rounds_by}
-use Rattle.access_plan.specs.Lists.{Adds, moved}
-use Rattle.access_plan.specs.Rounds.{IsDeviceOf, IsRound}
-use Rattle.access_plan.proofs.ListLaws.{moved_length}
-
--- a round that ends at a device takes its first piece
-pub device_round : (f : Forest) (w : Bool) (s : SpaceId) (a left at reach : ℕ) (bs : List ℕ) (x y : List Reach) (target : Target) (spot : Spot) (ops
-    : Ops) (p : Piece)
-    → target ≡ (trail_of f w s a).target → IsDeviceOf f w target spot ops → reach ≡ in_pages (trail_of f w s a).hops left → p ≡ piece_at ops spot.offset reach
-    → IsSize p.size → p.size ≤ reach → reach ≤ left → (w ≡ true → at + left ≤ length bs)
-    → Adds (moved w bs) x y (in_piece spot.leaf ops (events_of f spot.leaf) p (part at p.size (moved w bs))) at (at + p.size)
-    → IsRound f w s a left (moved w bs) x y at p.size
-device_round f w s a left at reach bs x y target spot ops p to device pages is sized most all within adds =
-    let who : answerer_with_host f w (trail_of f w s a).target ≡ by_device spot.leaf spot.offset ops (events_of f spot.leaf) =
-    ap (answerer_with_host f w) (sym to) ∙ device.who in
-    let size : p.size ≡ size_at ops spot.offset reach = ap (λ (q : Piece). q.size) is in
-    let some = (size_few p.size sized).0 in
-    let t : Transfer = part at p.size (moved w bs) in
-    let bytes : length_of t ≡ p.size = moved_length w bs at p.size (λ e. let h = within e in omega (arith, h, most, all)) in
-    let whole : p ≡ piece spot.offset (length_of t) (is_valid ops spot.offset (length_of t)) =
-    is ∙ ap (λ m. piece spot.offset m (is_valid ops spot.offset m)) (sym size ∙ sym bytes) in
-    let list : in_piece spot.leaf ops (events_of f spot.leaf) p t ≡ round_at (answerer_with_host f w) f w s a t =
-    ap (λ q. in_piece spot.leaf ops (events_of f spot.leaf) q t) whole ∙ ap (λ o. reached_at_once o t) (sym who) in record {
-      taken_is = size ∙ ap (size_at ops spot.offset) pages
-          ∙ ap (λ o. taken_by o (trail_of f w s a).hops (first_length (chunks f w s a left)) left) (sym who);
-      some = some;
-      most = omega (arith, most, all);
-      adds = subst (λ rs. Adds (moved w bs) x y rs at (at + p.size)) list adds;
-    }
+use Rattle.mem_base.specs.access.AccessSteps.{Transfer, reading, part}
+use Rattle.mem_base.specs.access.Plans.{Answerer}
+use Rattle.access_plan.specs.HostPlans.{taken_at, round_at, rounds_by}
 
 module _ (who : Target → Answerer) (f : Forest) (w : Bool) (s : SpaceId) (first : ℕ) where
   -- the bytes that belong to a round begin none

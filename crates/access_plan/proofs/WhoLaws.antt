@@ -1,6 +1,7 @@
 -- Laws of who answers at a leaf.
-use Rattle.std.proofs.Common.{◌≡◌, ℕ, ◌+◌, ◌^◌, ◌≤◌, ◌&&◌, not, ◌⊎◌, inl, inr, Bool, true, false, Some, None, if◌then◌else◌, refl, sym, ap, subst, ◌∙◌, arith}
-use Rattle.std.specs.Prelude.{IfSome, [], option_map, unwrap_or}
+use Rattle.std.proofs.Common.{◌≡◌, ℕ, ◌+◌, ◌%◌, ◌^◌, ◌≤◌, ◌&&◌, not, ◌⊎◌, inl, inr, Bool, true, false, Some, None}
+use Rattle.std.proofs.Common.{if◌then◌else◌, refl, sym, ap, subst, ◌∙◌, arith, eqb-true}
+use Rattle.std.specs.Prelude.{IfSome, IsSome, IsSomeAnd, is_some, [], option_map, unwrap_or, ◌==◌, ◌||◌, nat_lt}
 use Rattle.mem_base.specs.declared.map.forests.Node.{Node}
 use Rattle.mem_base.specs.declared.map.forests.Forest.{Forest}
 use Rattle.mem_base.specs.declared.map.spots.Spot.{Spot}
@@ -9,7 +10,9 @@ use Rattle.mem_base.specs.declared.map.kinds.Kind.TheVariants.{Ram, Rom, RomDevi
 use Rattle.mem_base.specs.declared.map.kinds.Device.{Device}
 use Rattle.mem_base.specs.declared.access.accesses.Target.TheVariants.{Leaf}
 use Rattle.mem_base.specs.map.Region.{node_of}
-use Rattle.mem_base.specs.map.Kinds.{device_of}
+use Rattle.mem_base.specs.map.Kinds.{device_of, has_bytes, is_memory}
+use Rattle.mem_base.specs.map.Limits.{most_bytes, page_size}
+use Rattle.mem_base.specs.map.Refusals.{bad_size}
 use Rattle.mem_base.specs.map.Devices.{is_good_device}
 use Rattle.mem_base.specs.map.TableRefusals.{bad_device}
 use Rattle.mem_base.specs.map.Forest.{IsMade, IsRegion, IsClosedForest}
@@ -24,12 +27,16 @@ use Rattle.mem_base.specs.access.Plans as plans
 use Rattle.access_plan.specs.HostPlans.{is_host_kind, is_host, answerer_with_host}
 use Rattle.access_plan.specs.declared.answerers.Answerer.{Answerer}
 use Rattle.access_plan.specs.declared.answerers.Answerer.TheVariants as who
-use Rattle.access_plan.specs.Answering.{memory_unless, rom_device, meant, IsSoundDevice, IsSound, IsAnswerer}
+use Rattle.access_plan.specs.Answering.{memory_unless, rom_device, meant, IsSoundDevice, IsSoundMemory, IsSound, IsAnswerer}
 
 -- a device in a forest that calls made
 sound_device : (f : Forest) → IsMade f → (spot : Spot) (n : Node) → node_of f.nodes spot.leaf ≡ Some n → (device : Device) → device_of n.kind ≡ Some device
     → IsSoundDevice f spot device.ops
-sound_device f made spot n is device e = record { good = good_ops device (go (is_good_device device) refl (refuse_if-none _ _ none)); fits = fits }
+sound_device f made spot n is device e = record {
+  kind = subst (λ o. IsSomeAnd o (λ n. IsSome (device_of n.kind))) (sym is) (ap is_some e);
+  good = good_ops device (go (is_good_device device) refl (refuse_if-none _ _ none));
+  fits = fits;
+}
   where
     closed : IsClosedForest f
     closed = subst IsClosedForest made.made (IsClosedForest-made made.calls made.fitting)
@@ -49,6 +56,31 @@ sound_device f made spot n is device e = record { good = good_ops device (go (is
         let within : spot.offset + bytes ≤ n.size = subst (λ o. IfSome o (λ n. spot.offset + bytes ≤ n.size)) is run.within in
         let size : n.size ≤ 2 ^ 64 = region.size in omega (arith, within, size)
 
+-- memory is whole pages
+whole_pages : (k : Kind) (size : ℕ) → bad_size k size ≡ None → is_memory k ≡ true → size % page_size ≡ 0
+whole_pages k size none memory =
+    go (size == 0) (size % page_size == 0) (has_bytes k && nat_lt most_bytes size) refl
+    (sym (λ i. (size == 0) || memory i && not (size % page_size == 0) || has_bytes k && nat_lt most_bytes size) ∙ refuse_if-none _ _ none)
+  where
+    go : (zero whole more : Bool) → (size % page_size == 0) ≡ whole → (zero || true && not whole || more) ≡ false → size % page_size ≡ 0
+    go true whole more w e = cc
+    go false false more w e = cc
+    go false true more w e = eqb-true (size % page_size) 0 w
+
+-- memory in a forest that calls made
+sound_memory_at : (f : Forest) → IsMade f → (spot : Spot) (n : Node) → node_of f.nodes spot.leaf ≡ Some n → is_memory n.kind ≡ true
+    → IsSoundMemory f spot
+sound_memory_at f made spot n is memory = record {
+  kind = subst (λ o. IsSomeAnd o (λ n. is_memory n.kind ≡ true)) (sym is) memory;
+  pages = subst (λ o. IfSome o (λ n. n.size % page_size ≡ 0)) (sym is) (whole_pages n.kind n.size region.sized memory);
+}
+  where
+    closed : IsClosedForest f
+    closed = subst IsClosedForest made.made (IsClosedForest-made made.calls made.fitting)
+
+    region : IsRegion f.nodes n
+    region = (every_node_of (IsRegion f.nodes) f.nodes spot.leaf n is closed.regions).0
+
 module _ (f : Forest) (spot : Spot) (write : Bool) (n : Node) (is : node_of f.nodes spot.leaf ≡ Some n) where
   abbrev by_host : Bool → plans.Answerer
   by_host b = if b then plans.by_memory_unless (write && spot.attrs.readonly) spot else plans.answerer f write (Leaf spot)
@@ -63,26 +95,31 @@ module _ (f : Forest) (spot : Spot) (write : Bool) (n : Node) (is : node_of f.no
   memory_meant true = refl
   memory_meant false = refl
 
-  sound_memory : (b : Bool) → IsSound f spot (memory_unless b)
-  sound_memory true = tt
-  sound_memory false = tt
+  sound_memory : IsMade f → is_memory n.kind ≡ true → (b : Bool) → IsSound f spot (memory_unless b)
+  sound_memory made memory true = tt
+  sound_memory made memory false = sound_memory_at f made spot n is memory
 
-  answers_as_memory : (w : Answerer) → w ≡ memory_unless (write && spot.attrs.readonly)
+  answers_as_memory : IsMade f → is_memory n.kind ≡ true → (w : Answerer) → w ≡ memory_unless (write && spot.attrs.readonly)
       → answerer_with_host f write (Leaf spot) ≡ plans.by_memory_unless (write && spot.attrs.readonly) spot → IsAnswerer f spot write w
-  answers_as_memory w same e = subst (IsAnswerer f spot write) (sym same) (record {
+  answers_as_memory made memory w same e = subst (IsAnswerer f spot write) (sym same) (record {
     is = e ∙ memory_meant (write && spot.attrs.readonly);
-    sound = sound_memory (write && spot.attrs.readonly);
+    sound = sound_memory made memory (write && spot.attrs.readonly);
   })
 
-  pub memory_there : (w : Answerer) → (n.kind ≡ Ram) ⊎ ((n.kind ≡ Rom) ⊎ (n.kind ≡ Host)) → w ≡ memory_unless (write && spot.attrs.readonly)
+  pub memory_there : IsMade f → (w : Answerer) → (n.kind ≡ Ram) ⊎ ((n.kind ≡ Rom) ⊎ (n.kind ≡ Host)) → w ≡ memory_unless (write && spot.attrs.readonly)
       → IsAnswerer f spot write w
-  memory_there w k same = answers_as_memory w same (go k)
+  memory_there made w k same = answers_as_memory made (memory k) w same (go k)
     where
       go : (n.kind ≡ Ram) ⊎ ((n.kind ≡ Rom) ⊎ (n.kind ≡ Host)) → answerer_with_host f write (Leaf spot)
           ≡ plans.by_memory_unless (write && spot.attrs.readonly) spot
       go (inl e) = found Ram e refl
       go (inr (inl e)) = found Rom e refl
       go (inr (inr e)) = host_so Host true e refl
+
+      memory : (n.kind ≡ Ram) ⊎ ((n.kind ≡ Rom) ⊎ (n.kind ≡ Host)) → is_memory n.kind ≡ true
+      memory (inl e) = ap is_memory e
+      memory (inr (inl e)) = ap is_memory e
+      memory (inr (inr e)) = ap is_memory e
 
   device_meant : (device : Device) → plans.by_device_of n device spot ≡ meant f spot (who.Device device.ops)
   device_meant device = let v : n.events ≡ events_of f spot.leaf = sym (ap (λ o. unwrap_or (option_map (λ (n : Node). n.events) o) []) is) in
@@ -100,7 +137,7 @@ module _ (f : Forest) (spot : Spot) (write : Bool) (n : Node) (is : node_of f.no
       go false = device_meant device
 
       sound : (b : Bool) → IsSound f spot (rom_device b device.ops)
-      sound true = tt
+      sound true = sound_memory_at f made spot n is (ap is_memory k)
       sound false = sound_device f made spot n is device (ap device_of k)
 
   pub io_there : IsMade f → (device : Device) → n.kind ≡ Io device → IsAnswerer f spot write (who.Device device.ops)

@@ -7,7 +7,7 @@ use mem_base::{Edition, Kind, Ops, Spot};
 
 /// Who answers at a leaf.
 #[derive(Clone, Copy, Debug, PartialEq, Eq)]
-pub(crate) enum Answerer {
+pub enum Answerer {
     /// The leaf's memory.
     Memory,
     /// The leaf's device, of these access sizes.
@@ -39,7 +39,7 @@ fn rom_device(direct: bool, ops: Ops) -> Answerer
 }
 
 /// Who answers a write, or a read, at a spot.
-pub(crate) fn answerer_of(g: &Generation, spot: &Spot, write: bool) -> Answerer
+pub fn answerer_of(g: &Generation, spot: &Spot, write: bool) -> Answerer
     ensures { IsAnswerer g.now.forest spot.now write result }
 {
     // Its contract tells that accepted calls make the forest.

@@ -1,11 +1,10 @@
 // What callbacks are asked.
-ghost use Rattle.std.specs.Prelude.{◌≡◌, ◌≤◌, ◌<◌, ◌-◌, ◌+◌, ◌++◌, length, replicate, true};
+ghost use Rattle.std.specs.Prelude.{◌≡◌, ◌≤◌, ◌<◌, ◌+◌, length, true};
 ghost use Rattle.mem_base.specs.access.AccessSteps.{part};
 ghost use Rattle.mem_base.specs.access.Plans.{request};
-ghost use Rattle.mem_base.specs.access.Words.{number_of_bytes};
 ghost use Rattle.access_plan.specs.Lists.{moved, request_of};
 
-use access_cut::number_of;
+use access_run::padded;
 
 /// What a callback is to do.
 #[derive(Clone, Copy, Debug, PartialEq, Eq)]
@@ -14,22 +13,6 @@ pub enum Request {
     Answers { len: u8, big: bool },
     /// It takes a number.
     Takes { value: u64 },
-}
-
-// The number of `size` bytes that these are with zero bytes after them, in the order of addresses.
-fn padded(bytes: &[u8], size: u8, big: bool) -> u64
-    requires some { 0 < length bytes.now }
-    requires fits { length bytes.now ≤ size }
-    requires size { size ≤ 8 }
-    ensures { result ≡ number_of_bytes (bytes.now ++ replicate (size - length bytes.now) 0) big }
-{
-    let number = number_of(bytes, big);
-    if big {
-        let missing = u32::from(size) - bytes.len() as u32;
-        number << (8 * missing)
-    } else {
-        number
-    }
 }
 
 /// What a callback of `size` bytes is to do with `len` bytes of an access: it takes those of a write, with zero bytes after them.

@@ -6,7 +6,7 @@ ghost use Rattle.access_cut.specs.Conditions.{AreGood, IsCut};
 ghost use Rattle.access_run.specs.Sizes.{IsSize};
 ghost use Rattle.access_plan.specs.HostPlans.{MeetsEnd, answerer_with_host};
 ghost use Rattle.access_plan.specs.Lists.{moved};
-ghost use Rattle.access_plan.specs.Rounds.{AddsRound, AddsRounds, IsDeviceAt};
+ghost use Rattle.access_plan.specs.Rounds.{AddsRound, AddsRounds, IsDeviceAt, IsRoundAt, TakesRound};
 
 use crate::answerers::{Answerer, answerer_of};
 use crate::devices::piece;
@@ -16,8 +16,24 @@ use crate::pages::in_pages;
 use access_cut::cut;
 use access_run::first_chunk;
 use generation::Generation;
-use mem_base::{Ops, Piece, SpaceId, Spot, Target};
+use mem_base::{Ops, Piece, RegionId, SpaceId, Spot, Target};
 use std::alloc::AllocError;
+
+/// What one round of QEMU's core takes.
+#[derive(Clone, Copy, Debug, PartialEq, Eq)]
+pub enum Round {
+    /// So many bytes, to where what shares their route ends: there is no device.
+    Route {
+        leads: Target,
+        count: usize,
+    },
+    /// A piece of a region's device, of these access sizes.
+    Piece {
+        region: RegionId,
+        ops: Ops,
+        piece: Piece,
+    },
+}
 
 // The first piece of the bytes of a device from an offset on. None where it may end past the last offset that there is.
 fn first_piece(ops: &Ops, offset: u64, left: u64) -> Option<Piece>
@@ -48,8 +64,38 @@ fn device_at(g: &Generation, leads: &Target, write: bool) -> Option<(Spot, Ops)>
     }
 }
 
+/// The next round of QEMU's core at an address, `left` bytes from the end of an access: how many bytes it takes, and who has them.
+///
+/// `None` where it meets one of the last offsets of a device of 2^64 bytes, where a piece may end past them. QEMU's core, the body of the
+/// loop of `flatview_write_continue`. It takes no memory.
+pub fn next_round(
+    g: &Generation,
+    space: SpaceId,
+    addr: u64,
+    left: usize,
+    write: bool,
+) -> Option<Round>
+    requires some { 1 ≤ left }
+    requires addresses { addr + left ≤ 2 ^ 64 }
+    ensures { TakesRound g.now.forest write space addr left result }
+{
+    let (leads, count) = first_chunk(g, space, addr, left, write);
+    let Some((spot, ops)) = device_at(g, &leads, write) else {
+        return Some(Round::Route { leads, count });
+    };
+    let reach = in_pages(g, space, addr, write, left as u64);
+    let Some(first) = first_piece(&ops, spot.offset, reach) else {
+        return None;
+    };
+    Some(Round::Piece {
+        region: spot.leaf,
+        ops,
+        piece: first,
+    })
+}
+
 // What one round reaches, and how many bytes it takes. None where it meets the last offsets of a device.
-fn round(
+fn add_round(
     list: &mut Vec<Reach>,
     g: &Generation,
     space: SpaceId,
@@ -65,17 +111,23 @@ fn round(
     requires bound { at + left < 2 ^ 64 }
     ensures { IfOk result (AddsRound g.now.forest write space addr left (moved write bytes.now) list.old.items list.new.items at) }
 {
-    let (leads, shared) = first_chunk(g, space, addr, left, write);
-    let Some((spot, ops)) = device_at(g, &leads, write) else {
-        target(list, g, &leads, write, bytes, at, shared)?;
-        return Ok(Some(shared));
-    };
-    let reach = in_pages(g, space, addr, write, left as u64);
-    let Some(first) = first_piece(&ops, spot.offset, reach) else {
-        return Ok(None);
-    };
-    piece(list, g, spot.leaf, &ops, &first, write, bytes, at)?;
-    Ok(Some(first.size as usize))
+    match next_round(g, space, addr, left, write) {
+        None => Ok(None),
+        Some(Round::Route { leads, count }) => {
+            target(list, g, &leads, write, bytes, at, count)?;
+            Ok(Some(count))
+        }
+        Some(
+            Round::Piece {
+                region,
+                ops,
+                piece: first,
+            },
+        ) => {
+            piece(list, g, region, &ops, &first, write, bytes, at)?;
+            Ok(Some(first.size as usize))
+        }
+    }
 }
 
 /// What the rounds of an access reach. False where one meets the last offsets of a device.
@@ -94,7 +146,7 @@ pub(crate) fn rounds(
 {
     let mut done = 0;
     while done < len {
-        match round(
+        match add_round(
             list,
             g,
             space,

@@ -19,7 +19,7 @@ pub(crate) fn bytes_from(word: u64, first: u8, size: u8) -> u64
 }
 
 /// The number of `size` bytes that these are with zero bytes after them, in the order of addresses.
-pub(crate) fn padded(bytes: &[u8], size: u8, big: bool) -> u64
+pub fn padded(bytes: &[u8], size: u8, big: bool) -> u64
     requires some { 0 < length bytes.now }
     requires fits { length bytes.now ≤ size }
     requires size { size ≤ 8 }
@@ -47,7 +47,7 @@ fn put_count(number: u64, size: u8, big: bool, out: &mut [u8], count: usize)
 }
 
 /// Puts the first bytes of a number of `size` bytes, in the order of addresses, as many as there is room for.
-pub(crate) fn put(number: u64, size: u8, big: bool, out: &mut [u8])
+pub fn put(number: u64, size: u8, big: bool, out: &mut [u8])
     requires fits { length out.old ≤ size }
     requires size { size ≤ 8 }
     ensures { out.new ≡ take (length out.old) (bytes_of number size big) }

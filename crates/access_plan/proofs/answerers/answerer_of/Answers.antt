@@ -32,5 +32,5 @@ returns-after-write c =
       | then-write w ↦ w.memory_unless-is ∙ sym (ap (λ b. b && spot.attrs.readonly) w.if-write.true)
       | else-write w ↦ w.memory_unless-is ∙ w.if-write.false ∙ sym (ap (λ b. b && spot.attrs.readonly) w.if-write.false)
     ] in
-    memory_there f spot c.args.write c.in-Some.node.now is c.memory_unless.result c.in-Ram.is
+    memory_there f spot c.args.write c.in-Some.node.now is c.forest.ensures.made c.memory_unless.result c.in-Ram.is
     (c.memory_unless.ensures ∙ ap memory_unless shut)

@@ -34,8 +34,8 @@ loop-done-preserved c =
     let t : Transfer = moved w c.args.bytes.now in
     let done : ℕ = c.loop-done.done in
     let count : ℕ = c.in-Some.count in
-    let r : IsRound f w s (a + done) (n - done) t c.loop-done.list.items c.round.new.list.items done count =
-    subst (λ o. AddsRound f w s (a + done) (n - done) t c.loop-done.list.items c.round.new.list.items done o) c.in-Some.is c.in_ok-count.ensures in
+    let r : IsRound f w s (a + done) (n - done) t c.loop-done.list.items c.add_round.new.list.items done count =
+    subst (λ o. AddsRound f w s (a + done) (n - done) t c.loop-done.list.items c.add_round.new.list.items done o) c.in-Some.is c.in_ok-count.ensures in
     let most = r.most in
     let less = c.loop-done-test.true in
     let here : a + done + count ≡ a + (done + count) = omega arith in
@@ -48,7 +48,7 @@ loop-done-preserved c =
     ∙ (λ i. round_at (answerer_with_host f w) f w s (a + done) (part (skipped i) count t)
     ++ rounds_by (answerer_with_host f w) f w s a t (here i) (left i) 0) in (
       omega (arith, most, less),
-      underway_then t c.args.list.now.items c.loop-done.list.items c.round.new.list.items (rounds_with_host f w s a n t)
+      underway_then t c.args.list.now.items c.loop-done.list.items c.add_round.new.list.items (rounds_with_host f w s a n t)
           (rounds_by (answerer_with_host f w) f w s a t (a + done) (n - done) 0) (round_at (answerer_with_host f w) f w s (a + done) (part done count t))
           (rounds_by (answerer_with_host f w) f w s a t (a + (done + count)) (n - (done + count)) 0) 0 done (done + count) c.loop-done.invariant.1 list r.adds,
     )

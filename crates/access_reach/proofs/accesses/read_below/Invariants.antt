@@ -1,0 +1,17 @@
+use Rattle.std.proofs.Common.{◌≤◌, ◌+◌, ◌-◌, length, take, false}
+use Rattle.std.specs.Prelude.{flat_map}
+use Rattle.mem_base.specs.access.Trails.{chunks}
+use Rattle.mem_base.specs.access.AccessSteps.{reading}
+use Rattle.access_reach.specs.Asking.{outcome}
+use Rattle.access_reach.specs.Reaching.{IsUnderway, in_chunk, plan_below}
+use Rattle.access_reach.proofs.accesses.read_below.Given as goal
+
+abbrev pub invariant-loop-done : goal.invariant-loop-done
+invariant-loop-done g l =
+    let f = (g.B.Bus.shows l.initial.bus).forest in
+    let t = reading (length l.initial.out) in (l.done ≤ l.below)
+    × IsUnderway g.B.Bus.asks l.initial.bus (plan_below f l.space l.addr t l.below)
+    (flat_map (in_chunk f l.space l.addr t) (chunks f false l.space (l.addr + l.done) (l.below - l.done))) (outcome (take l.done l.out) l.result) l.bus
+
+abbrev pub decreases-loop-done : goal.decreases-loop-done
+decreases-loop-done g l = l.below - l.done

@@ -1,0 +1,5 @@
+pub mod Asking
+pub mod Reaching
+pub mod DevicePieces
+pub mod Rounds
+pub mod Doing
