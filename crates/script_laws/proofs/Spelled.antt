@@ -142,11 +142,11 @@ device_kind_law token Fault e = record { token = refl; reads = refl }
 
 -- Passes
 
-abbrev all_below : ℕ → (ℕ → Bool) → Bool
+abbrev pub all_below : ℕ → (ℕ → Bool) → Bool
 all_below zero test = true
 all_below (suc n) test = test n && all_below n test
 
-below : (n k : ℕ) (test : ℕ → Bool) → all_below n test ≡ true → k < n → test k ≡ true
+pub below : (n k : ℕ) (test : ℕ → Bool) → all_below n test ≡ true → k < n → test k ≡ true
 below zero k test e h = absurd (omega (arith, h))
 below (suc n) k test e h =
     let both = and_both (test n) (all_below n test) e in
@@ -159,7 +159,7 @@ below (suc n) k test e h =
 abbrev pass_number_text : ℕ → Text
 pass_number_text n = pass_text (record { 0 = n })
 
-abbrev is_value : ℕ → Option ℕ → Bool
+abbrev pub is_value : ℕ → Option ℕ → Bool
 is_value n None = false
 is_value n (Some m) = m == n
 
@@ -170,7 +170,7 @@ passes : all_below 16 pass_test ≡ true
 unfolding glyphs
 passes = refl
 
-value_is : (n : ℕ) (o : Option ℕ) → is_value n o ≡ true → o ≡ Some n
+pub value_is : (n : ℕ) (o : Option ℕ) → is_value n o ≡ true → o ≡ Some n
 value_is n None e = absurd (true≢false (sym e))
 value_is n (Some m) e = ap Some (eqb-true m n e)
 
@@ -242,7 +242,7 @@ range_law token r e =
 
 -- Bytes
 
-abbrev AllBytes : List ℕ → Type 0
+abbrev pub AllBytes : List ℕ → Type 0
 AllBytes [] = Unit {0}
 AllBytes (b ∷ bs) = (b < 256) × AllBytes bs
 
@@ -280,7 +280,7 @@ glyph_reads d h = grind (arith, nat_tests)
 glyph_graphic : (d : ℕ) → d < 16 → is_graphic (digit_glyph false d) ≡ true
 glyph_graphic d h = grind (arith, nat_tests)
 
-bytes_read : (bs : List ℕ) → AllBytes bs → byte_pairs (bytes_text bs) ≡ Some bs
+pub bytes_read : (bs : List ℕ) → AllBytes bs → byte_pairs (bytes_text bs) ≡ Some bs
 bytes_read [] all = refl
 bytes_read (b ∷ bs) all =
     let whole : b / 16 * 16 + b % 16 ≡ b = omega arith in

@@ -3,12 +3,11 @@ use Rattle.std.specs.Prelude.{ℕ, ◌≡◌, ◌⊎◌, List, Option}
 use Rattle.outside.specs.Causes.{Rose}
 use Rattle.outside.specs.Sink.{Takes, TakesPrefix}
 use Rattle.mem_base.specs.script.Spelling.{Text}
-use Rattle.mem_base.specs.script.Scripts.{script_of}
+use Rattle.mem_base.specs.script.Run.{text_of}
 use Rattle.mem_base.specs.script.Summary.{summary}
-use Rattle.script_make.specs.Texts.{text_of_seed}
+use Rattle.script_make.specs.Texts.{script_of_seed}
 use Rattle.top_call.specs.declared.endings.Ending.{Ending}
 use Rattle.top_call.specs.declared.endings.Ending.TheVariants as endings
-use Rattle.top_call.specs.WrittenText.{text_of_script}
 
 -- by the text, the ending that comes where all of it was written, the sink before and after, and the ending
 pub record Says {K : Type 0} (written : K → Option (List ℕ)) (holds : K → List ℕ → Type 0) (write_faults : K → ℕ) (text : Text)
@@ -30,4 +29,4 @@ pub record IsLeftAlone {S : Type 0} (left : S → Option (List ℕ)) (read_fault
 
 -- what `demo` writes of a seed: the summary of what `run` writes for the script that `make` writes
 abbrev pub demo_text : ℕ → Text
-demo_text seed = summary (text_of_script (script_of (text_of_seed seed)))
+demo_text seed = summary (text_of (script_of_seed seed))

@@ -11,7 +11,7 @@ use crate::running::run_text;
 use outside::{Failed, Sink, write_all};
 use run_summary::summary;
 use script_lines::Line;
-use script_make::text_of_seed;
+use script_make::{seeds_give_scripts, text_of_seed};
 use std::alloc::{AllocError, Global};
 
 /// Writes the script of a seed.
@@ -43,6 +43,7 @@ fn run_kept(alloc: Global, text: &[u8]) -> Result<Vec<u8>, AllocError>
 fn summary_of_seed(alloc: Global, seed: u64) -> Result<Line, AllocError>
     ensures { IfOk result (λ line. line ≡ demo_text seed) }
 {
+    seeds_give_scripts();
     let script = text_of_seed(alloc, seed)?;
     let written = run_kept(alloc, &script)?;
     let line = summary(alloc, &written)?;
