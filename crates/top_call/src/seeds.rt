@@ -1,7 +1,8 @@
 // `make` and `demo`: the script of a seed, and the summary of what it writes.
 ghost use Rattle.std.specs.Prelude.{◌≡◌, IfOk};
 ghost use Rattle.mem_base.specs.script.Scripts.{script_of};
-ghost use Rattle.script_make.specs.Texts.{text_of_seed};
+ghost use Rattle.mem_base.specs.script.Run.{text_of};
+ghost use Rattle.script_make.specs.Texts.{script_of_seed, text_of_seed};
 ghost use Rattle.top_call.specs.Says.{Says, demo_text};
 ghost use Rattle.top_call.specs.WrittenText.{text_of_script};
 
@@ -39,13 +40,21 @@ fn run_kept(alloc: Global, text: &[u8]) -> Result<Vec<u8>, AllocError>
     }
 }
 
-// The summary of what `run` writes for the script of a seed.
-fn summary_of_seed(alloc: Global, seed: u64) -> Result<Line, AllocError>
-    ensures { IfOk result (λ line. line ≡ demo_text seed) }
+// What `run` writes for the script of a seed.
+fn run_seed(alloc: Global, seed: u64) -> Result<Vec<u8>, AllocError>
+    ensures { IfOk result (λ written. written.items ≡ text_of (script_of_seed seed)) }
 {
     seeds_give_scripts();
     let script = text_of_seed(alloc, seed)?;
     let written = run_kept(alloc, &script)?;
+    Ok(written)
+}
+
+// The summary of that.
+fn summary_of_seed(alloc: Global, seed: u64) -> Result<Line, AllocError>
+    ensures { IfOk result (λ line. line ≡ demo_text seed) }
+{
+    let written = run_seed(alloc, seed)?;
     let line = summary(alloc, &written)?;
     Ok(line)
 }
