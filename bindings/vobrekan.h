@@ -1,7 +1,7 @@
 /* The machine of a guest's memory, as a library. Made by bindings/declare from crates/libvobrekan/src.
  *
  * No pointer may be null, also where a length is 0. One call at a time works on a handle; a handle may pass from thread to
- * thread. A handle begins as VB_MACHINE_INIT. */
+ * thread. A handle begins as VB_MACHINE_INIT, VB_DESK_INIT or VB_CPU_INIT. */
 #ifndef VOBREKAN_H
 #define VOBREKAN_H
 
@@ -36,8 +36,11 @@ extern "C" {
 #define VB_EVENT_TAKEN 20 /* The region has this ioeventfd. */
 #define VB_MEMORY 21 /* Out of memory. */
 #define VB_ARGUMENT 22 /* An argument, `value`, stands for nothing. */
-#define VB_NO_MACHINE 23 /* The handle has no machine. */
-#define VB_HAS_MACHINE 24 /* The handle has a machine. */
+#define VB_NO_MACHINE 23 /* The handle has no machine, desk or virtual CPU. */
+#define VB_HAS_MACHINE 24 /* The handle has one. */
+#define VB_NO_SCRIPT 25 /* The text is no script: `other` is the number of its first line at fault. */
+#define VB_NOT_WHOLE 26 /* Only a part of some word would be replaced, in the generation `other`. */
+#define VB_NO_CPU 27 /* All 16 virtual CPUs are handed out. */
 
 #define VB_SORT_REGION 0
 #define VB_SORT_SPACE 1
@@ -66,6 +69,29 @@ extern "C" {
 #define VB_DEVICE_COUNT 1
 #define VB_DEVICE_BELL 2
 #define VB_DEVICE_FAULT 3
+#define VB_DO_BEGIN 0
+#define VB_DO_COMMIT 1
+#define VB_DO_LISTEN 2
+#define VB_DO_UNLISTEN 3
+#define VB_DO_REGION 4
+#define VB_DO_SPACE 5
+#define VB_DO_ADD 6
+#define VB_DO_DEL 7
+#define VB_DO_MOVE 8
+#define VB_DO_RESIZE 9
+#define VB_DO_RETARGET 10
+#define VB_DO_ENABLE 11
+#define VB_DO_READONLY 12
+#define VB_DO_NONVOLATILE 13
+#define VB_DO_UNMERGEABLE 14
+#define VB_DO_ROMD 15
+#define VB_DO_LOG 16
+#define VB_DO_GLOBAL 17
+#define VB_DO_MAP 18
+#define VB_DO_UNMAP 19
+#define VB_DO_EVENT 20
+#define VB_DO_UNEVENT 21
+#define VB_DO_DROP 22
 #define VB_CLIENT_DISPLAY 0
 #define VB_CLIENT_CODE 1
 #define VB_CLIENT_MIGRATION 2
@@ -96,6 +122,16 @@ extern "C" {
 typedef struct vb_machine {
     void *at;
 } vb_machine;
+
+/* What C keeps of the desk of a machine that virtual CPUs share: a pointer, which is null where there is none. */
+typedef struct vb_desk {
+    void *at;
+} vb_desk;
+
+/* What C keeps of a virtual CPU: a pointer, which is null where there is none. */
+typedef struct vb_cpu {
+    void *at;
+} vb_cpu;
 
 /* What a call answers: a code, and what it names.
  *
@@ -136,6 +172,33 @@ typedef struct vb_ioevent {
     /* Whether only a write of `value` counts. */
     bool matched;
 } vb_ioevent;
+
+/* What is asked of a desk. `what` says which of the calls of a machine it is, by `VB_DO_..`; each takes the numbers that it names, and the
+ * others are not looked at. */
+typedef struct vb_order {
+    uint64_t offset;
+    /* In bytes; 2^64 - 1 stands for 2^64. */
+    uint64_t size;
+    /* Where a translation goes on. */
+    uint64_t translated;
+    uint32_t what;
+    /* The kind of a region that is made, by `VB_KIND_..`. */
+    uint32_t kind;
+    uint32_t region;
+    /* The region that is placed or taken out, the target of an alias, or the root of a space. */
+    uint32_t other;
+    uint32_t space;
+    uint32_t listener;
+    /* Whose logging is switched, by `VB_CLIENT_..`. */
+    uint32_t client;
+    /* Which accesses a translation lets through, by `VB_PERM_..`. */
+    uint32_t perm;
+    int32_t priority;
+    /* Whether something is switched on. */
+    bool on;
+    vb_device device;
+    vb_ioevent event;
+} vb_order;
 
 /* A range of a view: the addresses `start` to `last` inclusive are answered by a region, from `offset` in it on. */
 typedef struct vb_flat_range {
@@ -220,8 +283,10 @@ typedef struct vb_listener_call {
     uint8_t to;
 } vb_listener_call;
 
-/* A handle that has no machine. */
+/* A handle that has nothing yet. */
 #define VB_MACHINE_INIT { 0 }
+#define VB_DESK_INIT { 0 }
+#define VB_CPU_INIT { 0 }
 
 /* Reads bytes of a space by a pass, 0 to 15, as many as there is room for. A pass that is out enters the current generation
  * before it and leaves after it. QEMU's core, `address_space_read`.
@@ -289,9 +354,79 @@ vb_answer vb_unevent(vb_machine *handle, uint32_t region, const vb_ioevent *even
 /* Drops a region that nothing uses. A `vb_reap` gives its memory back. */
 vb_answer vb_drop(vb_machine *handle, uint32_t region);
 
+/* Enters the current generation: accesses go by it until the virtual CPU leaves it or enters anew. `other` of the answer is its number.
+ * QEMU's core, `rcu_read_lock`. */
+vb_answer vb_cpu_enter(vb_cpu *handle);
+
+/* Leaves the generation that the virtual CPU is entered in; where it is in none, it does nothing. QEMU's core, `rcu_read_unlock`. */
+vb_answer vb_cpu_leave(vb_cpu *handle);
+
+/* Reads bytes of a space, as many as there is room for, in the generation that the virtual CPU is entered in, and where it is in none in the
+ * current one. The answer is that of `vb_read`. It never waits. QEMU's core, `address_space_read`. */
+vb_answer vb_cpu_read(vb_cpu *handle, uint32_t space, uint64_t addr, uint8_t *out, size_t out_len);
+
+/* Writes the eight bytes of a number, the lowest first, as `vb_cpu_read` reads bytes. It never waits: where it would replace only a part
+ * of some word, it writes nothing, with the code 26, and `other` of the answer is the number of the generation. QEMU's core,
+ * `address_space_write`. */
+vb_answer vb_cpu_write8(vb_cpu *handle, uint32_t space, uint64_t addr, uint64_t value);
+
+/* Leaves where the virtual CPU is entered, and frees it, if the handle has one. The handle has none then. */
+void vb_cpu_free(vb_cpu *handle);
+
 /* What listeners were told: the call at an index, counted from the first that was ever made, where there is one. `value` of the
  * answer is how many there are, so that a caller that keeps its index polls: it reads on from there until it comes to `value`. */
 vb_answer vb_delivery(vb_machine *handle, size_t index, vb_listener_call *out);
+
+/* Makes a machine that virtual CPUs share, over a pool of this many words of 8 bytes, at most 2^26, and its desk for a handle that has
+ * none. */
+vb_answer vb_desk_new(vb_desk *handle, size_t words);
+
+/* Frees the desk of a handle, if it has one. The handle has none then. Virtual CPUs that it handed out stay, in the last generation that
+ * was published; what they share is freed with the last of them. */
+void vb_desk_free(vb_desk *handle);
+
+/* Asks the desk for a call that changes the map, a transaction, or a listener, as the call of that name asks a machine for it. It is done
+ * beside the virtual CPUs: what is published, those that enter later see. `vb_desk_ask` waits for none of them: where one may still use the
+ * generation that a publish would overwrite, seven before the current one, it is refused with the code 19. */
+vb_answer vb_desk_ask(vb_desk *handle, const vb_order *order);
+
+/* Hands out a virtual CPU, for a handle that has none. There are 16, numbered from 0 in the order in which they are handed out, and after
+ * these it is refused with the code 27. It has seen all that the desk has done. */
+vb_answer vb_desk_cpu(vb_desk *handle, vb_cpu *cpu);
+
+/* Takes a notifier, as `vb_notified` does. */
+vb_answer vb_desk_notified(vb_desk *handle, uint32_t number);
+
+/* Releases dropped regions, as `vb_reap` does: a generation in which a virtual CPU is entered is in use. */
+vb_answer vb_desk_reap(vb_desk *handle, uint32_t *out, size_t out_len);
+
+/* Takes the marks of a region for one client, as `vb_harvest` does: a page that a virtual CPU writes meanwhile is told now or the next time. */
+vb_answer vb_desk_harvest(vb_desk *handle, uint32_t region, uint32_t client, uint64_t *out, size_t out_len);
+
+/* What an address of a space leads to in the current generation, as `vb_find` tells it. */
+vb_answer vb_desk_find(vb_desk *handle, uint32_t space, uint64_t addr, vb_found *out);
+
+/* A range of the current view of a space, as `vb_range` tells it. */
+vb_answer vb_desk_range(vb_desk *handle, uint32_t space, size_t index, vb_flat_range *out);
+
+/* What listeners were told, as `vb_delivery` tells it. */
+vb_answer vb_desk_delivery(vb_desk *handle, size_t index, vb_listener_call *out);
+
+/* Takes the marks of a region for one client, 0 display, 1 code, 2 migration: the pages that were written since they were last taken.
+ * Page 64 i + b, of 4,096 bytes, was written where bit b of word i of `out` is set. `value` of the answer is how many pages were. QEMU's
+ * core, `cpu_physical_memory_snapshot_and_clear_dirty`.
+ *
+ * The region is one whose bytes the machine has. Another client is refused, and so is a buffer with fewer words than have a bit for each
+ * page of the region in the current generation: `value` of that answer is how many it takes. Where the call is refused, or memory runs out,
+ * the marks stay, and nothing is written. */
+vb_answer vb_harvest(vb_machine *handle, uint32_t region, uint32_t client, uint64_t *out, size_t out_len);
+
+/* The path on which an address of a space is found in the current generation: the regions that the search passes, aliases among them,
+ * from the root to the one that answers, at most 32. Where nothing answers there is none. QEMU's manual, "The memory API", "Visibility".
+ *
+ * `out` has as many of their numbers as there is room for; `value` of the answer is how many there are, and `other` the number of the
+ * generation. It takes one pass over all regions: `vb_find` is for each access, this for a person. Where memory runs out nothing is written. */
+vb_answer vb_path(vb_machine *handle, uint32_t space, uint64_t addr, uint32_t *out, size_t out_len);
 
 /* What a read of `len` bytes of a space reaches in the current generation, in order and nothing else, for a monitor that has the memory
  * and the devices itself: it makes the callbacks, reads its memory, and takes 0 where nothing is. `way` is 0 for this machine's way, in
@@ -333,6 +468,13 @@ vb_answer vb_io(vb_machine *handle, uint64_t size, const vb_device *device);
 
 /* Makes a ROM device. A kind of device that there is not is refused. */
 vb_answer vb_rom_device(vb_machine *handle, uint64_t size, const vb_device *device);
+
+/* Runs a script on a machine of its own: `out` has as many bytes of what it writes as there is room for, and `value` of the answer is
+ * how many there are.
+ *
+ * Of a text that is no script, with the code 25, the line of its first fault is written, and `other` of the answer is the number of
+ * that line: 0 where the text as a whole is too long. Where memory runs out nothing is written. It needs no handle. */
+vb_answer vb_run(const uint8_t *script, size_t script_len, uint8_t *out, size_t out_len);
 
 /* The range at an index of the current view of a space, by ascending address: `out` has it, where there is one. `value` of the
  * answer is the number of ranges, and `other` that of the generation. */
@@ -376,9 +518,12 @@ vb_answer vb_load(vb_machine *handle, uint32_t region, uint64_t offset, const ui
  * refused. */
 vb_answer vb_notified(vb_machine *handle, uint32_t number);
 
-/* Releases the dropped regions that no generation in use names: their memory is free again. `value` of the answer is their
- * number. */
-vb_answer vb_reap(vb_machine *handle);
+/* Releases the dropped regions that no generation in use names: their memory is free again. `value` of the answer is how many they
+ * are.
+ *
+ * `out` has the numbers of as many of them as there is room for, ascending. Room for as many regions as were dropped is enough. Where
+ * memory runs out nothing is written. */
+vb_answer vb_reap(vb_machine *handle, uint32_t *out, size_t out_len);
 
 #ifdef __cplusplus
 }

@@ -48,12 +48,17 @@ static void test_handles(void)
     vb_found found;
     vb_flat_range range;
     uint8_t byte = 0;
+    uint32_t number = 7;
+    uint64_t word = 7;
     refused(vb_begin(&m), VB_NO_MACHINE, 0, 0, "begin without a machine");
     refused(vb_commit(&m), VB_NO_MACHINE, 0, 0, "commit without a machine");
     refused(vb_ram(&m, 4096), VB_NO_MACHINE, 0, 0, "RAM without a machine");
     refused(vb_move(&m, 0, 0), VB_NO_MACHINE, 0, 0, "a move without a machine");
     refused(vb_listen(&m, 0, 0, 0), VB_NO_MACHINE, 0, 0, "a listener without a machine");
-    refused(vb_reap(&m), VB_NO_MACHINE, 0, 0, "a reap without a machine");
+    refused(vb_reap(&m, &number, 1), VB_NO_MACHINE, 0, 0, "a reap without a machine");
+    refused(vb_path(&m, 0, 0, &number, 1), VB_NO_MACHINE, 0, 0, "a path without a machine");
+    refused(vb_harvest(&m, 0, VB_CLIENT_DISPLAY, &word, 1), VB_NO_MACHINE, 0, 0, "a harvest without a machine");
+    check(number == 7 && word == 7, "nothing is written");
     refused(vb_notified(&m, 0), VB_NO_MACHINE, 0, 0, "a notifier without a machine");
     refused(vb_find(&m, 0, 0, &found), VB_NO_MACHINE, 0, 0, "a look-up without a machine");
     refused(vb_range(&m, 0, 0, &range), VB_NO_MACHINE, 0, 0, "a view without a machine");
@@ -210,8 +215,14 @@ static void test_accesses(void)
     done(vb_unevent(&m, latch, &event), "the ioeventfd is taken away");
     done(vb_del(&m, system, latch), "the device is taken out");
     done(vb_drop(&m, latch), "and dropped");
-    vb_answer reaped = vb_reap(&m);
-    check(reaped.code == VB_DONE && reaped.value <= 1, "a reap");
+    uint32_t released[2] = { 99, 99 };
+    for (uint64_t i = 0; i < 8; i++) {
+        done(vb_move(&m, ram, 0x4000 + 0x1000 * (i % 2)), "a move");
+    }
+    vb_answer reaped = vb_reap(&m, released, 2);
+    check(reaped.code == VB_DONE && reaped.value == 1 && released[0] == latch && released[1] == 99, "a reap, and what it released");
+    reaped = vb_reap(&m, released, 2);
+    check(reaped.code == VB_DONE && reaped.value == 0 && released[0] == latch, "a reap of nothing");
     vb_free(&m);
 }
 
@@ -316,6 +327,178 @@ static void test_plans(void)
     vb_free(&m);
 }
 
+/* On which path an address is found, and which pages were written. */
+static void test_paths_and_pages(void)
+{
+    vb_machine m = VB_MACHINE_INIT;
+    uint32_t path[32] = { 0 };
+    uint64_t words[3] = { 7, 7, 7 };
+    uint8_t bytes[16] = { 1 };
+    done(vb_new(&m, 1 << 18), "a machine");
+    uint32_t system = made(vb_container(&m, UINT64_MAX), "a container");
+    uint32_t ram = made(vb_ram(&m, 100 * 0x1000), "RAM of 100 pages");
+    uint32_t window = made(vb_alias(&m, 0x2000, ram, 0x1000), "an alias");
+    uint32_t latch = made(vb_iommu(&m, 0x1000), "a region without bytes");
+    done(vb_space(&m, 0, system), "a space");
+    done(vb_add(&m, system, 0x100000, ram, 0), "RAM");
+    done(vb_add(&m, system, 0, window, 0), "the window");
+    done(vb_add(&m, system, 0x8000, latch, 0), "the region without bytes");
+
+    vb_answer told = vb_path(&m, 0, 0x1010, path, 32);
+    check(told.code == VB_DONE && told.value == 3 && told.other == 4 && path[0] == system && path[1] == window && path[2] == ram,
+        "a path through an alias");
+    path[1] = path[2] = 99;
+    told = vb_path(&m, 0, 0x100000, path, 1);
+    check(told.value == 2 && path[0] == system && path[1] == 99, "a buffer that is too small has the first of them");
+    told = vb_path(&m, 0, 0x7000, path, 32);
+    check(told.code == VB_DONE && told.value == 0, "no path to nothing");
+    refused(vb_path(&m, 4, 0, path, 32), VB_UNKNOWN, VB_SORT_SPACE, 4, "a path in a space that is not there");
+
+    done(vb_log(&m, ram, VB_CLIENT_DISPLAY, true), "its pages are logged");
+    vb_write(&m, 0, 0, 0x100ff8, bytes, 16);
+    vb_write(&m, 0, 0, 0x100000 + 99 * 0x1000, bytes, 1);
+    refused(vb_harvest(&m, ram, VB_CLIENT_DISPLAY, words, 1), VB_ARGUMENT, 0, 2, "a buffer without a bit for each page");
+    check(words[0] == 7, "nothing is written");
+    refused(vb_harvest(&m, ram, 3, words, 3), VB_ARGUMENT, 0, 3, "a client that there is not");
+    told = vb_harvest(&m, ram, VB_CLIENT_DISPLAY, words, 3);
+    check(told.code == VB_DONE && told.value == 3 && words[0] == 3 && words[1] == 1ull << 35 && words[2] == 0, "pages 0, 1 and 99");
+    told = vb_harvest(&m, ram, VB_CLIENT_DISPLAY, words, 2);
+    check(told.code == VB_DONE && told.value == 0 && words[0] == 0 && words[1] == 0, "they were taken");
+    refused(vb_harvest(&m, latch, VB_CLIENT_DISPLAY, words, 3), VB_WRONG_KIND, 0, latch, "a region without bytes");
+    refused(vb_harvest(&m, 99, VB_CLIENT_DISPLAY, words, 0), VB_UNKNOWN, VB_SORT_REGION, 99, "a region that is not there");
+    vb_free(&m);
+}
+
+/* A desk, and virtual CPUs beside it. */
+static void test_desks(void)
+{
+    vb_desk d = VB_DESK_INIT;
+    vb_cpu cpu = VB_CPU_INIT, cpus[16] = { VB_CPU_INIT };
+    vb_found found;
+    uint8_t out[8] = { 7 };
+    uint64_t word = 0;
+    uint32_t number = 0;
+    vb_order order = { .what = VB_DO_BEGIN };
+    refused(vb_desk_ask(&d, &order), VB_NO_MACHINE, 0, 0, "an order without a desk");
+    refused(vb_desk_cpu(&d, &cpu), VB_NO_MACHINE, 0, 0, "a virtual CPU without a desk");
+    refused(vb_desk_find(&d, 0, 0, &found), VB_NO_MACHINE, 0, 0, "a look-up without a desk");
+    refused(vb_desk_reap(&d, &number, 1), VB_NO_MACHINE, 0, 0, "a reap without a desk");
+    refused(vb_desk_harvest(&d, 0, 0, &word, 1), VB_NO_MACHINE, 0, 0, "a harvest without a desk");
+    refused(vb_cpu_enter(&cpu), VB_NO_MACHINE, 0, 0, "no virtual CPU enters");
+    refused(vb_cpu_leave(&cpu), VB_NO_MACHINE, 0, 0, "none leaves");
+    refused(vb_cpu_read(&cpu, 0, 0, out, 8), VB_NO_MACHINE, 0, 0, "none reads");
+    refused(vb_cpu_write8(&cpu, 0, 0, 1), VB_NO_MACHINE, 0, 0, "none writes");
+    vb_cpu_free(&cpu);
+    vb_desk_free(&d);
+    refused(vb_desk_new(&d, SIZE_MAX), VB_ARGUMENT, 0, SIZE_MAX, "a pool that is too large");
+    done(vb_desk_new(&d, 1 << 14), "a desk");
+    refused(vb_desk_new(&d, 1), VB_HAS_MACHINE, 0, 0, "a second desk");
+    order.what = 23;
+    refused(vb_desk_ask(&d, &order), VB_ARGUMENT, 0, 23, "an order that there is not");
+    order = (vb_order){ .what = VB_DO_REGION, .kind = 9, .size = 0x1000 };
+    refused(vb_desk_ask(&d, &order), VB_ARGUMENT, 0, VB_DO_REGION, "a kind that there is not");
+    order = (vb_order){ .what = VB_DO_REGION, .kind = VB_KIND_CONTAINER, .size = UINT64_MAX };
+    uint32_t system = made(vb_desk_ask(&d, &order), "a container");
+    order = (vb_order){ .what = VB_DO_REGION, .kind = VB_KIND_RAM, .size = 0x1000 };
+    uint32_t ram = made(vb_desk_ask(&d, &order), "RAM");
+    order = (vb_order){ .what = VB_DO_SPACE, .space = 1, .other = system };
+    done(vb_desk_ask(&d, &order), "a space");
+    order = (vb_order){ .what = VB_DO_ADD, .region = system, .other = ram };
+    vb_answer published = vb_desk_ask(&d, &order);
+    check(published.code == VB_DONE && published.other == 2, "RAM at 0, in generation 2");
+    done(vb_desk_find(&d, 1, 0x10, &found), "a look-up");
+    check(found.is_there && found.region == ram && found.offset == 0x10, "RAM is found");
+
+    done(vb_desk_cpu(&d, &cpu), "a virtual CPU");
+    refused(vb_desk_cpu(&d, &cpu), VB_HAS_MACHINE, 0, 0, "a handle that has one");
+    vb_answer ended = vb_cpu_write8(&cpu, 1, 0x10, 0x0807060504030201);
+    check(ended.code == VB_DONE && ended.what == 0 && ended.value == 2, "it writes a word, in generation 2");
+    ended = vb_cpu_read(&cpu, 1, 0x12, out, 4);
+    check(ended.code == VB_DONE && ended.what == 0 && out[0] == 3 && out[3] == 6, "and reads a part of it");
+    ended = vb_cpu_write8(&cpu, 1, 0x14, 1);
+    check(ended.code == VB_NOT_WHOLE && ended.other == 2, "parts of two words are not replaced");
+    ended = vb_cpu_enter(&cpu);
+    check(ended.code == VB_DONE && ended.other == 2, "it enters generation 2");
+    order = (vb_order){ .what = VB_DO_MOVE, .region = ram, .offset = 0x4000 };
+    done(vb_desk_ask(&d, &order), "RAM moves");
+    ended = vb_cpu_read(&cpu, 1, 0x10, out, 1);
+    check(ended.what == 0 && out[0] == 1 && ended.value == 2, "it sees the old map");
+    done(vb_cpu_leave(&cpu), "it leaves");
+    ended = vb_cpu_read(&cpu, 1, 0x10, out, 1);
+    check((ended.what & VB_ACCESS_DECODE) != 0 && ended.value == 3, "it sees the new one");
+    done(vb_cpu_enter(&cpu), "it enters");
+    uint64_t held = 0;
+    for (uint64_t i = 0; i < 20 && held == 0; i++) {
+        order.offset = 0x1000 * (i % 2);
+        vb_answer moved = vb_desk_ask(&d, &order);
+        held = moved.code == VB_HELD ? i : 0;
+    }
+    check(held != 0, "a virtual CPU that stays holds the seventh publish after it up");
+    vb_cpu_free(&cpu);
+    done(vb_desk_ask(&d, &order), "once it was freed it does not");
+    for (int i = 0; i < 15; i++) {
+        done(vb_desk_cpu(&d, &cpus[i]), "a virtual CPU");
+    }
+    refused(vb_desk_cpu(&d, &cpus[15]), VB_NO_CPU, 0, 0, "there are 16");
+    vb_desk_free(&d);
+    ended = vb_cpu_write8(&cpus[3], 1, order.offset, 5);
+    check(ended.code == VB_DONE && ended.what == 0, "virtual CPUs outlive their desk");
+    for (int i = 0; i < 16; i++) {
+        vb_cpu_free(&cpus[i]);
+    }
+}
+
+static uint8_t *content(const char *name, size_t *len)
+{
+    FILE *file = fopen(name, "rb");
+    if (file == NULL) {
+        return NULL;
+    }
+    fseek(file, 0, SEEK_END);
+    *len = (size_t)ftell(file);
+    rewind(file);
+    uint8_t *bytes = malloc(*len + 1);
+    *len = fread(bytes, 1, *len, file);
+    fclose(file);
+    return bytes;
+}
+
+/* A script writes what stands beside it. */
+static void test_script(const char *name)
+{
+    char out_name[512];
+    size_t len = 0, wanted_len = 0;
+    snprintf(out_name, sizeof out_name, "%.*s.out", (int)(strlen(name) - 3), name);
+    uint8_t *script = content(name, &len), *wanted = content(out_name, &wanted_len);
+    check(script != NULL && wanted != NULL, name);
+    if (script != NULL && wanted != NULL) {
+        uint8_t *out = malloc(wanted_len + 1);
+        out[wanted_len] = 0xaa;
+        vb_answer ran = vb_run(script, len, out, wanted_len + 1);
+        check(ran.code == VB_DONE && ran.value == wanted_len && memcmp(out, wanted, wanted_len) == 0 && out[wanted_len] == 0xaa, name);
+        free(out);
+    }
+    free(script);
+    free(wanted);
+}
+
+static void test_run(void)
+{
+    static const char text[] = "region r container 0x1000\nspace s r\nshow s\n";
+    static const char bad[] = "region r container 0x1000\nregion q circle\n";
+    uint8_t out[64];
+    memset(out, 0xaa, sizeof out);
+    vb_answer ran = vb_run((const uint8_t *)text, sizeof text - 1, out, sizeof out);
+    check(ran.code == VB_DONE && ran.value == 10 && memcmp(out, "view s g1\n", 10) == 0 && out[10] == 0xaa, "a script");
+    memset(out, 0xaa, sizeof out);
+    ran = vb_run((const uint8_t *)text, sizeof text - 1, out, 4);
+    check(ran.value == 10 && memcmp(out, "view", 4) == 0 && out[4] == 0xaa, "a buffer that is too small has its beginning");
+    ran = vb_run((const uint8_t *)bad, sizeof bad - 1, out, sizeof out);
+    check(ran.code == VB_NO_SCRIPT && ran.other == 2 && ran.value < sizeof out && out[ran.value - 1] == '\n', "a text that is no script");
+    ran = vb_run(out, 0, out + 1, 0);
+    check(ran.code == VB_NO_SCRIPT || ran.code == VB_DONE, "no text");
+}
+
 /* What answers say. */
 static void test_texts(void)
 {
@@ -334,6 +517,9 @@ static void test_texts(void)
         { { VB_MEMORY, 0, 0, 0 }, "out of memory" },
         { { VB_ARGUMENT, 0, 4, 0 }, "an argument stands for nothing" },
         { { VB_NO_MACHINE, 0, 0, 0 }, "the handle has no machine" },
+        { { VB_NO_SCRIPT, 0, 12, 1 }, "the text is no script" },
+        { { VB_NOT_WHOLE, 0, 0, 3 }, "only a part of some word would be replaced" },
+        { { VB_NO_CPU, 0, 0, 0 }, "all virtual CPUs are handed out" },
         { { 99, 0, 0, 0 }, "this is no answer of the library" },
         { { VB_UNKNOWN, 6, 0, 0 }, "this is no answer of the library" },
         { { VB_UNKNOWN, VB_SORT_REGION, 1ull << 32, 0 }, "this is no answer of the library" },
@@ -348,8 +534,15 @@ static void test_texts(void)
     }
 }
 
-int main(void)
+/* The arguments are scripts, which are run too. */
+int main(int count, char **names)
 {
+    for (int i = 1; i < count; i++) {
+        test_script(names[i]);
+    }
+    test_run();
+    test_paths_and_pages();
+    test_desks();
     test_listeners();
     test_texts();
     test_plans();

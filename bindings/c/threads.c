@@ -33,6 +33,69 @@ static void *run(void *given)
     return NULL;
 }
 
+/* Virtual CPUs read through a window that the desk moves from page to page beside them. */
+#define CPUS 4
+#define ROUNDS 2000
+
+static struct cpu {
+    vb_cpu cpu;
+    uint64_t number;
+    int failed;
+} cpus[CPUS];
+
+static vb_answer ask(vb_desk *desk, vb_order order)
+{
+    return vb_desk_ask(desk, &order);
+}
+
+/* Writes a word through the window, and finds it in just one of the two pages, which it sees beside. */
+static void *run_cpu(void *given)
+{
+    struct cpu *me = given;
+    uint64_t at = 8 * me->number;
+    for (uint64_t i = 1; i <= ROUNDS; i++) {
+        uint64_t first = 0, second = 0;
+        vb_cpu_enter(&me->cpu);
+        vb_answer wrote = vb_cpu_write8(&me->cpu, 0, at, i);
+        vb_cpu_read(&me->cpu, 0, 0x10000 + at, (uint8_t *)&first, 8);
+        vb_cpu_read(&me->cpu, 0, 0x11000 + at, (uint8_t *)&second, 8);
+        vb_cpu_leave(&me->cpu);
+        me->failed += wrote.code != VB_DONE || wrote.what != 0 || (first == i) == (second == i);
+    }
+    return NULL;
+}
+
+/* How many of the virtual CPUs saw one map throughout, or 0 where the window did not move. */
+static int run_desk(void)
+{
+    vb_desk desk = VB_DESK_INIT;
+    pthread_t threads[CPUS];
+    int good = 0, moves = 0;
+    vb_desk_new(&desk, 1 << 12);
+    uint32_t root = (uint32_t)ask(&desk, (vb_order){ .what = VB_DO_REGION, .kind = VB_KIND_CONTAINER, .size = 0x20000 }).value;
+    uint32_t ram = (uint32_t)ask(&desk, (vb_order){ .what = VB_DO_REGION, .kind = VB_KIND_RAM, .size = 0x2000 }).value;
+    uint32_t window = (uint32_t)ask(&desk, (vb_order){ .what = VB_DO_REGION, .kind = VB_KIND_ALIAS, .other = ram, .size = 0x1000 }).value;
+    ask(&desk, (vb_order){ .what = VB_DO_ADD, .region = root, .offset = 0x10000, .other = ram });
+    ask(&desk, (vb_order){ .what = VB_DO_ADD, .region = root, .other = window });
+    ask(&desk, (vb_order){ .what = VB_DO_SPACE, .space = 0, .other = root });
+    for (int i = 0; i < CPUS; i++) {
+        cpus[i].number = (uint64_t)i;
+        vb_desk_cpu(&desk, &cpus[i].cpu);
+        pthread_create(&threads[i], NULL, run_cpu, &cpus[i]);
+    }
+    for (int tries = 0; moves < 200 && tries < 1000000; tries++) {
+        vb_answer moved = ask(&desk, (vb_order){ .what = VB_DO_RETARGET, .region = window, .offset = 0x1000 * (uint64_t)(moves % 2) });
+        moves += moved.code == VB_DONE;
+    }
+    for (int i = 0; i < CPUS; i++) {
+        pthread_join(threads[i], NULL);
+        good += cpus[i].failed == 0;
+        vb_cpu_free(&cpus[i].cpu);
+    }
+    vb_desk_free(&desk);
+    return moves == 200 ? good : 0;
+}
+
 int main(void)
 {
     static struct work works[THREADS];
@@ -49,6 +112,9 @@ int main(void)
         passed += works[i].failed == 0 && is_found;
         failed += works[i].failed != 0 || !is_found;
     }
+    int good = run_desk();
+    passed += good;
+    failed += CPUS - good;
     printf("%d passed, %d failed\n", passed, failed);
     return failed != 0;
 }

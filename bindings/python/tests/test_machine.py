@@ -4,11 +4,12 @@ import sys
 import unittest
 
 sys.path.insert(0, os.path.join(os.path.dirname(os.path.abspath(__file__)), ".."))
-from vobrekan import Device, Ioevent, Machine, Refused, WHOLE  # noqa: E402
+from vobrekan import Desk, Device, Ioevent, Machine, Refused, WHOLE, run  # noqa: E402
 from vobrekan import declarations as c  # noqa: E402
 
 LATCH = Device(kind=c.VB_DEVICE_LATCH, regs=1, valid_min=1, valid_max=4, impl_min=1, impl_max=4)
 SPACE = 1
+MACHINES = os.path.join(os.path.dirname(os.path.abspath(__file__)), "..", "..", "..", "examples", "machines")
 
 
 def small():
@@ -21,6 +22,87 @@ def small():
         machine.add(system, 0x1000, uart, 1)
         machine.add(system, 0xFFFF_F000, rom)
     return machine, system, ram, rom, uart
+
+
+class Driver:
+    """Does the commands of a script by calls of a machine, as far as the scripts of examples/machines use them."""
+
+    KINDS = {"container": Machine.container, "ram": Machine.ram, "rom": Machine.rom}
+
+    def __init__(self):
+        self.machine, self.regions, self.spaces, self.shown = None, {}, {}, []
+
+    def done(self, script):
+        """The first words of the lines that `show` writes."""
+        for line in script.splitlines():
+            words = line.split("#")[0].split()
+            if words:
+                getattr(self, "do_" + words[0])(*words[1:])
+        return self.shown
+
+    def do_machine(self, size):
+        self.machine = Machine(int(size, 0) // 8)
+
+    def do_region(self, name, kind, size, *rest):
+        size = min(int(size, 0), WHOLE)
+        device = Device(kind=c.VB_DEVICE_LATCH, regs=1, valid_min=1, valid_max=8, impl_min=1, impl_max=8)
+        if kind == "alias":
+            self.regions[name] = self.machine.alias(size, self.regions[rest[0]], int(rest[1], 0))
+        elif kind in self.KINDS:
+            self.regions[name] = self.KINDS[kind](self.machine, size)
+        else:
+            self.regions[name] = (self.machine.io if kind == "io" else self.machine.rom_device)(size, device)
+
+    def do_space(self, name, root):
+        self.spaces[name] = len(self.spaces)
+        self.machine.space(self.spaces[name], self.regions[root])
+
+    def do_add(self, parent, offset, child, *priority):
+        self.machine.add(self.regions[parent], int(offset, 0), self.regions[child], int(priority[1]) if priority else 0)
+
+    def do_del(self, parent, child):
+        self.machine.delete(self.regions[parent], self.regions[child])
+
+    def do_move(self, region, offset):
+        self.machine.move(self.regions[region], int(offset, 0))
+
+    def do_disable(self, region):
+        self.machine.enable(self.regions[region], False)
+
+    def do_readonly(self, region, on):
+        self.machine.readonly(self.regions[region], on == "on")
+
+    def do_log(self, region, client, on):
+        self.machine.log(self.regions[region], {"vga": 0, "code": 1, "migration": 2}[client], on == "on")
+
+    def do_begin(self):
+        self.machine.__enter__()
+
+    def do_commit(self):
+        self.machine.__exit__()
+
+    def do_v0(self, what, space, addr, data):
+        if what == "write":
+            self.machine.write(self.spaces[space], int(addr, 0), bytes.fromhex(data))
+        else:
+            out, how = self.machine.read(self.spaces[space], int(addr, 0), int(data, 0))
+            self.shown.append(["v0", "read", out.hex(), "decode" if how else "ok"])
+
+    def do_show(self, space):
+        names = {number: name for name, number in self.regions.items()}
+        self.shown.append(["view", space])
+        for it in self.machine.view(self.spaces[space]):
+            self.shown.append([f"{it.start:x}-{it.last:x}", names[it.region], f"@{it.offset:x}"])
+
+
+def told_in(out):
+    """The same words of what a script writes."""
+    for line in out.splitlines():
+        words = line.split()
+        if words[0] == "v0" and words[2] == "read":
+            yield ["v0", "read", *words[3:5]]
+        elif words[0] != "v0":
+            yield words[:2] if words[0] == "view" else words[:3]
 
 
 class Tests(unittest.TestCase):
@@ -84,6 +166,57 @@ class Tests(unittest.TestCase):
         self.assertEqual(whole, [(config, 0, 4, 0x80000810)])
         parts = [(it.region, it.offset, it.size, it.value) for it in machine.plan_write(0, 0xCF8, data)]
         self.assertEqual(parts, [(config, 0, 4, 0x10), (reset, 0, 1, 8), (config, 2, 4, 0x8000)])
+
+    def test_scripts(self):
+        self.assertEqual(run(b"region r container 0x1000\nspace s r\nshow s\n"), (b"view s g1\n", None))
+        self.assertEqual(run(b"region r container 0x1000\nregion q circle\n")[1], 2)
+        for name in sorted(os.listdir(MACHINES)):
+            if name.endswith(".mt"):
+                with open(os.path.join(MACHINES, name), "rb") as script, open(os.path.join(MACHINES, name[:-3] + ".out"), "rb") as out:
+                    self.assertEqual(run(script.read()), (out.read(), None), name)
+
+    def test_machines_through_the_handle(self):
+        for name in sorted(os.listdir(MACHINES)):
+            if name.endswith(".mt"):
+                with open(os.path.join(MACHINES, name)) as script, open(os.path.join(MACHINES, name[:-3] + ".out")) as out:
+                    self.assertEqual(Driver().done(script.read()), list(told_in(out.read())), name)
+
+    def test_paths_and_pages(self):
+        machine, system, ram, _, uart = small()
+        self.assertEqual(machine.path(SPACE, 0x1010), [system, uart])
+        self.assertEqual(machine.path(SPACE, 1 << 32), [])
+        machine.log(ram, c.VB_CLIENT_DISPLAY)
+        machine.write(SPACE, 0x3FFF, b"\x01")
+        machine.write(SPACE, 0x10, b"\x01")
+        self.assertEqual(machine.harvest(ram, c.VB_CLIENT_DISPLAY), [0, 3])
+        self.assertEqual(machine.harvest(ram, c.VB_CLIENT_DISPLAY), [])
+        with self.assertRaises(Refused) as it:
+            machine.harvest(uart, c.VB_CLIENT_DISPLAY)
+        self.assertEqual(it.exception.code, c.VB_WRONG_KIND)
+        machine.delete(system, uart)
+        machine.drop(uart)
+        for _ in range(8):
+            machine.enable(ram, False)
+            machine.enable(ram, True)
+        self.assertEqual((machine.reap(), machine.reap()), ([uart], []))
+
+    def test_a_virtual_cpu_beside_its_desk(self):
+        desk = Desk(1 << 12)
+        system = desk.region(c.VB_KIND_CONTAINER)
+        ram = desk.region(c.VB_KIND_RAM, 0x1000)
+        desk.ask(c.VB_DO_SPACE, space=SPACE, other=system)
+        desk.ask(c.VB_DO_ADD, region=system, other=ram)
+        cpu = desk.cpu()
+        self.assertEqual(cpu.write8(SPACE, 8, 0x0102), 0)
+        number = cpu.enter()
+        self.assertEqual(desk.ask(c.VB_DO_MOVE, region=ram, offset=0x4000).other, number + 1)
+        self.assertEqual(cpu.read(SPACE, 8, 2), (b"\x02\x01", 0))
+        cpu.leave()
+        self.assertEqual(cpu.read(SPACE, 8, 2)[1], c.VB_ACCESS_DECODE)
+        self.assertEqual([(it.start, it.region) for it in desk.view(SPACE)], [(0x4000, ram)])
+        with self.assertRaises(Refused) as it:
+            cpu.write8(SPACE, 0x4004, 1)
+        self.assertEqual(it.exception.code, c.VB_NOT_WHOLE)
 
 
 if __name__ == "__main__":

@@ -54,11 +54,57 @@ def published(answer):
     return accepted(answer).other or None
 
 
+def run(script):
+    """What the run of a script writes, and the number of the first line at fault of a text that is no script, else None."""
+    given = (ctypes.c_uint8 * max(len(script), 1)).from_buffer_copy(bytes(script) or b"\0")
+    room = 1 << 16
+    while True:
+        out = (ctypes.c_uint8 * room)()
+        answer = LIBRARY.vb_run(given, len(script), out, room)
+        fault = answer.other if answer.code == c.VB_NO_SCRIPT else None
+        if fault is None:
+            accepted(answer)
+        if answer.value <= room:
+            return bytes(out[: answer.value]), fault
+        room = answer.value
+
+
+def ranges_in(ask):
+    """All ranges of a view."""
+    ranges = []
+    while True:
+        it = c.vb_flat_range()
+        if len(ranges) >= accepted(ask(len(ranges), it)).value:
+            return ranges
+        ranges.append(it)
+
+
+def regions_in(owner, reap):
+    """What a reap releases, of as many regions as were dropped."""
+    out = (ctypes.c_uint32 * max(owner.dropped, 1))()
+    count = accepted(reap(out)).value
+    owner.dropped -= count
+    return list(out[:count])
+
+
+def pages_in(harvest):
+    """The pages that a harvest tells. It is asked for the room first: without any it says how much it takes."""
+    room = 0
+    while True:
+        out = (ctypes.c_uint64 * max(room, 1))()
+        answer = harvest(out, room)
+        if answer.code == c.VB_ARGUMENT and answer.value > room:
+            room = answer.value
+            continue
+        accepted(answer)
+        return [64 * i + b for i in range(room) for b in range(64) if out[i] >> b & 1]
+
+
 class Machine:
     """A machine over a pool of this many words of 8 bytes."""
 
     def __init__(self, words):
-        self.handle = c.vb_machine()
+        self.handle, self.dropped = c.vb_machine(), 0
         accepted(LIBRARY.vb_new(self.handle, words))
 
     def __del__(self):
@@ -157,9 +203,15 @@ class Machine:
 
     def drop(self, region):
         accepted(LIBRARY.vb_drop(self.handle, region))
+        self.dropped += 1
 
     def reap(self):
-        return accepted(LIBRARY.vb_reap(self.handle)).value
+        """The dropped regions that are released, ascending."""
+        return regions_in(self, lambda out: LIBRARY.vb_reap(self.handle, out, len(out)))
+
+    def harvest(self, region, client):
+        """The pages of a region that were written since they were last taken for this client, ascending."""
+        return pages_in(lambda out, room: LIBRARY.vb_harvest(self.handle, region, client, out, room))
 
     # What it shows.
 
@@ -169,14 +221,14 @@ class Machine:
         accepted(LIBRARY.vb_find(self.handle, space, addr, found))
         return found
 
+    def path(self, space, addr):
+        """The regions that a search passes on the way to the one that answers an address."""
+        out = (ctypes.c_uint32 * 32)()
+        return list(out[: accepted(LIBRARY.vb_path(self.handle, space, addr, out, len(out))).value])
+
     def view(self, space):
         """The ranges of the view of a space, by ascending address."""
-        ranges = []
-        while True:
-            it = c.vb_flat_range()
-            if len(ranges) >= accepted(LIBRARY.vb_range(self.handle, space, len(ranges), it)).value:
-                return ranges
-            ranges.append(it)
+        return ranges_in(lambda index, it: LIBRARY.vb_range(self.handle, space, index, it))
 
     def listen(self, listener, space, priority=0):
         accepted(LIBRARY.vb_listen(self.handle, listener, space, priority))
@@ -231,3 +283,75 @@ class Machine:
 
     def notified(self, number):
         return accepted(LIBRARY.vb_notified(self.handle, number)).value != 0
+
+
+class Desk:
+    """The desk of a machine that virtual CPUs share, over a pool of this many words of 8 bytes: the map is changed here, beside them.
+
+    `ask` takes the numbers of an order by the names of the fields of `vb_order`, as `ask(c.VB_DO_MOVE, region=3, offset=0x1000)`, and
+    answers its answer: `value` is the region that was made, `other` the generation that was published."""
+
+    def __init__(self, words):
+        self.handle, self.dropped = c.vb_desk(), 0
+        accepted(LIBRARY.vb_desk_new(self.handle, words))
+
+    def __del__(self):
+        if hasattr(self, "handle"):
+            LIBRARY.vb_desk_free(self.handle)
+
+    def ask(self, what, **numbers):
+        answer = accepted(LIBRARY.vb_desk_ask(self.handle, c.vb_order(what=what, **numbers)))
+        self.dropped += what == c.VB_DO_DROP
+        return answer
+
+    def region(self, kind, size=WHOLE, **numbers):
+        return self.ask(c.VB_DO_REGION, kind=kind, size=size, **numbers).value
+
+    def cpu(self):
+        """A virtual CPU, which has seen all that the desk has done. There are 16."""
+        return Cpu(self)
+
+    def reap(self):
+        return regions_in(self, lambda out: LIBRARY.vb_desk_reap(self.handle, out, len(out)))
+
+    def harvest(self, region, client):
+        return pages_in(lambda out, room: LIBRARY.vb_desk_harvest(self.handle, region, client, out, room))
+
+    def notified(self, number):
+        return accepted(LIBRARY.vb_desk_notified(self.handle, number)).value != 0
+
+    def find(self, space, addr):
+        found = c.vb_found()
+        accepted(LIBRARY.vb_desk_find(self.handle, space, addr, found))
+        return found
+
+    def view(self, space):
+        return ranges_in(lambda index, it: LIBRARY.vb_desk_range(self.handle, space, index, it))
+
+
+class Cpu:
+    """A virtual CPU of a desk. It never waits, and may outlive the desk."""
+
+    def __init__(self, desk):
+        self.handle = c.vb_cpu()
+        accepted(LIBRARY.vb_desk_cpu(desk.handle, self.handle))
+
+    def __del__(self):
+        LIBRARY.vb_cpu_free(self.handle)
+
+    def enter(self):
+        """Enters the current generation, and answers its number."""
+        return accepted(LIBRARY.vb_cpu_enter(self.handle)).other
+
+    def leave(self):
+        accepted(LIBRARY.vb_cpu_leave(self.handle))
+
+    def read(self, space, addr, count):
+        """Bytes of a space, and how the access ended, as `Machine.read` answers them."""
+        out = (ctypes.c_uint8 * max(count, 1))()
+        answer = accepted(LIBRARY.vb_cpu_read(self.handle, space, addr, out, count))
+        return bytes(out[:count]), answer.what
+
+    def write8(self, space, addr, value):
+        """Writes the eight bytes of a number, the lowest first. It is refused where only a part of some word would be replaced."""
+        return accepted(LIBRARY.vb_cpu_write8(self.handle, space, addr, value)).what

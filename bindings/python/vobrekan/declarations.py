@@ -24,8 +24,11 @@ VB_HELD = 19  # The pass `value` may still use the generation `other`.
 VB_EVENT_TAKEN = 20  # The region has this ioeventfd.
 VB_MEMORY = 21  # Out of memory.
 VB_ARGUMENT = 22  # An argument, `value`, stands for nothing.
-VB_NO_MACHINE = 23  # The handle has no machine.
-VB_HAS_MACHINE = 24  # The handle has a machine.
+VB_NO_MACHINE = 23  # The handle has no machine, desk or virtual CPU.
+VB_HAS_MACHINE = 24  # The handle has one.
+VB_NO_SCRIPT = 25  # The text is no script: `other` is the number of its first line at fault.
+VB_NOT_WHOLE = 26  # Only a part of some word would be replaced, in the generation `other`.
+VB_NO_CPU = 27  # All 16 virtual CPUs are handed out.
 
 VB_SORT_REGION = 0
 VB_SORT_SPACE = 1
@@ -54,6 +57,29 @@ VB_DEVICE_LATCH = 0
 VB_DEVICE_COUNT = 1
 VB_DEVICE_BELL = 2
 VB_DEVICE_FAULT = 3
+VB_DO_BEGIN = 0
+VB_DO_COMMIT = 1
+VB_DO_LISTEN = 2
+VB_DO_UNLISTEN = 3
+VB_DO_REGION = 4
+VB_DO_SPACE = 5
+VB_DO_ADD = 6
+VB_DO_DEL = 7
+VB_DO_MOVE = 8
+VB_DO_RESIZE = 9
+VB_DO_RETARGET = 10
+VB_DO_ENABLE = 11
+VB_DO_READONLY = 12
+VB_DO_NONVOLATILE = 13
+VB_DO_UNMERGEABLE = 14
+VB_DO_ROMD = 15
+VB_DO_LOG = 16
+VB_DO_GLOBAL = 17
+VB_DO_MAP = 18
+VB_DO_UNMAP = 19
+VB_DO_EVENT = 20
+VB_DO_UNEVENT = 21
+VB_DO_DROP = 22
 VB_CLIENT_DISPLAY = 0
 VB_CLIENT_CODE = 1
 VB_CLIENT_MIGRATION = 2
@@ -83,6 +109,22 @@ VB_TOLD_COMMIT = 8
 
 class vb_machine(Structure):
     """What C keeps of a machine: a pointer, which is null where there is none."""
+
+    _fields_ = [
+        ("at", c_void_p),
+    ]
+
+
+class vb_desk(Structure):
+    """What C keeps of the desk of a machine that virtual CPUs share: a pointer, which is null where there is none."""
+
+    _fields_ = [
+        ("at", c_void_p),
+    ]
+
+
+class vb_cpu(Structure):
+    """What C keeps of a virtual CPU: a pointer, which is null where there is none."""
 
     _fields_ = [
         ("at", c_void_p),
@@ -131,6 +173,29 @@ class vb_ioevent(Structure):
         ("number", c_uint32),
         ("size", c_uint8),
         ("matched", c_bool),
+    ]
+
+
+class vb_order(Structure):
+    """What is asked of a desk. `what` says which of the calls of a machine it is, by `VB_DO_..`; each takes the numbers that it names, and the
+    others are not looked at."""
+
+    _fields_ = [
+        ("offset", c_uint64),
+        ("size", c_uint64),
+        ("translated", c_uint64),
+        ("what", c_uint32),
+        ("kind", c_uint32),
+        ("region", c_uint32),
+        ("other", c_uint32),
+        ("space", c_uint32),
+        ("listener", c_uint32),
+        ("client", c_uint32),
+        ("perm", c_uint32),
+        ("priority", c_int32),
+        ("on", c_bool),
+        ("device", vb_device),
+        ("event", vb_ioevent),
     ]
 
 
@@ -234,7 +299,24 @@ FUNCTIONS = {
     "vb_event": ([POINTER(vb_machine), c_uint32, POINTER(vb_ioevent)], vb_answer),
     "vb_unevent": ([POINTER(vb_machine), c_uint32, POINTER(vb_ioevent)], vb_answer),
     "vb_drop": ([POINTER(vb_machine), c_uint32], vb_answer),
+    "vb_cpu_enter": ([POINTER(vb_cpu)], vb_answer),
+    "vb_cpu_leave": ([POINTER(vb_cpu)], vb_answer),
+    "vb_cpu_read": ([POINTER(vb_cpu), c_uint32, c_uint64, POINTER(c_uint8), c_size_t], vb_answer),
+    "vb_cpu_write8": ([POINTER(vb_cpu), c_uint32, c_uint64, c_uint64], vb_answer),
+    "vb_cpu_free": ([POINTER(vb_cpu)], None),
     "vb_delivery": ([POINTER(vb_machine), c_size_t, POINTER(vb_listener_call)], vb_answer),
+    "vb_desk_new": ([POINTER(vb_desk), c_size_t], vb_answer),
+    "vb_desk_free": ([POINTER(vb_desk)], None),
+    "vb_desk_ask": ([POINTER(vb_desk), POINTER(vb_order)], vb_answer),
+    "vb_desk_cpu": ([POINTER(vb_desk), POINTER(vb_cpu)], vb_answer),
+    "vb_desk_notified": ([POINTER(vb_desk), c_uint32], vb_answer),
+    "vb_desk_reap": ([POINTER(vb_desk), POINTER(c_uint32), c_size_t], vb_answer),
+    "vb_desk_harvest": ([POINTER(vb_desk), c_uint32, c_uint32, POINTER(c_uint64), c_size_t], vb_answer),
+    "vb_desk_find": ([POINTER(vb_desk), c_uint32, c_uint64, POINTER(vb_found)], vb_answer),
+    "vb_desk_range": ([POINTER(vb_desk), c_uint32, c_size_t, POINTER(vb_flat_range)], vb_answer),
+    "vb_desk_delivery": ([POINTER(vb_desk), c_size_t, POINTER(vb_listener_call)], vb_answer),
+    "vb_harvest": ([POINTER(vb_machine), c_uint32, c_uint32, POINTER(c_uint64), c_size_t], vb_answer),
+    "vb_path": ([POINTER(vb_machine), c_uint32, c_uint64, POINTER(c_uint32), c_size_t], vb_answer),
     "vb_plan_read": ([POINTER(vb_machine), c_uint32, c_uint32, c_uint64, c_size_t, POINTER(vb_reached), c_size_t], vb_answer),
     "vb_plan_write": ([POINTER(vb_machine), c_uint32, c_uint32, c_uint64, POINTER(c_uint8), c_size_t, POINTER(vb_reached), c_size_t], vb_answer),
     "vb_container": ([POINTER(vb_machine), c_uint64], vb_answer),
@@ -246,6 +328,7 @@ FUNCTIONS = {
     "vb_alias": ([POINTER(vb_machine), c_uint64, c_uint32, c_uint64], vb_answer),
     "vb_io": ([POINTER(vb_machine), c_uint64, POINTER(vb_device)], vb_answer),
     "vb_rom_device": ([POINTER(vb_machine), c_uint64, POINTER(vb_device)], vb_answer),
+    "vb_run": ([POINTER(c_uint8), c_size_t, POINTER(c_uint8), c_size_t], vb_answer),
     "vb_range": ([POINTER(vb_machine), c_uint32, c_size_t, POINTER(vb_flat_range)], vb_answer),
     "vb_find": ([POINTER(vb_machine), c_uint32, c_uint64, POINTER(vb_found)], vb_answer),
     "vb_print": ([POINTER(vb_answer), POINTER(c_uint8), c_size_t, POINTER(c_size_t)], c_uint32),
@@ -257,5 +340,5 @@ FUNCTIONS = {
     "vb_unlisten": ([POINTER(vb_machine), c_uint32], vb_answer),
     "vb_load": ([POINTER(vb_machine), c_uint32, c_uint64, POINTER(c_uint8), c_size_t], vb_answer),
     "vb_notified": ([POINTER(vb_machine), c_uint32], vb_answer),
-    "vb_reap": ([POINTER(vb_machine)], vb_answer),
+    "vb_reap": ([POINTER(vb_machine), POINTER(c_uint32), c_size_t], vb_answer),
 }

@@ -1,23 +1,25 @@
 -- What a call on a handle is, from what the machine's own call says.
 use Rattle.std.proofs.Common.{◌≡◌, ◌≢◌, ◌∙◌, ℕ, List, length, ap, sym, subst, refl, Some, None, Ok, Err}
-use Rattle.std.specs.Prelude.{◌==◌, not, T, Option, Result, IfSome}
+use Rattle.std.specs.Prelude.{◌==◌, not, T, Option, Result, IfSome, Vec}
+use Rattle.std.specs.declared.alloc.Global.{Global}
 use Rattle.mem_base.specs.declared.map.calls.Applied.{Applied}
 use Rattle.mem_base.specs.declared.map.calls.Applied.TheVariants.{Made, Done}
-use Rattle.mem_base.specs.declared.map.ids.RegionId.{RegionId}
 use Rattle.mem_base.specs.declared.map.refusals.Refusal.{Refusal}
 use Rattle.mem_base.specs.declared.map.refusals.Refusal.TheVariants as refusal
 use Rattle.mem_base.specs.machine.World.{World}
 use Rattle.mem_base.specs.machine.Orders.{Order}
 use Rattle.mem_base.specs.machine.Answers as machine
+use Rattle.mem_base.specs.machine.Answers.{answer_with}
 use Rattle.mem_base.specs.machine.History.{IsLegalFrom}
 use Rattle.mem_base.specs.machine.Completions.{IsCompleted}
 use Rattle.mem_base.specs.machine.Composites.{completed}
 use Rattle.libvobrekan.specs.declared.answers.Answer.{Answer}
 use Rattle.libvobrekan.specs.Answers.{answer_told, call_told, code_memory, commit_told, list_told, plain_told, refusal_told}
 use Rattle.libvobrekan.specs.Asked.{Asked, Did, IsAsked, IsDone}
+use Rattle.libvobrekan.specs.Buffers.{HasPut}
 
 -- another code is not that of a want of memory
-other : (code : ℕ) → T (not (code == 21)) → code ≡ code_memory → ⊥
+pub other : (code : ℕ) → T (not (code == 21)) → code ≡ code_memory → ⊥
 other code differs e = subst (λ n. T (not (n == 21))) e differs
 
 pub refusal_memory : (why : Refusal) → (refusal_told why).code ≡ code_memory → why ≡ refusal.Memory
@@ -55,10 +57,6 @@ commit_memory (Err why) e = ap Err (refusal_memory why e)
 pub plain_memory : (r : Result (Unit {0}) Refusal) → (plain_told r).code ≡ code_memory → r ≡ Err refusal.Memory
 plain_memory (Ok done) e = absurd (other 0 tt e)
 plain_memory (Err why) e = ap Err (refusal_memory why e)
-
-pub list_memory : {A : Type 0} (r : Result (List A) Refusal) → (list_told r).code ≡ code_memory → r ≡ Err refusal.Memory
-list_memory (Ok items) e = absurd (other 0 tt e)
-list_memory (Err why) e = ap Err (refusal_memory why e)
 
 -- by an answer of the machine's, which is told as these numbers, and what the machine's call says of it
 pub asked : {R : Type 0} (tell : R → Answer) (wrap : R → machine.Answer) (memory r : R) (w v : World) (k : Order)
@@ -116,9 +114,33 @@ pub done_on_handle : (before : Option World) (w v : World) (k : Order) (answer t
 done_on_handle before w v k answer told after had is put asked =
     subst (λ b. IsDone b k told after) had (subst (λ a. Did w k a after) (sym is) (subst (λ m. Did w k answer m) (sym put) asked))
 
--- of a reap
-pub asked_list : (w v : World) (k : Order) (r : Result (List RegionId) Refusal)
-    → (r ≢ Err refusal.Memory → IsCompleted w k (machine.reap_answer r) v) → IsLegalFrom w (completed w k).entries
+-- Of a call that answers a list: a reap, a harvest
+
+abbrev pub items : {X : Type 0} → Result (Vec X Global) Refusal → Result (List X) Refusal
+items r = answer_with (λ v. v.items) r
+
+pub vec_memory : {X : Type 0} (r : Result (Vec X Global) Refusal) → (list_told (items r)).code ≡ code_memory → r ≡ Err refusal.Memory
+vec_memory (Ok v) e = absurd (other 0 tt e)
+vec_memory (Err why) e = ap Err (refusal_memory why e)
+
+pub asked_list : {X : Type 0} (wrap : Result (List X) Refusal → machine.Answer) (w v : World) (k : Order) (r : Result (Vec X Global) Refusal)
+    → list_told (items r) ≡ answer_told (wrap (items r))
+    → (r ≢ Err refusal.Memory → IsCompleted w k (wrap (items r)) v) → IsLegalFrom w (completed w k).entries
     → (r ≡ Err refusal.Memory → v ≡ w) → v.passes ≡ w.passes
-    → Asked w k (list_told r) (Some v)
-asked_list w v k r = asked list_told machine.reap_answer (Err refusal.Memory) r w v k refl refl (list_memory r)
+    → Asked w k (list_told (items r)) (Some v)
+asked_list wrap w v k r same = asked (λ x. list_told (items x)) (λ x. wrap (items x)) (Err refusal.Memory) r w v k same refl (vec_memory r)
+
+-- its list is put into a buffer, which is left alone where memory ran out
+pub put_list : {X A : Type 0} (wrap : Result (List X) Refusal → machine.Answer) (put : machine.Answer → List A → List A) (w v : World) (k : Order)
+    (r : Result (Vec X Global) Refusal) (before out : List A) → put (wrap (Err refusal.Memory)) before ≡ before
+    → (r ≢ Err refusal.Memory → IsCompleted w k (wrap (items r)) v) → out ≡ put (wrap (items r)) before
+    → HasPut (Some w) k put (list_told (items r)) before out
+put_list wrap put w v k r before out none is_completed e = (
+  (λ some. e ∙ ap (λ a. put a before) (is_completed (λ m. some (ap (λ x. (list_told (items x)).code) m))).answer_is),
+  (λ m. e ∙ ap (λ x. put (wrap (items x)) before) (vec_memory r m) ∙ none),
+)
+
+pub put_on_handle : {A : Type 0} (before : Option World) (w : World) (k : Order) (put : machine.Answer → List A → List A) (answer told : Answer)
+    (places out : List A) → Some w ≡ before → told ≡ answer → HasPut (Some w) k put answer places out → HasPut before k put told places out
+put_on_handle before w k put answer told places out had is has =
+    subst (λ b. HasPut b k put told places out) had (subst (λ a. HasPut (Some w) k put a places out) (sym is) has)

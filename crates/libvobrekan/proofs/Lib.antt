@@ -1,3 +1,7 @@
 mod AskedLaws
-mod Values
+mod BufferLaws
+mod CpuValues
+mod DeskLaws
+mod DeskValues
 mod PlanLaws
+mod Values

@@ -35,6 +35,15 @@ code_no_machine = 23
 abbrev pub code_has_machine : ℕ
 code_has_machine = 24
 
+abbrev pub code_no_script : ℕ
+code_no_script = 25
+
+abbrev pub code_not_whole : ℕ
+code_not_whole = 26
+
+abbrev pub code_no_cpu : ℕ
+code_no_cpu = 27
+
 -- it is done, with two numbers
 abbrev pub done : ℕ → ℕ → Answer
 done value other = told code_done 0 value other
@@ -49,6 +58,18 @@ no_machine = told code_no_machine 0 0 0
 
 abbrev pub has_machine : Answer
 has_machine = told code_has_machine 0 0 0
+
+-- a text is no script: how many bytes are said of it, and its first line at fault
+abbrev pub no_script : ℕ → ℕ → Answer
+no_script value line = told code_no_script 0 value line
+
+-- a write of one word would replace only a part of some word, in the generation of this number
+abbrev pub not_whole : ℕ → Answer
+not_whole number = told code_not_whole 0 0 number
+
+-- all virtual CPUs are handed out
+abbrev pub no_cpu : Answer
+no_cpu = told code_no_cpu 0 0 0
 
 -- Refusals of the machine
 

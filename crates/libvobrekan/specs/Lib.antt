@@ -2,8 +2,14 @@ pub mod Accesses
 pub mod Answers
 pub mod Arguments
 pub mod Asked
+pub mod Buffers
+pub mod Cpus
 pub mod Deliveries
+pub mod Desks
 pub mod Handles
+pub mod Marks
+pub mod Orders
 pub mod Plans
+pub mod Scripts
 pub mod Shown
 pub mod Texts

@@ -19,6 +19,7 @@ use Rattle.access_plan.specs.Lists.{IsPlanned}
 use Rattle.libvobrekan.specs.declared.answers.Answer.{Answer}
 use Rattle.libvobrekan.specs.declared.plans.ReachedNumbers.{ReachedNumbers}
 use Rattle.libvobrekan.specs.Answers.{done, no_machine, refusal_told}
+use Rattle.libvobrekan.specs.Buffers.{put_each}
 use Rattle.libvobrekan.specs.Shown.{current_forest}
 
 -- a thing that has no number but these
@@ -113,12 +114,6 @@ reach_told (Mark region client page) = record {
 }
 reach_told (Nothing at len) = plain_told 4 at len
 
--- the first things of a list in the places of a buffer, as many as it has
-abbrev pub put_each : List Reach → List ReachedNumbers → List ReachedNumbers
-put_each [] places = places
-put_each (r ∷ rs) [] = []
-put_each (r ∷ rs) (p ∷ ps) = reach_told r ∷ put_each rs ps
-
 -- 1 is QEMU's way
 abbrev pub is_core : ℕ → Bool
 is_core way = way == 1
@@ -146,7 +141,7 @@ lists_of (Err e) = Err e
 
 -- a list, in a buffer: it is refused where there is none, and where memory ran out
 abbrev pub IsTold : Result (Option (List Reach)) AllocError → ℕ → List ReachedNumbers → Answer → List ReachedNumbers → Type 0
-IsTold (Ok (Some list)) number before answer out = (answer ≡ done (length list) number) × (out ≡ put_each list before)
+IsTold (Ok (Some list)) number before answer out = (answer ≡ done (length list) number) × (out ≡ put_each reach_told list before)
 IsTold (Ok None) number before answer out = (answer ≡ refusal_told refusal.BadSize) × (out ≡ before)
 IsTold (Err e) number before answer out = (answer ≡ refusal_told refusal.Memory) × (out ≡ before)
 

@@ -11,7 +11,7 @@ use Rattle.mem_base.specs.declared.map.refusals.Refusal.TheVariants as refusal
 use Rattle.mem_base.specs.declared.map.refusals.What.TheVariants as what
 use Rattle.mem_base.specs.declared.views.flat.FlatRange.{FlatRange}
 use Rattle.mem_base.specs.map.Region.{node_of}
-use Rattle.mem_base.specs.map.Search.{root_of}
+use Rattle.mem_base.specs.map.Search.{path_at, root_of}
 use Rattle.mem_base.specs.views.Flattened.{view_of}
 use Rattle.mem_base.specs.views.View.{shown}
 use Rattle.mem_base.specs.machine.Composites.{forest_at}
@@ -21,7 +21,8 @@ use Rattle.libvobrekan.specs.declared.answers.Answer.{Answer}
 use Rattle.libvobrekan.specs.declared.shown.FoundNumbers.{FoundNumbers}
 use Rattle.libvobrekan.specs.declared.shown.RangeNumbers.{RangeNumbers}
 use Rattle.flat_lookup.specs.Atlases.{run_end}
-use Rattle.libvobrekan.specs.Answers.{done, no_machine, refusal_told}
+use Rattle.libvobrekan.specs.Answers.{code_memory, done, no_machine, refusal_told}
+use Rattle.libvobrekan.specs.Buffers.{put_regions}
 
 -- the forest of the current generation
 abbrev pub current_forest : World → Forest
@@ -113,3 +114,18 @@ abbrev pub Finds : Option World → SpaceId → ℕ → FoundNumbers → Answer 
 Finds None space addr before answer out = (answer ≡ no_machine) × (out ≡ before)
 Finds (Some w) space addr before answer out =
     IsFound (root_of (current_forest w) space) (current_forest w) w.writer.generations.current space addr before answer out
+
+-- the path on which an address is found in a space of a forest, in a buffer, in the generation of this number; a space that is not there is
+-- refused, and where memory runs out the buffer is as it was
+abbrev pub IsPath : Option RegionId → Forest → ℕ → SpaceId → ℕ → List ℕ → Answer → List ℕ → Type 0
+IsPath None f number space addr before answer out = (answer ≡ refusal_told (refusal.Unknown (what.Space space))) × (out ≡ before)
+IsPath (Some root) f number space addr before answer out =
+    ((answer.code ≡ code_memory → ⊥)
+    → (answer ≡ done (length (path_at f space addr)) number) × (out ≡ put_regions (path_at f space addr) before))
+    × (answer.code ≡ code_memory → out ≡ before)
+
+-- the same of the current generation of a handle's machine
+abbrev pub ShowsPath : Option World → SpaceId → ℕ → List ℕ → Answer → List ℕ → Type 0
+ShowsPath None space addr before answer out = (answer ≡ no_machine) × (out ≡ before)
+ShowsPath (Some w) space addr before answer out =
+    IsPath (root_of (current_forest w) space) (current_forest w) w.writer.generations.current space addr before answer out

@@ -11,8 +11,8 @@ use crate::handle::Handle;
 use mem_base::{Access, MOST_PASSES, PassId, SpaceId};
 use std::alloc::Global;
 
-// How an access ended.
-fn ended(access: Access) -> Answer
+/// How an access ended.
+pub(crate) fn ended(access: Access) -> Answer
     ensures { result ≡ access_told access }
 {
     let error = if access.result.error { 1 } else { 0 };

@@ -1,6 +1,6 @@
 // What a call answers to C.
 ghost use Rattle.std.specs.Prelude.{◌≡◌};
-ghost use Rattle.libvobrekan.specs.Answers.{bad_argument, call_told, commit_told, done, has_machine, no_machine, number_of, number_of_user};
+ghost use Rattle.libvobrekan.specs.Answers.{bad_argument, call_told, commit_told, done, has_machine, no_cpu, no_machine, no_script, not_whole, number_of, number_of_user};
 ghost use Rattle.libvobrekan.specs.Answers.{plain_told, published, refusal_told, sort_of, sort_of_limit, sort_of_user, told};
 
 use mem_base::{Applied, Refusal, RegionId, User, What, Which};
@@ -62,6 +62,27 @@ pub(crate) fn has_machine() -> Answer
     ensures { result ≡ has_machine }
 {
     told(24, 0, 0, 0)
+}
+
+/// A text is no script.
+pub(crate) fn no_script(value: u64, line: u32) -> Answer
+    ensures { result ≡ no_script value line }
+{
+    told(25, 0, value, u64::from(line))
+}
+
+/// A write of one word would replace only a part of some word.
+pub(crate) fn not_whole(number: u64) -> Answer
+    ensures { result ≡ not_whole number }
+{
+    told(26, 0, 0, number)
+}
+
+/// All virtual CPUs are handed out.
+pub(crate) fn no_cpu() -> Answer
+    ensures { result ≡ no_cpu }
+{
+    told(27, 0, 0, 0)
 }
 
 // A refusal that names a thing.

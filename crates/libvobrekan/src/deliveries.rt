@@ -153,8 +153,12 @@ fn delivery_told(listener: ListenerId, event: &ListenerEvent) -> DeliveryNumbers
     }
 }
 
-// The call at an index of the journal, where there is one.
-fn put_delivery(journal: &[(ListenerId, ListenerEvent)], index: usize, out: &mut DeliveryNumbers)
+/// The call at an index of the journal, where there is one.
+pub(crate) fn put_delivery(
+    journal: &[(ListenerId, ListenerEvent)],
+    index: usize,
+    out: &mut DeliveryNumbers,
+)
     ensures { out.new ≡ put_where delivery_told (slice_get journal.now index) out.old }
 {
     if let Some((listener, event)) = journal.get(index) {

@@ -3,7 +3,8 @@ ghost use Rattle.std.specs.Prelude.{◌≡◌, ◌≤◌, ◌<◌, ◌+◌, ◌^
 ghost use Rattle.mem_base.specs.access.AccessSteps.{reading, writing};
 ghost use Rattle.libvobrekan.specs.Answers.{bad_argument};
 ghost use Rattle.libvobrekan.specs.Arguments.{space_at};
-ghost use Rattle.libvobrekan.specs.Plans.{HasPlan, IsListOf, IsTold, ShowsPlan, client_told, is_core, items_of, lists_of, plain_told, put_each, reach_told, with_request};
+ghost use Rattle.libvobrekan.specs.Buffers.{put_each};
+ghost use Rattle.libvobrekan.specs.Plans.{HasPlan, IsListOf, IsTold, ShowsPlan, client_told, is_core, items_of, lists_of, plain_told, reach_told, with_request};
 
 use crate::answers::{Answer, bad_argument, done, no_machine, of_refusal};
 use crate::handle::Handle;
@@ -139,8 +140,8 @@ fn told_at(list: &[Reach], i: usize) -> Option<ReachedNumbers>
 }
 
 // Puts the things of a list into a buffer, as many as there is room for.
-fn put_each(list: &[Reach], out: &mut [ReachedNumbers])
-    ensures { out.new ≡ put_each list.now out.old }
+fn put_reached(list: &[Reach], out: &mut [ReachedNumbers])
+    ensures { out.new ≡ put_each reach_told list.now out.old }
 {
     let count = list.len().min(out.len());
     for i in 0..count {
@@ -209,7 +210,7 @@ fn told(
 {
     match list {
         Ok(Some(list)) => {
-            put_each(&list, out);
+            put_reached(&list, out);
             done(list.len() as u64, number)
         }
         Ok(None) => of_refusal(Refusal::BadSize),

@@ -77,15 +77,20 @@ pub(crate) fn told(range: &FlatRange) -> RangeNumbers
     }
 }
 
-// A space that is not there.
-fn unknown(space: SpaceId) -> Answer
+/// A space that is not there.
+pub(crate) fn unknown(space: SpaceId) -> Answer
     ensures { result ≡ refusal_told (refusal.Unknown (what.Space space)) }
 {
     of_refusal(Refusal::Unknown(What::Space(space)))
 }
 
-// The range at an index of the view of a space, and how many there are.
-fn range_in(generation: &Generation, space: SpaceId, index: usize, out: &mut RangeNumbers) -> Answer
+/// The range at an index of the view of a space, and how many there are.
+pub(crate) fn range_in(
+    generation: &Generation,
+    space: SpaceId,
+    index: usize,
+    out: &mut RangeNumbers,
+) -> Answer
     ensures { IsRange (root_of generation.now.forest space) generation.now.forest generation.now.number space index out.old result out.new }
 {
     let Some(atlas) = generation.atlas(space) else {
@@ -190,8 +195,13 @@ fn run_at<L: Ledger>(atlas: &Atlas, addr: u64, blank: Blank) -> (Option<Spot>, u
     atlas.run_at(addr, &mut steps)
 }
 
-// What an address of a space leads to.
-fn found_in(generation: &Generation, space: SpaceId, addr: u64, out: &mut FoundNumbers) -> Answer
+/// What an address of a space leads to.
+pub(crate) fn found_in(
+    generation: &Generation,
+    space: SpaceId,
+    addr: u64,
+    out: &mut FoundNumbers,
+) -> Answer
     ensures { IsFound (root_of generation.now.forest space) generation.now.forest generation.now.number space addr out.old result out.new }
 {
     let Some(atlas) = generation.atlas(space) else {

@@ -3,7 +3,7 @@ ghost use Rattle.std.specs.Prelude.{◌≡◌, ◌++◌, IfOk, drop, length, str
 ghost use Rattle.libvobrekan.specs.Texts.{id_in, limit_in, one_in, plain_in, refusal_in, text_of_answer, text_of_code, user_in, what_in};
 
 use crate::answers::{Answer, CODE_MEMORY};
-use crate::script::copy_first;
+use crate::buffers::copy_first;
 use mem_base::{ListenerId, PassId, Refusal, RegionId, SpaceId, User, WatcherId, What, Which};
 use std::alloc::{AllocError, Global};
 
@@ -118,6 +118,9 @@ fn text_of_code(code: u32) -> &'static str
         22 => "an argument stands for nothing",
         23 => "the handle has no machine",
         24 => "the handle has a machine already",
+        25 => "the text is no script",
+        26 => "only a part of some word would be replaced",
+        27 => "all virtual CPUs are handed out",
         _ => "this is no answer of the library",
     }
 }

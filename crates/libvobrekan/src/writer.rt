@@ -2,22 +2,25 @@
 ghost use Rattle.std.specs.Prelude.{◌≡◌, ◌<◌, ◌≤◌, ◌^◌, IfOk, IfSome, None, Some};
 ghost use Rattle.mem_base.specs.declared.map.calls.Config.TheVariants as configs;
 ghost use Rattle.mem_base.specs.map.Limits.{most_passes};
+ghost use Rattle.mem_base.specs.machine.Answers.{answer_with, reap_answer};
 ghost use Rattle.mem_base.specs.machine.Orders.{configure, load, notified, reap};
 ghost use Rattle.mem_base.specs.machine.World.{opening};
-ghost use Rattle.libvobrekan.specs.Answers.{bad_argument, code_memory, done, has_machine};
+ghost use Rattle.libvobrekan.specs.Answers.{bad_argument, code_memory, done, has_machine, list_told};
 ghost use Rattle.libvobrekan.specs.Arguments.{listener_at, region_at, space_at};
 ghost use Rattle.libvobrekan.specs.Asked.{IsAsked, IsDone, IsRefused};
+ghost use Rattle.libvobrekan.specs.Buffers.{HasPut, put_released};
 
 use crate::answers::{
     Answer, bad_argument, done, has_machine, no_machine, of_commit, of_plain, of_refusal,
 };
+use crate::buffers::put_regions;
 use crate::handle::Handle;
 use mem_base::{ListenerId, NOTIFIER_COUNT, Refusal, RegionId, SpaceId};
 use pure_machine::PureMachine;
 use std::alloc::{AllocError, Global};
 
 /// The words of 8 bytes that a machine's pool may have.
-const MOST_WORDS: usize = 67_108_864;
+pub(crate) const MOST_WORDS: usize = 67_108_864;
 
 // The box of a new machine.
 fn opened(alloc: Global, words: usize) -> Result<Box<PureMachine, Global>, AllocError>
@@ -159,19 +162,34 @@ pub extern "C" fn vb_notified(alloc: Global, handle: &mut Handle, number: u32) -
     done(value, 0)
 }
 
-/// Releases the dropped regions that no generation in use names: their memory is free again. `value` of the answer is their
-/// number.
+/// What was released, in a buffer.
+pub(crate) fn released_told(released: Result<Vec<RegionId>, Refusal>, out: &mut [u32]) -> Answer
+    ensures answer { result ≡ list_told (answer_with (λ v. v.items) released) }
+    ensures out { out.new ≡ put_released (reap_answer (answer_with (λ v. v.items) released)) out.old }
+{
+    match released {
+        Ok(released) => {
+            put_regions(&released, out);
+            done(released.len() as u64, 0)
+        }
+        Err(why) => of_refusal(why),
+    }
+}
+
+/// Releases the dropped regions that no generation in use names: their memory is free again. `value` of the answer is how many they
+/// are.
+///
+/// `out` has the numbers of as many of them as there is room for, ascending. Room for as many regions as were dropped is enough. Where
+/// memory runs out nothing is written.
 #[unsafe(no_mangle)]
-pub extern "C" fn vb_reap(alloc: Global, handle: &mut Handle) -> Answer
-    ensures { IsAsked handle.old.machine reap result handle.new.machine }
+pub extern "C" fn vb_reap(alloc: Global, handle: &mut Handle, out: &mut [u32]) -> Answer
+    ensures asked { IsAsked handle.old.machine reap result handle.new.machine }
+    ensures list { HasPut handle.old.machine reap put_released result out.old out.new }
 {
     let Some(mut machine) = handle.take(alloc) else {
         return no_machine();
     };
-    let answer = machine.reap();
+    let released = machine.reap();
     handle.put(alloc, machine);
-    match answer {
-        Ok(released) => done(released.len() as u64, 0),
-        Err(why) => of_refusal(why),
-    }
+    released_told(released, out)
 }

@@ -1,7 +1,7 @@
 //! How long calls take through a handle: the least of five rounds, a call.
 use std::hint::black_box;
 use std::time::Instant;
-use vobrekan::{Device, Kind, Machine, PassId, RegionId, SpaceId, WHOLE, Way};
+use vobrekan::{Desk, Device, Kind, Machine, Order, PassId, RegionId, SpaceId, WHOLE, Way};
 
 const SPACE: SpaceId = SpaceId(0);
 const CPU: PassId = PassId(0);
@@ -26,6 +26,26 @@ fn map(regions: u64) -> (Machine, Vec<RegionId>) {
     }
     change.commit().unwrap();
     (machine, leaves)
+}
+
+/// The same map at the desk of a machine that virtual CPUs share.
+fn shared_map(regions: u64) -> Desk {
+    let mut desk = Desk::new(1 << 22).unwrap();
+    let device = Device { regs: 1, valid_min: 1, valid_max: 8, impl_min: 1, impl_max: 8, ..Device::default() };
+    desk.ask(Order::Begin).unwrap();
+    let system = desk.region(Kind::Container, WHOLE).unwrap();
+    desk.ask(Order::Space(SPACE, system)).unwrap();
+    for i in 0..regions / 50 {
+        let part = desk.region(Kind::Container, 0x10_0000).unwrap();
+        desk.ask(Order::Add(system, i * 0x10_0000, part, 0)).unwrap();
+        for j in 0..49 {
+            let kind = if j % 7 == 0 { Kind::Ram } else { Kind::Io(device) };
+            let leaf = desk.region(kind, 0x1000).unwrap();
+            desk.ask(Order::Add(part, j * 0x2000, leaf, 0)).unwrap();
+        }
+    }
+    desk.ask(Order::Commit).unwrap();
+    desk
 }
 
 /// The least of five rounds of so many calls, in nanoseconds a call.
@@ -53,6 +73,13 @@ fn main() {
     println!("{:8.0}  read a word of a device, by a pass", least(500_000, |_| _ = black_box(machine.read(CPU, SPACE, 0x2000, &mut [0; 8]))));
     println!("{:8.0}  the plan of a read of 8 bytes of a device", least(500_000, |_| _ = black_box(machine.plan_read(Way::Qemu, SPACE, 0x2000, 8))));
     println!("{:8.0}  the plan of a read of 8 bytes of memory", least(500_000, |_| _ = black_box(machine.plan_read(Way::Chunks, SPACE, 8, 8))));
+    let mut desk = shared_map(2_000);
+    let mut cpu = desk.cpu().unwrap();
+    println!("{:8.0}  read a word of memory, by a virtual CPU", least(500_000, |_| _ = black_box(cpu.read(SPACE, 8, &mut [0; 8]))));
+    cpu.enter().unwrap();
+    println!("{:8.0}  the same while it is entered", least(500_000, |_| _ = black_box(cpu.read(SPACE, 8, &mut [0; 8]))));
+    println!("{:8.0}  write a word of memory, by a virtual CPU that is entered", least(500_000, |i| _ = black_box(cpu.write8(SPACE, 8, u64::from(i)))));
+    println!("{:8.0}  the path of an address", least(100, |i| _ = black_box(machine.path(SPACE, at(i)))));
     let moved = leaves[1000];
     println!("{:8.0}  move a region, and publish", least(200, |i| _ = black_box(machine.move_to(moved, u64::from(i % 2) * 0x800 + 0xc000))));
     println!("{:8.0}  make a machine, and free it", least(1_000, |_| _ = black_box(Machine::new(64))));

@@ -69,11 +69,20 @@ pub const VB_MEMORY: u32 = 21;
 /// An argument, `value`, stands for nothing.
 pub const VB_ARGUMENT: u32 = 22;
 
-/// The handle has no machine.
+/// The handle has no machine, desk or virtual CPU.
 pub const VB_NO_MACHINE: u32 = 23;
 
-/// The handle has a machine.
+/// The handle has one.
 pub const VB_HAS_MACHINE: u32 = 24;
+
+/// The text is no script: `other` is the number of its first line at fault.
+pub const VB_NO_SCRIPT: u32 = 25;
+
+/// Only a part of some word would be replaced, in the generation `other`.
+pub const VB_NOT_WHOLE: u32 = 26;
+
+/// All 16 virtual CPUs are handed out.
+pub const VB_NO_CPU: u32 = 27;
 
 pub const VB_SORT_REGION: u32 = 0;
 pub const VB_SORT_SPACE: u32 = 1;
@@ -102,6 +111,29 @@ pub const VB_DEVICE_LATCH: u32 = 0;
 pub const VB_DEVICE_COUNT: u32 = 1;
 pub const VB_DEVICE_BELL: u32 = 2;
 pub const VB_DEVICE_FAULT: u32 = 3;
+pub const VB_DO_BEGIN: u32 = 0;
+pub const VB_DO_COMMIT: u32 = 1;
+pub const VB_DO_LISTEN: u32 = 2;
+pub const VB_DO_UNLISTEN: u32 = 3;
+pub const VB_DO_REGION: u32 = 4;
+pub const VB_DO_SPACE: u32 = 5;
+pub const VB_DO_ADD: u32 = 6;
+pub const VB_DO_DEL: u32 = 7;
+pub const VB_DO_MOVE: u32 = 8;
+pub const VB_DO_RESIZE: u32 = 9;
+pub const VB_DO_RETARGET: u32 = 10;
+pub const VB_DO_ENABLE: u32 = 11;
+pub const VB_DO_READONLY: u32 = 12;
+pub const VB_DO_NONVOLATILE: u32 = 13;
+pub const VB_DO_UNMERGEABLE: u32 = 14;
+pub const VB_DO_ROMD: u32 = 15;
+pub const VB_DO_LOG: u32 = 16;
+pub const VB_DO_GLOBAL: u32 = 17;
+pub const VB_DO_MAP: u32 = 18;
+pub const VB_DO_UNMAP: u32 = 19;
+pub const VB_DO_EVENT: u32 = 20;
+pub const VB_DO_UNEVENT: u32 = 21;
+pub const VB_DO_DROP: u32 = 22;
 pub const VB_CLIENT_DISPLAY: u32 = 0;
 pub const VB_CLIENT_CODE: u32 = 1;
 pub const VB_CLIENT_MIGRATION: u32 = 2;
@@ -132,6 +164,20 @@ pub const VB_TOLD_COMMIT: u32 = 8;
 #[repr(C)]
 #[derive(Debug)]
 pub struct vb_machine {
+    pub at: *mut core::ffi::c_void,
+}
+
+/// What C keeps of the desk of a machine that virtual CPUs share: a pointer, which is null where there is none.
+#[repr(C)]
+#[derive(Debug)]
+pub struct vb_desk {
+    pub at: *mut core::ffi::c_void,
+}
+
+/// What C keeps of a virtual CPU: a pointer, which is null where there is none.
+#[repr(C)]
+#[derive(Debug)]
+pub struct vb_cpu {
     pub at: *mut core::ffi::c_void,
 }
 
@@ -179,6 +225,35 @@ pub struct vb_ioevent {
     pub size: u8,
     /// Whether only a write of `value` counts.
     pub matched: bool,
+}
+
+/// What is asked of a desk. `what` says which of the calls of a machine it is, by `VB_DO_..`; each takes the numbers that it names, and the
+/// others are not looked at.
+#[repr(C)]
+#[derive(Clone, Copy, Debug, Default, PartialEq, Eq)]
+pub struct vb_order {
+    pub offset: u64,
+    /// In bytes; 2^64 - 1 stands for 2^64.
+    pub size: u64,
+    /// Where a translation goes on.
+    pub translated: u64,
+    pub what: u32,
+    /// The kind of a region that is made, by `VB_KIND_..`.
+    pub kind: u32,
+    pub region: u32,
+    /// The region that is placed or taken out, the target of an alias, or the root of a space.
+    pub other: u32,
+    pub space: u32,
+    pub listener: u32,
+    /// Whose logging is switched, by `VB_CLIENT_..`.
+    pub client: u32,
+    /// Which accesses a translation lets through, by `VB_PERM_..`.
+    pub perm: u32,
+    pub priority: i32,
+    /// Whether something is switched on.
+    pub on: bool,
+    pub device: vb_device,
+    pub event: vb_ioevent,
 }
 
 /// A range of a view: the addresses `start` to `last` inclusive are answered by a region, from `offset` in it on.
@@ -341,9 +416,79 @@ unsafe extern "C" {
     /// Drops a region that nothing uses. A `vb_reap` gives its memory back.
     pub fn vb_drop(handle: *mut vb_machine, region: u32) -> vb_answer;
 
+    /// Enters the current generation: accesses go by it until the virtual CPU leaves it or enters anew. `other` of the answer is its number.
+    /// QEMU's core, `rcu_read_lock`.
+    pub fn vb_cpu_enter(handle: *mut vb_cpu) -> vb_answer;
+
+    /// Leaves the generation that the virtual CPU is entered in; where it is in none, it does nothing. QEMU's core, `rcu_read_unlock`.
+    pub fn vb_cpu_leave(handle: *mut vb_cpu) -> vb_answer;
+
+    /// Reads bytes of a space, as many as there is room for, in the generation that the virtual CPU is entered in, and where it is in none in the
+    /// current one. The answer is that of `vb_read`. It never waits. QEMU's core, `address_space_read`.
+    pub fn vb_cpu_read(handle: *mut vb_cpu, space: u32, addr: u64, out: *mut u8, out_len: usize) -> vb_answer;
+
+    /// Writes the eight bytes of a number, the lowest first, as `vb_cpu_read` reads bytes. It never waits: where it would replace only a part
+    /// of some word, it writes nothing, with the code 26, and `other` of the answer is the number of the generation. QEMU's core,
+    /// `address_space_write`.
+    pub fn vb_cpu_write8(handle: *mut vb_cpu, space: u32, addr: u64, value: u64) -> vb_answer;
+
+    /// Leaves where the virtual CPU is entered, and frees it, if the handle has one. The handle has none then.
+    pub fn vb_cpu_free(handle: *mut vb_cpu);
+
     /// What listeners were told: the call at an index, counted from the first that was ever made, where there is one. `value` of the
     /// answer is how many there are, so that a caller that keeps its index polls: it reads on from there until it comes to `value`.
     pub fn vb_delivery(handle: *mut vb_machine, index: usize, out: *mut vb_listener_call) -> vb_answer;
+
+    /// Makes a machine that virtual CPUs share, over a pool of this many words of 8 bytes, at most 2^26, and its desk for a handle that has
+    /// none.
+    pub fn vb_desk_new(handle: *mut vb_desk, words: usize) -> vb_answer;
+
+    /// Frees the desk of a handle, if it has one. The handle has none then. Virtual CPUs that it handed out stay, in the last generation that
+    /// was published; what they share is freed with the last of them.
+    pub fn vb_desk_free(handle: *mut vb_desk);
+
+    /// Asks the desk for a call that changes the map, a transaction, or a listener, as the call of that name asks a machine for it. It is done
+    /// beside the virtual CPUs: what is published, those that enter later see. `vb_desk_ask` waits for none of them: where one may still use the
+    /// generation that a publish would overwrite, seven before the current one, it is refused with the code 19.
+    pub fn vb_desk_ask(handle: *mut vb_desk, order: *const vb_order) -> vb_answer;
+
+    /// Hands out a virtual CPU, for a handle that has none. There are 16, numbered from 0 in the order in which they are handed out, and after
+    /// these it is refused with the code 27. It has seen all that the desk has done.
+    pub fn vb_desk_cpu(handle: *mut vb_desk, cpu: *mut vb_cpu) -> vb_answer;
+
+    /// Takes a notifier, as `vb_notified` does.
+    pub fn vb_desk_notified(handle: *mut vb_desk, number: u32) -> vb_answer;
+
+    /// Releases dropped regions, as `vb_reap` does: a generation in which a virtual CPU is entered is in use.
+    pub fn vb_desk_reap(handle: *mut vb_desk, out: *mut u32, out_len: usize) -> vb_answer;
+
+    /// Takes the marks of a region for one client, as `vb_harvest` does: a page that a virtual CPU writes meanwhile is told now or the next time.
+    pub fn vb_desk_harvest(handle: *mut vb_desk, region: u32, client: u32, out: *mut u64, out_len: usize) -> vb_answer;
+
+    /// What an address of a space leads to in the current generation, as `vb_find` tells it.
+    pub fn vb_desk_find(handle: *mut vb_desk, space: u32, addr: u64, out: *mut vb_found) -> vb_answer;
+
+    /// A range of the current view of a space, as `vb_range` tells it.
+    pub fn vb_desk_range(handle: *mut vb_desk, space: u32, index: usize, out: *mut vb_flat_range) -> vb_answer;
+
+    /// What listeners were told, as `vb_delivery` tells it.
+    pub fn vb_desk_delivery(handle: *mut vb_desk, index: usize, out: *mut vb_listener_call) -> vb_answer;
+
+    /// Takes the marks of a region for one client, 0 display, 1 code, 2 migration: the pages that were written since they were last taken.
+    /// Page 64 i + b, of 4,096 bytes, was written where bit b of word i of `out` is set. `value` of the answer is how many pages were. QEMU's
+    /// core, `cpu_physical_memory_snapshot_and_clear_dirty`.
+    ///
+    /// The region is one whose bytes the machine has. Another client is refused, and so is a buffer with fewer words than have a bit for each
+    /// page of the region in the current generation: `value` of that answer is how many it takes. Where the call is refused, or memory runs out,
+    /// the marks stay, and nothing is written.
+    pub fn vb_harvest(handle: *mut vb_machine, region: u32, client: u32, out: *mut u64, out_len: usize) -> vb_answer;
+
+    /// The path on which an address of a space is found in the current generation: the regions that the search passes, aliases among them,
+    /// from the root to the one that answers, at most 32. Where nothing answers there is none. QEMU's manual, "The memory API", "Visibility".
+    ///
+    /// `out` has as many of their numbers as there is room for; `value` of the answer is how many there are, and `other` the number of the
+    /// generation. It takes one pass over all regions: `vb_find` is for each access, this for a person. Where memory runs out nothing is written.
+    pub fn vb_path(handle: *mut vb_machine, space: u32, addr: u64, out: *mut u32, out_len: usize) -> vb_answer;
 
     /// What a read of `len` bytes of a space reaches in the current generation, in order and nothing else, for a monitor that has the memory
     /// and the devices itself: it makes the callbacks, reads its memory, and takes 0 where nothing is. `way` is 0 for this machine's way, in
@@ -385,6 +530,13 @@ unsafe extern "C" {
 
     /// Makes a ROM device. A kind of device that there is not is refused.
     pub fn vb_rom_device(handle: *mut vb_machine, size: u64, device: *const vb_device) -> vb_answer;
+
+    /// Runs a script on a machine of its own: `out` has as many bytes of what it writes as there is room for, and `value` of the answer is
+    /// how many there are.
+    ///
+    /// Of a text that is no script, with the code 25, the line of its first fault is written, and `other` of the answer is the number of
+    /// that line: 0 where the text as a whole is too long. Where memory runs out nothing is written. It needs no handle.
+    pub fn vb_run(script: *const u8, script_len: usize, out: *mut u8, out_len: usize) -> vb_answer;
 
     /// The range at an index of the current view of a space, by ascending address: `out` has it, where there is one. `value` of the
     /// answer is the number of ranges, and `other` that of the generation.
@@ -428,7 +580,10 @@ unsafe extern "C" {
     /// refused.
     pub fn vb_notified(handle: *mut vb_machine, number: u32) -> vb_answer;
 
-    /// Releases the dropped regions that no generation in use names: their memory is free again. `value` of the answer is their
-    /// number.
-    pub fn vb_reap(handle: *mut vb_machine) -> vb_answer;
+    /// Releases the dropped regions that no generation in use names: their memory is free again. `value` of the answer is how many they
+    /// are.
+    ///
+    /// `out` has the numbers of as many of them as there is room for, ascending. Room for as many regions as were dropped is enough. Where
+    /// memory runs out nothing is written.
+    pub fn vb_reap(handle: *mut vb_machine, out: *mut u32, out_len: usize) -> vb_answer;
 }

@@ -98,7 +98,7 @@ impl Machine {
     fn plan(&mut self, ask: impl Fn(*mut sys::vb_machine, &mut [Reached]) -> sys::vb_answer) -> Result<(Vec<Reached>, u64), Refusal> {
         let mut list = vec![Reached::default(); 8];
         loop {
-            let answer = crate::refusal::accepted(ask(&mut self.0, &mut list))?;
+            let answer = crate::refusal::accepted(ask(&mut self.handle, &mut list))?;
             let count = answer.value as usize;
             if count <= list.len() {
                 list.truncate(count);

@@ -5,14 +5,20 @@
 //! is one call of the library `libvobrekan`, and what the call does is proved there.
 
 mod bus;
+mod cpus;
+mod pages;
 mod refusal;
+mod script;
 
 use std::ops::{Deref, DerefMut};
 use std::ptr::null_mut;
 use vobrekan_sys as sys;
 
 pub use bus::Bus;
+pub use cpus::{Cpu, Desk, Order};
+pub use pages::Pages;
 pub use refusal::{Refusal, What};
+pub use script::{Ran, run};
 
 use refusal::accepted;
 
@@ -79,18 +85,18 @@ pub enum Way {
 /// Who asks which pages were written.
 #[derive(Clone, Copy, Debug, PartialEq, Eq)]
 pub enum Client {
-    Display,
-    Code,
-    Migration,
+    Display = 0,
+    Code = 1,
+    Migration = 2,
 }
 
 /// Which accesses a translation lets through.
 #[derive(Clone, Copy, Debug, PartialEq, Eq)]
 pub enum Perm {
-    Nothing,
-    Read,
-    Write,
-    Both,
+    Nothing = 0,
+    Read = 1,
+    Write = 2,
+    Both = 3,
 }
 
 /// How an access ended, and the number of the generation in which it ran.
@@ -105,14 +111,18 @@ pub struct Access {
 
 /// A machine.
 #[derive(Debug)]
-pub struct Machine(sys::vb_machine);
+pub struct Machine {
+    handle: sys::vb_machine,
+    /// How many regions were dropped and are not released yet, at most.
+    dropped: usize,
+}
 
 // The library proves that a handle may go to another thread. A call takes `&mut self`, so one works on it at a time.
 unsafe impl Send for Machine {}
 
 impl Drop for Machine {
     fn drop(&mut self) {
-        unsafe { sys::vb_free(&mut self.0) }
+        unsafe { sys::vb_free(&mut self.handle) }
     }
 }
 
@@ -125,14 +135,14 @@ impl Machine {
     /// A machine over a pool of this many words of 8 bytes, at most 2^26: the memory of RAM, ROM and ROM devices, their marks,
     /// and the registers of devices are in the pool.
     pub fn new(words: usize) -> Result<Machine, Refusal> {
-        let mut machine = Machine(sys::vb_machine { at: null_mut() });
-        accepted(unsafe { sys::vb_new(&mut machine.0, words) })?;
+        let mut machine = Machine { handle: sys::vb_machine { at: null_mut() }, dropped: 0 };
+        accepted(unsafe { sys::vb_new(&mut machine.handle, words) })?;
         Ok(machine)
     }
 
     /// Makes a region. It is in no container.
     pub fn region(&mut self, kind: Kind, size: u64) -> Result<RegionId, Refusal> {
-        let at = &mut self.0;
+        let at = &mut self.handle;
         let answer = accepted(unsafe {
             match kind {
                 Kind::Container => sys::vb_container(at, size),
@@ -151,134 +161,140 @@ impl Machine {
 
     /// Makes an address space with this root.
     pub fn space(&mut self, space: SpaceId, root: RegionId) -> Result<Option<u64>, Refusal> {
-        Ok(published(accepted(unsafe { sys::vb_space(&mut self.0, space.0, root.0) })?))
+        Ok(published(accepted(unsafe { sys::vb_space(&mut self.handle, space.0, root.0) })?))
     }
 
     /// Places a region in a container.
     pub fn add(&mut self, parent: RegionId, offset: u64, child: RegionId, priority: i32) -> Result<Option<u64>, Refusal> {
-        Ok(published(accepted(unsafe { sys::vb_add(&mut self.0, parent.0, offset, child.0, priority) })?))
+        Ok(published(accepted(unsafe { sys::vb_add(&mut self.handle, parent.0, offset, child.0, priority) })?))
     }
 
     /// Takes a region out of its container.
     pub fn del(&mut self, parent: RegionId, child: RegionId) -> Result<Option<u64>, Refusal> {
-        Ok(published(accepted(unsafe { sys::vb_del(&mut self.0, parent.0, child.0) })?))
+        Ok(published(accepted(unsafe { sys::vb_del(&mut self.handle, parent.0, child.0) })?))
     }
 
     /// Moves a region in its container.
     pub fn move_to(&mut self, child: RegionId, offset: u64) -> Result<Option<u64>, Refusal> {
-        Ok(published(accepted(unsafe { sys::vb_move(&mut self.0, child.0, offset) })?))
+        Ok(published(accepted(unsafe { sys::vb_move(&mut self.handle, child.0, offset) })?))
     }
 
     /// Gives a region another size: any region but memory.
     pub fn resize(&mut self, region: RegionId, size: u64) -> Result<Option<u64>, Refusal> {
-        Ok(published(accepted(unsafe { sys::vb_resize(&mut self.0, region.0, size) })?))
+        Ok(published(accepted(unsafe { sys::vb_resize(&mut self.handle, region.0, size) })?))
     }
 
     /// Moves the window of an alias in its target.
     pub fn retarget(&mut self, alias: RegionId, offset: u64) -> Result<Option<u64>, Refusal> {
-        Ok(published(accepted(unsafe { sys::vb_retarget(&mut self.0, alias.0, offset) })?))
+        Ok(published(accepted(unsafe { sys::vb_retarget(&mut self.handle, alias.0, offset) })?))
     }
 
     /// Switches a region on or off: one that is off is left out wherever it stands.
     pub fn enable(&mut self, region: RegionId, on: bool) -> Result<Option<u64>, Refusal> {
-        Ok(published(accepted(unsafe { sys::vb_enable(&mut self.0, region.0, on) })?))
+        Ok(published(accepted(unsafe { sys::vb_enable(&mut self.handle, region.0, on) })?))
     }
 
     /// Switches whether what is found through the region is read-only.
     pub fn readonly(&mut self, region: RegionId, on: bool) -> Result<Option<u64>, Refusal> {
-        Ok(published(accepted(unsafe { sys::vb_readonly(&mut self.0, region.0, on) })?))
+        Ok(published(accepted(unsafe { sys::vb_readonly(&mut self.handle, region.0, on) })?))
     }
 
     /// Switches whether what is found through the region is non-volatile.
     pub fn nonvolatile(&mut self, region: RegionId, on: bool) -> Result<Option<u64>, Refusal> {
-        Ok(published(accepted(unsafe { sys::vb_nonvolatile(&mut self.0, region.0, on) })?))
+        Ok(published(accepted(unsafe { sys::vb_nonvolatile(&mut self.handle, region.0, on) })?))
     }
 
     /// Switches whether ranges that are found through the region end where the path to their leaf changes.
     pub fn unmergeable(&mut self, region: RegionId, on: bool) -> Result<Option<u64>, Refusal> {
-        Ok(published(accepted(unsafe { sys::vb_unmergeable(&mut self.0, region.0, on) })?))
+        Ok(published(accepted(unsafe { sys::vb_unmergeable(&mut self.handle, region.0, on) })?))
     }
 
     /// Switches the mode of a ROM device.
     pub fn romd(&mut self, region: RegionId, on: bool) -> Result<Option<u64>, Refusal> {
-        Ok(published(accepted(unsafe { sys::vb_romd(&mut self.0, region.0, on) })?))
+        Ok(published(accepted(unsafe { sys::vb_romd(&mut self.handle, region.0, on) })?))
     }
 
     /// Switches the logging of a region for one client.
     pub fn log(&mut self, region: RegionId, client: Client, on: bool) -> Result<Option<u64>, Refusal> {
-        let client = match client {
-            Client::Display => sys::VB_CLIENT_DISPLAY,
-            Client::Code => sys::VB_CLIENT_CODE,
-            Client::Migration => sys::VB_CLIENT_MIGRATION,
-        };
-        Ok(published(accepted(unsafe { sys::vb_log(&mut self.0, region.0, client, on) })?))
+        Ok(published(accepted(unsafe { sys::vb_log(&mut self.handle, region.0, client as u32, on) })?))
     }
 
     /// Switches global logging.
     pub fn global(&mut self, on: bool) -> Result<Option<u64>, Refusal> {
-        Ok(published(accepted(unsafe { sys::vb_global(&mut self.0, on) })?))
+        Ok(published(accepted(unsafe { sys::vb_global(&mut self.handle, on) })?))
     }
 
     /// Puts a translation into the table of an IOMMU region: the page at `iova` goes on at an address of a space.
     pub fn map(&mut self, region: RegionId, iova: u64, size: u64, to: (SpaceId, u64), perm: Perm) -> Result<Option<u64>, Refusal> {
-        let perm = match perm {
-            Perm::Nothing => sys::VB_PERM_NOTHING,
-            Perm::Read => sys::VB_PERM_READ,
-            Perm::Write => sys::VB_PERM_WRITE,
-            Perm::Both => sys::VB_PERM_BOTH,
-        };
-        Ok(published(accepted(unsafe { sys::vb_map(&mut self.0, region.0, iova, size, to.0.0, to.1, perm) })?))
+        Ok(published(accepted(unsafe { sys::vb_map(&mut self.handle, region.0, iova, size, to.0.0, to.1, perm as u32) })?))
     }
 
     /// Takes a translation out.
     pub fn unmap(&mut self, region: RegionId, iova: u64) -> Result<Option<u64>, Refusal> {
-        Ok(published(accepted(unsafe { sys::vb_unmap(&mut self.0, region.0, iova) })?))
+        Ok(published(accepted(unsafe { sys::vb_unmap(&mut self.handle, region.0, iova) })?))
     }
 
     /// Gives a device an ioeventfd.
     pub fn event(&mut self, region: RegionId, event: &Ioevent) -> Result<Option<u64>, Refusal> {
-        Ok(published(accepted(unsafe { sys::vb_event(&mut self.0, region.0, event) })?))
+        Ok(published(accepted(unsafe { sys::vb_event(&mut self.handle, region.0, event) })?))
     }
 
     /// Takes an ioeventfd away.
     pub fn unevent(&mut self, region: RegionId, event: &Ioevent) -> Result<Option<u64>, Refusal> {
-        Ok(published(accepted(unsafe { sys::vb_unevent(&mut self.0, region.0, event) })?))
+        Ok(published(accepted(unsafe { sys::vb_unevent(&mut self.handle, region.0, event) })?))
     }
 
     /// Drops a region that nothing uses.
     pub fn drop_region(&mut self, region: RegionId) -> Result<(), Refusal> {
-        accepted(unsafe { sys::vb_drop(&mut self.0, region.0) })?;
+        accepted(unsafe { sys::vb_drop(&mut self.handle, region.0) })?;
+        self.dropped += 1;
         Ok(())
     }
 
-    /// Releases the dropped regions that no generation in use names, and answers how many they were.
-    pub fn reap(&mut self) -> Result<u64, Refusal> {
-        Ok(accepted(unsafe { sys::vb_reap(&mut self.0) })?.value)
+    /// Releases the dropped regions that no generation in use names, and answers them, ascending: their memory is free again.
+    pub fn reap(&mut self) -> Result<Vec<RegionId>, Refusal> {
+        let mut out = vec![0; self.dropped];
+        let count = accepted(unsafe { sys::vb_reap(&mut self.handle, out.as_mut_ptr(), out.len()) })?.value as usize;
+        out.truncate(count);
+        self.dropped -= out.len();
+        Ok(out.into_iter().map(RegionId).collect())
+    }
+
+    /// Takes the marks of a region for one client: the pages that were written since they were last taken.
+    pub fn harvest(&mut self, region: RegionId, client: Client) -> Result<Pages, Refusal> {
+        Pages::harvested(|out| unsafe { sys::vb_harvest(&mut self.handle, region.0, client as u32, out.as_mut_ptr(), out.len()) })
     }
 
     /// Opens a transaction: what is changed through it is published when it is committed, or dropped.
     pub fn transaction(&mut self) -> Result<Transaction<'_>, Refusal> {
-        accepted(unsafe { sys::vb_begin(&mut self.0) })?;
+        accepted(unsafe { sys::vb_begin(&mut self.handle) })?;
         Ok(Transaction { machine: self, is_open: true })
     }
 
     /// A listener joins a space.
     pub fn listen(&mut self, listener: ListenerId, space: SpaceId, priority: i32) -> Result<(), Refusal> {
-        accepted(unsafe { sys::vb_listen(&mut self.0, listener.0, space.0, priority) })?;
+        accepted(unsafe { sys::vb_listen(&mut self.handle, listener.0, space.0, priority) })?;
         Ok(())
     }
 
     /// A listener leaves its space.
     pub fn unlisten(&mut self, listener: ListenerId) -> Result<(), Refusal> {
-        accepted(unsafe { sys::vb_unlisten(&mut self.0, listener.0) })?;
+        accepted(unsafe { sys::vb_unlisten(&mut self.handle, listener.0) })?;
         Ok(())
     }
 
     /// What an address of a space leads to, and how far it goes on alike.
     pub fn find(&mut self, space: SpaceId, addr: u64) -> Result<Found, Refusal> {
         let mut found = Found::default();
-        accepted(unsafe { sys::vb_find(&mut self.0, space.0, addr, &mut found) })?;
+        accepted(unsafe { sys::vb_find(&mut self.handle, space.0, addr, &mut found) })?;
         Ok(found)
+    }
+
+    /// The regions that a search passes on the way to the one that answers an address, from the root of the space on.
+    pub fn path(&mut self, space: SpaceId, addr: u64) -> Result<Vec<RegionId>, Refusal> {
+        let mut out = [0; 32];
+        let count = accepted(unsafe { sys::vb_path(&mut self.handle, space.0, addr, out.as_mut_ptr(), out.len()) })?.value as usize;
+        Ok(out[..count].iter().copied().map(RegionId).collect())
     }
 
     /// The ranges of the view of a space, by ascending address.
@@ -286,7 +302,7 @@ impl Machine {
         let mut ranges = Vec::new();
         loop {
             let mut range = FlatRange::default();
-            let count = accepted(unsafe { sys::vb_range(&mut self.0, space.0, ranges.len(), &mut range) })?.value;
+            let count = accepted(unsafe { sys::vb_range(&mut self.handle, space.0, ranges.len(), &mut range) })?.value;
             if ranges.len() as u64 >= count {
                 return Ok(ranges);
             }
@@ -301,7 +317,7 @@ impl Machine {
         loop {
             let mut call = ListenerCall::default();
             let index = from.saturating_add(calls.len());
-            let count = accepted(unsafe { sys::vb_delivery(&mut self.0, index, &mut call) })?.value;
+            let count = accepted(unsafe { sys::vb_delivery(&mut self.handle, index, &mut call) })?.value;
             if index as u64 >= count {
                 return Ok(calls);
             }
@@ -311,25 +327,25 @@ impl Machine {
 
     /// Reads bytes of a space, as many as there is room for.
     pub fn read(&mut self, pass: PassId, space: SpaceId, addr: u64, out: &mut [u8]) -> Result<Access, Refusal> {
-        let answer = unsafe { sys::vb_read(&mut self.0, pass.0, space.0, addr, out.as_mut_ptr(), out.len()) };
+        let answer = unsafe { sys::vb_read(&mut self.handle, pass.0, space.0, addr, out.as_mut_ptr(), out.len()) };
         Ok(access(accepted(answer)?))
     }
 
     /// Writes bytes to a space.
     pub fn write(&mut self, pass: PassId, space: SpaceId, addr: u64, bytes: &[u8]) -> Result<Access, Refusal> {
-        let answer = unsafe { sys::vb_write(&mut self.0, pass.0, space.0, addr, bytes.as_ptr(), bytes.len()) };
+        let answer = unsafe { sys::vb_write(&mut self.handle, pass.0, space.0, addr, bytes.as_ptr(), bytes.len()) };
         Ok(access(accepted(answer)?))
     }
 
     /// Loads bytes into a region that has bytes, ROM among them.
     pub fn load(&mut self, region: RegionId, offset: u64, bytes: &[u8]) -> Result<(), Refusal> {
-        accepted(unsafe { sys::vb_load(&mut self.0, region.0, offset, bytes.as_ptr(), bytes.len()) })?;
+        accepted(unsafe { sys::vb_load(&mut self.handle, region.0, offset, bytes.as_ptr(), bytes.len()) })?;
         Ok(())
     }
 
     /// Takes a notifier, 0 to 63: whether a write has set it since it was last taken.
     pub fn notified(&mut self, number: u32) -> Result<bool, Refusal> {
-        Ok(accepted(unsafe { sys::vb_notified(&mut self.0, number) })?.value != 0)
+        Ok(accepted(unsafe { sys::vb_notified(&mut self.handle, number) })?.value != 0)
     }
 }
 
@@ -353,7 +369,7 @@ impl Transaction<'_> {
     /// Closes the transaction, and answers the number of the generation that the outermost one publishes. Where it is refused,
     /// the transaction is tried once more where it is dropped.
     pub fn commit(mut self) -> Result<Option<u64>, Refusal> {
-        let answer = accepted(unsafe { sys::vb_commit(&mut self.machine.0) })?;
+        let answer = accepted(unsafe { sys::vb_commit(&mut self.machine.handle) })?;
         self.is_open = false;
         Ok(published(answer))
     }
@@ -362,7 +378,7 @@ impl Transaction<'_> {
 impl Drop for Transaction<'_> {
     fn drop(&mut self) {
         if self.is_open {
-            unsafe { sys::vb_commit(&mut self.machine.0) };
+            unsafe { sys::vb_commit(&mut self.machine.handle) };
         }
     }
 }

@@ -63,8 +63,14 @@ pub enum Refusal {
     EventTaken,
     /// Out of memory.
     Memory,
-    /// An argument that stands for nothing.
+    /// An argument that stands for nothing, or a buffer that is too short: this much room is wanted.
     Argument(u64),
+    /// The handle has no machine, desk or virtual CPU.
+    NoMachine,
+    /// A write of one word would replace only a part of some word, in this generation.
+    NotWhole(u64),
+    /// All 16 virtual CPUs are handed out.
+    NoCpu,
     /// A code that this crate does not know.
     Other(u32),
 }
@@ -108,6 +114,9 @@ pub(crate) fn accepted(answer: sys::vb_answer) -> Result<sys::vb_answer, Refusal
         sys::VB_EVENT_TAKEN => Refusal::EventTaken,
         sys::VB_MEMORY => Refusal::Memory,
         sys::VB_ARGUMENT => Refusal::Argument(value),
+        sys::VB_NO_MACHINE => Refusal::NoMachine,
+        sys::VB_NOT_WHOLE => Refusal::NotWhole(other),
+        sys::VB_NO_CPU => Refusal::NoCpu,
         _ => Refusal::Other(code),
     })
 }
@@ -150,6 +159,9 @@ impl fmt::Display for Refusal {
             Refusal::EventTaken => write!(f, "the region has this ioeventfd already"),
             Refusal::Memory => write!(f, "out of memory"),
             Refusal::Argument(value) => write!(f, "the argument {value} stands for nothing"),
+            Refusal::NoMachine => write!(f, "the handle has no machine"),
+            Refusal::NotWhole(_) => write!(f, "only a part of some word would be replaced"),
+            Refusal::NoCpu => write!(f, "all virtual CPUs are handed out"),
             Refusal::Other(code) => write!(f, "code {code}"),
         }
     }

@@ -92,7 +92,7 @@ fn regions_come_and_go() {
         machine.global(true).unwrap();
         machine.global(false).unwrap();
     }
-    assert_eq!(machine.reap(), Ok(1));
+    assert_eq!(machine.reap(), Ok(vec![uart]));
     assert_eq!(machine.enable(uart, true), Err(Refusal::Unknown(What::Region(uart))));
 }
 

@@ -1,0 +1,225 @@
+//! A machine that virtual CPUs share: its desk, and the virtual CPUs, each on a thread of its own.
+use crate::refusal::accepted;
+use crate::{Access, Client, FlatRange, Found, Ioevent, Kind, ListenerCall, ListenerId, Pages, Perm, Refusal, RegionId, SpaceId, access, published};
+use std::ptr::null_mut;
+use vobrekan_sys as sys;
+
+/// What is asked of a desk: each is the call of that name of a [`Machine`](crate::Machine).
+#[derive(Clone, Copy, Debug, PartialEq, Eq)]
+pub enum Order {
+    Begin,
+    Commit,
+    Listen(ListenerId, SpaceId, i32),
+    Unlisten(ListenerId),
+    Space(SpaceId, RegionId),
+    /// A container, an offset in it, the region that is placed there, and its priority.
+    Add(RegionId, u64, RegionId, i32),
+    Del(RegionId, RegionId),
+    Move(RegionId, u64),
+    Resize(RegionId, u64),
+    Retarget(RegionId, u64),
+    Enable(RegionId, bool),
+    Readonly(RegionId, bool),
+    Nonvolatile(RegionId, bool),
+    Unmergeable(RegionId, bool),
+    Romd(RegionId, bool),
+    Log(RegionId, Client, bool),
+    Global(bool),
+    /// An IOMMU region, the offset and the size of a page, the space and the address where it goes on, and what it lets through.
+    Map(RegionId, u64, u64, SpaceId, u64, Perm),
+    Unmap(RegionId, u64),
+    Event(RegionId, Ioevent),
+    Unevent(RegionId, Ioevent),
+    Drop(RegionId),
+}
+
+/// The numbers of an order.
+fn numbers(order: Order) -> sys::vb_order {
+    let none = sys::vb_order::default();
+    let setting = |what, region: RegionId, on| sys::vb_order { what, region: region.0, on, ..none };
+    let sized = |what, region: RegionId, size| sys::vb_order { what, region: region.0, size, ..none };
+    let placed = |what, region: RegionId, offset| sys::vb_order { what, region: region.0, offset, ..none };
+    match order {
+        Order::Begin => sys::vb_order { what: sys::VB_DO_BEGIN, ..none },
+        Order::Commit => sys::vb_order { what: sys::VB_DO_COMMIT, ..none },
+        Order::Listen(listener, space, priority) => {
+            sys::vb_order { what: sys::VB_DO_LISTEN, listener: listener.0, space: space.0, priority, ..none }
+        }
+        Order::Unlisten(listener) => sys::vb_order { what: sys::VB_DO_UNLISTEN, listener: listener.0, ..none },
+        Order::Space(space, root) => sys::vb_order { what: sys::VB_DO_SPACE, space: space.0, other: root.0, ..none },
+        Order::Add(region, offset, child, priority) => {
+            sys::vb_order { what: sys::VB_DO_ADD, region: region.0, offset, other: child.0, priority, ..none }
+        }
+        Order::Del(region, child) => sys::vb_order { what: sys::VB_DO_DEL, region: region.0, other: child.0, ..none },
+        Order::Move(region, offset) => placed(sys::VB_DO_MOVE, region, offset),
+        Order::Resize(region, size) => sized(sys::VB_DO_RESIZE, region, size),
+        Order::Retarget(region, offset) => placed(sys::VB_DO_RETARGET, region, offset),
+        Order::Enable(region, on) => setting(sys::VB_DO_ENABLE, region, on),
+        Order::Readonly(region, on) => setting(sys::VB_DO_READONLY, region, on),
+        Order::Nonvolatile(region, on) => setting(sys::VB_DO_NONVOLATILE, region, on),
+        Order::Unmergeable(region, on) => setting(sys::VB_DO_UNMERGEABLE, region, on),
+        Order::Romd(region, on) => setting(sys::VB_DO_ROMD, region, on),
+        Order::Log(region, client, on) => sys::vb_order { client: client as u32, ..setting(sys::VB_DO_LOG, region, on) },
+        Order::Global(on) => sys::vb_order { what: sys::VB_DO_GLOBAL, on, ..none },
+        Order::Map(region, offset, size, space, translated, perm) => {
+            sys::vb_order { what: sys::VB_DO_MAP, region: region.0, offset, size, space: space.0, translated, perm: perm as u32, ..none }
+        }
+        Order::Unmap(region, offset) => placed(sys::VB_DO_UNMAP, region, offset),
+        Order::Event(region, event) => sys::vb_order { what: sys::VB_DO_EVENT, region: region.0, event, ..none },
+        Order::Unevent(region, event) => sys::vb_order { what: sys::VB_DO_UNEVENT, region: region.0, event, ..none },
+        Order::Drop(region) => sys::vb_order { what: sys::VB_DO_DROP, region: region.0, ..none },
+    }
+}
+
+/// The numbers of an order for a region of a kind.
+fn region_numbers(kind: Kind, size: u64) -> sys::vb_order {
+    let made = |kind| sys::vb_order { what: sys::VB_DO_REGION, kind, size, ..sys::vb_order::default() };
+    match kind {
+        Kind::Container => made(sys::VB_KIND_CONTAINER),
+        Kind::Ram => made(sys::VB_KIND_RAM),
+        Kind::Rom => made(sys::VB_KIND_ROM),
+        Kind::RomDevice(device) => sys::vb_order { device, ..made(sys::VB_KIND_ROM_DEVICE) },
+        Kind::Io(device) => sys::vb_order { device, ..made(sys::VB_KIND_IO) },
+        Kind::Iommu => made(sys::VB_KIND_IOMMU),
+        Kind::Alias(target, offset) => sys::vb_order { other: target.0, offset, ..made(sys::VB_KIND_ALIAS) },
+        Kind::Reserve => made(sys::VB_KIND_RESERVE),
+        Kind::Host => made(sys::VB_KIND_HOST),
+    }
+}
+
+/// The desk of a machine that virtual CPUs share: the map is changed here, beside what they do.
+#[derive(Debug)]
+pub struct Desk {
+    handle: sys::vb_desk,
+    /// How many regions were dropped and are not released yet, at most.
+    dropped: usize,
+}
+
+// The library proves that the handle may go to another thread. A call takes `&mut self`, so one works on it at a time.
+unsafe impl Send for Desk {}
+
+impl Drop for Desk {
+    fn drop(&mut self) {
+        unsafe { sys::vb_desk_free(&mut self.handle) }
+    }
+}
+
+impl Desk {
+    /// A machine over a pool of this many words of 8 bytes, at most 2^26, and its desk.
+    pub fn new(words: usize) -> Result<Desk, Refusal> {
+        let mut desk = Desk { handle: sys::vb_desk { at: null_mut() }, dropped: 0 };
+        accepted(unsafe { sys::vb_desk_new(&mut desk.handle, words) })?;
+        Ok(desk)
+    }
+
+    /// A virtual CPU, which has seen all that the desk has done. There are 16.
+    pub fn cpu(&mut self) -> Result<Cpu, Refusal> {
+        let mut cpu = Cpu(sys::vb_cpu { at: null_mut() });
+        accepted(unsafe { sys::vb_desk_cpu(&mut self.handle, &mut cpu.0) })?;
+        Ok(cpu)
+    }
+
+    /// Makes a region. It is in no container.
+    pub fn region(&mut self, kind: Kind, size: u64) -> Result<RegionId, Refusal> {
+        let answer = accepted(unsafe { sys::vb_desk_ask(&mut self.handle, &region_numbers(kind, size)) })?;
+        Ok(RegionId(answer.value as u32))
+    }
+
+    /// Asks for something, and answers the number of the generation that was published, if one was.
+    pub fn ask(&mut self, order: Order) -> Result<Option<u64>, Refusal> {
+        let answer = accepted(unsafe { sys::vb_desk_ask(&mut self.handle, &numbers(order)) })?;
+        if let Order::Drop(_) = order {
+            self.dropped += 1;
+        }
+        Ok(published(answer))
+    }
+
+    /// Releases the dropped regions that no generation in use names, and answers them, ascending.
+    pub fn reap(&mut self) -> Result<Vec<RegionId>, Refusal> {
+        let mut out = vec![0; self.dropped];
+        let count = accepted(unsafe { sys::vb_desk_reap(&mut self.handle, out.as_mut_ptr(), out.len()) })?.value as usize;
+        out.truncate(count);
+        self.dropped -= out.len();
+        Ok(out.into_iter().map(RegionId).collect())
+    }
+
+    /// Takes the marks of a region for one client: the pages that were written since they were last taken.
+    pub fn harvest(&mut self, region: RegionId, client: Client) -> Result<Pages, Refusal> {
+        Pages::harvested(|out| unsafe { sys::vb_desk_harvest(&mut self.handle, region.0, client as u32, out.as_mut_ptr(), out.len()) })
+    }
+
+    /// Takes a notifier, 0 to 63: whether a write has set it since it was last taken.
+    pub fn notified(&mut self, number: u32) -> Result<bool, Refusal> {
+        Ok(accepted(unsafe { sys::vb_desk_notified(&mut self.handle, number) })?.value != 0)
+    }
+
+    /// What an address of a space leads to in the current generation, and how far it goes on alike.
+    pub fn find(&mut self, space: SpaceId, addr: u64) -> Result<Found, Refusal> {
+        let mut found = Found::default();
+        accepted(unsafe { sys::vb_desk_find(&mut self.handle, space.0, addr, &mut found) })?;
+        Ok(found)
+    }
+
+    /// The ranges of the current view of a space, by ascending address.
+    pub fn view(&mut self, space: SpaceId) -> Result<Vec<FlatRange>, Refusal> {
+        let mut ranges = Vec::new();
+        loop {
+            let mut range = FlatRange::default();
+            let count = accepted(unsafe { sys::vb_desk_range(&mut self.handle, space.0, ranges.len(), &mut range) })?.value;
+            if ranges.len() as u64 >= count {
+                return Ok(ranges);
+            }
+            ranges.push(range);
+        }
+    }
+
+    /// The calls that listeners got from the index `from` on, counted from the first that was ever made.
+    pub fn told(&mut self, from: usize) -> Result<Vec<ListenerCall>, Refusal> {
+        let mut calls = Vec::new();
+        loop {
+            let mut call = ListenerCall::default();
+            let index = from.saturating_add(calls.len());
+            let count = accepted(unsafe { sys::vb_desk_delivery(&mut self.handle, index, &mut call) })?.value;
+            if index as u64 >= count {
+                return Ok(calls);
+            }
+            calls.push(call);
+        }
+    }
+}
+
+/// A virtual CPU. It never waits, and may outlive its desk.
+#[derive(Debug)]
+pub struct Cpu(sys::vb_cpu);
+
+// As of a desk.
+unsafe impl Send for Cpu {}
+
+impl Drop for Cpu {
+    fn drop(&mut self) {
+        unsafe { sys::vb_cpu_free(&mut self.0) }
+    }
+}
+
+impl Cpu {
+    /// Enters the current generation, and answers its number: accesses go by it until the virtual CPU leaves it or enters anew.
+    pub fn enter(&mut self) -> Result<u64, Refusal> {
+        Ok(accepted(unsafe { sys::vb_cpu_enter(&mut self.0) })?.other)
+    }
+
+    /// Leaves the generation that it is entered in; where it is in none, it does nothing.
+    pub fn leave(&mut self) -> Result<(), Refusal> {
+        accepted(unsafe { sys::vb_cpu_leave(&mut self.0) })?;
+        Ok(())
+    }
+
+    /// Reads bytes of a space, as many as there is room for.
+    pub fn read(&mut self, space: SpaceId, addr: u64, out: &mut [u8]) -> Result<Access, Refusal> {
+        Ok(access(accepted(unsafe { sys::vb_cpu_read(&mut self.0, space.0, addr, out.as_mut_ptr(), out.len()) })?))
+    }
+
+    /// Writes the eight bytes of a number, the lowest first. Where it would replace only a part of some word, it is refused.
+    pub fn write8(&mut self, space: SpaceId, addr: u64, value: u64) -> Result<Access, Refusal> {
+        Ok(access(accepted(unsafe { sys::vb_cpu_write8(&mut self.0, space.0, addr, value) })?))
+    }
+}

@@ -1,0 +1,45 @@
+//! Pages that were written.
+use crate::Refusal;
+use crate::refusal::accepted;
+use vobrekan_sys as sys;
+
+/// Pages of 4,096 bytes of a region, a bit for each.
+#[derive(Clone, Debug, Default, PartialEq, Eq)]
+pub struct Pages {
+    words: Vec<u64>,
+    count: u64,
+}
+
+impl Pages {
+    /// What a call harvests into a buffer. It is asked for the room first: without any it says how much it takes.
+    pub(crate) fn harvested(mut harvest: impl FnMut(&mut [u64]) -> sys::vb_answer) -> Result<Pages, Refusal> {
+        let mut words = Vec::new();
+        loop {
+            match accepted(harvest(&mut words)) {
+                Ok(answer) => return Ok(Pages { words, count: answer.value }),
+                Err(Refusal::Argument(room)) if room as usize > words.len() => words = vec![0; room as usize],
+                Err(refusal) => return Err(refusal),
+            }
+        }
+    }
+
+    /// The words: page 64 i + b was written where bit b of word i is set.
+    pub fn words(&self) -> &[u64] {
+        &self.words
+    }
+
+    /// How many pages were written.
+    pub fn len(&self) -> u64 {
+        self.count
+    }
+
+    /// Whether none was.
+    pub fn is_empty(&self) -> bool {
+        self.count == 0
+    }
+
+    /// The numbers of the pages that were written, ascending.
+    pub fn iter(&self) -> impl Iterator<Item = u64> + '_ {
+        (0..).zip(&self.words).flat_map(|(i, word)| (0..64).filter(move |b| word >> b & 1 == 1).map(move |b| 64 * i + b))
+    }
+}

@@ -1,0 +1,31 @@
+//! Scripts, without a machine at hand.
+use crate::Refusal;
+use crate::refusal::accepted;
+use vobrekan_sys as sys;
+
+/// What the run of a script wrote.
+#[derive(Clone, Debug, PartialEq, Eq)]
+pub struct Ran {
+    /// The text of the script; of a text that is no script, one line on its first fault.
+    pub text: Vec<u8>,
+    /// The line of the first fault, where the text is no script: 0 where it is too long as a whole.
+    pub fault: Option<u64>,
+}
+
+/// Runs a script on a machine of its own.
+pub fn run(script: &[u8]) -> Result<Ran, Refusal> {
+    let mut text = vec![0; 1 << 16];
+    loop {
+        let answer = unsafe { sys::vb_run(script.as_ptr(), script.len(), text.as_mut_ptr(), text.len()) };
+        let fault = (answer.code == sys::VB_NO_SCRIPT).then_some(answer.other);
+        if fault.is_none() {
+            accepted(answer)?;
+        }
+        let whole = answer.value as usize;
+        let is_whole = whole <= text.len();
+        text.resize(whole, 0);
+        if is_whole {
+            return Ok(Ran { text, fault });
+        }
+    }
+}

@@ -1,0 +1,73 @@
+//! Virtual CPUs on threads of their own, beside the desk of their machine.
+use std::thread;
+use vobrekan::{Cpu, Desk, Kind, Order, Refusal, RegionId, SpaceId};
+
+const SPACE: SpaceId = SpaceId(0);
+
+/// Memory of two pages at 0x10000, and a window of one page on it at 0, which is answered.
+fn map() -> (Desk, RegionId, RegionId) {
+    let mut desk = Desk::new(1 << 12).unwrap();
+    let root = desk.region(Kind::Container, 0x20000).unwrap();
+    let ram = desk.region(Kind::Ram, 0x2000).unwrap();
+    let window = desk.region(Kind::Alias(ram, 0), 0x1000).unwrap();
+    desk.ask(Order::Begin).unwrap();
+    desk.ask(Order::Add(root, 0x10000, ram, 0)).unwrap();
+    desk.ask(Order::Add(root, 0, window, 0)).unwrap();
+    desk.ask(Order::Space(SPACE, root)).unwrap();
+    assert_eq!(desk.ask(Order::Commit), Ok(Some(1)));
+    (desk, ram, window)
+}
+
+fn word(cpu: &mut Cpu, addr: u64) -> u64 {
+    let mut out = [0; 8];
+    cpu.read(SPACE, addr, &mut out).unwrap();
+    u64::from_le_bytes(out)
+}
+
+/// Writes a word through the window, and finds it in just one of the two pages.
+fn work(mut cpu: Cpu, at: u64) -> bool {
+    (1..=2_000).all(|i| {
+        cpu.enter().unwrap();
+        cpu.write8(SPACE, at, i).unwrap();
+        let (first, second) = (word(&mut cpu, 0x10000 + at), word(&mut cpu, 0x11000 + at));
+        cpu.leave().unwrap();
+        (first == i) != (second == i)
+    })
+}
+
+#[test]
+fn each_sees_one_map_while_it_is_entered() {
+    let (mut desk, _, window) = map();
+    let workers: Vec<_> = (0..4)
+        .map(|number| {
+            let cpu = desk.cpu().unwrap();
+            thread::spawn(move || work(cpu, 8 * number))
+        })
+        .collect();
+    let mut moves = 0;
+    while moves < 200 {
+        match desk.ask(Order::Retarget(window, 0x1000 * (moves % 2))) {
+            Ok(_) => moves += 1,
+            Err(refusal) => assert!(matches!(refusal, Refusal::Held(..))),
+        }
+    }
+    assert!(workers.into_iter().all(|worker| worker.join().unwrap()));
+}
+
+#[test]
+fn a_generation_that_is_in_use_stays() {
+    let (mut desk, ram, window) = map();
+    let mut cpu = desk.cpu().unwrap();
+    assert_eq!(cpu.enter(), Ok(1));
+    cpu.write8(SPACE, 8, 5).unwrap();
+    desk.ask(Order::Retarget(window, 0x1000)).unwrap();
+    assert_eq!((word(&mut cpu, 8), desk.find(SPACE, 8).unwrap().offset), (5, 0x1008));
+    cpu.leave().unwrap();
+    assert_eq!(word(&mut cpu, 8), 0);
+    assert_eq!(cpu.write8(SPACE, 12, 5), Err(Refusal::NotWhole(2)));
+    assert!(desk.harvest(ram, vobrekan::Client::Display).unwrap().is_empty());
+    let mut rest: Vec<_> = (0..15).map(|_| desk.cpu().unwrap()).collect();
+    assert_eq!(desk.cpu().err(), Some(Refusal::NoCpu));
+    drop(desk);
+    assert_eq!(rest[3].enter(), Ok(2));
+}

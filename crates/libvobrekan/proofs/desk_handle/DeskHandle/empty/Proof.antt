@@ -1,0 +1,39 @@
+-- `empty` owns nothing.
+use Rattle.std.proofs.Common.{◌≡◌, List, [], ◌∷◌, ◌++◌, refl, lit<}
+use mir.Val.{Val}
+use base.Logic.{SProp, emp}
+use base.Fml.{ftrue}
+use prog.Wp.{WpFn}
+use types.Kit.{‵, raw, ◌⊛◌, ◌$◌, ◌∵◌, !, qed, by, move, keep, split, fsplit, fjoin, suffices, use0}
+use types.Run.{lit, of_opd, no_more, and_then, returns, enter}
+use types.ByLocal.{alloc_all, pass_all, free_all, look_at, get, sets, env}
+use types.Part.{agg}
+use contract.Monad.{fact, fact_i}
+use contract.Running.{tables}
+use denote.RattleType.{RattleType, owns}
+use denote.Signature.{types_at}
+use denote.RawPtr.{null_ptr, ptr_val}
+use denote.Steps.{nothing}
+use denote.Triple.Walked.{Stays, walk_of}
+use Rattle.core.proofs.atomic.Steps.{Ptr-Good}
+use Rattle.std.specs.Prelude.{None}
+use Rattle.std.specs.declared.alloc.Global.{Global}
+use Rattle.std.proofs.raw_atomic.Walks.{proved_at, leaves}
+use Rattle.libvobrekan.proofs.Values.{alone}
+use Rattle.libvobrekan.proofs.DeskValues.{empty_in}
+use Rattle.libvobrekan.specs.contracts.desk_handle.DeskHandle.empty.{ended, clauses}
+use Rattle.libvobrekan.specs.contracts.desk_handle.DeskHandle.empty.Key.{name as #self}
+use Rattle.libvobrekan.proofs.desk_handle.DeskHandle.empty.Statement.{statement}
+use Rattle.libvobrekan.proofs.desk_handle.DeskHandle.empty.Code as code
+
+pub empty_spec : {M : Type 1} → statement M
+empty_spec 𝓤 𝓛 𝓜 𝓡 wired =
+    let H = 𝓛.H in let 𝓣 = tables 𝓤 H 𝓜 𝓡 𝓡.env in let En = ended in let c = clauses 𝓛 𝓜.mem 𝓡.returns in let fn = code.function in
+    let heap : Global = record { memory = record { seal = tt } } in let hs : Stays En.signature.params En.kept = tt in
+    proved_at 𝓛 En hs c 𝓜 𝓡 tt #self fn (code.unfolded 𝓤 H 𝓜 𝓡 wired) (λ z are.
+    let κs = z.0.0 in let Post : Val → SProp 𝓤 = (walk_of 𝓛 En hs c).post z in
+    qed 𝓛 ((‵ ftrue ⊛ ‵ (owns (types_at En.signature.params κs) z.0.3 z.0.4)) ∷ raw ((c κs z.0.3).requires z.1) ∷ []) ∵ split ! $
+    enter ! 𝓣.C 𝓣.Λ fn [] Post $ alloc_all ! (λ l. pass_all ! refl tt $
+    sets ! (agg ! (and_then ! (lit ! tt) (no_more !))) refl (tt, ((Ptr-Good null_ptr).1, tt)) $ empty_in ! heap $
+    use0 𝓛 (raw (fact 𝓤 (None ≡ None))) (fact_i 𝓤 (None ≡ None) (emp 𝓤) refl) $ nothing ! $
+    returns ! (look_at ! 0 refl) $ free_all ! refl $ keep ! (3 ∷ 0 ∷ 2 ∷ 1 ∷ []) $ by ! (leaves 𝓛 En hs c z (alone (ptr_val null_ptr)) (record { at = null_ptr; heap = heap; desk = None }) tt tt)))

@@ -1,0 +1,114 @@
+// A virtual CPU that owns a share of its cabinet.
+ghost use Rattle.std.specs.Prelude.{◌≡◌, length, MatchResult};
+ghost use Rattle.std.specs.Arc.{arc_value};
+ghost use Rattle.mem_base.specs.access.AccessSteps.{reading};
+ghost use Rattle.vcpu_pass.specs.Calls.{HasAccessed, HasEntered, HasLeft, HasRefused, HasWritten8};
+
+use epoch_rule::{Cabinet, Pass};
+use generation::Generation;
+use mem_base::{Access, SpaceId};
+use std::alloc::Global;
+use std::marker::Model;
+use std::sync::Arc;
+use vcpu_pass::{NotWhole, Vcpu};
+
+/// A virtual CPU with its share of the cabinet. Contracts see it as its pass: its number, what it has seen of the history, and the
+/// generation that it is entered in.
+#[derive(Drop)]
+pub struct Cpu {
+    cabinet: Arc<Cabinet<Generation>, Global>,
+    // It is there but while a call works with it.
+    pass: Option<Pass<Generation>>,
+}
+
+impl Model for Cpu {
+    ghost use Rattle.std.specs.Arc.{arc_value};
+    ghost use Rattle.generation.specs.Published.{Published};
+    ghost use Rattle.epoch_rule.specs.Values.{PassValue};
+    ghost use Rattle.shared_machine.specs.Cpus.{IsPassOf, pass_of};
+
+    ghost Value = { PassValue Published };
+
+    ghost view = { λ c. pass_of (arc_value c.cabinet) c.pass };
+
+    ghost invariant = { λ c. IsPassOf (arc_value c.cabinet) c.pass };
+}
+
+impl Cpu {
+    /// A virtual CPU with a pass of the cabinet. It is entered where the pass is.
+    pub(crate) fn new(cabinet: Arc<Cabinet<Generation>, Global>, pass: Pass<Generation>) -> Cpu
+        requires own { pass.cabinet ≡ (arc_value cabinet).id }
+        ensures { result ≡ pass }
+    {
+        Cpu {
+            cabinet,
+            pass: Some(pass),
+        }
+    }
+
+    /// Its pass, entered or not.
+    pub(crate) fn into_pass(self) -> Pass<Generation>
+        ensures { result ≡ self }
+    {
+        let Cpu {
+            cabinet: _cabinet,
+            pass,
+        } = self;
+        match pass {
+            Some(pass) => pass,
+            None => unreachable!(),
+        }
+    }
+
+    /// Enters the current generation, and answers its number. Where it was entered it leaves first.
+    pub fn enter(&mut self) -> u64
+        ensures entered { HasEntered self.old result self.new }
+    {
+        let Some(pass) = self.pass.take() else {
+            unreachable!()
+        };
+        let mut vcpu = Vcpu::new(&self.cabinet, pass);
+        let number = vcpu.enter();
+        self.pass = Some(vcpu.into_parts().1);
+        number
+    }
+
+    /// Leaves the generation that it is entered in; where it is not entered, it does nothing.
+    pub fn leave(&mut self)
+        ensures left { HasLeft self.old self.new }
+    {
+        let Some(pass) = self.pass.take() else {
+            unreachable!()
+        };
+        self.pass = Some(Vcpu::new(&self.cabinet, pass).into_pass());
+    }
+
+    /// Reads bytes of a space from an address on, as many as there is room for, and answers how that ended, in which
+    /// generation. A byte that nothing answers reads as 0. QEMU's core, `address_space_read`. It never waits.
+    pub fn read(&mut self, space: SpaceId, addr: u64, out: &mut [u8]) -> Access
+        ensures { HasAccessed self.old space addr (reading (length out.old)) result out.new self.new }
+    {
+        let Some(pass) = self.pass.take() else {
+            unreachable!()
+        };
+        let mut vcpu = Vcpu::new(&self.cabinet, pass);
+        let access = vcpu.read(space, addr, out);
+        self.pass = Some(vcpu.into_parts().1);
+        access
+    }
+
+    /// Writes the eight bytes of a number, the lowest first, from an address on, and answers how that ended, in which
+    /// generation. It never waits: where it would replace only a part of some word, it writes nothing and answers that.
+    pub fn write8(&mut self, space: SpaceId, addr: u64, value: u64) -> Result<Access, NotWhole>
+        ensures { MatchResult result (λ a. HasWritten8 self.old space addr value a self.new)
+            (λ e. HasRefused self.old space addr value e.number self.new) }
+    {
+        let Some(pass) = self.pass.take() else {
+            unreachable!()
+        };
+        let mut vcpu = Vcpu::new(&self.cabinet, pass);
+        let done = vcpu.write8(space, addr, value);
+        self.pass = Some(vcpu.into_parts().1);
+        done
+    }
+}
