@@ -1,6 +1,6 @@
 -- What a call on a handle is, from what the machine's own call says.
-use Rattle.std.proofs.Common.{◌≡◌, ◌≢◌, ◌∙◌, ℕ, List, length, ap, sym, subst, refl, Some, None, Ok, Err}
-use Rattle.std.specs.Prelude.{◌==◌, not, T, Option, Result, IfSome, Vec}
+use Rattle.std.proofs.Common.{◌≡◌, ◌≢◌, ◌∙◌, ℕ, List, ap, sym, subst, refl, Some, Ok, Err}
+use Rattle.std.specs.Prelude.{◌==◌, not, T, Option, Result, Vec}
 use Rattle.std.specs.declared.alloc.Global.{Global}
 use Rattle.mem_base.specs.declared.map.calls.Applied.{Applied}
 use Rattle.mem_base.specs.declared.map.calls.Applied.TheVariants.{Made, Done}

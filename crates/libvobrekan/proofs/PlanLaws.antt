@@ -1,5 +1,5 @@
 -- What an access reaches, in a buffer.
-use Rattle.std.proofs.Common.{◌≡◌, ℕ, Bool, List, Option, Ok, Err}
+use Rattle.std.proofs.Common.{ℕ, Bool, List, Option, Ok, Err}
 use Rattle.std.specs.Prelude.{IfOk, Result, Vec}
 use Rattle.std.specs.declared.alloc.AllocError.{AllocError}
 use Rattle.std.specs.declared.alloc.Global.{Global}

@@ -1,5 +1,5 @@
 -- The machine values of a `Loose` and of a `Handle`. Assumes `Logic`.
-use Rattle.std.proofs.Common.{◌≡◌, ℕ, List, [], ◌∷◌, ◌++◌, refl, sym, subst}
+use Rattle.std.proofs.Common.{◌≡◌, ℕ, List, [], ◌∷◌, ◌++◌, refl, subst}
 use mathlib.Core.Bool.{◌&&◌, true}
 use lib.Dec.{T}
 use seplogic.Ra.Ura.{Ura}

@@ -1,5 +1,5 @@
 -- What a handle's virtual CPU does, by what it had seen before and has seen after.
-use Rattle.std.specs.Prelude.{◌≡◌, ℕ, [], List, length, Option, Some, None, Result, Ok, Err}
+use Rattle.std.specs.Prelude.{◌≡◌, ℕ, List, length, Option, Some, None, Result, Ok, Err}
 use Rattle.mem_base.specs.declared.map.ids.SpaceId.{SpaceId}
 use Rattle.mem_base.specs.declared.access.accesses.Access.{Access}
 use Rattle.mem_base.specs.access.AccessSteps.{reading}

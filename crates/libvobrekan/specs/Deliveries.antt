@@ -1,7 +1,6 @@
 -- What listeners were told, as numbers.
 use Rattle.std.specs.Prelude.{◌≡◌, ℕ, ◌-◌, ◌^◌, min, pos, false, int_lt, unsigned_abs, length, Option, Some, None, slice_get}
 use Rattle.mem_base.specs.declared.map.ioevents.Live.{Live}
-use Rattle.mem_base.specs.declared.views.listening.ListenerEvent.{ListenerEvent}
 use Rattle.mem_base.specs.declared.views.listening.ListenerEvent.TheVariants.{Begin, Range, EventAdd, EventDel, Commit}
 use Rattle.mem_base.specs.declared.views.listening.RangeEvent.TheVariants.{Delete, Add, Keep, LogStart, LogStop}
 use Rattle.mem_base.specs.views.Listening.{Delivery}

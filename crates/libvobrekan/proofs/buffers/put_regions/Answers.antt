@@ -1,4 +1,4 @@
-use Rattle.std.proofs.Common.{◌≡◌, ◌+◌, ap, ◌∙◌, slice_set, get_or, arith}
+use Rattle.std.proofs.Common.{ap, ◌∙◌, slice_set, get_or, arith}
 use Rattle.std.proofs.lemmas.Option.{slice_get-get_or}
 use Rattle.std.specs.Prelude.{option_map}
 use Rattle.mem_base.specs.declared.map.ids.RegionId.{RegionId}

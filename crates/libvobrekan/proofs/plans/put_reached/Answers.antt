@@ -1,4 +1,4 @@
-use Rattle.std.proofs.Common.{◌≡◌, ◌+◌, length, take, slice_set, sym, ap, ◌∙◌, arith}
+use Rattle.std.proofs.Common.{◌≡◌, ◌+◌, take, slice_set, sym, ap, ◌∙◌, arith}
 use Rattle.libvobrekan.specs.Buffers.{put_each}
 use Rattle.libvobrekan.specs.Plans.{reach_told}
 use Rattle.libvobrekan.proofs.BufferLaws.{put_more, put_all, some_there}

@@ -2,7 +2,6 @@
 use mir.Raw.{raw}
 use base.Shift.{Keyless}
 use denote.Memory.{lone}
-use denote.RattleType.{RattleType}
 use denote.RawPtr.{Ptr}
 use denote.Param.Send.{IsSend, struct_send, owning_send, sendable}
 use denote.Builtin.{RawPtr}

@@ -1,6 +1,5 @@
 -- `of_loose` takes what the box owns.
 use Rattle.std.proofs.Common.{◌≡◌, List, [], ◌∷◌, ◌++◌, refl, sym, subst}
-use mir.Syntax.{impl, tnil, dnil}
 use mir.Val.{Val, vptr}
 use base.Logic.{SProp, ent, emp, id⊢}
 use base.Fml.{ftrue}
