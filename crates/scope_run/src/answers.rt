@@ -1,4 +1,8 @@
 // What a command answers.
+ghost use Rattle.std.specs.Prelude.{◌≡◌, ◌<◌, nat_lt, length};
+ghost use Rattle.script_map.specs.declared.reading.MapStop.TheVariants as stops;
+ghost use Rattle.scope_run.specs.Lints.{tells_something};
+ghost use Rattle.scope_run.specs.declared.answers.Fault.TheVariants.{Memory};
 
 use mem_base::BadScript;
 use script_lines::Line;
@@ -36,15 +40,40 @@ pub enum Fault {
 }
 
 impl From<AllocError> for Fault {
+    ghost from_gives = { λ _ e. e ≡ Memory };
+
     fn from(_: AllocError) -> Self {
         Fault::Memory
     }
 }
 
 /// Why a text gives no map.
-pub(crate) fn stopped(which: Which, stop: MapStop) -> Fault {
+pub(crate) fn stopped(which: Which, stop: MapStop) -> Fault
+    ensures bad { (bad : BadScript) → stop ≡ stops.Bad bad → result ≡ Fault.Script which bad }
+    ensures memory { stop ≡ stops.Memory → result ≡ Memory }
+{
     match stop {
         MapStop::Bad(bad) => Fault::Script { which, bad },
         MapStop::Memory => Fault::Memory,
+    }
+}
+
+/// An answer that has something to mend just where it has a text.
+pub(crate) fn found(text: Line) -> Answer
+    ensures text { result.text ≡ text }
+    ensures something { result.something ≡ tells_something text }
+{
+    let something = !text.as_bytes().is_empty();
+    Answer { text, something }
+}
+
+/// An answer that tells what was asked for.
+pub(crate) fn told(text: Line) -> Answer
+    ensures text { result.text ≡ text }
+    ensures something { result.something ≡ false }
+{
+    Answer {
+        text,
+        something: false,
     }
 }

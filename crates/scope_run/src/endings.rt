@@ -1,4 +1,7 @@
 // How the program ends.
+ghost use Rattle.std.specs.Prelude.{◌≡◌};
+ghost use Rattle.scope_run.specs.Requests.{ending_of};
+ghost use Rattle.scope_run.specs.Statuses.{status_of};
 
 /// How a run of the program ended.
 #[derive(Clone, Copy, Debug, PartialEq, Eq)]
@@ -17,7 +20,9 @@ pub enum Ending {
 
 impl Ending {
     /// The exit status of the process.
-    pub fn status(self) -> u8 {
+    pub fn status(self) -> u8
+        ensures { result ≡ status_of self }
+    {
         match self {
             Ending::Nothing => 0,
             Ending::Something => 1,
@@ -25,5 +30,16 @@ impl Ending {
             Ending::WriteFault => 3,
             Ending::Memory => 4,
         }
+    }
+}
+
+/// How a run ends after an answer.
+pub(crate) fn ending_of(something: bool) -> Ending
+    ensures { result ≡ ending_of something }
+{
+    if something {
+        Ending::Something
+    } else {
+        Ending::Nothing
     }
 }

@@ -1,12 +1,16 @@
 // What is said of a request that cannot be answered.
+ghost use Rattle.std.specs.Prelude.{◌≡◌, ◌++◌, IfOk, OnOk};
+ghost use Rattle.scope_run.specs.Said.{bad_text, cause_words, fault_text, file_of, line_text, said};
 
 use crate::answers::{Fault, Which};
-use crate::requests::Request;
 use mem_base::{BadScript, Cause};
+use scope_words::Request;
 use script_lines::Line;
 use std::alloc::{AllocError, Global};
 
-fn cause_words(cause: Cause) -> &'static str {
+fn cause_words(cause: Cause) -> &'static str
+    ensures { result.now ≡ cause_words cause }
+{
     match cause {
         Cause::Byte => "a byte that may not stand there",
         Cause::Word => "no such word",
@@ -19,7 +23,9 @@ fn cause_words(cause: Cause) -> &'static str {
 }
 
 // The file of a request.
-fn file_of<'a>(request: &Request<'a>, which: Which) -> &'a str {
+fn file_of<'a>(request: &Request<'a>, which: Which) -> &'a str
+    ensures { result.now ≡ file_of request.now which }
+{
     match which {
         Which::First => request.first_file(),
         Which::Second => request.second_file(),
@@ -27,7 +33,9 @@ fn file_of<'a>(request: &Request<'a>, which: Which) -> &'a str {
 }
 
 // ` line N`, where a line is at fault.
-fn add_line_number(line: &mut Line, number: u32) -> Result<(), AllocError> {
+fn add_line_number(line: &mut Line, number: u32) -> Result<(), AllocError>
+    ensures { OnOk result (line.new ≡ line.old ++ line_text number) }
+{
     if number == 0 {
         return Ok(());
     }
@@ -36,20 +44,27 @@ fn add_line_number(line: &mut Line, number: u32) -> Result<(), AllocError> {
 }
 
 // What is wrong with a script.
-fn add_bad(line: &mut Line, file: &str, bad: BadScript) -> Result<(), AllocError> {
+fn add_bad(line: &mut Line, file: &str, bad: BadScript) -> Result<(), AllocError>
+    ensures { OnOk result (line.new ≡ line.old ++ bad_text file.now bad) }
+{
     line.text(file)?;
     line.text(":")?;
     add_line_number(line, bad.line)?;
-    line.named(" ", cause_words(bad.cause).as_bytes())
+    line.text(" ")?;
+    line.text(cause_words(bad.cause))
 }
 
 // A name or another word, and what is said of it.
-fn add_word(line: &mut Line, word: &str, text: &str) -> Result<(), AllocError> {
+fn add_word(line: &mut Line, word: &str, text: &str) -> Result<(), AllocError>
+    ensures { OnOk result (line.new ≡ line.old ++ (word.now ++ text.now)) }
+{
     line.text(word)?;
     line.text(text)
 }
 
-fn add_fault(line: &mut Line, request: &Request<'_>, fault: Fault) -> Result<(), AllocError> {
+fn add_fault(line: &mut Line, request: &Request<'_>, fault: Fault) -> Result<(), AllocError>
+    ensures { OnOk result (line.new ≡ line.old ++ said request.now fault) }
+{
     match fault {
         Fault::File(which) => add_word(line, file_of(request, which), ": cannot be read"),
         Fault::Script { which, bad } => add_bad(line, file_of(request, which), bad),
@@ -77,7 +92,9 @@ pub(crate) fn fault_line(
     alloc: Global,
     request: &Request<'_>,
     fault: Fault,
-) -> Result<Line, AllocError> {
+) -> Result<Line, AllocError>
+    ensures { IfOk result (λ line. line ≡ fault_text request.now fault) }
+{
     let mut line = Line::new(alloc);
     line.text("mscope: ")?;
     add_fault(&mut line, request, fault)?;

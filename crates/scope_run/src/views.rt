@@ -1,4 +1,6 @@
 // The view of a space in a generation.
+ghost use Rattle.std.specs.Prelude.{◌≡◌, IfOk, option_map, find};
+ghost use Rattle.mem_base.specs.views.Flattened.{view_of};
 
 use generation::Generation;
 use mem_base::{RegionId, SpaceId, View};
@@ -9,7 +11,9 @@ pub(crate) fn view_in(
     alloc: Global,
     generation: &Generation,
     space: SpaceId,
-) -> Result<View, AllocError> {
+) -> Result<View, AllocError>
+    ensures { IfOk result (λ view. view ≡ view_of generation.now.forest space) }
+{
     match generation.atlas(space) {
         Some(atlas) => {
             let ranges = atlas.view().as_slice().to_vec(alloc)?;

@@ -25,6 +25,13 @@ pub struct History {
     pub published: Vec<Arc<Generation, Global>>,
 }
 
+// The number of the current generation.
+fn current_number(session: &Session<World>) -> u64
+    ensures { result ≡ (state_of session.now).world.writer.generations.current }
+{
+    session.machine().current().number()
+}
+
 // Adds the current generation, where its number is not this one.
 fn note_published(
     session: &Session<World>,
@@ -59,7 +66,7 @@ fn follow_lines(
 {
     let mut said = Line::new(alloc);
     for (number, command) in lines {
-        let before = session.machine().current().number();
+        let before = current_number(session);
         take_line(alloc, session, refused, &mut said, *number, command)?;
         note_published(session, before, published)?;
     }

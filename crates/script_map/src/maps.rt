@@ -1,5 +1,5 @@
 // The map that a script leaves.
-ghost use Rattle.std.specs.Prelude.{◌≡◌, ◌++◌, IfOk, OnOk};
+ghost use Rattle.std.specs.Prelude.{◌≡◌, ◌++◌, true, is_ok, IfOk, OnOk};
 ghost use Rattle.mem_base.specs.map.Forest.{IsMade};
 ghost use Rattle.mem_base.specs.script.States.{region_named, space_named};
 ghost use Rattle.run_laws.specs.Fitting.{AreFitting, FitsCommand};
@@ -125,8 +125,7 @@ pub(crate) fn finished(
     done: Result<(), AllocError>,
 ) -> Result<ScriptMap, AllocError>
     requires { OnOk done (MayGoOn session) }
-    ensures done { OnOk result (OnOk done Unit {0}) }
-    ensures map { IfOk result (λ m. m ≡ record { known = session.known; world = session.world; refused = refused.items }) }
+    ensures { IfOk result (λ m. (m ≡ record { known = session.known; world = session.world; refused = refused.items }) × (is_ok done ≡ true)) }
 {
     match done {
         Ok(()) => Ok(ScriptMap { session, refused }),

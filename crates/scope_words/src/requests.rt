@@ -1,6 +1,15 @@
 // What is asked for.
+ghost use Rattle.std.specs.Prelude.{◌≡◌};
+ghost use Rattle.scope_words.specs.Requests.{address_word, first_file, region_word, second_file, space_word};
 
-use crate::drawing::Style;
+/// How a picture is drawn.
+#[derive(Clone, Copy, Debug, PartialEq, Eq)]
+pub enum Style {
+    /// As text for a terminal.
+    Text,
+    /// As a file of SVG.
+    Svg,
+}
 
 /// What is asked of `mscope`: a command, and the names of files and other words that it is given. A file that is called `-` is the standard
 /// input.
@@ -41,7 +50,9 @@ pub enum Request<'a> {
 
 impl<'a> Request<'a> {
     /// The file that is read first; none where the request names no file.
-    pub fn first_file(&self) -> &'a str {
+    pub fn first_file(&self) -> &'a str
+        ensures { result.now ≡ first_file self.now }
+    {
         match self {
             Request::Why { script, .. } => script,
             Request::Lint { script } => script,
@@ -53,7 +64,9 @@ impl<'a> Request<'a> {
     }
 
     /// The file that is read second; empty where there is none.
-    pub fn second_file(&self) -> &'a str {
+    pub fn second_file(&self) -> &'a str
+        ensures { result.now ≡ second_file self.now }
+    {
         match self {
             Request::Diff { second, .. } => second,
             _ => "",
@@ -61,7 +74,9 @@ impl<'a> Request<'a> {
     }
 
     /// The name of the space that is asked for; empty where none is.
-    pub fn space(&self) -> &'a str {
+    pub fn space(&self) -> &'a str
+        ensures { result.now ≡ space_word self.now }
+    {
         match self {
             Request::Why { space, .. } => space,
             Request::Draw { space, .. } => space,
@@ -70,7 +85,9 @@ impl<'a> Request<'a> {
     }
 
     /// The name of the region that is asked for; empty where none is.
-    pub fn region(&self) -> &'a str {
+    pub fn region(&self) -> &'a str
+        ensures { result.now ≡ region_word self.now }
+    {
         match self {
             Request::Why {
                 region: Some(region),
@@ -80,7 +97,9 @@ impl<'a> Request<'a> {
         }
     }
     /// The word for the address that is asked for; empty where none is.
-    pub fn address(&self) -> &'a str {
+    pub fn address(&self) -> &'a str
+        ensures { result.now ≡ address_word self.now }
+    {
         match self {
             Request::Why { addr, .. } => addr,
             _ => "",

@@ -1,0 +1,8 @@
+use Rattle.std.proofs.Common.{◌≤◌, ◌^◌, sym, subst}
+use Rattle.mem_base.specs.declared.script.places.Section.TheVariants.{Start}
+use Rattle.run_laws.proofs.FittingLaws.{pool_fits, sound_fits}
+use Rattle.script_map.proofs.maps.opened.Goals as goal
+
+pub new-requires-clause-words : goal.new-requires-clause-words
+new-requires-clause-words c =
+    subst (λ n. n ≤ 2 ^ 26) (sym c.pool_words.ensures) (pool_fits c.args.script.now (sound_fits Start c.args.script.now c.lines.ensures.sound))
