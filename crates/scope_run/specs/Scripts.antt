@@ -5,13 +5,21 @@ use Rattle.mem_base.specs.script.Spelling.{Text}
 use Rattle.mem_base.specs.script.Scripts.{Line, script_of}
 use Rattle.mem_base.specs.script.States.{State, region_named, space_named}
 use Rattle.script_map.specs.Left.{first_of, state_after}
+use Rattle.script_map.specs.declared.reading.MapStop.{MapStop}
+use Rattle.script_map.specs.declared.reading.MapStop.TheVariants as stops
 use Rattle.scope_run.specs.declared.answers.Fault.{Fault}
 use Rattle.scope_run.specs.declared.answers.Fault.TheVariants as faults
+use Rattle.scope_run.specs.declared.answers.Which.{Which}
 use Rattle.scope_run.specs.declared.answers.Which.TheVariants.{First, Second}
 
 -- the state that a script leaves
 abbrev pub left_by : List Line → State
 left_by lines = state_after (first_of lines) lines
+
+-- why a text gives no map, as a fault
+abbrev pub stopped_by : Which → MapStop → Fault
+stopped_by which (stops.Bad bad) = faults.Script which bad
+stopped_by which stops.Memory = faults.Memory
 
 -- the text is a script, of whose commands this holds
 abbrev pub OfScript : Text → (List Line → Type 0) → Type 0

@@ -1,7 +1,7 @@
 // What a command answers.
-ghost use Rattle.std.specs.Prelude.{◌≡◌, ◌<◌, nat_lt, length};
-ghost use Rattle.script_map.specs.declared.reading.MapStop.TheVariants as stops;
+ghost use Rattle.std.specs.Prelude.{◌≡◌, false};
 ghost use Rattle.scope_run.specs.Lints.{tells_something};
+ghost use Rattle.scope_run.specs.Scripts.{stopped_by};
 ghost use Rattle.scope_run.specs.declared.answers.Fault.TheVariants.{Memory};
 
 use mem_base::BadScript;
@@ -49,8 +49,7 @@ impl From<AllocError> for Fault {
 
 /// Why a text gives no map.
 pub(crate) fn stopped(which: Which, stop: MapStop) -> Fault
-    ensures bad { (bad : BadScript) → stop ≡ stops.Bad bad → result ≡ Fault.Script which bad }
-    ensures memory { stop ≡ stops.Memory → result ≡ Memory }
+    ensures { result ≡ stopped_by which stop }
 {
     match stop {
         MapStop::Bad(bad) => Fault::Script { which, bad },

@@ -24,7 +24,7 @@ pub use endings::Ending;
 pub use explaining::{explain, explain_topic};
 pub use files::Files;
 pub use linting::lint;
-pub use slotting::slots;
 pub use scope_words::{Request, Style};
+pub use slotting::slots;
 pub use top::mscope;
 pub use whys::why;

@@ -147,7 +147,7 @@ fn add_tables(
     ensures { OnOk result ((more : Text) × (text.new ≡ text.old ++ more)
         × TellsTables edges.now (printed_names names.now) space old.now (all_shown published.now) more) }
 {
-    let Some((generation, rest)) = published.split_first() else {
+    let [generation, rest @ ..] = published else {
         return Ok(());
     };
     let new = table_in(alloc, names, edges, generation, space)?;

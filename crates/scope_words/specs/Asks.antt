@@ -1,5 +1,5 @@
 -- What the words ask for, by what clap finds in them.
-use Rattle.std.specs.Prelude.{◌≡◌, List, [], Option, Some, None, codes, option_map, unwrap_or, ⊤}
+use Rattle.std.specs.Prelude.{◌≡◌, Bool, if◌then◌else◌, List, [], Option, Some, None, codes, option_map, unwrap_or, ⊤}
 use Rattle.clap.specs.Words.{HasKind, Row, Text, fault_of, first_of, one_of, subcommand_of}
 use Rattle.scope_words.specs.App.{scope_app}
 use Rattle.scope_words.specs.declared.read.Asked.{Asked}
@@ -12,6 +12,9 @@ use Rattle.scope_words.specs.declared.requests.Style.TheVariants as styles
 -- the word of a place; empty where there is none
 abbrev pub word_of : Text → List Row → Text
 word_of id rows = unwrap_or (first_of id rows) []
+
+abbrev pub style_by : Bool → Style
+style_by svg = if svg then styles.Svg else styles.Text
 
 -- how a picture is drawn, by the flag
 pub record IsStyle (flag : Option Text) (style : Style) : Type 0 where

@@ -15,7 +15,7 @@ fn with_word<'a>(
     help: &'a str,
 ) -> Result<Command<'a>, AllocError>
     requires { (out-Command command).has_globals ≡ false }
-    ensures app { IfOk result (λ c. app_of c ≡ with_rule (app_of command) (word_rule id.entry.now)) }
+    ensures app { IfOk result (λ c. app_of c ≡ with_rule (app_of command.entry) (word_rule id.entry.now)) }
     ensures local { IfOk result (λ c. (out-Command c).has_globals ≡ false) }
 {
     let word = Arg::new(alloc, id)
@@ -28,7 +28,7 @@ fn with_word<'a>(
 // A command with the script that it is about.
 fn with_script<'a>(alloc: Global, command: Command<'a>) -> Result<Command<'a>, AllocError>
     requires { (out-Command command).has_globals ≡ false }
-    ensures app { IfOk result (λ c. app_of c ≡ with_rule (app_of command) (word_rule (codes "SCRIPT"))) }
+    ensures app { IfOk result (λ c. app_of c ≡ with_rule (app_of command.entry) (word_rule (codes "SCRIPT"))) }
     ensures local { IfOk result (λ c. (out-Command c).has_globals ≡ false) }
 {
     with_word(
@@ -42,7 +42,7 @@ fn with_script<'a>(alloc: Global, command: Command<'a>) -> Result<Command<'a>, A
 // A command with the name of a space.
 fn with_space<'a>(alloc: Global, command: Command<'a>) -> Result<Command<'a>, AllocError>
     requires { (out-Command command).has_globals ≡ false }
-    ensures app { IfOk result (λ c. app_of c ≡ with_rule (app_of command) (word_rule (codes "SPACE"))) }
+    ensures app { IfOk result (λ c. app_of c ≡ with_rule (app_of command.entry) (word_rule (codes "SPACE"))) }
     ensures local { IfOk result (λ c. (out-Command c).has_globals ≡ false) }
 {
     with_word(
@@ -153,7 +153,7 @@ fn top<'a>(alloc: Global) -> Command<'a>
 // A command with one more subcommand.
 fn with_sub<'a>(command: Command<'a>, sub: Command<'a>) -> Result<Command<'a>, AllocError>
     requires { (out-Command sub).has_globals ≡ false }
-    ensures { IfOk result (λ c. app_of c ≡ with_subcommand (app_of command) (app_of sub).top) }
+    ensures { IfOk result (λ c. app_of c ≡ with_subcommand (app_of command.entry) (app_of sub.entry).top) }
 {
     command.subcommand(sub)
 }

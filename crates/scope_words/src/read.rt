@@ -1,7 +1,7 @@
 // Reads the words.
 ghost use Rattle.std.specs.Prelude.{◌≡◌, IfSome, codes, map, string_bytes};
 ghost use Rattle.clap.specs.Words.{first_of, found_of, one_of, rows_of, subcommand_rows_of};
-ghost use Rattle.scope_words.specs.Asks.{Asks, IsFound, IsRequest, IsStyle, word_of};
+ghost use Rattle.scope_words.specs.Asks.{Asks, IsFound, IsRequest, IsStyle, style_by, word_of};
 
 use crate::commands::command;
 use crate::requests::{Request, Style};
@@ -24,17 +24,22 @@ pub enum Asked<'a> {
 fn word<'a>(matches: &ArgMatches<'a>, id: &str) -> &'a str
     ensures { result.now ≡ word_of id.now (rows_of (found_of matches.now)) }
 {
-    matches.get_str(id).unwrap_or("")
+    match matches.get_str(id) {
+        Some(word) => word,
+        None => "",
+    }
+}
+
+fn style_by(svg: bool) -> Style
+    ensures { result ≡ style_by svg }
+{
+    if svg { Style::Svg } else { Style::Text }
 }
 
 fn style(matches: &ArgMatches<'_>) -> Style
     ensures { IsStyle (one_of (codes "svg") (rows_of (found_of matches.now))) result }
 {
-    if matches.get_flag("svg") {
-        Style::Svg
-    } else {
-        Style::Text
-    }
+    style_by(matches.get_flag("svg"))
 }
 
 fn why<'a>(matches: &ArgMatches<'a>) -> Request<'a>

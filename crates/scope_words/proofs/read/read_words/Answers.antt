@@ -1,4 +1,4 @@
-use Rattle.std.proofs.Common.{subst}
+use Rattle.std.proofs.Common.{rules, subst}
 use Rattle.scope_words.specs.Asks.{IsFound}
 use Rattle.scope_words.proofs.Walks.{refused, taken}
 use Rattle.scope_words.proofs.read.read_words.Goals as goal
