@@ -17,6 +17,11 @@ pub if_err : {T E : Type 0} (P Q : E → Type 0) (r : Result T E) → ((e : E) �
 if_err P Q (Ok x) f h = tt
 if_err P Q (Err e) f h = f e h
 
+-- two facts of what was answered
+pub both_ok : {T E : Type 0} (r : Result T E) (P Q R : T → Type 0) → ((x : T) → P x → Q x → R x) → IfOk r P → IfOk r Q → IfOk r R
+both_ok (Ok x) P Q R f p q = f x p q
+both_ok (Err e) P Q R f p q = tt
+
 -- a fact of the state that is left
 pub of_state : (text : Text) (m : Left) (fact : State → Type 0) → IsLeftByText text m → fact (left_state m) → OfScript text (λ lines. fact (left_by lines))
 of_state text m fact h x = (h.0, h.1, subst fact h.2.state x)

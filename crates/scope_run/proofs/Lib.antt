@@ -1,3 +1,5 @@
 mod Facts
 mod Parts
 mod TableLaws
+mod FileLaws
+mod ExplainLaws

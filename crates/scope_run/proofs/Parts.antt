@@ -33,3 +33,7 @@ grown_more tells xs i d x start old new here l is g e t =
 pub grown_all : {X : Type 0} (tells : X → Text → Type 0) (xs : List X) (i : ℕ) (start now : Text) → length xs ≤ i → Grown tells (take i xs) start now
     → Grown tells xs start now
 grown_all tells xs i start now l g = subst (λ (ys : _). Grown tells ys start now) (take_all i xs l) g
+
+-- of a text that was empty at first
+pub grown_whole : {X : Type 0} (tells : X → Text → Type 0) (xs : List X) (now : Text) → Grown tells xs [] now → TellsAll tells xs now
+grown_whole tells xs now g = subst (TellsAll tells xs) (sym g.1) g.2

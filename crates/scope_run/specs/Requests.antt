@@ -62,20 +62,35 @@ IsUnread held failed name which (faults.Script file bad) = (file ≡ which) × O
 IsUnread held failed name which faults.Memory = ⊤
 IsUnread held failed name which _ = ⊥
 
--- why a request has no answer, by what files hold; a file cannot be read only where a read failed
+-- why a request on one file, and on a space and a region where it asks for them, has no answer: a read failed, or the file holds a text
+-- on which the command fails
+abbrev pub FailsFile : Holding → Type 0 → Text → Option Text → Option Text → Fault → Type 0
+FailsFile held failed name space region (faults.File which) = failed
+FailsFile held failed name space region faults.Memory = ⊤
+FailsFile held failed name space region fault = OfFile held name (λ bytes. FailsOn bytes space region fault)
+
+-- of `why` also: the word is no address
+abbrev pub FailsWhy : Holding → Type 0 → Text → Text → Text → Option Text → Fault → Type 0
+FailsWhy held failed script space addr region faults.NoAddress = (a : ℕ) → IsAddress addr a → ⊥
+FailsWhy held failed script space addr region fault = FailsFile held failed script (Some space) region fault
+
+-- of `diff`: a read failed, or one of the texts is no script
+abbrev pub FailsDiff : Holding → Type 0 → Text → Text → Fault → Type 0
+FailsDiff held failed first second (faults.File which) = failed
+FailsDiff held failed first second (faults.Script First bad) = OfFile held first (λ bytes. script_of bytes ≡ Err bad)
+FailsDiff held failed first second (faults.Script Second bad) = OfFile held second (λ bytes. script_of bytes ≡ Err bad)
+FailsDiff held failed first second faults.Memory = ⊤
+FailsDiff held failed first second fault = ⊥
+
+-- why a request has no answer, by what files hold, and by whether a read failed
 abbrev pub FailsFor : Request → Holding → Type 0 → Fault → Type 0
-FailsFor request held failed (faults.File which) = failed
-FailsFor request held failed faults.Memory = ⊤
-FailsFor (Why script space addr region) held failed faults.NoAddress = (a : ℕ) → IsAddress addr.now a → ⊥
 FailsFor (Why script space addr region) held failed fault =
-    OfFile held script.now (λ bytes. FailsOn bytes (Some space.now) (option_map (λ r. r.now) region) fault)
-FailsFor (Lint script) held failed fault = OfFile held script.now (λ bytes. FailsOn bytes None None fault)
-FailsFor (Diff first second) held failed (faults.Script First bad) = OfFile held first.now (λ bytes. script_of bytes ≡ Err bad)
-FailsFor (Diff first second) held failed (faults.Script Second bad) = OfFile held second.now (λ bytes. script_of bytes ≡ Err bad)
-FailsFor (Diff first second) held failed fault = ⊥
-FailsFor (Slots script) held failed fault = OfFile held script.now (λ bytes. FailsOn bytes None None fault)
-FailsFor (Draw script space style) held failed fault = OfFile held script.now (λ bytes. FailsOn bytes (Some space.now) None fault)
-FailsFor (Explain what) held failed fault = OfFile held what.now (λ bytes. FailsOn bytes None None fault)
+    FailsWhy held failed script.now space.now addr.now (option_map (λ r. r.now) region) fault
+FailsFor (Lint script) held failed fault = FailsFile held failed script.now None None fault
+FailsFor (Diff first second) held failed fault = FailsDiff held failed first.now second.now fault
+FailsFor (Slots script) held failed fault = FailsFile held failed script.now None None fault
+FailsFor (Draw script space style) held failed fault = FailsFile held failed script.now (Some space.now) None fault
+FailsFor (Explain what) held failed fault = FailsFile held failed what.now None None fault
 
 -- how a run ends after an answer
 abbrev pub ending_of : Bool → Ending

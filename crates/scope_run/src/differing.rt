@@ -10,7 +10,7 @@ ghost use Rattle.scope_run.specs.Scripts.{FailsOnBoth, FailsOnSecond, OfScript, 
 ghost use Rattle.scope_run.specs.declared.answers.Fault.TheVariants.{Memory};
 
 use crate::answers::{Answer, Fault, Which, found, stopped};
-use crate::views::view_in;
+use crate::views::{space_count, view_in};
 use mem_base::{Name, RangeEvent, SpaceId};
 use script_lines::Line;
 use script_map::{ScriptMap, read};
@@ -176,9 +176,10 @@ fn add_firsts(
     ensures { OnOk result ((here : Text) × (text.new ≡ text.old ++ here)
         × TellsAll (TellsFirst (left_state first.now) (left_state second.now)) (left_state first.now).names.spaces here) }
 {
-    let spaces = first.names().spaces();
-    for number in 0..spaces.made() {
-        add_first(alloc, text, spaces.name_at(number as u32), first, second)?;
+    let names = first.names();
+    let spaces = names.spaces();
+    for number in 0..space_count(names)? {
+        add_first(alloc, text, spaces.name_at(number), first, second)?;
     }
     Ok(())
 }
@@ -192,9 +193,10 @@ fn add_seconds(
 ) -> Result<(), AllocError>
     ensures { OnOk result (text.new ≡ text.old ++ flat_map (second_text (left_state first.now)) (left_state second.now).names.spaces) }
 {
-    let spaces = second.names().spaces();
-    for number in 0..spaces.made() {
-        add_second(alloc, text, spaces.name_at(number as u32), first)?;
+    let names = second.names();
+    let spaces = names.spaces();
+    for number in 0..space_count(names)? {
+        add_second(alloc, text, spaces.name_at(number), first)?;
     }
     Ok(())
 }

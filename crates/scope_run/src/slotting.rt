@@ -13,7 +13,7 @@ ghost use Rattle.scope_run.specs.Tables.{HasEdges, IsTable, TellsSlots, TellsSlo
 ghost use Rattle.scope_run.specs.declared.answers.Fault.TheVariants.{Memory};
 
 use crate::answers::{Answer, Fault, Which, told};
-use crate::views::view_in;
+use crate::views::{space_count, view_in};
 use generation::Generation;
 use mem_base::{Edition, FlatRange, Name, RangeEvent, SpaceId, View};
 use script_lines::Line;
@@ -208,9 +208,10 @@ fn add_spaces(
 ) -> Result<(), AllocError>
     ensures { OnOk result ((more : Text) × (text.new ≡ text.old ++ more) × TellsSlotsIn (left_state map.now) (all_shown published.now) more) }
 {
-    let spaces = map.names().spaces();
-    for number in 0..spaces.made() {
-        add_named(alloc, text, spaces.name_at(number as u32), map, published)?;
+    let names = map.names();
+    let spaces = names.spaces();
+    for number in 0..space_count(names)? {
+        add_named(alloc, text, spaces.name_at(number), map, published)?;
     }
     Ok(())
 }

@@ -98,8 +98,8 @@ fn answer_why<F: Files>(
     addr: &str,
     region: Option<&str>,
 ) -> Result<Answer, Fault>
-    ensures told { IfOk result (λ a. AnswersTo (Request.Why script space addr region) (F.held files.old) a.text a.something) }
-    ensures fails { IfErr result (λ fault. FailsFor (Request.Why script space addr region) (F.held files.old)
+    ensures told { IfOk result (λ a. AnswersTo (Request.Why script.entry space.entry addr.entry region.entry) (F.held files.old) a.text a.something) }
+    ensures fails { IfErr result (λ fault. FailsFor (Request.Why script.entry space.entry addr.entry region.entry) (F.held files.old)
         (Rose (F.faults files.old) (F.faults files.new)) fault) }
 {
     let addr = address_of(addr)?;
@@ -110,8 +110,8 @@ fn answer_why<F: Files>(
 }
 
 fn answer_lint<F: Files>(alloc: Global, files: &mut F, script: &str) -> Result<Answer, Fault>
-    ensures told { IfOk result (λ a. AnswersTo (Request.Lint script) (F.held files.old) a.text a.something) }
-    ensures fails { IfErr result (λ fault. FailsFor (Request.Lint script) (F.held files.old)
+    ensures told { IfOk result (λ a. AnswersTo (Request.Lint script.entry) (F.held files.old) a.text a.something) }
+    ensures fails { IfErr result (λ fault. FailsFor (Request.Lint script.entry) (F.held files.old)
         (Rose (F.faults files.old) (F.faults files.new)) fault) }
 {
     let text = text_in(alloc, files, script, Which::First)?;
@@ -124,8 +124,8 @@ fn answer_diff<F: Files>(
     first: &str,
     second: &str,
 ) -> Result<Answer, Fault>
-    ensures told { IfOk result (λ a. AnswersTo (Request.Diff first second) (F.held files.old) a.text a.something) }
-    ensures fails { IfErr result (λ fault. FailsFor (Request.Diff first second) (F.held files.old)
+    ensures told { IfOk result (λ a. AnswersTo (Request.Diff first.entry second.entry) (F.held files.old) a.text a.something) }
+    ensures fails { IfErr result (λ fault. FailsFor (Request.Diff first.entry second.entry) (F.held files.old)
         (Rose (F.faults files.old) (F.faults files.new)) fault) }
 {
     let old = text_in(alloc, files, first, Which::First)?;
@@ -134,8 +134,8 @@ fn answer_diff<F: Files>(
 }
 
 fn answer_slots<F: Files>(alloc: Global, files: &mut F, script: &str) -> Result<Answer, Fault>
-    ensures told { IfOk result (λ a. AnswersTo (Request.Slots script) (F.held files.old) a.text a.something) }
-    ensures fails { IfErr result (λ fault. FailsFor (Request.Slots script) (F.held files.old)
+    ensures told { IfOk result (λ a. AnswersTo (Request.Slots script.entry) (F.held files.old) a.text a.something) }
+    ensures fails { IfErr result (λ fault. FailsFor (Request.Slots script.entry) (F.held files.old)
         (Rose (F.faults files.old) (F.faults files.new)) fault) }
 {
     let text = text_in(alloc, files, script, Which::First)?;
@@ -149,8 +149,8 @@ fn answer_draw<F: Files>(
     space: &str,
     style: Style,
 ) -> Result<Answer, Fault>
-    ensures told { IfOk result (λ a. AnswersTo (Request.Draw script space style) (F.held files.old) a.text a.something) }
-    ensures fails { IfErr result (λ fault. FailsFor (Request.Draw script space style) (F.held files.old)
+    ensures told { IfOk result (λ a. AnswersTo (Request.Draw script.entry space.entry style) (F.held files.old) a.text a.something) }
+    ensures fails { IfErr result (λ fault. FailsFor (Request.Draw script.entry space.entry style) (F.held files.old)
         (Rose (F.faults files.old) (F.faults files.new)) fault) }
 {
     let space = name_of(alloc, space)?;
@@ -159,8 +159,8 @@ fn answer_draw<F: Files>(
 }
 
 fn answer_explain<F: Files>(alloc: Global, files: &mut F, what: &str) -> Result<Answer, Fault>
-    ensures told { IfOk result (λ a. AnswersTo (Request.Explain what) (F.held files.old) a.text a.something) }
-    ensures fails { IfErr result (λ fault. FailsFor (Request.Explain what) (F.held files.old)
+    ensures told { IfOk result (λ a. AnswersTo (Request.Explain what.entry) (F.held files.old) a.text a.something) }
+    ensures fails { IfErr result (λ fault. FailsFor (Request.Explain what.entry) (F.held files.old)
         (Rose (F.faults files.old) (F.faults files.new)) fault) }
 {
     if let Some(answer) = explain_topic(alloc, what.as_bytes())? {

@@ -1,9 +1,11 @@
 // The view of a space in a generation.
-ghost use Rattle.std.specs.Prelude.{◌≡◌, IfOk, option_map, find};
+ghost use Rattle.std.specs.Prelude.{◌≡◌, IfOk, length};
 ghost use Rattle.mem_base.specs.views.Flattened.{view_of};
+ghost use Rattle.script_names.specs.Tables.{printed_names};
 
 use generation::Generation;
 use mem_base::{RegionId, SpaceId, View};
+use script_names::Names;
 use std::alloc::{AllocError, Global};
 
 /// What a space shows in a generation, as a view of its own; an empty one where the space is not there.
@@ -31,4 +33,15 @@ pub(crate) fn root_in(generation: &Generation, space: SpaceId) -> Option<RegionI
         }
     }
     None
+}
+
+/// How many spaces were made. There are at most 2^32, since so many names fit no memory.
+pub(crate) fn space_count(names: &Names) -> Result<u32, AllocError>
+    ensures { IfOk result (λ count. count ≡ length (printed_names names.now).spaces) }
+{
+    let made = names.spaces().made();
+    if made > u32::MAX as usize {
+        return Err(AllocError);
+    }
+    Ok(made as u32)
 }

@@ -21,8 +21,8 @@ use std::alloc::{AllocError, Global};
 
 // The region that was asked for, if one was.
 fn region_asked(map: &ScriptMap, region: Option<&Name>) -> Result<Option<RegionId>, Fault>
-    ensures found { IfOk result (λ one. IsAsked (left_state map.now) (option_map (λ n. n.now) region) one) }
-    ensures missing { IfErr result (λ fault. (fault ≡ faults.NoRegion) × IsMissing (left_state map.now) (option_map (λ n. n.now) region)) }
+    ensures found { IfOk result (λ one. IsAsked (left_state map.now) (option_map (λ n. n.now) region.entry) one) }
+    ensures missing { IfErr result (λ fault. (fault ≡ faults.NoRegion) × IsMissing (left_state map.now) (option_map (λ n. n.now) region.entry)) }
 {
     let Some(name) = region else {
         return Ok(None);
@@ -73,9 +73,9 @@ fn why_in(
     addr: u64,
     region: Option<&Name>,
 ) -> Result<Answer, Fault>
-    ensures told { IfOk result (λ a. TellsWhy (left_state map.now) space.now addr (option_map (λ n. n.now) region) a.text) }
+    ensures told { IfOk result (λ a. TellsWhy (left_state map.now) space.now addr (option_map (λ n. n.now) region.entry) a.text) }
     ensures nothing { IfOk result (λ a. a.something ≡ false) }
-    ensures fails { IfErr result (λ fault. FailsIn (left_state map.now) (Some space.now) (option_map (λ n. n.now) region) fault) }
+    ensures fails { IfErr result (λ fault. FailsIn (left_state map.now) (Some space.now) (option_map (λ n. n.now) region.entry) fault) }
 {
     let Some(space) = map.space(space) else {
         return Err(Fault::NoSpace);
@@ -98,9 +98,9 @@ pub fn why(
     region: Option<&Name>,
 ) -> Result<Answer, Fault>
     ensures told { IfOk result (λ a. OfScript script.now
-        (λ lines. TellsWhy (left_by lines) space.now addr (option_map (λ n. n.now) region) a.text)) }
+        (λ lines. TellsWhy (left_by lines) space.now addr (option_map (λ n. n.now) region.entry) a.text)) }
     ensures nothing { IfOk result (λ a. a.something ≡ false) }
-    ensures fails { IfErr result (λ fault. FailsOn script.now (Some space.now) (option_map (λ n. n.now) region) fault) }
+    ensures fails { IfErr result (λ fault. FailsOn script.now (Some space.now) (option_map (λ n. n.now) region.entry) fault) }
 {
     match read(alloc, script) {
         Ok(map) => why_in(alloc, &map, space, addr, region),

@@ -4,4 +4,4 @@ use Rattle.scope_words.proofs.Walks.{refused, taken}
 use Rattle.scope_words.proofs.read.read_words.Goals as goal
 
 pub returns-in-Some : goal.returns-in-Some
-returns-in-Some c = subst (λ o. IsFound o c.in-Some.request) (taken _ _ c.in-Ok.ensures _ c.in-Ok-2.ensures.matches) (search rules)
+returns-in-Some c = subst (λ o. IsFound o c.in-Some.request) (taken _ _ c.in-Ok.ensures _ c.in-Ok-try_get_matches_from.ensures.matches) (search rules)
