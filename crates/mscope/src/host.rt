@@ -1,4 +1,6 @@
 // The files of the process.
+ghost use Rattle.std.specs.Prelude.{◌≡◌, ◌≤◌, IsErrOf, None};
+ghost use Rattle.outside.specs.Causes.{Rose};
 
 use outside::{ReadStop, StdSource, read_all};
 use scope_run::Files;
@@ -17,10 +19,16 @@ impl<'a> HostFiles<'a> {
         HostFiles { rt, faults: 0 }
     }
 
-    // One more read has failed.
-    fn failed(&mut self) -> ReadStop {
-        self.faults = self.faults.saturating_add(1);
-        ReadStop::Failed
+    // What was read, with one more fault where the read failed.
+    fn counted(&mut self, read: Result<Vec<u8>, ReadStop>) -> Result<Vec<u8>, ReadStop>
+        ensures same { result ≡ read }
+        ensures failed { IsErrOf result ReadStop.Failed → Rose self.old.faults self.new.faults }
+        ensures later { self.old.faults ≤ self.new.faults }
+    {
+        if let Err(ReadStop::Failed) = read {
+            self.faults = self.faults.saturating_add(1);
+        }
+        read
     }
 }
 
@@ -30,17 +38,16 @@ impl<'a> Files for HostFiles<'a> {
     ghost faults = { λ f. f.faults };
 
     fn read(&mut self, alloc: Global, name: &str, most: usize) -> Result<Vec<u8>, ReadStop> {
-        let read = if name == "-" {
-            read_all(alloc, &mut StdSource::new(self.rt.reader()), most)
-        } else {
-            match File::open(self.rt, name) {
-                Ok(file) => read_all(alloc, &mut StdSource::new(file), most),
-                Err(_) => Err(ReadStop::Failed),
+        if name == "-" {
+            let read = read_all(alloc, &mut StdSource::new(self.rt.reader()), most);
+            return self.counted(read);
+        }
+        match File::open(self.rt, name) {
+            Ok(file) => {
+                let read = read_all(alloc, &mut StdSource::new(file), most);
+                self.counted(read)
             }
-        };
-        match read {
-            Err(ReadStop::Failed) => Err(self.failed()),
-            read => read,
+            Err(_) => self.counted(Err(ReadStop::Failed)),
         }
     }
 }

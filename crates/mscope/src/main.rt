@@ -7,6 +7,7 @@
 mod host;
 
 use crate::host::HostFiles;
+use clap::Error;
 use outside::StdSink;
 use scope_run::{Ending, Request, mscope};
 use scope_words::{Asked, read_words};
@@ -27,6 +28,15 @@ fn words_of(alloc: Global, args: io::Result<Args>) -> Result<Vec<String>, AllocE
     }
 }
 
+// The exit status after a text of `clap`: that of a wrong request, but for help and the version.
+fn status_of(error: &Error) -> u8 {
+    if error.use_stderr() {
+        Ending::Wrong.status()
+    } else {
+        Ending::Nothing.status()
+    }
+}
+
 fn answer(rt: &HostRuntime, request: &Request<'_>) -> Ending {
     let mut files = HostFiles::new(rt);
     let mut out = StdSink::new(io::writer(rt));
@@ -42,7 +52,7 @@ fn main(rt: HostRuntime) -> ExitCode {
     match read_words(rt.alloc(), words.as_slice()) {
         Asked::Request(request) => ExitCode::from(answer(&rt, &request).status()),
         Asked::Text(error) => match error.print(&rt) {
-            Ok(()) => ExitCode::from(error.exit_code() as u8),
+            Ok(()) => ExitCode::from(status_of(&error)),
             Err(_) => ExitCode::from(Ending::WriteFault.status()),
         },
         Asked::Memory => ExitCode::from(Ending::Memory.status()),

@@ -105,3 +105,7 @@ command_both held failed first second old new faults.Memory t u x = tt
 pub memory_file : (held : Holding) (failed : Type 0) (name : Text) (space region : Option Text) (fault : Fault) → fault ≡ faults.Memory
     → FailsFile held failed name space region fault
 memory_file held failed name space region fault is = subst (FailsFile held failed name space region) (sym is) tt
+
+-- the bytes that were read, seen as a slice
+pub told_as : (held : Holding) (name bytes slice : Text) → slice ≡ bytes → Tells (held name) bytes → Tells (held name) slice
+told_as held name bytes slice is t = subst (Tells (held name)) (sym is) t

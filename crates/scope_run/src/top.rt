@@ -66,7 +66,7 @@ fn name_of(alloc: Global, word: &str) -> Result<Name, AllocError>
 
 // The name of a region, where one is asked for.
 fn region_of(alloc: Global, word: Option<&str>) -> Result<Option<Name>, AllocError>
-    ensures { IfOk result (λ name. name ≡ option_map (λ w. w.now) word) }
+    ensures { IfOk result (λ name. name ≡ option_map (λ w. w.now) word.entry) }
 {
     match word {
         Some(word) => Ok(Some(name_of(alloc, word)?)),

@@ -2,6 +2,7 @@
 
 use crate::cases::{Case, first_case};
 use crate::memory::CaseFiles;
+use clap::Error;
 use outside::{Failed, Sink, StdSink, write_all};
 use scope_run::{Ending, Request, mscope};
 use scope_words::{Asked, read_words};
@@ -57,6 +58,15 @@ fn answer(
     Ok((ending, written))
 }
 
+// The status after a text of `clap`.
+fn status_of(error: &Error) -> u8 {
+    if error.use_stderr() {
+        Ending::Wrong.status()
+    } else {
+        Ending::Nothing.status()
+    }
+}
+
 // The same of words. What `clap` says of words that are no request is left out.
 fn run(alloc: Global, case: &Case<'_>, previous: &[u8]) -> Result<(u8, Vec<u8>), AllocError> {
     let words = words_in(alloc, case.words)?;
@@ -65,7 +75,7 @@ fn run(alloc: Global, case: &Case<'_>, previous: &[u8]) -> Result<(u8, Vec<u8>),
             let (ending, written) = answer(alloc, &request, case, previous)?;
             Ok((ending.status(), written))
         }
-        Asked::Text(error) => Ok((error.exit_code() as u8, Vec::new(alloc))),
+        Asked::Text(error) => Ok((status_of(&error), Vec::new(alloc))),
         Asked::Memory => Err(AllocError),
     }
 }
