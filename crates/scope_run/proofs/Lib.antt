@@ -3,3 +3,4 @@ mod Parts
 mod TableLaws
 mod FileLaws
 mod ExplainLaws
+mod LintLaws

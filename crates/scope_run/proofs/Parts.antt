@@ -1,9 +1,19 @@
 -- A text of parts, one for each element of a list.
-use Rattle.std.proofs.Common.{◌≡◌, ◌<◌, ◌+◌, ℕ, suc, List, [], ◌∷◌, ◌++◌, length, take, get_or, add-one, refl, sym, ap, subst, ◌∙◌, append_assoc}
-use Rattle.std.proofs.Math.Seq.{take-suc}
+use Rattle.std.proofs.Common.{◌≡◌, ◌<◌, ◌≤◌, ◌+◌, ℕ, suc, List, [], ◌∷◌, ◌++◌, length, take, drop, get_or, add-one, refl, sym, ap, subst, ◌∙◌, append_assoc}
+use Rattle.std.specs.Prelude.{flat_map}
+use Rattle.std.proofs.Math.Seq.{drop-cons, take-suc}
 use Rattle.std.proofs.lemmas.List.{append-nil, take_all}
 use Rattle.mem_base.specs.script.Spelling.{Text}
 use Rattle.scope_run.specs.Scripts.{TellsAll}
+
+-- one text more of those that a function gives
+pub flat_next : {X : Type 0} (f : X → Text) (xs : List X) (i : ℕ) (d x : X) (old new whole : Text) → i < length xs → x ≡ get_or xs i d
+    → new ≡ old ++ f x → old ++ flat_map f (drop i xs) ≡ whole → new ++ flat_map f (drop (i + 1) xs) ≡ whole
+flat_next f xs i d x old new whole l is e h =
+    let cut : drop i xs ≡ x ∷ drop (i + 1) xs =
+    drop-cons xs i d l ∙ ap (λ y. y ∷ drop (suc i) xs) (sym is) ∙ ap (λ n. x ∷ drop n xs) (sym (add-one i)) in
+    ap (λ (t : Text). t ++ flat_map f (drop (i + 1) xs)) e ∙ append_assoc old (f x) (flat_map f (drop (i + 1) xs))
+    ∙ ap (λ ys. old ++ flat_map f ys) (sym cut) ∙ h
 
 -- one part more
 tells_more : {X : Type 0} (tells : X → Text → Type 0) (xs : List X) (x : X) (old here : Text) → TellsAll tells xs old → tells x here

@@ -30,11 +30,16 @@ abbrev pub IsMissing : State → Option Text → Type 0
 IsMissing s None = ⊥
 IsMissing s (Some name) = region_named s name ≡ None
 
+-- no space has the name that was asked for
+abbrev pub IsNoSpace : State → Option Text → Type 0
+IsNoSpace s None = ⊥
+IsNoSpace s (Some name) = space_named s name ≡ None
+
 -- a command on a map, and on a space and a region of it where it asks for them, has no answer: the map has no such name. Out of memory
 -- says nothing
 abbrev pub FailsIn : State → Option Text → Option Text → Fault → Type 0
-FailsIn s (Some space) region faults.NoSpace = space_named s space ≡ None
-FailsIn s (Some space) region faults.NoRegion = IsMissing s region
+FailsIn s space region faults.NoSpace = IsNoSpace s space
+FailsIn s space region faults.NoRegion = IsMissing s region
 FailsIn s space region faults.Memory = ⊤
 FailsIn s space region _ = ⊥
 

@@ -8,8 +8,8 @@ pub loop-one-init : goal.loop-one-init
 loop-one-init c = ([], c.new-text.ensures, refl)
 
 pub loop-one-preserved : goal.loop-one-preserved
-loop-one-preserved c = refusal_next c.args.refused.now c.loop-one.one-index c.loop-one-item.result [] c.loop-one.text c.add_refused.new.out
-    c.line.result c.words.result.now c.loop-one-test.true c.loop-one-item.is c.loop-one.invariant c.line.ensures c.words.ensures c.in_ok-add_refused.ensures
+loop-one-preserved c = refusal_next c.args.refused.now c.loop-one.one-index c.one-item.result [] c.loop-one.text c.add_refused.new.out
+    c.line.result c.words.result.now c.loop-one-test.true c.one-item.is c.loop-one.invariant c.line.ensures c.words.ensures c.in_ok-add_refused.ensures
 
 pub returns : goal.returns
 returns c = grown_whole TellsRefusal c.args.refused.now c.loop-one.text

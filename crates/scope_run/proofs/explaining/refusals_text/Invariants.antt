@@ -1,4 +1,4 @@
-use Rattle.std.proofs.Common.{take}
+use Rattle.std.proofs.Common.{[], take}
 use Rattle.scope_run.specs.Explains.{TellsRefusal}
 use Rattle.scope_run.proofs.Parts.{Grown}
 use Rattle.scope_run.proofs.explaining.refusals_text.Given as goal

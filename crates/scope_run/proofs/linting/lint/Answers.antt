@@ -1,4 +1,5 @@
-use Rattle.std.proofs.Common.{None, ◌++◌, flat_map, ◌∙◌}
+use Rattle.std.proofs.Common.{◌≡◌, None, ◌++◌, ◌∙◌}
+use Rattle.std.specs.Prelude.{flat_map}
 use Rattle.std.proofs.lemmas.Result.{IfOk-weaker}
 use Rattle.scope_run.specs.Lints.{faults_text, lint_text, refusal_text}
 use Rattle.scope_run.proofs.Facts.{if_err, memory_on, of_lines, stops_on}
