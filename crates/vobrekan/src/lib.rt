@@ -19,6 +19,7 @@ mod settings;
 mod tables;
 mod transactions;
 
+pub use access_reach::{Answers, Board, Bus, Parts, Takes};
 pub use config_desk::Config;
 pub use desk_lock::{Clerk, DeskLock, Receipt, Record};
 pub use epoch_rule::{Cabinet, Note, Pass};
