@@ -30,6 +30,15 @@ struct Ports {
     writes: u32,
 }
 
+impl Ports {
+    // Nothing is written yet.
+    fn clear(&mut self) {
+        self.address = 0;
+        self.reset = 0;
+        self.writes = 0;
+    }
+}
+
 impl Parts for Ports {
     fn read_device(&mut self, region: RegionId, offset: u64, _size: u8) -> (u64, TxResult) {
         // The line status register of the UART says that a byte may be sent.
@@ -130,7 +139,7 @@ fn print(rt: &HostRuntime, what: &str, ports: &Ports) -> Result<()> {
     let (sent, address, reset) = (ports.sent, ports.address, ports.reset);
     let writes = ports.writes;
     println!(rt;
-        "{what}: {writes} writes, UART {sent:#x}, address {address:#x}, reset {reset:#x}"
+        "{what}: callbacks {writes}, UART {sent:#x}, address {address:#x}, reset {reset:#x}"
     )?;
     Ok(())
 }
@@ -138,8 +147,10 @@ fn print(rt: &HostRuntime, what: &str, ports: &Ports) -> Result<()> {
 fn show(rt: &HostRuntime, board: &mut Board<Ports>) -> Result<()> {
     send(board, b'!');
     print(rt, "a byte is sent", &board.parts)?;
+    board.parts.clear();
     board.write(PORTS, 0xcf8, &0x8000_0810u32.to_le_bytes());
     print(rt, "outl 0xcf8, cut at ranges", &board.parts)?;
+    board.parts.clear();
     board.core_write(PORTS, 0xcf8, &0x8000_0810u32.to_le_bytes());
     print(rt, "outl 0xcf8, as QEMU does it", &board.parts)
 }
