@@ -12,6 +12,8 @@
 //! What each call does is said by its contract, in the words of the definitions of `mem_base`.
 #![tactic(auto)]
 
+/// Accesses over a bus of one's own: what implements `Answers` or `Takes`.
+pub mod buses;
 mod maps;
 mod placing;
 mod regions;
