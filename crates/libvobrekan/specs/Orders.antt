@@ -24,7 +24,8 @@ kind_in o =
 -- a call about a table, an ioeventfd, or a region that is dropped
 abbrev pub table_call_in : OrderNumbers → Option Call
 table_call_in o =
-    if o.what == 18 then option_map (λ perm. calls.Map (region_at o.region) o.offset (size_of o.size) (space_at o.space) o.translated perm) (perm_of o.perm) else
+    if o.what == 18
+    then option_map (λ perm. calls.Map (region_at o.region) o.offset (size_of o.size) (space_at o.space) o.translated perm) (perm_of o.perm) else
     (if o.what == 19 then Some (calls.Unmap (region_at o.region) o.offset) else
     (if o.what == 20 then Some (calls.Event (region_at o.region) (event_of o.event)) else
     (if o.what == 21 then Some (calls.Unevent (region_at o.region) o.event.offset o.event.size o.event.matched o.event.value) else

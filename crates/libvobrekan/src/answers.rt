@@ -1,7 +1,7 @@
 // What a call answers to C.
 ghost use Rattle.std.specs.Prelude.{◌≡◌};
-ghost use Rattle.libvobrekan.specs.Answers.{bad_argument, call_told, commit_told, done, has_machine, no_cpu, no_machine, no_script, not_whole, number_of, number_of_user};
-ghost use Rattle.libvobrekan.specs.Answers.{plain_told, published, refusal_told, sort_of, sort_of_limit, sort_of_user, told};
+ghost use Rattle.libvobrekan.specs.Answers.{bad_argument, call_told, commit_told, done, has_machine, no_cpu, no_machine, no_script, not_whole};
+ghost use Rattle.libvobrekan.specs.Answers.{number_of, number_of_user, plain_told, published, refusal_told, sort_of, sort_of_limit, sort_of_user, told};
 
 use mem_base::{Applied, Refusal, RegionId, User, What, Which};
 

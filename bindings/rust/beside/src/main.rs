@@ -28,7 +28,8 @@ fn main() {
     println!("{:8.0}  find an address", least(1_000_000, |i| _ = black_box(memory.find_region(at(i)).is_some())));
     println!("{:8.0}  read a word of memory", least(500_000, |_| _ = black_box(memory.read_obj::<u64>(GuestAddress(8)).unwrap())));
     println!("{:8.0}  write a word of memory", least(500_000, |i| memory.write_obj(u64::from(i), GuestAddress(8)).unwrap()));
-    println!("{:8.0}  read a word of memory that may be replaced", least(500_000, |_| _ = black_box(shared.memory().read_obj::<u64>(GuestAddress(8)).unwrap())));
+    let read = |_| _ = black_box(shared.memory().read_obj::<u64>(GuestAddress(8)).unwrap());
+    println!("{:8.0}  read a word of memory that may be replaced", least(500_000, read));
     println!(
         "{:8.0}  take a region out and put it back, and publish",
         least(200, |_| {
