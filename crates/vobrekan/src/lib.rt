@@ -12,6 +12,8 @@
 //! What each call does is said by its contract, in the words of the definitions of `mem_base`.
 #![tactic(auto)]
 
+/// Accesses over a bus of one's own: what implements `Answers` or `Takes`.
+pub mod buses;
 mod maps;
 mod placing;
 mod regions;
@@ -19,6 +21,7 @@ mod settings;
 mod tables;
 mod transactions;
 
+pub use access_reach::{Answers, Board, Bus, Parts, Takes};
 pub use config_desk::Config;
 pub use desk_lock::{Clerk, DeskLock, Receipt, Record};
 pub use epoch_rule::{Cabinet, Note, Pass};

@@ -5,8 +5,11 @@ ghost use Rattle.mem_base.specs.map.Search.{found_at, look, root_of};
 ghost use Rattle.mem_base.specs.map.Paths.{Finds};
 ghost use Rattle.mem_base.specs.map.Calls.{empty};
 ghost use Rattle.mem_base.specs.map.Forest.{IsClosedForest};
-ghost use Rattle.mem_base.specs.views.View.{IsView};
+ghost use Rattle.mem_base.specs.views.View.{IsView, shown};
+ghost use Rattle.flat_lookup.specs.Atlases.{run_end};
+ghost use Rattle.vobrekan.specs.Runs.{IsRunAt};
 
+use flat_lookup::Atlas;
 use flat_render::render;
 use flat_simplify::simplify;
 use mem_base::{Forest, Node, Path, RegionId, SpaceId, Spot, View};
@@ -50,6 +53,18 @@ fn view_of<L: Ledger>(
     let mut steps = Steps::<L>::new(blank);
     let pieces = render(alloc, tree, space, &mut steps)?;
     Ok(simplify(pieces))
+}
+
+// What a view shows at an address, and the last address that goes on alike. Nobody reads the count of its steps.
+fn run_in<L: Ledger>(atlas: &Atlas, addr: u64, blank: Blank) -> (Option<Spot>, u64)
+    requires name { blank.name ≡ L.name }
+    requires parts { blank.parts ≡ L.parts }
+    requires some { 0 < L.parts }
+    ensures spot { result.0 ≡ shown atlas.now addr }
+    ensures last { result.1 ≡ run_end atlas.now addr }
+{
+    let mut steps = Steps::<L>::new(blank);
+    atlas.run_at(addr, &mut steps)
 }
 
 impl Map {
@@ -102,6 +117,29 @@ impl Map {
         ensures manual { (root : RegionId) → root_of self.now space ≡ Some root → Finds self.now root addr result }
     {
         tree_find::find_path(&self.tree, space, addr)
+    }
+
+    /// What `find` answers at an address of a space, and the last address up to which it goes on alike: in the same region with the same
+    /// attributes, each offset one more than that before it; or, where nothing answers, up to which nothing does. `None` exactly where the
+    /// map has no such space.
+    ///
+    /// It renders the whole space: who asks often takes the view, or a machine's generation. It fails only where memory runs out. QEMU's core,
+    /// `memory_region_find`.
+    pub fn find_run(
+        &self,
+        space: SpaceId,
+        addr: u64,
+    ) -> Result<Option<(Option<Spot>, u64)>, AllocError>
+        ensures none { IfOk result (λ o. IsNone o ↔ root_of self.now space ≡ None) }
+        ensures run { IfOk result (λ o. IfSome o (λ x. IsRunAt self.now space addr x.0 x.1)) }
+    {
+        let Some(view) = self.view(space)? else {
+            return Ok(None);
+        };
+        match Atlas::new(self.alloc, view) {
+            Ok(atlas) => Ok(Some(run_in::<Brand>(&atlas, addr, Blank::new(1)))),
+            Err((why, _view)) => Err(why),
+        }
     }
 
     /// What a space shows, as ranges that ascend: at each address what `find` answers there. `None` exactly where the map has no
