@@ -42,4 +42,5 @@ edges_next {Z} old new space gs i d g l is h k e =
 -- the spaces of a script in the generations that it publishes
 pub slots_whole : (lines : List Line) (m : Left) (gs : List Shown) (text : Text) → IsLeftBy lines m → gs ≡ published_in (first_of lines) lines
     → TellsSlotsIn (left_state m) gs text → TellsSlots lines text
-slots_whole lines m gs text h is t = subst (λ s. TellsSlotsIn s (published_in (first_of lines) lines) text) h.state (subst (λ xs. TellsSlotsIn (left_state m) xs text) is t)
+slots_whole lines m gs text h is t =
+    subst (λ s. TellsSlotsIn s (published_in (first_of lines) lines) text) h.state (subst (λ xs. TellsSlotsIn (left_state m) xs text) is t)

@@ -7,4 +7,5 @@ returns-in-Err-Failed-clause-unread g c = c.in-Err-Failed.ensures.failed (ap Err
 
 pub returns-in-Err-Long-clause-unread : goal.returns-in-Err-Long-clause-unread
 returns-in-Err-Long-clause-unread g c =
-    let came = c.in-Err-Long.ensures.long (ap Err c.in-Err-Long.field-0-is) in (refl, (came.0, came.1, too_long came.0 c.too_long.result c.too_long.ensures came.2))
+    let came = c.in-Err-Long.ensures.long (ap Err c.in-Err-Long.field-0-is) in
+    (refl, (came.0, came.1, too_long came.0 c.too_long.result c.too_long.ensures came.2))
