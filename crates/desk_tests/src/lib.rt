@@ -15,6 +15,8 @@ mod desks;
 #[cfg(test)]
 mod drawn_routes;
 #[cfg(test)]
+mod memory;
+#[cfg(test)]
 mod plain_routes;
 #[cfg(test)]
 mod routes;
