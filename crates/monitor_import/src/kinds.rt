@@ -1,0 +1,108 @@
+// What the regions of a script are made as.
+
+use crate::flats::Shown;
+use crate::trees::{Node, Trees};
+use mem_base::{MOST_BYTES, PAGE_SIZE};
+use monitor_text::RowKind;
+
+/// What a region is made as.
+#[derive(Clone, Copy, Debug, PartialEq, Eq)]
+pub(crate) enum Made {
+    Container,
+    Io,
+    /// A device that stands for memory that the machine of a script cannot have.
+    Memory,
+    Ram,
+    Rom,
+    RomDevice,
+    Alias,
+}
+
+impl Made {
+    /// The word of the script language.
+    pub(crate) fn word(self) -> &'static str {
+        match self {
+            Made::Container => " container 0x",
+            Made::Io | Made::Memory => " io 0x",
+            Made::Ram => " ram 0x",
+            Made::Rom => " rom 0x",
+            Made::RomDevice => " romdev 0x",
+            Made::Alias => " alias 0x",
+        }
+    }
+
+    /// What stands behind the size.
+    pub(crate) fn ending(self) -> &'static str {
+        match self {
+            Made::Io | Made::RomDevice => " latch",
+            Made::Memory => " latch # memory",
+            _ => "",
+        }
+    }
+
+    /// The words of 8 bytes that a region of this size takes in the machine, with the marks of its pages.
+    pub(crate) fn words(self, size: u128) -> u128 {
+        let marks = (size / u128::from(PAGE_SIZE)).saturating_add(63) / 64;
+        let words = (size / 8).saturating_add(marks.saturating_mul(3));
+        match self {
+            Made::Ram | Made::Rom => words,
+            Made::RomDevice => words.saturating_add(1),
+            Made::Io | Made::Memory => 1,
+            Made::Container | Made::Alias => 0,
+        }
+    }
+}
+
+// Whether the machine of a script can have memory of this size.
+fn may_be_memory(size: u128) -> bool {
+    size % u128::from(PAGE_SIZE) == 0 && size <= u128::from(MOST_BYTES)
+}
+
+// Whether a node is switched off, or a container of it.
+fn is_off(trees: &Trees<'_>, at: usize) -> bool {
+    let mut at = at;
+    for _ in 0..trees.nodes.len() {
+        let Some(node) = trees.nodes.get(at) else {
+            return false;
+        };
+        if node.row.disabled {
+            return true;
+        }
+        let Some(parent) = node.parent else {
+            return false;
+        };
+        at = parent;
+    }
+    false
+}
+
+// Whether what is printed as `i/o` is a device. A view that shows the region tells that it is; without views, what has others below it
+// only groups them.
+fn is_device(trees: &Trees<'_>, shown: &Option<Shown>, at: usize, node: &Node<'_>) -> bool {
+    match shown {
+        Some(shown) => {
+            shown.has(&node.row.name, node.size()) || (!trees.is_parent(at) && is_off(trees, at))
+        }
+        None => !trees.is_parent(at),
+    }
+}
+
+/// What a node's region is made as.
+pub(crate) fn made_as(
+    trees: &Trees<'_>,
+    shown: &Option<Shown>,
+    at: usize,
+    node: &Node<'_>,
+) -> Made {
+    if node.row.window.is_some() {
+        return Made::Alias;
+    }
+    match node.row.kind {
+        RowKind::Io if is_device(trees, shown, at, node) => Made::Io,
+        RowKind::Io => Made::Container,
+        _ if !may_be_memory(node.size()) => Made::Memory,
+        RowKind::Rom => Made::Rom,
+        RowKind::RomDevice => Made::RomDevice,
+        RowKind::Ram | RowKind::RamDevice => Made::Ram,
+    }
+}

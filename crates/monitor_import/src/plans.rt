@@ -1,0 +1,241 @@
+// What becomes of each region.
+
+use crate::flats::{Shown, View, is_readonly, may_be_shown, view_of};
+use crate::kinds::{Made, made_as};
+use crate::names::Given;
+use crate::regions::regions_of;
+use crate::targets::target_of;
+use crate::trees::{Node, Trees};
+use mem_base::{MOST_BYTES, MOST_REGIONS, Name};
+use std::alloc::{AllocError, Global};
+
+/// Why a region is not in the script.
+#[derive(Clone, Copy, Debug, PartialEq, Eq)]
+pub(crate) enum Left {
+    NoTarget,
+    NoBytes,
+    TooMany,
+}
+
+impl Left {
+    /// What is told of the region.
+    pub(crate) fn words(self) -> &'static str {
+        match self {
+            Left::NoTarget => " is left out: its target is not printed",
+            Left::NoBytes => " is left out: it has no bytes",
+            Left::TooMany => " is left out: a map has at most 4096 regions",
+        }
+    }
+}
+
+/// What becomes of a region.
+#[derive(Debug, Drop)]
+pub(crate) struct Plan {
+    pub(crate) name: Name,
+    pub(crate) size: u128,
+    pub(crate) made: Made,
+    /// Whether it is a window that is shown read-only.
+    pub(crate) readonly: bool,
+    /// The node that stands for an alias's target.
+    pub(crate) target: Option<usize>,
+    pub(crate) left: Option<Left>,
+}
+
+impl Plan {
+    // The words of 8 bytes that it takes in the machine.
+    fn words(&self) -> u128 {
+        match self.left {
+            Some(_) => 0,
+            None => self.made.words(self.size),
+        }
+    }
+}
+
+/// The plans of all regions, each at the number of the node that stands for it, and for each node the one that stands for it.
+#[derive(Debug, Drop)]
+pub(crate) struct Plans {
+    pub(crate) regions: Vec<usize>,
+    pub(crate) plans: Vec<Option<Plan>>,
+}
+
+impl Plans {
+    /// Whether a node stands for its region.
+    pub(crate) fn is_region(&self, at: usize) -> bool {
+        self.regions.get(at).copied() == Some(at)
+    }
+
+    /// The plan of a node's region.
+    pub(crate) fn of(&self, at: usize) -> Option<&Plan> {
+        let region = self.regions.get(at).copied()?;
+        self.plans.get(region)?.as_ref()
+    }
+
+    /// The plan of a node's region, where it is in the script.
+    pub(crate) fn kept(&self, at: usize) -> Option<&Plan> {
+        let plan = self.of(at)?;
+        if plan.left.is_none() {
+            Some(plan)
+        } else {
+            None
+        }
+    }
+
+    /// How many aliases lead from a region to one that is none; nothing where they do not lead to one in the script.
+    pub(crate) fn steps(&self, at: usize) -> Option<usize> {
+        let mut at = at;
+        for steps in 0..=self.plans.len() {
+            let plan = self.kept(at)?;
+            if plan.made != Made::Alias {
+                return Some(steps);
+            }
+            at = plan.target?;
+        }
+        None
+    }
+
+    // Leaves a region out.
+    fn leave(&mut self, at: usize, left: Left) {
+        if let Some(Some(plan)) = self.plans.get_mut(at) {
+            plan.left = Some(left);
+        }
+    }
+
+    // Leaves out aliases whose targets are not in the script.
+    fn leave_untargeted(&mut self) {
+        for at in 0..self.plans.len() {
+            if self.kept(at).is_some() && self.steps(at).is_none() {
+                self.leave(at, Left::NoTarget);
+            }
+        }
+    }
+
+    // Leaves out all regions after as many as a map may have.
+    fn leave_rest(&mut self) {
+        let mut count = 0usize;
+        for at in 0..self.plans.len() {
+            if self.is_region(at) && self.kept(at).is_some() {
+                count = count.saturating_add(1);
+                if count > MOST_REGIONS {
+                    self.leave(at, Left::TooMany);
+                }
+            }
+        }
+    }
+
+    /// The words of 8 bytes that all regions take in the machine.
+    pub(crate) fn words(&self) -> u128 {
+        let mut words = 0u128;
+        for plan in self.plans.iter().flatten() {
+            words = words.saturating_add(plan.words());
+        }
+        words
+    }
+
+    // The region that takes the most words.
+    fn largest(&self) -> Option<usize> {
+        let mut found = None;
+        let mut most = 1;
+        for (at, plan) in self.plans.iter().enumerate() {
+            let words = match plan {
+                Some(plan) => plan.words(),
+                None => 0,
+            };
+            if words > most {
+                most = words;
+                found = Some(at);
+            }
+        }
+        found
+    }
+
+    // Makes the largest memory a device that stands for it, until the machine can have the rest.
+    fn fit(&mut self) {
+        for _ in 0..self.plans.len() {
+            if self.words() <= u128::from(MOST_BYTES / 8) {
+                return;
+            }
+            let Some(at) = self.largest() else {
+                return;
+            };
+            if let Some(Some(plan)) = self.plans.get_mut(at) {
+                plan.made = Made::Memory;
+            }
+        }
+    }
+}
+
+// Whether the view of its space shows that a region of one byte has none.
+fn has_no_bytes(view: &View<'_>, trees: &Trees<'_>, at: usize, node: &Node<'_>) -> bool {
+    if node.size() != 1 || node.row.disabled || trees.is_parent(at) {
+        return false;
+    }
+    match view.at(node.row.start) {
+        Some(row) => !may_be_shown(node, row, node.row.start),
+        None => true,
+    }
+}
+
+// What becomes of the region for which a node stands.
+fn plan_of(
+    trees: &Trees<'_>,
+    views: &[View<'_>],
+    shown: &Option<Shown>,
+    at: usize,
+    node: &Node<'_>,
+    name: Name,
+) -> Plan {
+    let view = view_of(views, trees, node.tree);
+    let (left, readonly) = match view {
+        Some(view) if has_no_bytes(view, trees, at, node) => (Some(Left::NoBytes), false),
+        Some(view) => (None, is_readonly(view, node)),
+        None => (None, false),
+    };
+    Plan {
+        name,
+        size: node.size(),
+        made: made_as(trees, shown, at, node),
+        readonly,
+        target: target_of(trees, node),
+        left,
+    }
+}
+
+// The plans of the nodes that stand for regions.
+fn planned(
+    alloc: Global,
+    trees: &Trees<'_>,
+    views: &[View<'_>],
+    regions: &[usize],
+) -> Result<Vec<Option<Plan>>, AllocError> {
+    let shown = if views.is_empty() {
+        None
+    } else {
+        Some(Shown::by(alloc, views)?)
+    };
+    let mut given = Given::none(alloc);
+    let mut plans = Vec::new(alloc);
+    for (at, node) in trees.nodes.iter().enumerate() {
+        if regions.get(at).copied() == Some(at) {
+            let name = given.name_for(alloc, node.row.name.as_bytes())?;
+            plans.push(Some(plan_of(trees, views, &shown, at, node, name)))?;
+        } else {
+            plans.push(None)?;
+        }
+    }
+    Ok(plans)
+}
+
+/// The plans of the regions that some trees print.
+pub(crate) fn plans_of(
+    alloc: Global,
+    trees: &Trees<'_>,
+    views: &[View<'_>],
+) -> Result<Plans, AllocError> {
+    let regions = regions_of(alloc, trees)?;
+    let plans = planned(alloc, trees, views, &regions)?;
+    let mut plans = Plans { regions, plans };
+    plans.leave_untargeted();
+    plans.leave_rest();
+    plans.fit();
+    Ok(plans)
+}
