@@ -2,9 +2,11 @@
 
 use crate::flats::{View, view_of};
 use crate::kinds::Made;
+use crate::loops::Part;
 use crate::orders::tried;
 use crate::plans::{Plan, Plans};
 use crate::trees::{Node, Trees};
+use mem_base::Name;
 use script_lines::Line;
 use std::alloc::{AllocError, Global};
 
@@ -32,25 +34,22 @@ pub(crate) fn add_machine(text: &mut Line, plans: &Plans) -> Result<(), AllocErr
 }
 
 // The line that makes a region, without what stands behind the size.
-fn add_made(text: &mut Line, plan: &Plan) -> Result<(), AllocError> {
-    text.named("region ", plan.name.as_bytes())?;
-    text.text(plan.made.word())?;
-    text.signed_hex(plan.size.min(1 << 64) as i128)
+fn add_made(text: &mut Line, name: &Name, word: &str, size: u128) -> Result<(), AllocError> {
+    text.named("region ", name.as_bytes())?;
+    text.text(word)?;
+    text.signed_hex(size.min(1 << 64) as i128)
 }
 
-// What an alias shows.
+// What an alias shows, from this offset on.
 fn add_target(
     text: &mut Line,
     source: &Source<'_, '_>,
-    node: &Node<'_>,
-    plan: &Plan,
+    target: usize,
+    offset: u64,
 ) -> Result<(), AllocError> {
-    let (Some(window), Some(target)) = (&node.row.window, plan.target) else {
-        return Ok(());
-    };
     if let Some(target) = source.plans.of(target) {
         text.named(" ", target.name.as_bytes())?;
-        text.placed(" 0x", window.first)?;
+        text.placed(" 0x", offset)?;
     }
     Ok(())
 }
@@ -68,9 +67,18 @@ fn add_region(
         text.text(left.words())?;
         return text.end();
     }
-    add_made(text, plan)?;
-    add_target(text, source, node, plan)?;
+    add_made(text, &plan.name, plan.made.word(), plan.size)?;
+    if let (Made::Alias, Some(window), Some(target)) = (plan.made, &node.row.window, plan.target) {
+        add_target(text, source, target, window.first)?;
+    }
     text.text(plan.made.ending())?;
+    text.end()
+}
+
+// The line of a part of an alias that is taken apart.
+fn add_part(text: &mut Line, source: &Source<'_, '_>, part: &Part) -> Result<(), AllocError> {
+    add_made(text, &part.name, Made::Alias.word(), part.size)?;
+    add_target(text, source, part.target, part.offset)?;
     text.end()
 }
 
@@ -95,16 +103,43 @@ fn add_level(
 
 /// The lines of all regions: an alias after its target.
 pub(crate) fn add_regions(text: &mut Line, source: &Source<'_, '_>) -> Result<(), AllocError> {
-    for steps in 0..=source.trees.nodes.len() {
+    for steps in 0..source.trees.nodes.len().saturating_add(1) {
         if !add_level(text, source, Some(steps))? {
             break;
         }
     }
     add_level(text, source, None)?;
+    for part in source.plans.parts.iter() {
+        add_part(text, source, part)?;
+    }
     Ok(())
 }
 
+// ` prio N`, where it is not 0.
+fn add_priority(text: &mut Line, priority: i32) -> Result<(), AllocError> {
+    if priority == 0 {
+        return Ok(());
+    }
+    text.text(if priority < 0 { " prio -" } else { " prio " })?;
+    text.decimal(u64::from(priority.unsigned_abs()))
+}
+
 // `add PARENT OFFSET CHILD prio N`.
+fn add_placed(
+    text: &mut Line,
+    parent: &Name,
+    offset: u64,
+    child: &Name,
+    priority: i32,
+) -> Result<(), AllocError> {
+    text.named("add ", parent.as_bytes())?;
+    text.placed(" 0x", offset)?;
+    text.named(" ", child.as_bytes())?;
+    add_priority(text, priority)?;
+    text.end()
+}
+
+// Puts a child into its container.
 fn add_child(
     text: &mut Line,
     source: &Source<'_, '_>,
@@ -115,19 +150,18 @@ fn add_child(
     let (Some(node), Some(plan)) = (source.trees.nodes.get(child), source.plans.kept(child)) else {
         return Ok(());
     };
-    text.named("add ", parent.name.as_bytes())?;
-    text.placed(" 0x", node.row.start.wrapping_sub(container.row.start))?;
-    text.named(" ", plan.name.as_bytes())?;
-    if node.row.priority != 0 {
-        add_priority(text, node.row.priority)?;
-    }
-    text.end()
+    let offset = node.row.start.wrapping_sub(container.row.start);
+    add_placed(text, &parent.name, offset, &plan.name, node.row.priority)
 }
 
-// ` prio N`.
-fn add_priority(text: &mut Line, priority: i32) -> Result<(), AllocError> {
-    text.text(if priority < 0 { " prio -" } else { " prio " })?;
-    text.decimal(u64::from(priority.unsigned_abs()))
+// Puts the parts of aliases that are taken apart into them.
+fn add_parts(text: &mut Line, plans: &Plans) -> Result<(), AllocError> {
+    for part in plans.parts.iter().rev() {
+        if let Some(plan) = plans.kept(part.alias) {
+            add_placed(text, &plan.name, part.place, &part.name, part.priority)?;
+        }
+    }
+    Ok(())
 }
 
 // Puts the children of a container into it, the one that is tried first last.
@@ -180,5 +214,6 @@ pub(crate) fn add_map(
             }
         }
     }
+    add_parts(text, source.plans)?;
     text.text("commit\n")
 }

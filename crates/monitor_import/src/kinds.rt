@@ -16,13 +16,15 @@ pub(crate) enum Made {
     Rom,
     RomDevice,
     Alias,
+    /// A container with the parts of an alias that is taken apart.
+    Apart,
 }
 
 impl Made {
     /// The word of the script language.
     pub(crate) fn word(self) -> &'static str {
         match self {
-            Made::Container => " container 0x",
+            Made::Container | Made::Apart => " container 0x",
             Made::Io | Made::Memory => " io 0x",
             Made::Ram => " ram 0x",
             Made::Rom => " rom 0x",
@@ -36,6 +38,7 @@ impl Made {
         match self {
             Made::Io | Made::RomDevice => " latch",
             Made::Memory => " latch # memory",
+            Made::Apart => " # an alias of what it stands in, taken apart",
             _ => "",
         }
     }
@@ -48,7 +51,7 @@ impl Made {
             Made::Ram | Made::Rom => words,
             Made::RomDevice => words.saturating_add(1),
             Made::Io | Made::Memory => 1,
-            Made::Container | Made::Alias => 0,
+            Made::Container | Made::Alias | Made::Apart => 0,
         }
     }
 }
@@ -76,12 +79,27 @@ fn is_off(trees: &Trees<'_>, at: usize) -> bool {
     false
 }
 
-// Whether what is printed as `i/o` is a device. A view that shows the region tells that it is; without views, what has others below it
-// only groups them.
+// Whether another node below a node has its name.
+fn has_namesake(trees: &Trees<'_>, at: usize, node: &Node<'_>) -> bool {
+    let mut count = 0usize;
+    for other in trees.family(at) {
+        if other.is_named(&node.row.name) {
+            count = count.saturating_add(1);
+        }
+    }
+    count > 1
+}
+
+// Whether what is printed as `i/o` is a device. A view that shows the region tells that it is, where no other below it has its name;
+// without views, what has others below it only groups them.
 fn is_device(trees: &Trees<'_>, shown: &Option<Shown>, at: usize, node: &Node<'_>) -> bool {
     match shown {
         Some(shown) => {
-            shown.has(&node.row.name, node.size()) || (!trees.is_parent(at) && is_off(trees, at))
+            if trees.is_parent(at) {
+                shown.has(&node.row.name, node.size()) && !has_namesake(trees, at, node)
+            } else {
+                shown.has(&node.row.name, node.size()) || is_off(trees, at)
+            }
         }
         None => !trees.is_parent(at),
     }

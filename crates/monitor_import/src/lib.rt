@@ -10,6 +10,7 @@ mod draws;
 mod faults;
 mod flats;
 mod kinds;
+mod loops;
 mod names;
 mod orders;
 mod plans;

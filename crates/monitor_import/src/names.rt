@@ -33,7 +33,7 @@ impl Given {
     fn free(&mut self, alloc: Global, plain: &[u8]) -> Result<Vec<u8>, AllocError> {
         let mut number = self.number(plain);
         let mut name = plain.to_vec(alloc)?;
-        for _ in 0..=self.numbers.len() {
+        for _ in 0..self.numbers.len().saturating_add(1) {
             number = number.saturating_add(1);
             name = numbered(alloc, plain, number)?;
             if self.number(&name) == 0 {

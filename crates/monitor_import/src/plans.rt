@@ -2,6 +2,7 @@
 
 use crate::flats::{Shown, View, is_readonly, may_be_shown, view_of};
 use crate::kinds::{Made, made_as};
+use crate::loops::{Part, add_parts, is_inside};
 use crate::names::Given;
 use crate::regions::regions_of;
 use crate::targets::target_of;
@@ -41,21 +42,21 @@ pub(crate) struct Plan {
     pub(crate) left: Option<Left>,
 }
 
-impl Plan {
-    // The words of 8 bytes that it takes in the machine.
-    fn words(&self) -> u128 {
-        match self.left {
-            Some(_) => 0,
-            None => self.made.words(self.size),
-        }
+// The words of 8 bytes that a region takes in the machine, if it is in the script.
+fn words_of(plan: &Option<Plan>) -> u128 {
+    match plan {
+        Some(plan) if plan.left.is_none() => plan.made.words(plan.size),
+        _ => 0,
     }
 }
 
-/// The plans of all regions, each at the number of the node that stands for it, and for each node the one that stands for it.
+/// The plans of all regions, each at the number of the node that stands for it; for each node the one that stands for it; and the parts of
+/// aliases that are taken apart.
 #[derive(Debug, Drop)]
 pub(crate) struct Plans {
     pub(crate) regions: Vec<usize>,
     pub(crate) plans: Vec<Option<Plan>>,
+    pub(crate) parts: Vec<Part>,
 }
 
 impl Plans {
@@ -83,7 +84,7 @@ impl Plans {
     /// How many aliases lead from a region to one that is none; nothing where they do not lead to one in the script.
     pub(crate) fn steps(&self, at: usize) -> Option<usize> {
         let mut at = at;
-        for steps in 0..=self.plans.len() {
+        for steps in 0..self.plans.len().saturating_add(1) {
             let plan = self.kept(at)?;
             if plan.made != Made::Alias {
                 return Some(steps);
@@ -125,8 +126,8 @@ impl Plans {
     /// The words of 8 bytes that all regions take in the machine.
     pub(crate) fn words(&self) -> u128 {
         let mut words = 0u128;
-        for plan in self.plans.iter().flatten() {
-            words = words.saturating_add(plan.words());
+        for plan in self.plans.iter() {
+            words = words.saturating_add(words_of(plan));
         }
         words
     }
@@ -136,10 +137,7 @@ impl Plans {
         let mut found = None;
         let mut most = 1;
         for (at, plan) in self.plans.iter().enumerate() {
-            let words = match plan {
-                Some(plan) => plan.words(),
-                None => 0,
-            };
+            let words = words_of(plan);
             if words > most {
                 most = words;
                 found = Some(at);
@@ -179,6 +177,7 @@ fn has_no_bytes(view: &View<'_>, trees: &Trees<'_>, at: usize, node: &Node<'_>) 
 fn plan_of(
     trees: &Trees<'_>,
     views: &[View<'_>],
+    regions: &[usize],
     shown: &Option<Shown>,
     at: usize,
     node: &Node<'_>,
@@ -190,12 +189,16 @@ fn plan_of(
         Some(view) => (None, is_readonly(view, node)),
         None => (None, false),
     };
+    let target = match target_of(trees, node) {
+        Some(target) => regions.get(target).copied(),
+        None => None,
+    };
     Plan {
         name,
         size: node.size(),
         made: made_as(trees, shown, at, node),
         readonly,
-        target: target_of(trees, node),
+        target,
         left,
     }
 }
@@ -206,23 +209,64 @@ fn planned(
     trees: &Trees<'_>,
     views: &[View<'_>],
     regions: &[usize],
+    given: &mut Given,
 ) -> Result<Vec<Option<Plan>>, AllocError> {
     let shown = if views.is_empty() {
         None
     } else {
         Some(Shown::by(alloc, views)?)
     };
-    let mut given = Given::none(alloc);
     let mut plans = Vec::new(alloc);
     for (at, node) in trees.nodes.iter().enumerate() {
         if regions.get(at).copied() == Some(at) {
             let name = given.name_for(alloc, node.row.name.as_bytes())?;
-            plans.push(Some(plan_of(trees, views, &shown, at, node, name)))?;
+            let plan = plan_of(trees, views, regions, &shown, at, node, name);
+            plans.push(Some(plan))?;
         } else {
             plans.push(None)?;
         }
     }
     Ok(plans)
+}
+
+// The target of an alias that stands in it.
+fn own_target(
+    trees: &Trees<'_>,
+    regions: &[usize],
+    plans: &[Option<Plan>],
+    at: usize,
+) -> Option<usize> {
+    let target = plans.get(at)?.as_ref()?.target?;
+    if is_inside(trees, regions, at, target) {
+        Some(target)
+    } else {
+        None
+    }
+}
+
+// Makes a region a container, whose parts are told after it.
+fn make_apart(plans: &mut [Option<Plan>], at: usize) {
+    if let Some(Some(plan)) = plans.get_mut(at) {
+        plan.made = Made::Apart;
+    }
+}
+
+// Takes apart the aliases that show a container that they stand in.
+fn take_apart(
+    alloc: Global,
+    trees: &Trees<'_>,
+    regions: &[usize],
+    given: &mut Given,
+    plans: &mut [Option<Plan>],
+) -> Result<Vec<Part>, AllocError> {
+    let mut parts = Vec::new(alloc);
+    for at in 0..plans.len() {
+        if let Some(target) = own_target(trees, regions, plans, at) {
+            make_apart(plans, at);
+            add_parts(alloc, trees, regions, given, &mut parts, at, target)?;
+        }
+    }
+    Ok(parts)
 }
 
 /// The plans of the regions that some trees print.
@@ -232,8 +276,14 @@ pub(crate) fn plans_of(
     views: &[View<'_>],
 ) -> Result<Plans, AllocError> {
     let regions = regions_of(alloc, trees)?;
-    let plans = planned(alloc, trees, views, &regions)?;
-    let mut plans = Plans { regions, plans };
+    let mut given = Given::none(alloc);
+    let mut plans = planned(alloc, trees, views, &regions, &mut given)?;
+    let parts = take_apart(alloc, trees, &regions, &mut given, &mut plans)?;
+    let mut plans = Plans {
+        regions,
+        plans,
+        parts,
+    };
     plans.leave_untargeted();
     plans.leave_rest();
     plans.fit();

@@ -1,5 +1,5 @@
 // The trees of a text, as nodes that know their container.
-ghost use Rattle.std.specs.Prelude.{◌≤◌, ◌^◌};
+ghost use Rattle.std.specs.Prelude.{◌≤◌, ◌^◌, length};
 
 use mem_base::Name;
 use monitor_text::{TreeLine, TreeRow};
@@ -136,26 +136,29 @@ pub(crate) fn trees_of<'a>(
     Ok(found)
 }
 
-// Whether a node stands in another tree than one of this depth, or no deeper in the same.
-fn is_outside(other: &Node<'_>, tree: usize, depth: u32) -> bool {
-    other.tree != tree || other.row.depth <= depth
+// How many nodes the first of these and those below it are.
+fn family_len(nodes: &[Node<'_>]) -> usize
+    ensures { result ≤ length nodes.now }
+{
+    let mut count = 0usize;
+    let (mut tree, mut depth) = (0, 0);
+    for node in nodes {
+        if count == 0 {
+            (tree, depth) = (node.tree, node.row.depth);
+        } else if node.tree != tree || node.row.depth <= depth {
+            break;
+        }
+        count += 1;
+    }
+    count
 }
 
 impl<'a> Trees<'a> {
     /// A node and all below it, in order; none where there is no such node.
     pub(crate) fn family(&self, at: usize) -> &[Node<'a>] {
-        let from = self.nodes.get(at..).unwrap_or(&[]);
-        let Some((node, after)) = from.split_first() else {
-            return from;
-        };
-        let (tree, depth) = (node.tree, node.row.depth);
-        match after
-            .iter()
-            .position(|other| is_outside(other, tree, depth))
-        {
-            Some(below) => from.get(..below.saturating_add(1)).unwrap_or(&[]),
-            None => from,
-        }
+        let nodes = self.nodes.as_slice();
+        let (_, from) = nodes.split_at(at.min(nodes.len()));
+        from.split_at(family_len(from)).0
     }
 
     /// Whether a node has others below it.

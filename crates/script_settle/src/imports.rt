@@ -3,7 +3,7 @@ ghost use Rattle.std.specs.Prelude.{IfErr, IfOk, List, ℕ};
 ghost use Rattle.monitor_import.specs.Drafts.{Explains};
 ghost use Rattle.script_settle.specs.Refused.{HasRefused};
 
-use crate::rounds::{Round, round};
+use crate::rounds::{Round, run_once};
 use mem_base::Name;
 use monitor_import::{ImportFault, draft};
 use script_map::MapStop;
@@ -24,7 +24,7 @@ fn tried(alloc: Global, text: Vec<u8>) -> Result<(Vec<u8>, Round), ImportFault>
     ensures refused { IfOk result (λ p. HasRefused p.0.items p.1.refused) }
     ensures faults { (tree flat : List ℕ) → IfErr result (Explains tree flat) }
 {
-    match round(alloc, &text) {
+    match run_once(alloc, &text) {
         Ok(round) => Ok((text, round)),
         Err(MapStop::Bad(bad)) => Err(ImportFault::Made { text, bad }),
         Err(MapStop::Memory) => Err(ImportFault::Memory),

@@ -28,7 +28,7 @@ fn round_of(alloc: Global, text: &[u8], map: &ScriptMap) -> Result<Round, AllocE
 }
 
 /// Runs a text.
-pub(crate) fn round(alloc: Global, text: &[u8]) -> Result<Round, MapStop>
+pub(crate) fn run_once(alloc: Global, text: &[u8]) -> Result<Round, MapStop>
     ensures refused { IfOk result (λ round. HasRefused text.now round.refused) }
     ensures bad { IfErr result (λ stop. IfBad stop (script_of text.now)) }
 {
