@@ -1,5 +1,5 @@
 -- The spaces of a script beside the monitor's text.
-use Rattle.std.specs.Prelude.{◌≡◌, ◌≤◌, ◌^◌, ℕ, Bool, true, false, List, flat_map, length, Result, Ok, Err, ⊤, ⊥}
+use Rattle.std.specs.Prelude.{◌≡◌, ◌≤◌, ◌^◌, ℕ, Bool, true, false, List, flat_map, length, Result, Ok, Err, ⊤}
 use Rattle.std.specs.List.{list_any}
 use Rattle.std.specs.Global.{Vec}
 use Rattle.mem_base.specs.declared.map.ids.RegionId.{RegionId}
@@ -64,6 +64,12 @@ pub record IsToldOf (script : Text) (m : Left) (blocks : List Printed) (text : T
   pub told : text ≡ spaces_text (compared script m blocks) (compared script m blocks).forest.spaces
   pub found : differs ≡ some_differs (compared script m blocks) (compared script m blocks).forest.spaces
 
+-- the same of a script by its text alone
+pub record IsToldOfText (script : Text) (blocks : List Printed) (text : Text) (differs : Bool) : Type 0 where
+  pub left : Left
+  pub reads : IsLeftByText script left
+  pub told : IsToldOf script left blocks text differs
+
 -- the views of a text, or why there are none
 abbrev pub ReadsBlocks : Text → Result (Vec Printed) CheckFault → Type 0
 ReadsBlocks flat (Ok blocks) = (lines : List (ℕ × FlatLine)) × (lines_of flat_line flat ≡ Ok lines) × (blocks.items ≡ blocks_of lines)
@@ -74,11 +80,9 @@ ReadsBlocks flat (Err (Script bad)) = ⊥
 
 -- what is told of a script beside the monitor's text, and whether a space differs
 pub record IsChecked (script flat text : Text) (differs : Bool) : Type 0 where
-  pub left : Left
-  pub reads : IsLeftByText script left
   pub lines : List (ℕ × FlatLine)
   pub printed : lines_of flat_line flat ≡ Ok lines
-  pub told : IsToldOf script left (blocks_of lines) text differs
+  pub told : IsToldOfText script (blocks_of lines) text differs
 
 -- why nothing is compared
 abbrev pub Explains : Text → Text → CheckFault → Type 0

@@ -1,5 +1,5 @@
 -- What is told of a space.
-use Rattle.std.specs.Prelude.{ℕ, List, [], ◌∷◌, ◌++◌, if◌then◌else◌, Option, None, Some, codes}
+use Rattle.std.specs.Prelude.{ℕ, Bool, List, [], ◌∷◌, ◌++◌, if◌then◌else◌, Option, None, Some, codes}
 use Rattle.std.specs.List.{slice_get}
 use Rattle.mem_base.specs.declared.views.flat.FlatRange.{FlatRange}
 use Rattle.mem_base.specs.script.Spelling.{Text}
@@ -21,11 +21,15 @@ kind_word RomDevice = codes "romd"
 kind_word RamDevice = codes "ramd"
 kind_word Io = codes "i/o"
 
+-- what stands before the word of a kind
+abbrev pub volatile_word : Bool → Text
+volatile_word nonvolatile = if nonvolatile then codes " nv-" else codes " "
+
 -- START-LAST NAME @OFFSET KIND
 abbrev pub row_text : FlatRow → Text
 row_text r =
     hex r.start ++ (codes "-" ++ (hex r.last ++ (codes " " ++ (r.name ++ (codes " @" ++ (hex r.offset
-    ++ ((if r.nonvolatile then codes " nv-" else codes " ") ++ (kind_word r.kind ++ line_feed))))))))
+    ++ (volatile_word r.nonvolatile ++ (kind_word r.kind ++ line_feed))))))))
 
 abbrev pub row_or_none : Option FlatRow → Text
 row_or_none None = codes "nothing more" ++ line_feed

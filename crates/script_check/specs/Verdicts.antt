@@ -11,9 +11,13 @@ use Rattle.script_check.specs.Blocks.{Printed}
 use Rattle.script_check.specs.declared.verdicts.Verdict.{Verdict}
 use Rattle.script_check.specs.declared.verdicts.Verdict.TheVariants.{Same, Differs, Unprinted}
 
+-- a space of this name is one that the monitor calls so
+unfoldable pub is_called : Text → Text → Bool
+is_called name told = is_named_after name told
+
 -- the view is one of a space of this name
 abbrev pub is_of : Text → Printed → Bool
-is_of name block = list_any (λ told. is_named_after name told) block.spaces
+is_of name block = list_any (is_called name) block.spaces
 
 -- one that is the space's own settles it; of others the first counts
 abbrev pub first_verdict : Verdict → Verdict → Verdict

@@ -1,7 +1,8 @@
 // The spaces of a script beside the monitor's text.
-ghost use Rattle.std.specs.Prelude.{◌≡◌, ◌++◌, IfErr, IfOk, OnOk};
-ghost use Rattle.script_check.specs.Checks.{Explains, IsChecked, IsToldOf, ReadsBlocks, compared_with, is_difference, some_differs};
+ghost use Rattle.std.specs.Prelude.{◌≡◌, ◌++◌, IfErr, IfOk, List, OnOk, ℕ};
+ghost use Rattle.script_check.specs.Checks.{Explains, IsChecked, IsToldOf, IsToldOfText, ReadsBlocks, compared_with, is_difference, some_differs};
 ghost use Rattle.script_check.specs.Checks.{space_text, space_verdict, spaces_text};
+ghost use Rattle.script_check.specs.declared.faults.CheckFault.TheVariants.{Memory};
 
 use crate::blocks::{Block, blocks_of};
 use crate::faults::CheckFault;
@@ -80,7 +81,7 @@ fn flat_blocks(alloc: Global, flat: &[u8]) -> Result<Vec<Block>, CheckFault>
         return Err(CheckFault::Long);
     }
     match read_flat(alloc, flat) {
-        Ok(lines) => Ok(blocks_of(alloc, lines)?),
+        Ok(lines) => Ok(blocks_of(alloc, &lines)?),
         Err(MonitorFault::Bad { line }) => Err(CheckFault::Flat { line }),
         Err(MonitorFault::Memory) => Err(CheckFault::Memory),
     }
@@ -92,8 +93,9 @@ fn check_map(
     script: &[u8],
     blocks: &[Block],
     map: &ScriptMap,
-) -> Result<Checked, AllocError>
-    ensures { IfOk result (λ c. IsToldOf script.now map.now blocks.now c.text c.differs) }
+) -> Result<Checked, CheckFault>
+    ensures told { IfOk result (λ c. IsToldOf script.now map.now blocks.now c.text c.differs) }
+    ensures fails { IfErr result (λ fault. fault ≡ Memory) }
 {
     let memory = memory_in(alloc, script, map)?;
     let mut text = Line::new(alloc);
@@ -102,15 +104,25 @@ fn check_map(
     Ok(Checked { text, differs })
 }
 
+// The spaces of a script beside the views that were printed.
+fn check_blocks(alloc: Global, script: &[u8], blocks: &[Block]) -> Result<Checked, CheckFault>
+    ensures told { IfOk result (λ c. IsToldOfText script.now blocks.now c.text c.differs) }
+    ensures faults { (flat : List ℕ) → IfErr result (Explains script.now flat) }
+{
+    match read(alloc, script) {
+        Ok(map) => check_map(alloc, script, blocks, &map),
+        Err(MapStop::Bad(bad)) => Err(CheckFault::Script(bad)),
+        Err(MapStop::Memory) => Err(CheckFault::Memory),
+    }
+}
+
 /// Whether a script's spaces show what `info mtree -f` printed: a line for each that does, or is not printed, and three for one that differs.
 pub fn check(alloc: Global, script: &[u8], flat: &[u8]) -> Result<Checked, CheckFault>
     ensures told { IfOk result (λ c. IsChecked script.now flat.now c.text c.differs) }
     ensures faults { IfErr result (Explains script.now flat.now) }
 {
-    let blocks = flat_blocks(alloc, flat)?;
-    match read(alloc, script) {
-        Ok(map) => Ok(check_map(alloc, script, &blocks, &map)?),
-        Err(MapStop::Bad(bad)) => Err(CheckFault::Script(bad)),
-        Err(MapStop::Memory) => Err(CheckFault::Memory),
+    match flat_blocks(alloc, flat) {
+        Ok(blocks) => check_blocks(alloc, script, &blocks),
+        Err(fault) => Err(fault),
     }
 }

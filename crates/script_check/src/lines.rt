@@ -1,9 +1,9 @@
 // What is told of a space.
-ghost use Rattle.std.specs.Prelude.{◌≡◌, ◌++◌, None, OnOk};
+ghost use Rattle.std.specs.Prelude.{◌≡◌, ◌++◌, OnOk};
 ghost use Rattle.std.specs.List.{slice_get};
 ghost use Rattle.mem_base.specs.script.RefusalLines.{line_feed};
 ghost use Rattle.script_names.specs.Tables.{printed_names};
-ghost use Rattle.script_check.specs.Told.{kind_word, range_or_none, row_in, row_or_none, row_text, two_lines, verdict_text};
+ghost use Rattle.script_check.specs.Told.{kind_word, range_or_none, row_in, row_or_none, row_text, two_lines, verdict_text, volatile_word};
 
 use crate::blocks::Block;
 use crate::verdicts::Verdict;
@@ -25,6 +25,13 @@ fn kind_word(kind: RowKind) -> &'static str
     }
 }
 
+// What stands before the word of a kind.
+fn volatile_word(nonvolatile: bool) -> &'static str
+    ensures { result.now ≡ volatile_word nonvolatile }
+{
+    if nonvolatile { " nv-" } else { " " }
+}
+
 // `START-LAST NAME @OFFSET KIND`.
 fn add_row(text: &mut Line, row: &FlatRow) -> Result<(), AllocError>
     ensures { OnOk result (text.new ≡ text.old ++ row_text row.now) }
@@ -33,15 +40,15 @@ fn add_row(text: &mut Line, row: &FlatRow) -> Result<(), AllocError>
     text.placed("-", row.last)?;
     text.named(" ", row.name.as_bytes())?;
     text.placed(" @", row.offset)?;
-    text.text(if row.nonvolatile { " nv-" } else { " " })?;
-    text.text(kind_word(row.kind))?;
-    text.end()
+    text.text(volatile_word(row.nonvolatile))?;
+    add_line(text, kind_word(row.kind))
 }
 
-fn add_nothing(text: &mut Line) -> Result<(), AllocError>
-    ensures { OnOk result (text.new ≡ text.old ++ row_or_none None) }
+// A text as a line.
+fn add_line(text: &mut Line, said: &str) -> Result<(), AllocError>
+    ensures { OnOk result (text.new ≡ text.old ++ (said.now ++ line_feed)) }
 {
-    text.text("nothing more")?;
+    text.text(said)?;
     text.end()
 }
 
@@ -51,7 +58,7 @@ fn add_row_at(text: &mut Line, rows: &[FlatRow], at: usize) -> Result<(), AllocE
 {
     match rows.get(at) {
         Some(row) => add_row(text, row),
-        None => add_nothing(text),
+        None => add_line(text, "nothing more"),
     }
 }
 
@@ -61,7 +68,7 @@ fn add_row_in(text: &mut Line, blocks: &[Block], block: usize, at: usize) -> Res
 {
     match blocks.get(block) {
         Some(block) => add_row_at(text, block.rows(), at),
-        None => add_nothing(text),
+        None => add_line(text, "nothing more"),
     }
 }
 
@@ -76,7 +83,7 @@ fn add_range_at(
 {
     match view.get(at) {
         Some(range) => add_range_line(text, names, *range),
-        None => add_nothing(text),
+        None => add_line(text, "nothing more"),
     }
 }
 

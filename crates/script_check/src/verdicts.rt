@@ -2,8 +2,7 @@
 ghost use Rattle.std.specs.Prelude.{◌≡◌, IfOk};
 ghost use Rattle.std.specs.List.{list_any};
 ghost use Rattle.script_names.specs.Tables.{printed_names};
-ghost use Rattle.monitor_text.specs.Names.{is_named_after};
-ghost use Rattle.script_check.specs.Verdicts.{IsPrinted, first_verdict, is_of, verdict_from, verdict_on};
+ghost use Rattle.script_check.specs.Verdicts.{IsPrinted, first_verdict, is_called, verdict_from, verdict_on};
 ghost use Rattle.script_check.specs.declared.verdicts.Verdict.TheVariants.{Same};
 
 use crate::blocks::Block;
@@ -25,12 +24,20 @@ pub enum Verdict {
     Unprinted,
 }
 
-// Whether one of these names is one after which a space is named.
-fn is_named_in(alloc: Global, name: &[u8], told: &[Name]) -> Result<bool, AllocError>
-    ensures { IfOk result (λ named. named ≡ list_any (λ other. is_named_after name.now other) told.now) }
+// Whether a space of this name is one that the monitor calls so.
+#[tactic(auto, unfolding(crate::specs::Verdicts::is_called))]
+fn is_called(alloc: Global, name: &[u8], told: &[u8]) -> Result<bool, AllocError>
+    ensures { IfOk result (λ called. called ≡ is_called name.now told.now) }
+{
+    is_named_after(alloc, name, told)
+}
+
+// Whether the monitor calls it by one of these names.
+fn is_called_in(alloc: Global, name: &[u8], told: &[Name]) -> Result<bool, AllocError>
+    ensures { IfOk result (λ called. called ≡ list_any (is_called name.now) told.now) }
 {
     for other in told {
-        if is_named_after(alloc, name, other.as_bytes())? {
+        if is_called(alloc, name, other.as_bytes())? {
             return Ok(true);
         }
     }
@@ -49,7 +56,7 @@ fn verdict_on(
 ) -> Result<Verdict, AllocError>
     ensures { IfOk result (λ v. v ≡ verdict_on (printed_names names.now) memory.now name.now view.now number block.now) }
 {
-    if !is_named_in(alloc, name, block.spaces())? {
+    if !is_called_in(alloc, name, block.spaces())? {
         return Ok(Verdict::Unprinted);
     }
     match first_difference(alloc, names, memory, block.rows(), view)? {

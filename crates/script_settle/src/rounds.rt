@@ -2,12 +2,13 @@
 ghost use Rattle.std.specs.Prelude.{◌≡◌, IfErr, IfOk, length};
 ghost use Rattle.mem_base.specs.script.Scripts.{script_of};
 ghost use Rattle.script_map.specs.Reads.{IfBad};
+ghost use Rattle.script_map.specs.declared.reading.MapStop.TheVariants.{Memory};
 ghost use Rattle.script_settle.specs.Refused.{HasRefused};
 
 use crate::refusals::without_refused;
 use script_lines::Line;
 use script_map::{MapStop, ScriptMap, read};
-use std::alloc::{AllocError, Global};
+use std::alloc::Global;
 
 /// How many commands of a text are refused, and the text with comments in their place.
 #[derive(Drop)]
@@ -17,8 +18,9 @@ pub(crate) struct Round {
 }
 
 // What a script's map tells of its text.
-fn round_of(alloc: Global, text: &[u8], map: &ScriptMap) -> Result<Round, AllocError>
-    ensures { IfOk result (λ round. round.refused ≡ length map.now.refused) }
+fn round_of(alloc: Global, text: &[u8], map: &ScriptMap) -> Result<Round, MapStop>
+    ensures refused { IfOk result (λ round. round.refused ≡ length map.now.refused) }
+    ensures fails { IfErr result (λ stop. stop ≡ Memory) }
 {
     let refused = map.refused();
     Ok(Round {
@@ -33,7 +35,7 @@ pub(crate) fn run_once(alloc: Global, text: &[u8]) -> Result<Round, MapStop>
     ensures bad { IfErr result (λ stop. IfBad stop (script_of text.now)) }
 {
     match read(alloc, text) {
-        Ok(map) => Ok(round_of(alloc, text, &map)?),
+        Ok(map) => round_of(alloc, text, &map),
         Err(stop) => Err(stop),
     }
 }

@@ -1,1 +1,1 @@
-mod ShownLaws
+pub mod ShownLaws
