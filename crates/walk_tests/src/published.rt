@@ -1,5 +1,5 @@
 // Drawn desks with several spaces, which are changed by drawn calls: the view of each space that is published is the one that is rendered
-// from nothing, and what is told of the change is told as by membership.
+// from nothing, what is told of the change is told as by membership, and just the regions that are shown have places.
 ghost use Rattle.std.specs.Prelude.{◌≡◌, ◌<◌};
 
 use crate::draws::{any_call, building, draw};
@@ -8,7 +8,9 @@ use crate::plain::{plain_walk, without};
 use backed_desk::BackedDesk;
 use generation::Generation;
 use ioevents::live;
-use mem_base::{Applied, Call, Change, Kind, Lives, Refusal, RegionId, SpaceId, View};
+use mem_base::{
+    Applied, Call, Change, Edition, Kind, Lives, Place, Refusal, RegionId, SpaceId, View,
+};
 use rand_pcg::Lcg64Xsh32;
 use region_tree::Tree;
 use std::alloc::{AllocError, Global};
@@ -120,7 +122,7 @@ impl Drawn {
     fn commit<L: Ledger>(&mut self, alloc: Global, steps: &mut Steps<L>) -> Result<bool, Refusal> {
         match self.desk.commit_prepare(steps)? {
             Step::Ready(prepared) => {
-                let is_so = is_right(alloc, self.desk.desk().current(), &self.tree, &prepared)?;
+                let is_so = is_right(alloc, &self.desk, &self.tree, &prepared)?;
                 self.desk.done(prepared);
                 Ok(is_so)
             }
@@ -149,7 +151,7 @@ impl Drawn {
         match self.desk.call_prepare(&call, steps) {
             Ok(prepared) => {
                 self.tree.apply(&call)?;
-                let is_so = is_right(alloc, self.desk.desk().current(), &self.tree, &prepared)?;
+                let is_so = is_right(alloc, &self.desk, &self.tree, &prepared)?;
                 self.desk.done(prepared);
                 Ok(is_so)
             }
@@ -209,19 +211,50 @@ fn is_told(
     is_gained(alloc, change, &was, &is)
 }
 
-/// The same of all spaces.
+/// Whether a region is a leaf of a generation, by a look at all ranges of its views.
+fn is_shown(generation: &Generation, region: RegionId) -> bool {
+    for (space, _) in generation.forest().spaces.as_slice() {
+        if let Some(atlas) = generation.atlas(*space)
+            && atlas
+                .view()
+                .as_slice()
+                .iter()
+                .any(|range| range.leaf == region)
+        {
+            return true;
+        }
+    }
+    false
+}
+
+/// Whether a generation has of these places just those of the regions that it shows. The notifiers' is passed over.
+fn has_its_places(places: &[Place], generation: &Generation) -> bool {
+    for place in places {
+        if place.region != RegionId::NOTIFIERS {
+            let found = generation.place_of(place.region);
+            let wanted = is_shown(generation, place.region).then_some(*place);
+            if found != wanted {
+                return false;
+            }
+        }
+    }
+    true
+}
+
+/// The same of all spaces, and whether the generation has the places of just the regions that it shows.
 fn is_right(
     alloc: Global,
-    old: &Generation,
+    desk: &BackedDesk,
     tree: &Tree,
     prepared: &Prepared,
 ) -> Result<bool, AllocError> {
+    let old = desk.desk().current();
     for change in prepared.changes().as_slice() {
         if !is_told(alloc, old, tree, prepared.generation(), change)? {
             return Ok(false);
         }
     }
-    Ok(true)
+    Ok(has_its_places(desk.places(), prepared.generation()))
 }
 
 /// How many changes of a drawn desk are right, up to the first that is not.
