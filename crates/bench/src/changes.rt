@@ -163,7 +163,7 @@ fn moves_of(child: RegionId, offset: u64) -> [Call; 2] {
 }
 
 /// For every sixteenth region that was placed, a move by a page and one back.
-fn push_moves(moves: &mut Vec<Call>, map: &Map) -> Result<(), AllocError> {
+pub(crate) fn push_moves(moves: &mut Vec<Call>, map: &Map) -> Result<(), AllocError> {
     let mut placed: u32 = 0;
     for call in &map.calls {
         if let Call::Add { offset, child, .. } = *call {
