@@ -3,6 +3,7 @@ ghost use Rattle.std.specs.Prelude.{◌≡◌, ◌<◌, [], true, Some, length};
 ghost use Rattle.mem_base.specs.declared.access.accesses.Target.TheVariants.{Leaf};
 ghost use Rattle.mem_base.specs.views.Naming.{names};
 ghost use Rattle.mem_base.specs.access.AccessSteps.{reading, result_of, writing};
+ghost use Rattle.mem_base.specs.access.EditionPlaces.{IsEdition};
 ghost use Rattle.mem_base.specs.access.PlacesByRegion.{place_in};
 ghost use Rattle.mem_base.specs.access.Access.{at_target};
 ghost use Rattle.access_run.specs.Runs.{HasDone, TakesAll};
@@ -43,6 +44,7 @@ fn backing_of(g: &Generation, spot: &Spot, write: bool) -> Backing
 
 // The same where there are registers: a ROM device is read directly while its mode is on, and is a device otherwise.
 fn device_at(g: &Generation, spot: &Spot, place: Place, write: bool) -> Backing
+    requires edition { IsEdition g.now.forest g.now.places }
     requires named { names g.now.forest spot.now.leaf ≡ true }
     requires place { place_in g.now.places spot.now.leaf ≡ Some place }
     requires registers { 0 < place.regs }
