@@ -1,0 +1,27 @@
+-- What a subcommand's matches are, from its getters.
+use Rattle.std.proofs.Common.{◌≡◌, ◌∙◌, ℕ, List, [], ap, ap₂, sym, refl, true≢false, None, Some, option_map, is_some, unwrap_or}
+use Rattle.std.specs.declared.option.Option.{Option}
+
+some_same : {X : Type 0} (x y : X) → Some x ≡ Some y → x ≡ y
+some_same x y e = ap (λ o. unwrap_or o x) e
+
+abbrev pub pair_by : {X A B : Type 0} → (X → A) → (X → B) → X → A × B
+pair_by f g x = (f x, g x)
+
+-- two views of an option, joined
+pub both_views : {X Y A B : Type 0} (r : Option X) (o : Option Y) (f : X → A) (g : X → B) (f' : Y → A) (g' : Y → B)
+    → option_map f r ≡ option_map f' o → option_map g r ≡ option_map (λ (p : A × B). p.1) (option_map (pair_by f' g') o)
+    → option_map (pair_by f g) r ≡ option_map (pair_by f' g') o
+both_views None None f g f' g' a b = refl
+both_views None (Some y) f g f' g' a b = absurd (true≢false (sym (ap is_some a)))
+both_views (Some x) None f g f' g' a b = absurd (true≢false (ap is_some a))
+both_views {X} {Y} {A} {B} (Some x) (Some y) f g f' g' a b =
+    let pair : A → B → Option (A × B) = λ p q. Some (p, q) in
+    ap₂ pair (some_same (f x) (f' y) a) (some_same (g x) (g' y) b)
+
+-- a word that is there, and one that is not
+pub there : {X : Type 0} (f : X → List ℕ) (o : Option X) (x : X) (t : Option (List ℕ)) → option_map f o ≡ t → o ≡ Some x → f x ≡ unwrap_or t []
+there f o x t e is = ap (λ (q : Option _). unwrap_or (option_map f q) []) (sym is) ∙ ap (λ (q : Option (List ℕ)). unwrap_or q []) e
+
+pub there_not : {X : Type 0} (f : X → List ℕ) (o : Option X) (t : Option (List ℕ)) → option_map f o ≡ t → o ≡ None → [] ≡ unwrap_or t []
+there_not f o t e is = ap (λ (q : Option _). unwrap_or (option_map f q) []) (sym is) ∙ ap (λ (q : Option (List ℕ)). unwrap_or q []) e

@@ -1,0 +1,43 @@
+-- The command line as clap reads it.
+use Rattle.std.specs.Prelude.{true, [], Some, codes}
+use Rattle.clap.specs.Words.{App, Rule, Text, new_app, new_rule, with_rule, with_subcommand}
+use Rattle.clap.specs.Simple.{new_shape}
+use Rattle.clap.specs.declared.builder.ArgAction.TheVariants.{Set, SetTrue}
+
+-- a word that has to stand there, one that may, and a flag
+abbrev pub word_rule : Text → Rule
+word_rule id = record (new_rule id) { required = true; action = Some Set }
+
+abbrev pub more_rule : Text → Rule
+more_rule id = record (new_rule id) { action = Some Set }
+
+abbrev pub svg_rule : Rule
+svg_rule = record (new_rule (codes "svg")) { long = Some (codes "svg"); action = Some SetTrue }
+
+-- the subcommands
+abbrev pub one_file : Text → App
+one_file name = with_rule (new_app name) (word_rule (codes "SCRIPT"))
+
+abbrev pub why_app : App
+why_app = with_rule (with_rule (with_rule (one_file (codes "why")) (word_rule (codes "SPACE"))) (word_rule (codes "ADDR")))
+    (more_rule (codes "REGION"))
+
+abbrev pub diff_app : App
+diff_app = with_rule (with_rule (new_app (codes "diff")) (word_rule (codes "FIRST"))) (word_rule (codes "SECOND"))
+
+abbrev pub draw_app : App
+draw_app = with_rule (with_rule (with_rule (new_app (codes "draw")) svg_rule) (word_rule (codes "SCRIPT"))) (word_rule (codes "SPACE"))
+
+abbrev pub explain_app : App
+explain_app = with_rule (new_app (codes "explain")) (word_rule (codes "WHAT"))
+
+-- all of them
+abbrev pub top_app : App
+top_app = record {
+  top = record (new_shape (codes "mscope")) { has_version = true; subcommand_required = true; disable_help_subcommand = true };
+  subs = [];
+}
+
+abbrev pub scope_app : App
+scope_app = with_subcommand (with_subcommand (with_subcommand (with_subcommand (with_subcommand (with_subcommand top_app
+    why_app.top) (one_file (codes "lint")).top) diff_app.top) (one_file (codes "slots")).top) draw_app.top) explain_app.top

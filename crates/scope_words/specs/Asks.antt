@@ -1,0 +1,49 @@
+-- What the words ask for, by what clap finds in them.
+use Rattle.std.specs.Prelude.{◌≡◌, Bool, if◌then◌else◌, List, [], Option, Some, None, codes, option_map, unwrap_or, ⊤}
+use Rattle.clap.specs.Words.{HasKind, Row, Text, fault_of, first_of, one_of, subcommand_of}
+use Rattle.scope_words.specs.App.{scope_app}
+use Rattle.scope_words.specs.declared.read.Asked.{Asked}
+use Rattle.scope_words.specs.declared.read.Asked.TheVariants as asked
+use Rattle.scope_words.specs.declared.requests.Request.{Request}
+use Rattle.scope_words.specs.declared.requests.Request.TheVariants.{Why, Lint, Diff, Slots, Draw, Explain}
+use Rattle.scope_words.specs.declared.requests.Style.{Style}
+use Rattle.scope_words.specs.declared.requests.Style.TheVariants as styles
+
+-- the word of a place; empty where there is none
+abbrev pub word_of : Text → List Row → Text
+word_of id rows = unwrap_or (first_of id rows) []
+
+abbrev pub style_by : Bool → Style
+style_by svg = if svg then styles.Svg else styles.Text
+
+-- how a picture is drawn, by the flag
+pub record IsStyle (flag : Option Text) (style : Style) : Type 0 where
+  pub absent : flag ≡ None → style ≡ styles.Text
+  pub off : flag ≡ Some (codes "false") → style ≡ styles.Text
+  pub on : flag ≡ Some (codes "true") → style ≡ styles.Svg
+
+-- a subcommand with its words is this request
+abbrev pub IsRequest : Text → List Row → Request → Type 0
+IsRequest name rows (Why script space addr region) =
+    (name ≡ codes "why") × (script.now ≡ word_of (codes "SCRIPT") rows) × (space.now ≡ word_of (codes "SPACE") rows)
+    × (addr.now ≡ word_of (codes "ADDR") rows) × (option_map (λ r. r.now) region ≡ first_of (codes "REGION") rows)
+IsRequest name rows (Lint script) = (name ≡ codes "lint") × (script.now ≡ word_of (codes "SCRIPT") rows)
+IsRequest name rows (Diff first second) =
+    (name ≡ codes "diff") × (first.now ≡ word_of (codes "FIRST") rows) × (second.now ≡ word_of (codes "SECOND") rows)
+IsRequest name rows (Slots script) = (name ≡ codes "slots") × (script.now ≡ word_of (codes "SCRIPT") rows)
+IsRequest name rows (Draw script space style) =
+    (name ≡ codes "draw") × (script.now ≡ word_of (codes "SCRIPT") rows) × (space.now ≡ word_of (codes "SPACE") rows)
+    × IsStyle (one_of (codes "svg") rows) style
+IsRequest name rows (Explain what) = (name ≡ codes "explain") × (what.now ≡ word_of (codes "WHAT") rows)
+
+-- the same of what clap found, if it found a subcommand
+abbrev pub IsFound : Option (Text × List Row) → Request → Type 0
+IsFound None request = ⊥
+IsFound (Some p) request = IsRequest p.0 p.1 request
+
+-- what was read is what the words ask for: a request by the subcommand that clap finds, or an error of a kind that clap's meaning of the
+-- words gives, as help, the version or a word too few
+abbrev pub Asks : List Text → Asked → Type 0
+Asks words (asked.Request request) = IsFound (subcommand_of scope_app words) request
+Asks words (asked.Text error) = HasKind (fault_of scope_app words) error
+Asks words asked.Memory = ⊤

@@ -1,0 +1,178 @@
+// The command line as clap is told it.
+ghost use Rattle.std.specs.Prelude.{◌≡◌, IfOk, false, codes};
+ghost use Rattle.clap.specs.Words.{app_of, new_app, with_rule, with_subcommand};
+ghost use Rattle.clap.specs.declared.Command.TheViews.{out-Command};
+ghost use Rattle.scope_words.specs.App.{diff_app, draw_app, explain_app, one_file, scope_app, top_app, why_app, word_rule};
+
+use clap::{Arg, ArgAction, Command};
+use std::alloc::{AllocError, Global};
+
+// A command with one more word, which has to stand there.
+fn with_word<'a>(
+    alloc: Global,
+    command: Command<'a>,
+    id: &'a str,
+    help: &'a str,
+) -> Result<Command<'a>, AllocError>
+    requires { (out-Command command).has_globals ≡ false }
+    ensures app { IfOk result (λ c. app_of c ≡ with_rule (app_of command.entry) (word_rule id.entry.now)) }
+    ensures local { IfOk result (λ c. (out-Command c).has_globals ≡ false) }
+{
+    let word = Arg::new(alloc, id)
+        .required(true)
+        .action(ArgAction::Set)
+        .help(help);
+    command.arg(word)
+}
+
+// A command with the script that it is about.
+fn with_script<'a>(alloc: Global, command: Command<'a>) -> Result<Command<'a>, AllocError>
+    requires { (out-Command command).has_globals ≡ false }
+    ensures app { IfOk result (λ c. app_of c ≡ with_rule (app_of command.entry) (word_rule (codes "SCRIPT"))) }
+    ensures local { IfOk result (λ c. (out-Command c).has_globals ≡ false) }
+{
+    with_word(
+        alloc,
+        command,
+        "SCRIPT",
+        "The script; - is the standard input",
+    )
+}
+
+// A command with the name of a space.
+fn with_space<'a>(alloc: Global, command: Command<'a>) -> Result<Command<'a>, AllocError>
+    requires { (out-Command command).has_globals ≡ false }
+    ensures app { IfOk result (λ c. app_of c ≡ with_rule (app_of command.entry) (word_rule (codes "SPACE"))) }
+    ensures local { IfOk result (λ c. (out-Command c).has_globals ≡ false) }
+{
+    with_word(
+        alloc,
+        command,
+        "SPACE",
+        "The name of an address space in the script",
+    )
+}
+
+// A subcommand without words.
+fn named<'a>(alloc: Global, name: &'a str, about: &'a str) -> Command<'a>
+    ensures app { app_of result ≡ new_app name.entry.now }
+    ensures local { (out-Command result).has_globals ≡ false }
+{
+    Command::new(alloc, name).about(about)
+}
+
+fn why<'a>(alloc: Global) -> Result<Command<'a>, AllocError>
+    ensures app { IfOk result (λ c. app_of c ≡ why_app) }
+    ensures local { IfOk result (λ c. (out-Command c).has_globals ≡ false) }
+{
+    let about = "Why a region answers an address of a space, and why the others do not";
+    let script = with_script(alloc, named(alloc, "why", about))?;
+    let space = with_space(alloc, script)?;
+    let addr = with_word(
+        alloc,
+        space,
+        "ADDR",
+        "The address, as 0xc8000 or 819200 or 800K",
+    )?;
+    let region = Arg::new(alloc, "REGION")
+        .action(ArgAction::Set)
+        .help("Tells of this region alone");
+    addr.arg(region)
+}
+
+fn lint<'a>(alloc: Global) -> Result<Command<'a>, AllocError>
+    ensures app { IfOk result (λ c. app_of c ≡ one_file (codes "lint")) }
+    ensures local { IfOk result (λ c. (out-Command c).has_globals ≡ false) }
+{
+    let about = "What looks wrong in a script and in the map that it leaves";
+    with_script(alloc, named(alloc, "lint", about))
+}
+
+fn diff<'a>(alloc: Global) -> Result<Command<'a>, AllocError>
+    ensures app { IfOk result (λ c. app_of c ≡ diff_app) }
+    ensures local { IfOk result (λ c. (out-Command c).has_globals ≡ false) }
+{
+    let about = "How the views of the spaces of two scripts differ, by names";
+    let first = with_word(
+        alloc,
+        named(alloc, "diff", about),
+        "FIRST",
+        "The first script; - is the standard input",
+    )?;
+    with_word(alloc, first, "SECOND", "The second script")
+}
+
+fn slots<'a>(alloc: Global) -> Result<Command<'a>, AllocError>
+    ensures app { IfOk result (λ c. app_of c ≡ one_file (codes "slots")) }
+    ensures local { IfOk result (λ c. (out-Command c).has_globals ≡ false) }
+{
+    let about = "The memory slots for a hypervisor, in each generation that a script publishes";
+    with_script(alloc, named(alloc, "slots", about))
+}
+
+fn draw<'a>(alloc: Global) -> Result<Command<'a>, AllocError>
+    ensures app { IfOk result (λ c. app_of c ≡ draw_app) }
+    ensures local { IfOk result (λ c. (out-Command c).has_globals ≡ false) }
+{
+    let about = "A picture of the view of a space, with the windows of the tree beside it";
+    let svg = Arg::new(alloc, "svg")
+        .long("svg")
+        .action(ArgAction::SetTrue)
+        .help("Draws a file of SVG in place of text");
+    let flagged = named(alloc, "draw", about).arg(svg)?;
+    let script = with_script(alloc, flagged)?;
+    with_space(alloc, script)
+}
+
+fn explain<'a>(alloc: Global) -> Result<Command<'a>, AllocError>
+    ensures app { IfOk result (λ c. app_of c ≡ explain_app) }
+    ensures local { IfOk result (λ c. (out-Command c).has_globals ≡ false) }
+{
+    let about = "What is wrong with a script and what to do; or what a refusal or a cause means";
+    with_word(
+        alloc,
+        named(alloc, "explain", about),
+        "WHAT",
+        "A script; or the number or the word of a refusal, as F19 or held, or the word of a cause, as count",
+    )
+}
+
+fn top<'a>(alloc: Global) -> Command<'a>
+    ensures { app_of result ≡ top_app }
+{
+    Command::new(alloc, "mscope")
+        .version("1.0")
+        .about("Tools for people who debug memory maps")
+        .after_help(
+            "Exit status: 0 nothing to mend, 1 something to mend, 2 a wrong request, 3 a failed write, 4 out of memory",
+        )
+        .subcommand_required(true)
+        .disable_help_subcommand(true)
+}
+
+// A command with one more subcommand.
+fn with_sub<'a>(command: Command<'a>, sub: Command<'a>) -> Result<Command<'a>, AllocError>
+    requires { (out-Command sub).has_globals ≡ false }
+    ensures { IfOk result (λ c. app_of c ≡ with_subcommand (app_of command.entry) (app_of sub.entry).top) }
+{
+    command.subcommand(sub)
+}
+
+// The first three subcommands.
+fn asking<'a>(alloc: Global) -> Result<Command<'a>, AllocError>
+    ensures { IfOk result (λ c. app_of c ≡ with_subcommand (with_subcommand (with_subcommand top_app why_app.top)
+        (one_file (codes "lint")).top) diff_app.top) }
+{
+    let why = with_sub(top(alloc), why(alloc)?)?;
+    let lint = with_sub(why, lint(alloc)?)?;
+    with_sub(lint, diff(alloc)?)
+}
+
+/// The whole command line.
+pub(crate) fn command<'a>(alloc: Global) -> Result<Command<'a>, AllocError>
+    ensures { IfOk result (λ c. app_of c ≡ scope_app) }
+{
+    let slots = with_sub(asking(alloc)?, slots(alloc)?)?;
+    let draw = with_sub(slots, draw(alloc)?)?;
+    with_sub(draw, explain(alloc)?)
+}

@@ -1,0 +1,126 @@
+// Reads the words.
+ghost use Rattle.std.specs.Prelude.{◌≡◌, IfSome, codes, map, string_bytes};
+ghost use Rattle.clap.specs.Words.{first_of, found_of, one_of, rows_of, subcommand_rows_of};
+ghost use Rattle.scope_words.specs.Asks.{Asks, IsFound, IsRequest, IsStyle, style_by, word_of};
+
+use crate::commands::command;
+use crate::requests::{Request, Style};
+use clap::error::ErrorKind;
+use clap::{ArgMatches, Error};
+use std::alloc::Global;
+
+/// What the words ask for.
+#[derive(Debug, Drop)]
+pub enum Asked<'a> {
+    /// A command of the program.
+    Request(Request<'a>),
+    /// Help or the version, or the words are wrong: the text for the user.
+    Text(Error),
+    /// Memory ran out.
+    Memory,
+}
+
+// The word of a place; empty where there is none.
+fn word<'a>(matches: &ArgMatches<'a>, id: &str) -> &'a str
+    ensures { result.now ≡ word_of id.now (rows_of (found_of matches.now)) }
+{
+    match matches.get_str(id) {
+        Some(word) => word,
+        None => "",
+    }
+}
+
+fn style_by(svg: bool) -> Style
+    ensures { result ≡ style_by svg }
+{
+    if svg { Style::Svg } else { Style::Text }
+}
+
+fn style(matches: &ArgMatches<'_>) -> Style
+    ensures { IsStyle (one_of (codes "svg") (rows_of (found_of matches.now))) result }
+{
+    style_by(matches.get_flag("svg"))
+}
+
+fn why<'a>(matches: &ArgMatches<'a>) -> Request<'a>
+    ensures { IsRequest (codes "why") (rows_of (found_of matches.now)) result }
+{
+    Request::Why {
+        script: word(matches, "SCRIPT"),
+        space: word(matches, "SPACE"),
+        addr: word(matches, "ADDR"),
+        region: matches.get_str("REGION"),
+    }
+}
+
+fn diff<'a>(matches: &ArgMatches<'a>) -> Request<'a>
+    ensures { IsRequest (codes "diff") (rows_of (found_of matches.now)) result }
+{
+    Request::Diff {
+        first: word(matches, "FIRST"),
+        second: word(matches, "SECOND"),
+    }
+}
+
+fn draw<'a>(matches: &ArgMatches<'a>) -> Request<'a>
+    ensures { IsRequest (codes "draw") (rows_of (found_of matches.now)) result }
+{
+    Request::Draw {
+        script: word(matches, "SCRIPT"),
+        space: word(matches, "SPACE"),
+        style: style(matches),
+    }
+}
+
+// The request of a subcommand.
+fn request<'a>(name: &str, matches: &ArgMatches<'a>) -> Option<Request<'a>>
+    ensures { IfSome result (λ r. IsRequest name.now (rows_of (found_of matches.now)) r) }
+{
+    match name {
+        "why" => Some(why(matches)),
+        "lint" => Some(Request::Lint {
+            script: word(matches, "SCRIPT"),
+        }),
+        "diff" => Some(diff(matches)),
+        "slots" => Some(Request::Slots {
+            script: word(matches, "SCRIPT"),
+        }),
+        "draw" => Some(draw(matches)),
+        "explain" => Some(Request::Explain {
+            what: word(matches, "WHAT"),
+        }),
+        _ => None,
+    }
+}
+
+// The request that clap found.
+fn request_in<'a>(matches: &ArgMatches<'a>) -> Option<Request<'a>>
+    ensures { IfSome result (λ r. IsFound (subcommand_rows_of matches.now) r) }
+{
+    match matches.subcommand() {
+        Some((name, inner)) => request(name, inner),
+        None => None,
+    }
+}
+
+/// What the words ask for; the first of them is the name of the program.
+///
+/// `Memory` is answered only where memory ran out.
+pub fn read_words<'a>(alloc: Global, words: &'a [String]) -> Asked<'a>
+    ensures { Asks (map string_bytes words.now) result }
+{
+    let command = match command(alloc) {
+        Ok(command) => command,
+        Err(_) => return Asked::Memory,
+    };
+    match command.try_get_matches_from(words) {
+        Ok(matches) => match request_in(&matches) {
+            Some(request) => Asked::Request(request),
+            None => Asked::Memory,
+        },
+        Err(error) => match error.kind() {
+            ErrorKind::OutOfMemory => Asked::Memory,
+            _ => Asked::Text(error),
+        },
+    }
+}
