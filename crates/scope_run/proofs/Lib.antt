@@ -1,0 +1,6 @@
+mod Facts
+mod Parts
+mod TableLaws
+mod FileLaws
+mod ExplainLaws
+mod LintLaws

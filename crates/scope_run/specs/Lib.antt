@@ -1,0 +1,10 @@
+pub mod Files
+pub mod Scripts
+pub mod Whys
+pub mod Lints
+pub mod Diffs
+pub mod Tables
+pub mod Explains
+pub mod Requests
+pub mod Said
+pub mod Statuses

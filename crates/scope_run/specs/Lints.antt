@@ -1,0 +1,28 @@
+-- `lint`: what looks wrong in a script and in its map.
+use Rattle.std.specs.Prelude.{ℕ, List, ◌++◌, codes, decimal, flat_map, nat_lt, Bool, length}
+use Rattle.mem_base.specs.script.RefusalLines.{line_feed}
+use Rattle.mem_base.specs.script.Scripts.{Line}
+use Rattle.mem_base.specs.script.Shows.{shown_forest}
+use Rattle.mem_base.specs.script.Spelling.{Text}
+use Rattle.mem_base.specs.script.States.{State}
+use Rattle.map_lint.specs.Faults.{findings_of}
+use Rattle.scope_lines.specs.Faults.{finding_lines}
+use Rattle.script_map.specs.Left.{first_of, refused_in}
+use Rattle.script_map.specs.Refusals.{Refused}
+use Rattle.scope_run.specs.Scripts.{left_by}
+
+-- line N is refused: WORDS
+abbrev pub refusal_text : Refused → Text
+refusal_text r = (codes "line " ++ decimal r.line) ++ ((codes " is refused: " ++ r.words) ++ line_feed)
+
+-- what looks wrong in the current generation
+abbrev pub faults_text : State → Text
+faults_text s = finding_lines s.names (flat_map (findings_of (shown_forest s)) (shown_forest s).nodes)
+
+-- the commands that are refused, and then what looks wrong in the map that is left
+abbrev pub lint_text : List Line → Text
+lint_text lines = flat_map refusal_text (refused_in (first_of lines) lines) ++ faults_text (left_by lines)
+
+-- a text tells of something
+abbrev pub tells_something : Text → Bool
+tells_something text = nat_lt 0 (length text)

@@ -1,0 +1,98 @@
+-- What is asked, and what is answered by what files hold.
+use Rattle.std.specs.Prelude.{◌≡◌, ℕ, Bool, true, false, is_some, List, [], Option, Some, None, option_map, Ok, Err, ⊤}
+use Rattle.mem_base.specs.script.Operands.{address}
+use Rattle.mem_base.specs.script.Lines.{tokens_of}
+use Rattle.mem_base.specs.script.Scripts.{script_of}
+use Rattle.mem_base.specs.script.Spelling.{Text}
+use Rattle.mem_base.specs.script.States.{space_named}
+use Rattle.scope_run.specs.declared.answers.Fault.{Fault}
+use Rattle.scope_run.specs.declared.answers.Fault.TheVariants as faults
+use Rattle.scope_run.specs.declared.answers.Which.{Which}
+use Rattle.scope_run.specs.declared.answers.Which.TheVariants.{First, Second}
+use Rattle.scope_run.specs.declared.endings.Ending.{Ending}
+use Rattle.scope_run.specs.declared.endings.Ending.TheVariants as endings
+use Rattle.scope_words.specs.declared.requests.Request.{Request}
+use Rattle.scope_words.specs.declared.requests.Request.TheVariants.{Why, Lint, Diff, Slots, Draw, Explain}
+use Rattle.scope_run.specs.Diffs.{TellsDiff}
+use Rattle.scope_run.specs.Explains.{Explains, TellsTopic, topic_code}
+use Rattle.scope_run.specs.Files.{Tells}
+use Rattle.scope_run.specs.Lints.{lint_text, tells_something}
+use Rattle.scope_run.specs.Scripts.{FailsOn, OfScript, left_by}
+use Rattle.scope_run.specs.Tables.{TellsSlots}
+use Rattle.scope_run.specs.Whys.{TellsWhy}
+
+-- what files hold under their names, where they tell it
+abbrev pub Holding : Type 0
+Holding = Text → Option Text
+
+-- the bytes of a file, of which this holds
+abbrev pub OfFile : Holding → Text → (Text → Type 0) → Type 0
+OfFile held name fact = (bytes : Text) × Tells (held name) bytes × fact bytes
+
+-- the word is one token, the address
+abbrev pub IsAddress : Text → ℕ → Type 0
+IsAddress word a = address (tokens_of word) ≡ Ok (a, [])
+
+-- what `explain` answers: to the number or the word of a refusal or a cause what it means, to another word what is wrong with the file
+abbrev pub AnswersWord : Holding → Text → Option Text → Text → Bool → Type 0
+AnswersWord held what (Some code) text something = TellsTopic what text × (something ≡ false)
+AnswersWord held what None text something =
+    OfFile held what (λ bytes. Explains (script_of bytes) text) × (something ≡ tells_something text)
+
+-- the answer to a request: its text, and whether there is something to mend
+abbrev pub AnswersTo : Request → Holding → Text → Bool → Type 0
+AnswersTo (Why script space addr region) held text something =
+    OfFile held script.now (λ bytes. (a : ℕ) × IsAddress addr.now a
+    × OfScript bytes (λ lines. TellsWhy (left_by lines) space.now a (option_map (λ r. r.now) region) text)) × (something ≡ false)
+AnswersTo (Lint script) held text something =
+    OfFile held script.now (λ bytes. OfScript bytes (λ lines. text ≡ lint_text lines)) × (something ≡ tells_something text)
+AnswersTo (Diff first second) held text something =
+    OfFile held first.now (λ old. OfFile held second.now (λ new.
+    OfScript old (λ a. OfScript new (λ b. TellsDiff (left_by a) (left_by b) text)))) × (something ≡ tells_something text)
+AnswersTo (Slots script) held text something =
+    OfFile held script.now (λ bytes. OfScript bytes (λ lines. TellsSlots lines text)) × (something ≡ false)
+AnswersTo (Draw script space style) held text something =
+    OfFile held script.now (λ bytes. OfScript bytes (λ lines. is_some (space_named (left_by lines) space.now) ≡ true)) × (something ≡ false)
+AnswersTo (Explain what) held text something = AnswersWord held what.now (topic_code what.now) text something
+
+-- a file of a request was not read: a read failed, or it is too long to be a script
+abbrev pub IsUnread : Holding → Type 0 → Text → Which → Fault → Type 0
+IsUnread held failed name which (faults.File file) = failed
+IsUnread held failed name which (faults.Script file bad) = (file ≡ which) × OfFile held name (λ bytes. script_of bytes ≡ Err bad)
+IsUnread held failed name which faults.Memory = ⊤
+IsUnread held failed name which _ = ⊥
+
+-- why a request on one file, and on a space and a region where it asks for them, has no answer: a read failed, or the file holds a text
+-- on which the command fails
+abbrev pub FailsFile : Holding → Type 0 → Text → Option Text → Option Text → Fault → Type 0
+FailsFile held failed name space region (faults.File which) = failed
+FailsFile held failed name space region faults.Memory = ⊤
+FailsFile held failed name space region fault = OfFile held name (λ bytes. FailsOn bytes space region fault)
+
+-- of `why` also: the word is no address
+abbrev pub FailsWhy : Holding → Type 0 → Text → Text → Text → Option Text → Fault → Type 0
+FailsWhy held failed script space addr region faults.NoAddress = (a : ℕ) → IsAddress addr a → ⊥
+FailsWhy held failed script space addr region fault = FailsFile held failed script (Some space) region fault
+
+-- of `diff`: a read failed, or one of the texts is no script
+abbrev pub FailsDiff : Holding → Type 0 → Text → Text → Fault → Type 0
+FailsDiff held failed first second (faults.File which) = failed
+FailsDiff held failed first second (faults.Script First bad) = OfFile held first (λ bytes. script_of bytes ≡ Err bad)
+FailsDiff held failed first second (faults.Script Second bad) = OfFile held second (λ bytes. script_of bytes ≡ Err bad)
+FailsDiff held failed first second faults.Memory = ⊤
+FailsDiff held failed first second fault = ⊥
+
+-- why a request has no answer, by what files hold, and by whether a read failed
+abbrev pub FailsFor : Request → Holding → Type 0 → Fault → Type 0
+FailsFor (Why script space addr region) held failed fault =
+    FailsWhy held failed script.now space.now addr.now (option_map (λ r. r.now) region) fault
+FailsFor (Lint script) held failed fault = FailsFile held failed script.now None None fault
+FailsFor (Diff first second) held failed fault = FailsDiff held failed first.now second.now fault
+FailsFor (Slots script) held failed fault = FailsFile held failed script.now None None fault
+FailsFor (Draw script space style) held failed fault = FailsFile held failed script.now (Some space.now) None fault
+FailsFor (Explain what) held failed fault = FailsFile held failed what.now None None fault
+
+-- how a run ends after an answer
+abbrev pub ending_of : Bool → Ending
+ending_of false = endings.Nothing
+ending_of true = endings.Something

@@ -1,0 +1,49 @@
+-- What is said of a request that has no answer.
+use Rattle.std.specs.Prelude.{ℕ, ◌==◌, if◌then◌else◌, [], ◌++◌, codes, decimal, Option, Some, None}
+use Rattle.mem_base.specs.declared.script.faults.BadScript.{BadScript}
+use Rattle.mem_base.specs.declared.script.faults.Cause.{Cause}
+use Rattle.mem_base.specs.declared.script.faults.Cause.TheVariants as causes
+use Rattle.mem_base.specs.script.RefusalLines.{line_feed}
+use Rattle.mem_base.specs.script.Spelling.{Text}
+use Rattle.scope_run.specs.declared.answers.Fault.{Fault}
+use Rattle.scope_run.specs.declared.answers.Fault.TheVariants as faults
+use Rattle.scope_run.specs.declared.answers.Which.{Which}
+use Rattle.scope_run.specs.declared.answers.Which.TheVariants.{First, Second}
+use Rattle.scope_words.specs.Requests.{address_word, first_file, region_word, second_file, space_word}
+use Rattle.scope_words.specs.declared.requests.Request.{Request}
+
+-- the cause of a fault in words
+abbrev pub cause_words : Cause → Text
+cause_words causes.Byte = codes "a byte that may not stand there"
+cause_words causes.Word = codes "no such word"
+cause_words causes.Name = codes "no name"
+cause_words causes.Number = codes "no number that may stand there"
+cause_words causes.Count = codes "a word too few or too many"
+cause_words causes.Place = codes "a line that may not stand there"
+cause_words causes.Long = codes "longer than a script may be, which is 1048576 bytes"
+
+-- the file of a request
+abbrev pub file_of : Request → Which → Text
+file_of request First = first_file request
+file_of request Second = second_file request
+
+-- ` line N:`, where a line is at fault
+abbrev pub line_text : ℕ → Text
+line_text number = if number == 0 then [] else (codes " line " ++ decimal number) ++ codes ":"
+
+-- FILE: line N: CAUSE
+abbrev pub bad_text : Text → BadScript → Text
+bad_text file bad = file ++ (codes ":" ++ (line_text bad.line ++ (codes " " ++ cause_words bad.cause)))
+
+-- what is said, without the name of the program
+abbrev pub said : Request → Fault → Text
+said request (faults.File which) = file_of request which ++ codes ": cannot be read"
+said request (faults.Script which bad) = bad_text (file_of request which) bad
+said request faults.NoSpace = space_word request ++ codes ": the script has no space of this name"
+said request faults.NoRegion = region_word request ++ codes ": the script has no region of this name"
+said request faults.NoAddress = address_word request ++ codes ": no address; write 0x1000 or 4096"
+said request faults.Memory = codes "out of memory"
+
+-- mscope: and what is said
+abbrev pub fault_text : Request → Fault → Text
+fault_text request fault = codes "mscope: " ++ (said request fault ++ line_feed)

@@ -1,0 +1,103 @@
+// What is said of a request that cannot be answered.
+ghost use Rattle.std.specs.Prelude.{◌≡◌, ◌++◌, IfOk, OnOk};
+ghost use Rattle.scope_run.specs.Said.{bad_text, cause_words, fault_text, file_of, line_text, said};
+
+use crate::answers::{Fault, Which};
+use mem_base::{BadScript, Cause};
+use scope_words::Request;
+use script_lines::Line;
+use std::alloc::{AllocError, Global};
+
+fn cause_words(cause: Cause) -> &'static str
+    ensures { result.now ≡ cause_words cause }
+{
+    match cause {
+        Cause::Byte => "a byte that may not stand there",
+        Cause::Word => "no such word",
+        Cause::Name => "no name",
+        Cause::Number => "no number that may stand there",
+        Cause::Count => "a word too few or too many",
+        Cause::Place => "a line that may not stand there",
+        Cause::Long => "longer than a script may be, which is 1048576 bytes",
+    }
+}
+
+// The file of a request.
+fn file_of<'a>(request: &Request<'a>, which: Which) -> &'a str
+    ensures { result.now ≡ file_of request.now which }
+{
+    match which {
+        Which::First => request.first_file(),
+        Which::Second => request.second_file(),
+    }
+}
+
+// ` line N`, where a line is at fault.
+fn add_line_number(line: &mut Line, number: u32) -> Result<(), AllocError>
+    ensures { OnOk result (line.new ≡ line.old ++ line_text number) }
+{
+    if number == 0 {
+        return Ok(());
+    }
+    line.counted(" line ", u64::from(number))?;
+    line.text(":")
+}
+
+// What is wrong with a script.
+fn add_bad(line: &mut Line, file: &str, bad: BadScript) -> Result<(), AllocError>
+    ensures { OnOk result (line.new ≡ line.old ++ bad_text file.now bad) }
+{
+    line.text(file)?;
+    line.text(":")?;
+    add_line_number(line, bad.line)?;
+    line.text(" ")?;
+    line.text(cause_words(bad.cause))
+}
+
+// A name or another word, and what is said of it.
+fn add_word(line: &mut Line, word: &str, text: &str) -> Result<(), AllocError>
+    ensures { OnOk result (line.new ≡ line.old ++ (word.now ++ text.now)) }
+{
+    line.text(word)?;
+    line.text(text)
+}
+
+fn add_fault(line: &mut Line, request: &Request<'_>, fault: Fault) -> Result<(), AllocError>
+    ensures { OnOk result (line.new ≡ line.old ++ said request.now fault) }
+{
+    match fault {
+        Fault::File(which) => add_word(line, file_of(request, which), ": cannot be read"),
+        Fault::Script { which, bad } => add_bad(line, file_of(request, which), bad),
+        Fault::NoSpace => add_word(
+            line,
+            request.space(),
+            ": the script has no space of this name",
+        ),
+        Fault::NoRegion => add_word(
+            line,
+            request.region(),
+            ": the script has no region of this name",
+        ),
+        Fault::NoAddress => add_word(
+            line,
+            request.address(),
+            ": no address; write 0x1000 or 4096",
+        ),
+        Fault::Memory => line.text("out of memory"),
+    }
+}
+
+/// What is said of a request that cannot be answered, as a line.
+pub(crate) fn fault_line(
+    alloc: Global,
+    request: &Request<'_>,
+    fault: Fault,
+) -> Result<Line, AllocError>
+    ensures { IfOk result (λ line. line ≡ fault_text request.now fault) }
+{
+    let mut line = Line::new(alloc);
+    line.text("mscope: ")?;
+    add_fault(&mut line, request, fault)?;
+    line.end()?;
+    Ok(line)
+}

@@ -1,0 +1,109 @@
+// `why`.
+ghost use Rattle.std.specs.Prelude.{◌≡◌, ◌++◌, false, IfOk, IfErr, OnOk, option_map, Some};
+ghost use Rattle.mem_base.specs.map.Limits.{most_translations};
+ghost use Rattle.mem_base.specs.script.Shows.{shown_forest};
+ghost use Rattle.mem_base.specs.script.States.{space_named};
+ghost use Rattle.find_why.specs.Hops.{AreHops};
+ghost use Rattle.find_why.specs.declared.hops.Hop.{Hop};
+ghost use Rattle.script_map.specs.Left.{left_state};
+ghost use Rattle.scope_run.specs.Scripts.{FailsIn, FailsOn, IsMissing, OfScript, left_by};
+ghost use Rattle.scope_run.specs.Whys.{IsAsked, TellsWhy, why_text};
+ghost use Rattle.scope_run.specs.declared.answers.Fault.TheVariants as faults;
+ghost use Rattle.std.specs.Prelude.{List};
+
+use crate::answers::{Answer, Fault, Which, stopped, told};
+use find_why::{Hops, why as find_hops};
+use mem_base::{Name, RegionId, SpaceId};
+use scope_lines::{add_region_lines, add_why_lines};
+use script_lines::Line;
+use script_map::{ScriptMap, read};
+use std::alloc::{AllocError, Global};
+
+// The region that was asked for, if one was.
+fn region_asked(map: &ScriptMap, region: Option<&Name>) -> Result<Option<RegionId>, Fault>
+    ensures found { IfOk result (λ one. IsAsked (left_state map.now) (option_map (λ n. n.now) region.entry) one) }
+    ensures missing { IfErr result (λ fault. (fault ≡ faults.NoRegion) × IsMissing (left_state map.now) (option_map (λ n. n.now) region.entry)) }
+{
+    let Some(name) = region else {
+        return Ok(None);
+    };
+    match map.region(name) {
+        Some(region) => Ok(Some(region)),
+        None => Err(Fault::NoRegion),
+    }
+}
+
+// The lines of searches, all of them or those that concern one region.
+fn add_lines(
+    text: &mut Line,
+    map: &ScriptMap,
+    hops: &Hops,
+    region: Option<RegionId>,
+) -> Result<(), AllocError>
+    ensures { OnOk result (text.new ≡ text.old ++ why_text (left_state map.now).names region hops.now) }
+{
+    match region {
+        Some(region) => add_region_lines(text, map.names(), hops, region),
+        None => add_why_lines(text, map.names(), hops),
+    }
+}
+
+// The text about an address of a space.
+fn text_of(
+    alloc: Global,
+    map: &ScriptMap,
+    space: SpaceId,
+    addr: u64,
+    region: Option<RegionId>,
+) -> Result<Line, AllocError>
+    ensures { IfOk result (λ text. (hops : List Hop) × AreHops (shown_forest (left_state map.now)) most_translations space addr hops
+        × (text ≡ why_text (left_state map.now).names region hops)) }
+{
+    let mut text = Line::new(alloc);
+    let hops = find_hops(alloc, map.generation().forest(), space, addr)?;
+    add_lines(&mut text, map, &hops, region)?;
+    Ok(text)
+}
+
+// The same of names.
+fn why_in(
+    alloc: Global,
+    map: &ScriptMap,
+    space: &Name,
+    addr: u64,
+    region: Option<&Name>,
+) -> Result<Answer, Fault>
+    ensures told { IfOk result (λ a. TellsWhy (left_state map.now) space.now addr (option_map (λ n. n.now) region.entry) a.text) }
+    ensures nothing { IfOk result (λ a. a.something ≡ false) }
+    ensures fails { IfErr result (λ fault. FailsIn (left_state map.now) (Some space.now) (option_map (λ n. n.now) region.entry) fault) }
+{
+    let Some(space) = map.space(space) else {
+        return Err(Fault::NoSpace);
+    };
+    let region = region_asked(map, region)?;
+    let text = text_of(alloc, map, space, addr, region)?;
+    Ok(told(text))
+}
+
+/// Why a region answers an address of a space of the map that a script leaves, and why the others do not; of one region alone, where one
+/// is named.
+///
+/// There is never something to mend. It answers `Script` where the text is no script, `NoSpace` and `NoRegion` where the script leaves no
+/// space or region of the name.
+pub fn why(
+    alloc: Global,
+    script: &[u8],
+    space: &Name,
+    addr: u64,
+    region: Option<&Name>,
+) -> Result<Answer, Fault>
+    ensures told { IfOk result (λ a. OfScript script.now
+        (λ lines. TellsWhy (left_by lines) space.now addr (option_map (λ n. n.now) region.entry) a.text)) }
+    ensures nothing { IfOk result (λ a. a.something ≡ false) }
+    ensures fails { IfErr result (λ fault. FailsOn script.now (Some space.now) (option_map (λ n. n.now) region.entry) fault) }
+{
+    match read(alloc, script) {
+        Ok(map) => why_in(alloc, &map, space, addr, region),
+        Err(stop) => Err(stopped(Which::First, stop)),
+    }
+}
