@@ -1,0 +1,100 @@
+// What `mscope` writes for a case, and how it ends.
+
+use crate::cases::{Case, first_case};
+use crate::memory::CaseFiles;
+use clap::Error;
+use outside::{Failed, Sink, StdSink, write_all};
+use scope_run::{Ending, Request, mscope};
+use scope_words::{Asked, read_words};
+use std::alloc::{AllocError, Global};
+
+/// Why the program stopped.
+#[derive(Clone, Copy, Debug, PartialEq, Eq)]
+pub(crate) enum Fault {
+    /// The input is no list of cases.
+    Input,
+    /// A write failed.
+    Write,
+    /// Out of memory.
+    Memory,
+}
+
+impl From<AllocError> for Fault {
+    fn from(_: AllocError) -> Fault {
+        Fault::Memory
+    }
+}
+
+impl From<Failed> for Fault {
+    fn from(_: Failed) -> Fault {
+        Fault::Write
+    }
+}
+
+// The words between single spaces, after the name of the program.
+fn words_in(alloc: Global, text: &str) -> Result<Vec<String>, AllocError> {
+    let mut words = Vec::new(alloc);
+    words.push(String::from_str(alloc, "mscope")?)?;
+    for word in text.split(' ') {
+        words.push(String::from_str(alloc, word)?)?;
+    }
+    Ok(words)
+}
+
+// What is written for a request, and how it ends.
+fn answer(
+    alloc: Global,
+    request: &Request<'_>,
+    case: &Case<'_>,
+    previous: &[u8],
+) -> Result<(Ending, Vec<u8>), AllocError> {
+    let mut files = CaseFiles::new(case.script, previous);
+    let mut written = Vec::new(alloc);
+    let mut said = Vec::new(alloc);
+    let mut out = StdSink::new(&mut written);
+    let mut err = StdSink::new(&mut said);
+    let ending = mscope(alloc, request, &mut files, &mut out, &mut err);
+    written.extend_from_slice(said.as_slice())?;
+    Ok((ending, written))
+}
+
+// The status after a text of `clap`.
+fn status_of(error: &Error) -> u8 {
+    if error.use_stderr() {
+        Ending::Wrong.status()
+    } else {
+        Ending::Nothing.status()
+    }
+}
+
+// The same of words. What `clap` says of words that are no request is left out.
+fn run(alloc: Global, case: &Case<'_>, previous: &[u8]) -> Result<(u8, Vec<u8>), AllocError> {
+    let words = words_in(alloc, case.words)?;
+    match read_words(alloc, words.as_slice()) {
+        Asked::Request(request) => {
+            let (ending, written) = answer(alloc, &request, case, previous)?;
+            Ok((ending.status(), written))
+        }
+        Asked::Text(error) => Ok((status_of(&error), Vec::new(alloc))),
+        Asked::Memory => Err(AllocError),
+    }
+}
+
+/// Does the command of each case of the input, and writes its name, its status, and what was written for it.
+pub(crate) fn answer_all<K: Sink>(alloc: Global, text: &[u8], sink: &mut K) -> Result<(), Fault> {
+    let mut rest = text;
+    let mut previous: &[u8] = &[];
+    while !rest.is_empty() {
+        let Some((case, after)) = first_case(rest) else {
+            return Err(Fault::Input);
+        };
+        let (status, written) = run(alloc, &case, previous)?;
+        let name = case.name;
+        let heading = format!(in alloc; "=== {name} {status}\n")?;
+        write_all(sink, heading.as_bytes())?;
+        write_all(sink, &written)?;
+        previous = case.script;
+        rest = after;
+    }
+    Ok(())
+}
