@@ -1,5 +1,5 @@
 -- Laws of the places of leaves, and of what answers there.
-use Rattle.std.proofs.Common.{◌≡◌, ℕ, ◌+◌, ◌/◌, ◌%◌, ◌^◌, ◌<◌, ◌≤◌, ◌-◌, ◌==◌, ◌&&◌, not, Bool, true, false, List, [], ◌∷◌, length}
+use Rattle.std.proofs.Common.{◌≡◌, ◌≢◌, ℕ, ◌+◌, ◌/◌, ◌%◌, ◌^◌, ◌<◌, ◌≤◌, ◌-◌, ◌==◌, ◌&&◌, not, Bool, true, false, List, [], ◌∷◌, length}
 use Rattle.std.proofs.Common.{Option, Some, None, ◌⊎◌, inl, inr, refl, sym, ap, subst, ◌∙◌, if◌then◌else◌, arith}
 use Rattle.std.specs.Prelude.{is_some, IsSome, IsSomeAnd, IfSome, option_map, find, unwrap_or}
 use Rattle.std.proofs.lemmas.Bool.{eqb-true, lt-ltb}
@@ -96,6 +96,23 @@ module _ (g : Published) (k : IsEdition g.forest g.places) where
       go (inl h) is number l = absurd (no_region (node_of f.nodes p.region) refl is h.fits)
       go (inr h) is number l = ap (λ (x : Place). is_data_or_register x number) h.1 ∙ lt-ltb number 64 l
 
+  -- a place without registers is of a region
+  pub region_there : (r : RegionId) (p : Place) → place_in places r ≡ Some p → p.regs ≡ 0 → node_of f.nodes r ≡ None → ⊥
+  region_there r p found none gone =
+      let t = found_place (λ p. IsRegionPlace k.pool_words f p ⊎ IsNotifiersPlace k.pool_words f p) places r p k.places_of.each found in
+      go t.0 t.1
+    where
+      count : (m : ℕ) → m ≡ notifier_count → m ≡ 0 → ⊥
+      count m many none = omega (arith, many, none)
+
+      nowhere : (o : Option Node) → o ≡ None → IsSomeAnd o (λ n. p ≡ place_from p.region p.start (extent_of n.kind n.size)) → ⊥
+      nowhere None e h = h
+      nowhere (Some m) e h = cc
+
+      go : IsRegionPlace k.pool_words f p ⊎ IsNotifiersPlace k.pool_words f p → p.region ≡ r → ⊥
+      go (inl h) e = nowhere (node_of f.nodes p.region) (ap (node_of f.nodes) e ∙ gone) h.fits
+      go (inr h) e = count p.regs (ap (λ (x : Place). x.regs) h.1) none
+
   module _ (r : RegionId) (n : Node) (named : names f r ≡ true) (is : node_of f.nodes r ≡ Some n) where
     pub region : IsRegion f.nodes n
     region = (every_node_of (IsRegion f.nodes) f.nodes r n is closed.regions).0
@@ -124,6 +141,16 @@ module _ (g : Published) (k : IsEdition g.forest g.places) where
         go (inl h) e = fits (node_of f.nodes p.region) (ap (node_of f.nodes) e ∙ is) h.fits
         go (inr h) e = absurd (not_notifiers r n is (sym e ∙ ap (λ (x : Place). x.region) h.1))
 
+    -- it has words
+    leaf_words : (p : Place) → place_in places r ≡ Some p → 0 < p.words
+    leaf_words p found =
+        let t = found_place (λ p. IsRegionPlace k.pool_words f p ⊎ IsNotifiersPlace k.pool_words f p) places r p k.places_of.each found in
+        go t.0 t.1
+      where
+        go : IsRegionPlace k.pool_words f p ⊎ IsNotifiersPlace k.pool_words f p → p.region ≡ r → 0 < p.words
+        go (inl h) e = h.nonempty
+        go (inr h) e = absurd (not_notifiers r n is (sym e ∙ ap (λ (x : Place). x.region) h.1))
+
     -- words, where there are bytes or registers
     pub bytes_words : (kind : Kind) (size : ℕ) → bad_size kind size ≡ None → has_bytes kind ≡ true → 0 < words_of (extent_of kind size)
     bytes_words kind size none bytes =
@@ -150,6 +177,55 @@ module _ (g : Published) (k : IsEdition g.forest g.places) where
         go : (b : Bool) → is_good_device device ≡ b → not b ≡ false → IsGood device
         go true e h = e
         go false e h = cc
+
+    -- a place without registers is of RAM or ROM
+    pub memory_kind : (p : Place) → place_in places r ≡ Some p → p.regs ≡ 0 → (n.kind ≡ Ram) ⊎ (n.kind ≡ Rom)
+    memory_kind p found none = go n.kind refl
+      where
+        whole : p ≡ place_from p.region p.start (extent_of n.kind n.size)
+        whole = (leaf_place p found).1
+
+        regs : (kind : Kind) → n.kind ≡ kind → (extent_of kind n.size).regs ≡ 0
+        regs kind e = sym (ap (λ (x : Kind). (extent_of x n.size).regs) e) ∙ sym (ap (λ (x : Place). x.regs) whole) ∙ none
+
+        words : (kind : Kind) → n.kind ≡ kind → 0 < words_of (extent_of kind n.size)
+        words kind e = subst (λ (x : Kind). 0 < words_of (extent_of x n.size)) e (subst (λ x. 0 < x) (ap (λ (x : Place). x.words) whole) (leaf_words p found))
+
+        device : (d : Device) → device_of n.kind ≡ Some d → d.regs ≡ 0 → ⊥
+        device d e z = let some : 1 ≤ d.regs = some_registers d (good d e) in omega (arith, some, z)
+
+        go : (kind : Kind) → n.kind ≡ kind → (n.kind ≡ Ram) ⊎ (n.kind ≡ Rom)
+        go Ram e = inl e
+        go Rom e = inr e
+        go (RomDevice d) e = absurd (device d (ap device_of e) (regs (RomDevice d) e))
+        go (Io d) e = absurd (device d (ap device_of e) (regs (Io d) e))
+        go Container e = absurd (let w = words Container e in omega (arith, w))
+        go Iommu e = absurd (let w = words Iommu e in omega (arith, w))
+        go (Alias target offset) e = absurd (let w = words (Alias target offset) e in omega (arith, w))
+        go Reserve e = absurd (let w = words Reserve e in omega (arith, w))
+        go Host e = absurd (let w = words Host e in omega (arith, w))
+
+    -- what has registers, and is no device, answers nothing
+    pub deviceless : (p : Place) → place_in places r ≡ Some p → 0 < p.regs → (spot : Spot) (t : Transfer)
+        → ((d : Device) → n.kind ≢ RomDevice d) → ((d : Device) → n.kind ≢ Io d)
+        → of_region f.nodes r (unanswered t) (λ n. at_leaf n.kind n spot t) ≡ unanswered t
+    deviceless p found some spot t rom io = ap (λ o. unwrap_or (option_map (λ (m : Node). at_leaf m.kind m spot t) o) (unanswered t)) is ∙ go n.kind refl
+      where
+        without : (kind : Kind) → n.kind ≡ kind → (extent_of kind n.size).regs ≡ 0 → ⊥
+        without kind e none =
+            let same : p.regs ≡ 0 = ap (λ (x : Place). x.regs) (leaf_place p found).1 ∙ ap (λ (x : Kind). (extent_of x n.size).regs) e ∙ none in
+            omega (arith, same, some)
+
+        go : (kind : Kind) → n.kind ≡ kind → at_leaf kind n spot t ≡ unanswered t
+        go Ram e = absurd (without Ram e refl)
+        go Rom e = absurd (without Rom e refl)
+        go (RomDevice d) e = absurd (rom d e)
+        go (Io d) e = absurd (io d e)
+        go Container e = refl
+        go Iommu e = refl
+        go (Alias target offset) e = refl
+        go Reserve e = refl
+        go Host e = refl
 
     -- what has no place answers nothing
     pub unplaced : (spot : Spot) (t : Transfer) → place_in places r ≡ None → of_region f.nodes r (unanswered t) (λ n. at_leaf n.kind n spot t) ≡ unanswered t
@@ -311,3 +387,32 @@ notifier_shown f r n named is offset size value o e = go n.events (ap (λ (m : O
     go [] same o e = subst (λ o. IfSome o (λ number. shows_events f ≡ true)) (sym e) tt
     go (x ∷ es) same None e = tt
     go (x ∷ es) same (Some number) e = shown (subst (λ l. 0 < length l) (sym same) (omega arith))
+
+module _ (g : Published) (k : IsEdition g.forest g.places) (spot : Spot) (named : names g.forest spot.leaf ≡ true) where
+  -- a leaf without a place answers nothing, whether its region is there or not
+  pub unplaced_at : (t : Transfer) → place_in g.places spot.leaf ≡ None
+      → of_region g.forest.nodes spot.leaf (unanswered t) (λ n. at_leaf n.kind n spot t) ≡ unanswered t
+  unplaced_at t none = go (node_of g.forest.nodes spot.leaf) refl
+    where
+      go : (o : Option Node) → node_of g.forest.nodes spot.leaf ≡ o
+          → of_region g.forest.nodes spot.leaf (unanswered t) (λ n. at_leaf n.kind n spot t) ≡ unanswered t
+      go None e = ap (λ (o : Option Node). unwrap_or (option_map (λ (m : Node). at_leaf m.kind m spot t) o) (unanswered t)) e
+      go (Some n) e = unplaced g k spot.leaf n named e spot t none
+
+  -- a place without registers is memory
+  pub memory_at : (p : Place) → place_in g.places spot.leaf ≡ Some p → p.regs ≡ 0 → (write : Bool) → IsMemoryAt g spot write p
+  memory_at p found none write = go (node_of g.forest.nodes spot.leaf) refl
+    where
+      direct : (n : Node) → (n.kind ≡ Ram) ⊎ (n.kind ≡ Rom) → (t : Transfer) → at_leaf n.kind n spot t ≡ in_memory spot t
+      direct n (inl e) t = ap (λ (kind : Kind). at_leaf kind n spot t) e
+      direct n (inr e) t = ap (λ (kind : Kind). at_leaf kind n spot t) e
+
+      bytes : (n : Node) → (n.kind ≡ Ram) ⊎ (n.kind ≡ Rom) → has_bytes n.kind ≡ true
+      bytes n (inl e) = ap has_bytes e
+      bytes n (inr e) = ap has_bytes e
+
+      go : (o : Option Node) → node_of g.forest.nodes spot.leaf ≡ o → IsMemoryAt g spot write p
+      go None e = absurd (region_there g k spot.leaf p found none e)
+      go (Some n) e =
+          let kind = memory_kind g k spot.leaf n named e p found none in
+          memory_there g k spot.leaf n named e spot refl p found write (bytes n kind) (λ t w. direct n kind t)

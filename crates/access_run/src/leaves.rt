@@ -1,8 +1,10 @@
 // What an access does at the leaf of a chunk.
-ghost use Rattle.std.specs.Prelude.{◌≡◌, [], true, length};
+ghost use Rattle.std.specs.Prelude.{◌≡◌, ◌<◌, [], true, Some, length};
 ghost use Rattle.mem_base.specs.declared.access.accesses.Target.TheVariants.{Leaf};
 ghost use Rattle.mem_base.specs.views.Naming.{names};
 ghost use Rattle.mem_base.specs.access.AccessSteps.{reading, result_of, writing};
+ghost use Rattle.mem_base.specs.access.EditionPlaces.{IsEdition};
+ghost use Rattle.mem_base.specs.access.PlacesByRegion.{place_in};
 ghost use Rattle.mem_base.specs.access.Access.{at_target};
 ghost use Rattle.access_run.specs.Runs.{HasDone, TakesAll};
 ghost use Rattle.access_run.specs.Leaves.{IsBackedBy, IsLeafRun, IsTargetRun};
@@ -24,21 +26,34 @@ pub(crate) enum Backing {
     Nothing,
 }
 
-// What a write, or a read, reaches at a spot: a ROM device is read directly while its mode is on, and is a device otherwise.
-// What has neither bytes nor registers has no place.
+// What a write, or a read, reaches at a spot. What has neither bytes nor registers has no place, and what has bytes alone is memory:
+// there the region itself is not looked for.
 #[inline(always)]
 fn backing_of(g: &Generation, spot: &Spot, write: bool) -> Backing
     requires { names g.now.forest spot.now.leaf ≡ true }
     ensures { IsBackedBy g.now spot.now write result }
 {
-    let Some(node) = g.node(spot.leaf) else {
-        return Backing::Nothing;
-    };
     let Some(place) = g.place_of(spot.leaf) else {
         return Backing::Nothing;
     };
+    if place.regs == 0 {
+        return Backing::Memory(place);
+    }
+    device_at(g, spot, place, write)
+}
+
+// The same where there are registers: a ROM device is read directly while its mode is on, and is a device otherwise.
+fn device_at(g: &Generation, spot: &Spot, place: Place, write: bool) -> Backing
+    requires edition { IsEdition g.now.forest g.now.places }
+    requires named { names g.now.forest spot.now.leaf ≡ true }
+    requires place { place_in g.now.places spot.now.leaf ≡ Some place }
+    requires registers { 0 < place.regs }
+    ensures { IsBackedBy g.now spot.now write result }
+{
+    let Some(node) = g.node(spot.leaf) else {
+        return Backing::Nothing;
+    };
     match node.kind {
-        Kind::Ram | Kind::Rom => Backing::Memory(place),
         Kind::RomDevice(device) => {
             if spot.attrs.romd && !write {
                 Backing::Memory(place)
