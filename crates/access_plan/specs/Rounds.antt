@@ -76,7 +76,7 @@ abbrev pub TakesRound : Forest → Bool → SpaceId → ℕ → ℕ → Option R
 TakesRound f write s a left None = IsNearEnd (trail_of f write s a).target
 TakesRound f write s a left (Some round) = IsRoundAt f write s a left round
 
--- a round took so many bytes, and the list grew by what it reaches
+-- a round took this number of bytes, and the list grew by what it reaches
 pub record IsRound (f : Forest) (write : Bool) (s : SpaceId) (a left : ℕ) (t : Transfer) (before after : List Reach) (at taken : ℕ) : Type 0 where
   pub taken_is : taken ≡ taken_at (answerer_with_host f write) f write s a left
   pub some : 0 < taken

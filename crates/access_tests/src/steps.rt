@@ -106,7 +106,7 @@ static OF_MEMORY: [Row; 7] = [
     (SpaceId(9), 0, false, 4, DECODE, 0),
 ];
 
-/// Whether an access ends so, with so many steps.
+/// Whether an access ends so, with this number of steps.
 fn holds(machine: &mut Machine, row: &Row) -> Result<bool, Refusal> {
     let (space, addr, writes, len, ends, steps) = *row;
     let mut room = [BYTE; 8];

@@ -5,7 +5,7 @@ use mem_base::Name;
 use monitor_text::{cleaned, numbered};
 use std::alloc::{AllocError, Global};
 
-/// The names that are given so far, each with the number that was put behind it last.
+/// The names that are given so far, each with the number that was appended to it last.
 #[derive(Drop)]
 pub(crate) struct Given {
     numbers: IndexMap<Vec<u8>, u32>,
@@ -29,7 +29,7 @@ impl Given {
         Ok(())
     }
 
-    // The first free name with a number behind it, after those that were tried.
+    // The first free name that ends in a number, after those that were tried.
     fn free(&mut self, alloc: Global, plain: &[u8]) -> Result<Vec<u8>, AllocError> {
         let mut number = self.number(plain);
         let mut name = plain.to_vec(alloc)?;
@@ -44,7 +44,7 @@ impl Given {
         Ok(name)
     }
 
-    /// A name for what the monitor calls so, with a number behind it where it is given already.
+    /// A name for what the monitor calls so, with a number appended where it is given already.
     pub(crate) fn name_for(&mut self, alloc: Global, told: &[u8]) -> Result<Name, AllocError> {
         let plain = cleaned(alloc, told)?;
         let name = if self.number(&plain) == 0 {

@@ -22,11 +22,11 @@ lettered text = if needs_letter text then 114 ∷ text else text
 abbrev pub cleaned : Text → Text
 cleaned told = take 32 (lettered (map fit_byte told))
 
--- at most so many bytes
+-- at most this number of bytes
 abbrev pub up_to : ℕ → Text → Text
 up_to count text = if nat_lt count (length text) then take count text else text
 
--- a name with a point and a number behind it, of at most 32 bytes
+-- a name followed by a point and a number, of at most 32 bytes
 abbrev pub numbered : Text → ℕ → Text
 numbered name number = let end = codes "." ++ decimal number in up_to (32 - length end) name ++ end
 
@@ -38,7 +38,7 @@ abbrev pub is_ending : Text → Bool
 is_ending [] = false
 is_ending (b ∷ bs) = (b == 46) && list_all is_digit bs
 
--- the last so many bytes of a name are such, and the others what they leave of a plain name
+-- this number of bytes at the end of a name are such, and the others what they leave of a plain name
 abbrev pub ended_so : Text → Text → ℕ → Bool
 ended_so name plain count =
     let cut = length name - count in
@@ -48,6 +48,6 @@ ended_so name plain count =
 abbrev pub counts : List ℕ
 counts = 2 ∷ 3 ∷ 4 ∷ 5 ∷ 6 ∷ 7 ∷ 8 ∷ 9 ∷ 10 ∷ 11 ∷ []
 
--- a name is one that a script gives to what the monitor calls so, with a number of at most ten digits behind it or not
+-- a name is one that a script gives to what the monitor calls so, alone or followed by a number of at most ten digits
 abbrev pub is_named_after : Text → Text → Bool
 is_named_after name told = bytes_eq name (cleaned told) || list_any (ended_so name (cleaned told)) counts

@@ -1,4 +1,4 @@
--- Parts of a line, each taken from the front: what it says, and the text behind it, or none where the text does not begin with one.
+-- Parts of a line, each taken from the front: what it says, and the text after it, or none where the text does not begin with one.
 use Rattle.std.specs.Prelude.{ℕ, ◌+◌, ◌-◌, ◌^◌, ◌==◌, ◌&&◌, if◌then◌else◌, nat_le, length, take, drop, position, Option, Some, None}
 use Rattle.std.specs.Prelude.{option_and_then, option_map, codes, ℤ, pos, neg_ℤ, Bool, true, false}
 use Rattle.std.specs.Str.{bytes_eq}
@@ -63,7 +63,7 @@ priority_of text =
 abbrev pub headed : ℕ × ℕ → ℤ → Bool × RowKind → RowHead
 headed ends priority k = record { start = ends.0; last = ends.1; priority = priority; nonvolatile = k.0; kind = k.1 }
 
--- START-LAST (prio N, KIND): with the space behind it
+-- START-LAST (prio N, KIND): with the space after it
 abbrev pub head : Part RowHead
 head text =
     then_part (span text) (λ ends t.

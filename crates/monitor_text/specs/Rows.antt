@@ -89,7 +89,7 @@ tree_line text =
 abbrev pub offset_of : Text → Option ℕ
 offset_of text = option_and_then (λ t. then_part (address t) (λ n u. if length u == 0 then Some n else None)) (after_word (codes " @") text)
 
--- a name, and the offset behind it where it is not 0: the last 18 bytes
+-- a name, and the offset after it where it is not 0: the last 18 bytes
 abbrev pub name_offset : Text → Text × ℕ
 name_offset text =
     if nat_le 18 (length text) then option_match (offset_of (drop (length text - 18) text)) (text, 0) (λ n. (take (length text - 18) text, n))

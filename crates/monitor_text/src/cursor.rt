@@ -72,7 +72,7 @@ impl<'a> Cursor<'a> {
     }
 }
 
-// What stands before the first byte of this value, and behind it.
+// What stands before the first byte of this value, and after it.
 fn cut_at(byte: u8, text: &[u8]) -> Option<(&[u8], &[u8])>
     ensures { MatchOption result (until byte text.now ≡ None) (λ p. until byte text.now ≡ Some (p.0.now, p.1.now)) }
 {

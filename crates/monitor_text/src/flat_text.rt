@@ -40,7 +40,7 @@ fn offset_of(text: &[u8]) -> Option<u64>
     }
 }
 
-// A name, and the offset behind it, where it is not 0.
+// A name, and the offset after it, where it is not 0.
 fn name_offset(text: &[u8]) -> (&[u8], u64)
     ensures { (result.0.now, result.1) ≡ name_offset text.now }
 {

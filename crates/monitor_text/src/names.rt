@@ -55,7 +55,7 @@ pub fn cleaned(alloc: Global, told: &[u8]) -> Result<Vec<u8>, AllocError>
     Ok(name)
 }
 
-// At most so many bytes of a text.
+// At most this number of bytes of a text.
 fn up_to(count: usize, text: &[u8]) -> &[u8]
     ensures { result.now ≡ up_to count text.now }
 {
@@ -66,7 +66,7 @@ fn up_to(count: usize, text: &[u8]) -> &[u8]
     }
 }
 
-/// The name with a point and a number behind it, of at most 32 bytes.
+/// The name followed by a point and a number, of at most 32 bytes.
 pub fn numbered(alloc: Global, name: &[u8], number: u32) -> Result<Vec<u8>, AllocError>
     ensures { IfOk result (λ v. v.items ≡ numbered name.now number) }
 {
@@ -100,7 +100,7 @@ fn is_ending(text: &[u8]) -> bool
     }
 }
 
-// Whether the last so many bytes of a name are a point and a number, and the others what they leave of a plain name.
+// Whether this number of bytes at the end of a name are a point and a number, and the others what they leave of a plain name.
 fn ended_so(name: &[u8], plain: &[u8], count: usize) -> bool
     ensures { result ≡ ended_so name.now plain.now count }
 {
@@ -118,7 +118,7 @@ fn ended_in(name: &[u8], plain: &[u8], counts: &[usize]) -> bool
     counts.iter().any(|count| ended_so(name, plain, *count))
 }
 
-/// Whether a name is one that a script gives to what the monitor calls so, with a point and a number of at most ten digits behind it
+/// Whether a name is one that a script gives to what the monitor calls so, followed by a point and a number of at most ten digits
 /// or not.
 pub fn is_named_after(alloc: Global, name: &[u8], told: &[u8]) -> Result<bool, AllocError>
     ensures { IfOk result (λ named. named ≡ is_named_after name.now told.now) }

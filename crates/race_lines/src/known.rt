@@ -36,7 +36,7 @@ impl Model for KnownNames {
     ghost invariant = { λ k. HoldsNames k.names k.dropped.items k.gone.items (watchers_of k.notices) };
 }
 
-/// The number of what is named next; none where it has more than 32 bits, and so many names fit no memory.
+/// The number of what is named next; none where it has more than 32 bits, and no memory holds that many names.
 pub fn next_number(table: &NameTable) -> Option<u32>
     ensures { IfSome result (λ number. (number ≡ length table.now.made) × (length table.now.made < 2 ^ 32)) }
 {

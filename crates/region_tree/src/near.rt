@@ -161,7 +161,7 @@ pub(crate) fn nodes_anew(alloc: Global, slots: &[Slot]) -> Result<Nodes, AllocEr
     Ok(Nodes::new(chunks))
 }
 
-/// Whether these are too many chunks for so many regions: fewer than 32 regions a chunk. Regions that are dropped leave their chunks
+/// Whether these are too many chunks for this number of regions: fewer than 32 regions a chunk. Regions that are dropped leave their chunks
 /// shorter; by then more were dropped than are left, so making all chunks anew copies less than one region for each that was dropped.
 pub(crate) fn is_sparse(chunks: usize, regions: usize) -> bool
     ensures { result ≡ nat_lt (regions / 32 + 4) chunks }

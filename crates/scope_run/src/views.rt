@@ -35,7 +35,7 @@ pub(crate) fn root_in(generation: &Generation, space: SpaceId) -> Option<RegionI
     None
 }
 
-/// How many spaces were made. There are at most 2^32, since so many names fit no memory.
+/// How many spaces were made. There are at most 2^32, since no memory holds more names.
 pub(crate) fn space_count(names: &Names) -> Result<u32, AllocError>
     ensures { IfOk result (λ count. count ≡ length (printed_names names.now).spaces) }
 {

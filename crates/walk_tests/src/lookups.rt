@@ -171,7 +171,7 @@ fn crowded(alloc: Global, seed: u64, devices: u32) -> Result<Tree, Refusal> {
     Ok(tree)
 }
 
-/// Whether a crowded map has more than half of so many ranges and at most these, and is looked up as by halving.
+/// Whether a crowded map has more than half of this number of ranges and at most these, and is looked up as by halving.
 fn is_looked_up(alloc: Global, seed: u64, devices: u32, most: usize) -> Result<bool, Refusal> {
     let tree = crowded(alloc, seed, devices)?;
     let view = viewed(alloc, &tree)?;

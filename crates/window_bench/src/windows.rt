@@ -256,7 +256,7 @@ fn store(words: &[AtomicU64], page: &[u8; 4096]) {
     }
 }
 
-/// Copies the bytes of a page, where there are so many.
+/// Copies the bytes of a page, where there are that many.
 fn copy(bytes: &[u8], page: &mut [u8; 4096]) {
     if bytes.len() == page.len() {
         page.copy_from_slice(bytes);

@@ -111,7 +111,7 @@ pub(crate) fn gets<'c, R: Wait>(
     }
 }
 
-/// Puts bytes into a window of their length, all that it takes, and uses these: it has to be direct or not, to take so many, and to end
+/// Puts bytes into a window of their length, all that it takes, and uses these: it has to be direct or not, to take this number, and to end
 /// so.
 pub(crate) fn puts<'c, R: Wait>(
     rt: &R,
