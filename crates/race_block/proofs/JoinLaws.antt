@@ -8,22 +8,22 @@ use Rattle.mem_base.specs.declared.machine.events.HistoryEntry.{HistoryEntry}
 use Rattle.epoch_rule.specs.Values.{NoteValue}
 use Rattle.epoch_rule.specs.Wrote.{longer}
 use Rattle.epoch_rule.proofs.SeatSteps.{longer_cases}
-use Rattle.race_actors.specs.declared.blocks.BlockActor.{BlockActor}
-use Rattle.race_actors.specs.declared.blocks.BlockActor.TheVariants.{Desk, Pass, Gone}
+use Rattle.race_block.specs.declared.blocks.BlockActor.{BlockActor}
+use Rattle.race_block.specs.declared.blocks.BlockActor.TheVariants.{Desk, Pass, Gone}
 use Rattle.atomic_table.specs.Seated.{TableId}
 use Rattle.mem_base.specs.machine.Records.{Clerk}
 use Rattle.generation.specs.Published.{Published}
 use Rattle.epoch_rule.specs.Values.{PassValue}
 use Rattle.pass_lines.specs.Doing.{Grew, IsInItsGeneration}
-use Rattle.race_actors.specs.declared.desks.DeskActor.{DeskActor}
-use Rattle.race_actors.specs.declared.passes.PassActor.{PassActor}
-use Rattle.race_actors.specs.declared.tasks.BlockLine.{BlockLine}
-use Rattle.race_actors.specs.declared.tasks.LineGot.{LineGot}
-use Rattle.race_actors.specs.Blocks.{CanAct, HasActed}
-use Rattle.race_actors.specs.Desks.{HasHeard}
-use Rattle.race_actors.specs.Lines.{HaveRun}
-use Rattle.race_actors.specs.Lines as passes
-use Rattle.race_actors.proofs.StepLaws.{stays_inside}
+use Rattle.race_block.specs.declared.desks.DeskActor.{DeskActor}
+use Rattle.race_block.specs.declared.passes.PassActor.{PassActor}
+use Rattle.race_block.specs.declared.tasks.BlockLine.{BlockLine}
+use Rattle.race_block.specs.declared.tasks.LineGot.{LineGot}
+use Rattle.race_block.specs.Blocks.{CanAct, HasActed}
+use Rattle.race_block.specs.Desks.{HasHeard}
+use Rattle.race_block.specs.Lines.{HaveRun}
+use Rattle.race_block.specs.Lines as passes
+use Rattle.race_block.proofs.StepLaws.{stays_inside}
 use Rattle.race_block.specs.Joined.{HasJoined, HasJoinedPass, HasMet, HasMetPass, HasTold, IsHeard, IsOf, IsVcpuOf}
 use Rattle.race_block.specs.Joined.{clerk_of, new_clerk, without_clerk}
 

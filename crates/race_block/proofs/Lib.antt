@@ -1,1 +1,5 @@
+pub mod StepLaws
+pub mod KeptLaws
+pub mod DeskLaws
+pub mod DeskRunLaws
 pub mod JoinLaws

@@ -6,13 +6,13 @@ use Rattle.atomic_table.specs.Seated.{TableId}
 use Rattle.mem_base.specs.declared.machine.events.HistoryEntry.{HistoryEntry}
 use Rattle.mem_base.specs.machine.Records.{Clerk}
 use Rattle.pass_lines.specs.Doing.{Grew}
-use Rattle.race_actors.specs.declared.blocks.BlockActor.{BlockActor}
-use Rattle.race_actors.specs.declared.blocks.BlockActor.TheVariants.{Desk, Pass, Gone}
-use Rattle.race_actors.specs.declared.desks.DeskActor.{DeskActor}
-use Rattle.race_actors.specs.declared.passes.PassActor.{PassActor}
-use Rattle.race_actors.specs.Desks.{AreNotesOf, HasHeard}
-use Rattle.race_actors.specs.Desks as desks
-use Rattle.race_actors.specs.Lines as passes
+use Rattle.race_block.specs.declared.blocks.BlockActor.{BlockActor}
+use Rattle.race_block.specs.declared.blocks.BlockActor.TheVariants.{Desk, Pass, Gone}
+use Rattle.race_block.specs.declared.desks.DeskActor.{DeskActor}
+use Rattle.race_block.specs.declared.passes.PassActor.{PassActor}
+use Rattle.race_block.specs.Desks.{AreNotesOf, HasHeard}
+use Rattle.race_block.specs.Desks as desks
+use Rattle.race_block.specs.Lines as passes
 
 -- the virtual CPU of an actor, or the notes of its orders, are of this cabinet
 abbrev pub IsOf : TableId → BlockActor → Type 0

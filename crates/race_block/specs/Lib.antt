@@ -1,1 +1,5 @@
+pub mod Lines
+pub mod Desks
+pub mod Blocks
+pub mod Laws
 pub mod Joined

@@ -3,16 +3,16 @@ ghost use Rattle.std.specs.Prelude.{◌≡◌, ℕ, ◌<◌, ◌≤◌, [], leng
 ghost use Rattle.mem_base.specs.machine.Records.{Closes};
 ghost use Rattle.epoch_rule.specs.Rule.{IsLegal};
 ghost use Rattle.desk_lock.specs.Records.{IsLater, later_entries};
-ghost use Rattle.race_actors.specs.Blocks.{CanAct};
-ghost use Rattle.race_actors.specs.Desks.{AreNotesOf, HasHeard};
+ghost use Rattle.race_block.specs.Blocks.{CanAct};
+ghost use Rattle.race_block.specs.Desks.{AreNotesOf, HasHeard};
 ghost use Rattle.race_block.specs.Joined.{HasJoined, HasMet, HasTold, IsHeard, IsNew, IsOf, IsVcpuOf, Noted, clerk_of, without_clerk};
 
+use crate::blocks::{BlockActor, act_all};
 use desk_lock::{Clerk, DeskLock, Naming, Record};
 use epoch_rule::Note;
 use generation::Generation;
 use mem_base::Differs;
 use outside::Gate;
-use race_actors::{BlockActor, act_all};
 use std::alloc::Global;
 use std::mem;
 use std::sync::Wait;

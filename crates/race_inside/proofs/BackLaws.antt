@@ -16,12 +16,12 @@ use Rattle.generation.specs.Published.{Published}
 use Rattle.epoch_rule.specs.Values.{PassValue}
 use Rattle.pass_lines.specs.Doing.{IsInItsGeneration, state_seen}
 use Rattle.desk_lock.specs.Records.{IsLater, RecordState}
-use Rattle.race_level.specs.Levels.{HasMet, IsHeard, IsOfCabinet}
-use Rattle.race_level.specs.Ready.{AreReady}
+use Rattle.race_outside.specs.Levels.{HasMet, IsHeard, IsOfCabinet}
+use Rattle.race_outside.specs.Ready.{AreReady}
 use Rattle.view_laws.proofs.Tests.{true_is_not_false}
 use Rattle.race_phases.specs.Plain.{has_lines}
-use Rattle.race_actors.specs.declared.blocks.BlockActor.{BlockActor}
-use Rattle.race_actors.specs.declared.blocks.BlockActor.TheVariants.{Desk, Pass, Gone}
+use Rattle.race_block.specs.declared.blocks.BlockActor.{BlockActor}
+use Rattle.race_block.specs.declared.blocks.BlockActor.TheVariants.{Desk, Pass, Gone}
 use Rattle.race_inside.specs.Seats.{AreActorsOf, AreBack, AreSeats, ComeBack, HaveSeatOf, IsBack, TakesCpu, acting, idle}
 use Rattle.race_inside.proofs.SeatLists.{last_actor, last_seat, one_acts, one_waits, others_act, others_wait}
 

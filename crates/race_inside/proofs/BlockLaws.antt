@@ -18,13 +18,13 @@ use Rattle.epoch_rule.specs.Values.{PassValue}
 use Rattle.race_laws.proofs.StoppedEnds.{race_goes_on}
 use Rattle.desk_lock.specs.Records.{IsLater, RecordState, later_entries}
 use Rattle.race_phases.specs.Plain.{has_lines}
-use Rattle.race_actors.specs.declared.blocks.BlockActor.{BlockActor}
-use Rattle.race_actors.specs.Blocks.{CanAct}
+use Rattle.race_block.specs.declared.blocks.BlockActor.{BlockActor}
+use Rattle.race_block.specs.Blocks.{CanAct}
 use Rattle.race_block.specs.Joined.{HasJoined}
-use Rattle.race_level.specs.Levels.{HasMet}
+use Rattle.race_outside.specs.Levels.{HasMet}
 use Rattle.race_outside.specs.Outside.{StepsOn, StopsIn, WritesOn, stand_of}
-use Rattle.race_joins.specs.Starts.{AreAtStart}
-use Rattle.race_joins.specs.Ran.{HasRunBlock, block_text, is_out_of_memory, known_after_block}
+use Rattle.race_inside.specs.Starts.{AreAtStart}
+use Rattle.race_inside.specs.Ran.{HasRunBlock, block_text, is_out_of_memory, known_after_block}
 use Rattle.race_inside.specs.Blocks.{HasRunAll}
 use Rattle.race_inside.specs.Seats.{AreSeated, ComeBack, acting, known_now}
 use Rattle.race_inside.specs.Texts.{actors_said, names_now}

@@ -16,18 +16,18 @@ use Rattle.generation.specs.Published.{Published}
 use Rattle.pass_lines.specs.Doing.{IsInItsGeneration, state_seen}
 use Rattle.pass_lines.proofs.EntryLaws.{state_then}
 use Rattle.desk_lock.specs.Records.{RecordState}
-use Rattle.race_actors.specs.declared.blocks.BlockActor.{BlockActor}
-use Rattle.race_actors.specs.declared.blocks.BlockActor.TheVariants.{Desk, Pass, Gone}
-use Rattle.race_actors.specs.declared.passes.PassActor.{PassActor}
-use Rattle.race_actors.specs.declared.tasks.BlockLine.{BlockLine}
-use Rattle.race_actors.specs.declared.tasks.LineGot.{LineGot}
-use Rattle.race_actors.specs.Blocks.{CanAct}
-use Rattle.race_actors.specs.Laws.{AreTasksOf, HasKept}
-use Rattle.race_actors.specs.Lines.{HaveRun}
-use Rattle.race_actors.proofs.KeptLaws.{passes_keep_lines}
+use Rattle.race_block.specs.declared.blocks.BlockActor.{BlockActor}
+use Rattle.race_block.specs.declared.blocks.BlockActor.TheVariants.{Desk, Pass, Gone}
+use Rattle.race_block.specs.declared.passes.PassActor.{PassActor}
+use Rattle.race_block.specs.declared.tasks.BlockLine.{BlockLine}
+use Rattle.race_block.specs.declared.tasks.LineGot.{LineGot}
+use Rattle.race_block.specs.Blocks.{CanAct}
+use Rattle.race_block.specs.Laws.{AreTasksOf, HasKept}
+use Rattle.race_block.specs.Lines.{HaveRun}
+use Rattle.race_block.proofs.KeptLaws.{passes_keep_lines}
 use Rattle.race_block.specs.Joined.{HasJoined, HasJoinedPass}
-use Rattle.race_joins.specs.Starts.{AreAtStart, IsAtStart, PassStarts}
-use Rattle.race_joins.specs.Ran.{actor_text, actors_text, known_after_block}
+use Rattle.race_inside.specs.Starts.{AreAtStart, IsAtStart, PassStarts}
+use Rattle.race_inside.specs.Ran.{actor_text, actors_text, known_after_block}
 use Rattle.race_inside.specs.Seats.{AreActorsOf, HaveSeatOf, IsKnown, IsSeatOf, SeatsDesk, acting, known_now}
 use Rattle.race_inside.specs.Texts.{actor_said, actors_said, lines_said, names_now}
 use Rattle.race_inside.proofs.TextLaws.{lines_same}

@@ -1,3 +1,10 @@
+pub mod ListLaws
+pub mod StartLaws
+pub mod DeskLaws
+pub mod PassLaws
+pub mod EndLaws
+pub mod PhaseLaws
+pub mod PhaseTextLaws
 pub mod TaskLaws
 pub mod LineLists
 pub mod SeatLists

@@ -6,10 +6,10 @@ use Rattle.std.proofs.lemmas.List.{at_drop_more, map_push}
 use Rattle.mem_base.specs.script.Scripts.{Line}
 use Rattle.mem_base.specs.script.Tasks.{Known}
 use Rattle.mem_base.specs.script.Race.{actor_number, block, desk_number, lines_by}
-use Rattle.race_actors.specs.declared.desks.DeskLine.{DeskLine}
-use Rattle.race_actors.specs.Desks.{line_meant, lines_meant}
-use Rattle.race_actors.specs.declared.tasks.BlockLine.{BlockLine}
-use Rattle.race_actors.specs.Laws.{AreTasksOf}
+use Rattle.race_block.specs.declared.desks.DeskLine.{DeskLine}
+use Rattle.race_block.specs.Desks.{line_meant, lines_meant}
+use Rattle.race_block.specs.declared.tasks.BlockLine.{BlockLine}
+use Rattle.race_block.specs.Laws.{AreTasksOf}
 use Rattle.race_inside.specs.Rooms.{IsTaskOf}
 
 -- whatever the tasks of the lines that are left are, these and they are the tasks of all

@@ -13,15 +13,15 @@ use Rattle.generation.specs.Published.{Published}
 use Rattle.epoch_rule.specs.Values.{PassValue}
 use Rattle.pass_lines.specs.Doing.{IsInItsGeneration}
 use Rattle.desk_lock.specs.Records.{RecordState}
-use Rattle.race_level.specs.Ready.{AreReady}
-use Rattle.race_actors.specs.declared.blocks.BlockActor.{BlockActor}
-use Rattle.race_actors.specs.declared.blocks.BlockActor.TheVariants.{Desk, Pass, Gone}
-use Rattle.race_actors.specs.declared.passes.PassActor.{PassActor}
-use Rattle.race_actors.specs.declared.tasks.BlockLine.{BlockLine}
-use Rattle.race_actors.specs.Blocks.{CanAct}
-use Rattle.race_actors.specs.Laws.{AreTasksOf}
-use Rattle.race_actors.specs.Lines.{FitsLine}
-use Rattle.race_joins.specs.Starts.{AreAtStart, PassStarts}
+use Rattle.race_outside.specs.Ready.{AreReady}
+use Rattle.race_block.specs.declared.blocks.BlockActor.{BlockActor}
+use Rattle.race_block.specs.declared.blocks.BlockActor.TheVariants.{Desk, Pass, Gone}
+use Rattle.race_block.specs.declared.passes.PassActor.{PassActor}
+use Rattle.race_block.specs.declared.tasks.BlockLine.{BlockLine}
+use Rattle.race_block.specs.Blocks.{CanAct}
+use Rattle.race_block.specs.Laws.{AreTasksOf}
+use Rattle.race_block.specs.Lines.{FitsLine}
+use Rattle.race_inside.specs.Starts.{AreAtStart, PassStarts}
 use Rattle.race_inside.specs.Rooms.{AreWorksOf, HasLines, IsRoomFor, IsWorkOf}
 use Rattle.race_inside.specs.Seats.{AreSeated, AreSeats, AreSeatsOf, HaveSeats, IsNewActor, IsSeatOf, SeatsDesk, SeatsPass, acting, idle}
 use Rattle.race_inside.specs.declared.rooms.PassWork.{PassWork}

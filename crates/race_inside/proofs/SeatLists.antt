@@ -10,8 +10,8 @@ use Rattle.mem_base.specs.declared.machine.events.HistoryEntry.{HistoryEntry}
 use Rattle.mem_base.specs.script.Tasks.{Known}
 use Rattle.desk_lock.specs.Records.{RecordState}
 use Rattle.race_phases.specs.Plain.{has_lines}
-use Rattle.race_actors.specs.declared.blocks.BlockActor.{BlockActor}
-use Rattle.race_joins.specs.Starts.{AreAtStart, IsAtStart}
+use Rattle.race_block.specs.declared.blocks.BlockActor.{BlockActor}
+use Rattle.race_inside.specs.Starts.{AreAtStart, IsAtStart}
 use Rattle.race_inside.specs.Seats.{AreActorsOf, AreSeats, HaveSeatOf, IsSeatOf, acting, idle}
 
 -- the first n + 1 numbers

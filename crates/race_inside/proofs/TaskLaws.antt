@@ -17,10 +17,10 @@ use Rattle.race_lines.specs.declared.tasks.LineTask.{LineTask}
 use Rattle.race_lines.specs.declared.tasks.LineTask.TheVariants.{Idle, Ordered, Shown, Found, Watched, Unwatched, Entered, Left, Read, Written, Copied}
 use Rattle.race_lines.specs.declared.tasks.Refused.{Refused}
 use Rattle.race_lines.specs.LineTasks.{Resolves}
-use Rattle.race_actors.specs.declared.tasks.PassTask.{PassTask}
-use Rattle.race_actors.specs.declared.tasks.PassTask.TheVariants as passes
-use Rattle.race_actors.specs.Laws.{StandsFor}
-use Rattle.race_actors.specs.Lines.{FitsTask}
+use Rattle.race_block.specs.declared.tasks.PassTask.{PassTask}
+use Rattle.race_block.specs.declared.tasks.PassTask.TheVariants as passes
+use Rattle.race_block.specs.Laws.{StandsFor}
+use Rattle.race_block.specs.Lines.{FitsTask}
 use Rattle.race_inside.specs.Rooms.{IsOfPass, copy_room}
 
 -- a task of a pass, which copies no more than there is room for

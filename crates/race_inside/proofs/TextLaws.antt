@@ -10,13 +10,13 @@ use Rattle.mem_base.specs.script.Scripts.{Line}
 use Rattle.mem_base.specs.script.Tasks.{Known, task_of}
 use Rattle.generation.specs.Published.{Published}
 use Rattle.epoch_rule.specs.Values.{PassValue}
-use Rattle.race_actors.specs.declared.tasks.PassTask.{PassTask}
-use Rattle.race_actors.specs.declared.tasks.PassTask.TheVariants.{Refused, Order, Enter, Leave, Read, Write, Copy}
-use Rattle.race_actors.specs.declared.tasks.BlockLine.{BlockLine}
-use Rattle.race_actors.specs.declared.tasks.LineGot.{LineGot}
-use Rattle.race_actors.specs.declared.tasks.LineGot.TheVariants as gots
-use Rattle.race_actors.specs.Laws.{AreTasksOf, StandsFor, said_of, saids, taken_by, why_of}
-use Rattle.race_actors.specs.Lines.{HasDone, HaveRun}
+use Rattle.race_block.specs.declared.tasks.PassTask.{PassTask}
+use Rattle.race_block.specs.declared.tasks.PassTask.TheVariants.{Refused, Order, Enter, Leave, Read, Write, Copy}
+use Rattle.race_block.specs.declared.tasks.BlockLine.{BlockLine}
+use Rattle.race_block.specs.declared.tasks.LineGot.{LineGot}
+use Rattle.race_block.specs.declared.tasks.LineGot.TheVariants as gots
+use Rattle.race_block.specs.Laws.{AreTasksOf, StandsFor, said_of, saids, taken_by, why_of}
+use Rattle.race_block.specs.Lines.{HasDone, HaveRun}
 use Rattle.race_inside.specs.Texts.{line_said, lines_said}
 
 -- a line that was done with this result

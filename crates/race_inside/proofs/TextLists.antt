@@ -9,9 +9,9 @@ use Rattle.mem_base.specs.machine.Records.{Clerk}
 use Rattle.mem_base.specs.script.Named.{Names}
 use Rattle.mem_base.specs.script.RaceLines.{Said, said_text}
 use Rattle.mem_base.specs.script.Spelling.{Text}
-use Rattle.race_actors.specs.declared.blocks.BlockActor.{BlockActor}
-use Rattle.race_actors.specs.declared.tasks.BlockLine.{BlockLine}
-use Rattle.race_actors.specs.declared.tasks.LineGot.{LineGot}
+use Rattle.race_block.specs.declared.blocks.BlockActor.{BlockActor}
+use Rattle.race_block.specs.declared.tasks.BlockLine.{BlockLine}
+use Rattle.race_block.specs.declared.tasks.LineGot.{LineGot}
 use Rattle.race_inside.specs.Texts.{actors_said, lines_said}
 
 -- lines of which none was done, and actors without a clerk, write nothing

@@ -4,7 +4,7 @@ use Rattle.mem_base.specs.declared.machine.records.Differs.{Differs}
 use Rattle.mem_base.specs.machine.Records.{Clerk, Closes}
 use Rattle.epoch_rule.specs.Rule.{IsLegal}
 use Rattle.desk_lock.specs.Records.{IsLater, RecordState, later_entries}
-use Rattle.race_actors.specs.declared.blocks.BlockActor.{BlockActor}
+use Rattle.race_block.specs.declared.blocks.BlockActor.{BlockActor}
 use Rattle.race_block.specs.Joined.{HasJoined}
 
 -- the actors did their lines, or the first of them: what each is then, what its clerk wrote down, and how that stands to the record

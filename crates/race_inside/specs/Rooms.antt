@@ -8,11 +8,11 @@ use Rattle.race_lines.specs.declared.tasks.LineTask.{LineTask}
 use Rattle.race_lines.specs.declared.tasks.LineTask.TheVariants.{Ordered, Entered, Left, Read, Written, Copied}
 use Rattle.race_lines.specs.declared.tasks.Refused.{Refused}
 use Rattle.race_phases.specs.Plain.{has_lines}
-use Rattle.race_actors.specs.declared.tasks.BlockLine.{BlockLine}
-use Rattle.race_actors.specs.Desks as desks
-use Rattle.race_actors.specs.Desks.{lines_meant}
-use Rattle.race_actors.specs.Laws.{AreTasksOf, StandsFor}
-use Rattle.race_actors.specs.Lines as passes
+use Rattle.race_block.specs.declared.tasks.BlockLine.{BlockLine}
+use Rattle.race_block.specs.Desks as desks
+use Rattle.race_block.specs.Desks.{lines_meant}
+use Rattle.race_block.specs.Laws.{AreTasksOf, StandsFor}
+use Rattle.race_block.specs.Lines as passes
 use Rattle.race_inside.specs.declared.rooms.PassWork.{PassWork}
 use Rattle.race_inside.specs.declared.rooms.PassWork.TheVariants.{Nothing, Lines}
 use Rattle.race_inside.specs.declared.rooms.Room.{Room}

@@ -12,14 +12,14 @@ use Rattle.epoch_rule.specs.Values.{PassValue}
 use Rattle.pass_lines.specs.Doing.{IsInItsGeneration}
 use Rattle.desk_lock.specs.Records.{RecordState}
 use Rattle.race_phases.specs.Plain.{has_lines}
-use Rattle.race_actors.specs.declared.blocks.BlockActor.{BlockActor}
-use Rattle.race_actors.specs.declared.blocks.BlockActor.TheVariants.{Desk, Pass}
-use Rattle.race_actors.specs.declared.passes.PassActor.{PassActor}
-use Rattle.race_actors.specs.declared.tasks.BlockLine.{BlockLine}
-use Rattle.race_actors.specs.Blocks.{CanAct}
-use Rattle.race_actors.specs.Desks as desks
+use Rattle.race_block.specs.declared.blocks.BlockActor.{BlockActor}
+use Rattle.race_block.specs.declared.blocks.BlockActor.TheVariants.{Desk, Pass}
+use Rattle.race_block.specs.declared.passes.PassActor.{PassActor}
+use Rattle.race_block.specs.declared.tasks.BlockLine.{BlockLine}
+use Rattle.race_block.specs.Blocks.{CanAct}
+use Rattle.race_block.specs.Desks as desks
 use Rattle.race_block.specs.Joined.{new_clerk}
-use Rattle.race_joins.specs.Starts.{AreAtStart, DeskStarts}
+use Rattle.race_inside.specs.Starts.{AreAtStart, DeskStarts}
 use Rattle.race_inside.specs.declared.rooms.PassWork.{PassWork}
 use Rattle.race_inside.specs.declared.rooms.PassWork.TheVariants.{Nothing, Lines}
 use Rattle.race_inside.specs.declared.seats.Seated.{Seated}

@@ -12,14 +12,14 @@ use Rattle.mem_base.specs.script.RaceLines.{Said, do_text, entry_at, said_text, 
 use Rattle.mem_base.specs.script.Tasks.{Known}
 use Rattle.pass_lines.specs.Texts.{answer_text}
 use Rattle.race_lines.specs.LineTasks.{refused_text}
-use Rattle.race_actors.specs.declared.blocks.BlockActor.{BlockActor}
-use Rattle.race_actors.specs.declared.blocks.BlockActor.TheVariants.{Desk, Pass, Gone}
-use Rattle.race_actors.specs.declared.tasks.BlockLine.{BlockLine}
-use Rattle.race_actors.specs.declared.tasks.LineGot.{LineGot}
-use Rattle.race_actors.specs.declared.tasks.LineGot.TheVariants as gots
-use Rattle.race_actors.specs.declared.tasks.PassTask.{PassTask}
-use Rattle.race_actors.specs.declared.tasks.PassTask.TheVariants.{Refused}
-use Rattle.race_actors.specs.Laws.{taken_by}
+use Rattle.race_block.specs.declared.blocks.BlockActor.{BlockActor}
+use Rattle.race_block.specs.declared.blocks.BlockActor.TheVariants.{Desk, Pass, Gone}
+use Rattle.race_block.specs.declared.tasks.BlockLine.{BlockLine}
+use Rattle.race_block.specs.declared.tasks.LineGot.{LineGot}
+use Rattle.race_block.specs.declared.tasks.LineGot.TheVariants as gots
+use Rattle.race_block.specs.declared.tasks.PassTask.{PassTask}
+use Rattle.race_block.specs.declared.tasks.PassTask.TheVariants.{Refused}
+use Rattle.race_block.specs.Laws.{taken_by}
 
 -- the refusal of a line by one of its names
 abbrev pub refusal : ℕ → PassTask → Text

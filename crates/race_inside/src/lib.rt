@@ -3,13 +3,16 @@
 //! A runner of a race has the record of the desk, the sixteen virtual CPUs and what is known of names. For the block, those that have
 //! lines become actors: the desk with what is known, and each pass with its virtual CPU and the tasks of its lines. After the block the
 //! runner has the same again, and the text of the block. The layer above may rely on it that the race so far goes on by just the block
-//! and its text; that all have seen the same history then; and out of memory that the race could have gone on.
+//! and its text; that all have seen the same history then; and out of memory that the race could have gone on. The laws of a block take
+//! what stands before it and what its run leaves.
 #![tactic(auto)]
 
 mod blocks;
+mod laws;
 mod rooms;
 mod seats;
 mod tasks;
 mod texts;
 
 pub use blocks::block;
+pub use laws::{blocks_may_stop, blocks_step_on};

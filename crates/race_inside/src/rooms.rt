@@ -8,7 +8,7 @@ use crate::tasks::{lines_of_desk, lines_of_pass};
 use desk_lock::Clerk;
 use io_window::Bounce;
 use mem_base::{Command, MOST_PASSES};
-use race_actors::{BlockActor, BlockLine, DeskLine};
+use race_block::{BlockActor, BlockLine, DeskLine};
 use race_lines::KnownNames;
 use race_phases::has_line;
 use std::alloc::{AllocError, Global};

@@ -5,14 +5,14 @@ ghost use Rattle.mem_base.specs.script.Race.{actor_number, block, desk_number, l
 ghost use Rattle.mem_base.specs.script.Tasks.{task_of};
 ghost use Rattle.run_laws.specs.Fitting.{AreFitting, FitsCommand};
 ghost use Rattle.race_lines.specs.LineTasks.{resolved};
-ghost use Rattle.race_actors.specs.Desks as desks;
-ghost use Rattle.race_actors.specs.Desks.{line_meant, lines_meant};
-ghost use Rattle.race_actors.specs.Laws.{AreTasksOf, StandsFor};
-ghost use Rattle.race_actors.specs.Lines as passes;
+ghost use Rattle.race_block.specs.Desks as desks;
+ghost use Rattle.race_block.specs.Desks.{line_meant, lines_meant};
+ghost use Rattle.race_block.specs.Laws.{AreTasksOf, StandsFor};
+ghost use Rattle.race_block.specs.Lines as passes;
 ghost use Rattle.race_inside.specs.Rooms.{IsOfPass, IsTaskOf, copy_room};
 
 use mem_base::Command;
-use race_actors::{BlockLine, DeskLine, PassTask};
+use race_block::{BlockLine, DeskLine, PassTask};
 use race_lines::{KnownNames, LineTask, ResolvedTask, task_of};
 use race_phases::{DESK_NUMBER, actor_number};
 use std::alloc::{AllocError, Global};

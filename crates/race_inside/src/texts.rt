@@ -4,8 +4,8 @@ ghost use Rattle.std.specs.List.{list_any};
 ghost use Rattle.mem_base.specs.script.Race.{differs_line};
 ghost use Rattle.mem_base.specs.script.RaceLines.{entry_at, said_text};
 ghost use Rattle.pass_lines.specs.Texts.{answer_text};
-ghost use Rattle.race_actors.specs.Laws.{taken_by};
-ghost use Rattle.race_joins.specs.Ran.{is_out_of_memory};
+ghost use Rattle.race_block.specs.Laws.{taken_by};
+ghost use Rattle.race_inside.specs.Ran.{is_out_of_memory};
 ghost use Rattle.race_inside.specs.Seats.{IsKnown};
 ghost use Rattle.race_inside.specs.Texts.{actor_said, actors_said, line_said, lines_said, names_now, ordered_said, refusal};
 ghost use Rattle.script_names.specs.Tables.{printed_names};
@@ -13,7 +13,7 @@ ghost use Rattle.script_names.specs.Tables.{printed_names};
 use desk_lock::{Clerk, Record};
 use mem_base::{DeskEntry, Differs, ListenerEvent, ListenerId, PassId};
 use pass_lines::LineAnswer;
-use race_actors::{BlockActor, BlockLine, LineGot, PassTask};
+use race_block::{BlockActor, BlockLine, LineGot, PassTask};
 use race_lines::{
     KnownNames, LineSaid, add_differs_line, add_do_answer, add_name_refused, add_told_lines,
     delivered_between,

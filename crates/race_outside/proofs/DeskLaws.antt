@@ -39,10 +39,10 @@ use Rattle.race_lines.specs.declared.tasks.Refused.{Refused}
 use Rattle.race_lines.specs.DeskLines.{desk_line_by, entry_with}
 use Rattle.race_lines.specs.LineTasks.{Resolves, name_made, resolved}
 use Rattle.race_lines.proofs.SaidLaws.{lines_go_by_answers}
-use Rattle.race_steps.specs.Steps.{HasGiven, line_given, orders_of, stand_with}
-use Rattle.race_steps.proofs.StepLaws.{desk_lines_step}
-use Rattle.race_level.specs.Settling.{AreLevel, HaveMet}
-use Rattle.race_level.proofs.SettlingLaws.{desk_settles}
+use Rattle.race_outside.specs.Steps.{HasGiven, line_given, orders_of, stand_with}
+use Rattle.race_outside.proofs.StepLaws.{desk_lines_step}
+use Rattle.race_outside.specs.Settling.{AreLevel, HaveMet}
+use Rattle.race_outside.proofs.SettlingLaws.{desk_settles}
 use Rattle.view_laws.proofs.Tests.{none_is_not_some}
 use Rattle.race_outside.specs.declared.desks.Asked.{Asked}
 use Rattle.race_outside.specs.Asked.{FitsOwn, IsAsked, LooksAt, TakesOwn, entry_of_receipt, line_asked}

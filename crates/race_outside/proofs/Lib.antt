@@ -1,3 +1,8 @@
+pub mod LevelLists
+pub mod SettlingLaws
+pub mod ReadyLaws
+pub mod StepLaws
+pub mod LevelLaws
 pub mod DeskLaws
 pub mod StoppingLaws
 pub mod CopyLaws

@@ -53,13 +53,13 @@ use Rattle.race_lines.specs.declared.tasks.Refused.{Refused}
 use Rattle.race_lines.specs.DeskLines.{entry_with}
 use Rattle.race_lines.specs.LineTasks.{Resolves, name_made, refused_text, task_meant}
 use Rattle.race_lines.specs.PassLines.{said_of}
-use Rattle.race_steps.specs.Steps.{HasDone, stand_with}
-use Rattle.race_steps.proofs.StepLaws.{pass_lines_step}
-use Rattle.race_level.specs.Levels.{HasMet, IsHeard, IsOfCabinet}
-use Rattle.race_level.specs.Ready.{AreReady}
-use Rattle.race_level.specs.Settling.{AreLevel, HaveMet, OnePassMade, pass_at}
-use Rattle.race_level.proofs.SettlingLaws.{desk_settles, pass_settles}
-use Rattle.race_level.proofs.ReadyLaws.{have_met, ready_again}
+use Rattle.race_outside.specs.Steps.{HasDone, stand_with}
+use Rattle.race_outside.proofs.StepLaws.{pass_lines_step}
+use Rattle.race_outside.specs.Levels.{HasMet, IsHeard, IsOfCabinet}
+use Rattle.race_outside.specs.Ready.{AreReady}
+use Rattle.race_outside.specs.Settling.{AreLevel, HaveMet, OnePassMade, pass_at}
+use Rattle.race_outside.proofs.SettlingLaws.{desk_settles, pass_settles}
+use Rattle.race_outside.proofs.ReadyLaws.{have_met, ready_again}
 use Rattle.race_outside.specs.Outside.{StepsOn, StopsIn, WritesOn, stand_of}
 use Rattle.race_outside.specs.Passes.{Changed, DoesPassLine, HasActed, HasDoneLine, HasDoneNothing, HasOrdered, HasSettled, IsIdle, IsWritten, said_by}
 

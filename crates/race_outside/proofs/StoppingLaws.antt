@@ -32,8 +32,8 @@ use Rattle.race_lines.specs.declared.tasks.LineTask.{LineTask}
 use Rattle.race_lines.specs.declared.tasks.LineTask.TheVariants.{Idle, Ordered, Shown, Found, Watched, Unwatched, Entered, Left, Read, Written, Copied}
 use Rattle.race_lines.specs.declared.tasks.Refused.{Refused}
 use Rattle.race_lines.specs.LineTasks.{Resolves, name_made}
-use Rattle.race_level.specs.Settling.{AreLevel, HaveMet}
-use Rattle.race_level.proofs.SettlingLaws.{desk_settles}
+use Rattle.race_outside.specs.Settling.{AreLevel, HaveMet}
+use Rattle.race_outside.proofs.SettlingLaws.{desk_settles}
 use Rattle.race_outside.specs.Asked.{StopsAsking, TakesOwn}
 use Rattle.race_outside.specs.Outside.{StepsOn, StopsIn, WritesOn, stand_of}
 

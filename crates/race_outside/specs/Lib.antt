@@ -1,3 +1,8 @@
+pub mod Levels
+pub mod Settling
+pub mod Ready
+pub mod Steps
+pub mod ActorLevels
 pub mod Outside
 pub mod Asked
 pub mod Passes

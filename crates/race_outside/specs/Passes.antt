@@ -24,7 +24,7 @@ use Rattle.race_lines.specs.declared.tasks.LineTask.TheVariants.{Ordered, Entere
 use Rattle.race_lines.specs.declared.tasks.Refused.{Refused}
 use Rattle.race_lines.specs.LineTasks.{task_meant}
 use Rattle.race_lines.specs.PassLines.{said_of}
-use Rattle.race_level.specs.Levels.{HasMet, IsHeard}
+use Rattle.race_outside.specs.Levels.{HasMet, IsHeard}
 
 -- what is asked of a task: the bounce has room for what it copies, and a notifier that is to be taken is one of those that there are
 abbrev pub FitsTask : ℕ → Result LineTask Refused → Type 0

@@ -6,14 +6,14 @@ ghost use Rattle.mem_base.specs.script.RaceLines.{said_text};
 ghost use Rattle.run_laws.specs.Fitting.{FitsCommand};
 ghost use Rattle.desk_lock.specs.Records.{IsLater};
 ghost use Rattle.race_lines.specs.DeskLines.{entry_got};
-ghost use Rattle.race_level.specs.Ready.{AreReady};
+ghost use Rattle.race_outside.specs.Ready.{AreReady};
 ghost use Rattle.race_outside.specs.Asked.{FitsOwn, IsAsked, LooksAt, StopsAsking, TakesOwn, entry_of_receipt};
 ghost use Rattle.race_outside.specs.Outside.{StepsOn, StopsIn};
 
+use crate::levels::meet_all;
 use desk_lock::{Receipt, Record};
 use generation::Generation;
 use mem_base::{Command, DeskOrder};
-use race_level::meet_all;
 use race_lines::{Answered, KnownNames, LineSaid, LineTask, ResolvedTask, task_of};
 use race_phases::DESK_NUMBER;
 use std::alloc::{AllocError, Global};

@@ -3,7 +3,7 @@ ghost use Rattle.std.specs.Prelude.{◌≡◌, ◌≤◌, OnErr, OnOk};
 ghost use Rattle.mem_base.specs.script.Race.{actor_number, alone, desk_number};
 ghost use Rattle.run_laws.specs.Fitting.{FitsCommand};
 ghost use Rattle.desk_lock.specs.Records.{IsLater};
-ghost use Rattle.race_level.specs.Ready.{AreReady};
+ghost use Rattle.race_outside.specs.Ready.{AreReady};
 ghost use Rattle.race_outside.specs.Outside.{StopsIn, WritesOn};
 
 use crate::desks::desk_line;

@@ -16,7 +16,7 @@ use Rattle.epoch_rule.specs.Values.{PassValue, WriterValue, first_free}
 use Rattle.epoch_rule.specs.Wrote.{IsNewPass}
 use Rattle.pass_lines.specs.Doing.{IsInItsGeneration}
 use Rattle.desk_lock.specs.Records.{RecordState}
-use Rattle.race_level.specs.Ready.{AreReady}
+use Rattle.race_outside.specs.Ready.{AreReady}
 
 -- the first of the passes are out, and the others are not
 abbrev pub first_out : ℕ → ℕ → List Bool

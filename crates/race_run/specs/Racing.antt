@@ -12,7 +12,7 @@ use Rattle.race_laws.specs.SoFar.{IsRaceSoFar}
 use Rattle.race_laws.specs.Outside.{IsFault}
 use Rattle.config_desk.specs.Configs.{ConfigState}
 use Rattle.desk_lock.specs.Records.{IsLater}
-use Rattle.race_level.specs.Ready.{AreReady}
+use Rattle.race_outside.specs.Ready.{AreReady}
 use Rattle.race_outside.specs.Outside.{sizes_of, stand_of}
 use Rattle.script_run.specs.declared.faults.RunFault.{RunFault}
 use Rattle.script_run.specs.declared.faults.RunFault.TheVariants.{Write}

@@ -5,8 +5,8 @@ ghost use Rattle.mem_base.specs.map.Limits.{most_passes};
 ghost use Rattle.mem_base.specs.machine.Actors.{own_entries};
 ghost use Rattle.generation.specs.Published.{Published};
 ghost use Rattle.epoch_rule.specs.Values.{PassValue};
-ghost use Rattle.race_level.specs.Levels.{IsOfCabinet};
-ghost use Rattle.race_level.specs.Ready.{AreReady};
+ghost use Rattle.race_outside.specs.Levels.{IsOfCabinet};
+ghost use Rattle.race_outside.specs.Ready.{AreReady};
 ghost use Rattle.race_run.specs.Ends.{HasClosed, HasComeIn};
 
 use config_desk::Config;

@@ -1,6 +1,6 @@
 use Rattle.std.proofs.Common.{◌≡◌, ℕ, ◌<◌, ◌≤◌, get_or, length}
 use Rattle.desk_lock.specs.Records.{IsLater}
-use Rattle.race_actors.specs.declared.blocks.BlockActor.{BlockActor}
+use Rattle.race_block.specs.declared.blocks.BlockActor.{BlockActor}
 use Rattle.race_block.specs.Joined.{HasTold}
 use Rattle.race_block.proofs.joining.hear_all.Given as goal
 

@@ -1,6 +1,6 @@
 use Rattle.std.proofs.Common.{◌≡◌, ℕ, ◌<◌, ◌≤◌, get_or, length, map, take}
 use Rattle.std.specs.Prelude.{vec_capacity}
-use Rattle.race_actors.specs.declared.blocks.BlockActor.{BlockActor}
+use Rattle.race_block.specs.declared.blocks.BlockActor.{BlockActor}
 use Rattle.race_block.specs.Joined.{clerk_of, without_clerk}
 use Rattle.race_block.proofs.joining.take_clerks.Given as goal
 

@@ -1,11 +1,11 @@
 use Rattle.std.proofs.Common.{rules, ◌≡◌, None, length, All, sym, subst, ◌∙◌}
 use Rattle.mem_base.specs.script.Race.{block}
 use Rattle.desk_lock.specs.Records.{RecordState}
-use Rattle.race_actors.specs.Blocks.{CanAct}
-use Rattle.race_level.specs.Ready.{AreReady}
+use Rattle.race_block.specs.Blocks.{CanAct}
+use Rattle.race_outside.specs.Ready.{AreReady}
 use Rattle.race_outside.specs.Outside.{StopsIn}
-use Rattle.race_joins.specs.Ran.{HasRunBlock, known_after_block}
-use Rattle.race_joins.proofs.TextLaws.{blocks_may_stop, blocks_step_on}
+use Rattle.race_inside.specs.Ran.{HasRunBlock, known_after_block}
+use Rattle.race_inside.proofs.PhaseTextLaws.{blocks_may_stop, blocks_step_on}
 use Rattle.race_inside.specs.Seats.{IsKnown}
 use Rattle.race_inside.proofs.BackLaws.{all_heard, all_own, all_ready}
 use Rattle.race_inside.specs.Blocks.{HasRunAll}

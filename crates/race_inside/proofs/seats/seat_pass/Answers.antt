@@ -1,5 +1,5 @@
 use Rattle.std.proofs.Common.{◌≡◌, false, refl, sym, subst}
-use Rattle.race_actors.specs.declared.passes.PassActor.{PassActor}
+use Rattle.race_block.specs.declared.passes.PassActor.{PassActor}
 use Rattle.race_block.specs.Joined.{new_clerk}
 use Rattle.race_inside.specs.declared.rooms.PassWork.{PassWork}
 use Rattle.race_inside.specs.Seats.{SeatsPass}

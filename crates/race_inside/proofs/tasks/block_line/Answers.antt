@@ -1,5 +1,5 @@
 use Rattle.std.proofs.Common.{refl, subst}
-use Rattle.race_actors.specs.Laws.{StandsFor}
+use Rattle.race_block.specs.Laws.{StandsFor}
 use Rattle.race_inside.proofs.TaskLaws.{is_of_pass, task_fits}
 use Rattle.race_inside.proofs.tasks.block_line.Goals as goal
 

@@ -4,8 +4,8 @@ use Rattle.mem_base.specs.script.Scripts.{Line}
 use Rattle.mem_base.specs.script.Race.{actor_number, desk_number}
 use Rattle.mem_base.proofs.EveryLaws.{every_at}
 use Rattle.run_laws.specs.Fitting.{FitsCommand}
-use Rattle.race_actors.specs.declared.desks.DeskLine.{DeskLine}
-use Rattle.race_actors.specs.Desks.{FitsLine, line_meant}
+use Rattle.race_block.specs.declared.desks.DeskLine.{DeskLine}
+use Rattle.race_block.specs.Desks.{FitsLine, line_meant}
 use Rattle.race_inside.proofs.LineLists.{AreLinesSoFar, desk_more, next_left, not_the_desks}
 use Rattle.race_inside.proofs.tasks.lines_of_desk.Goals.{then-actor_number-eq-DESK_NUMBER+in_ok-push, else-actor_number-eq-DESK_NUMBER}
 use Rattle.race_inside.proofs.tasks.lines_of_desk.Goals as goal

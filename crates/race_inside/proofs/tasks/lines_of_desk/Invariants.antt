@@ -1,6 +1,6 @@
 use Rattle.std.proofs.Common.{◌≡◌, ◌++◌, All, drop}
 use Rattle.mem_base.specs.script.Race.{block, desk_number, lines_by}
-use Rattle.race_actors.specs.Desks.{FitsLine, lines_meant}
+use Rattle.race_block.specs.Desks.{FitsLine, lines_meant}
 use Rattle.race_inside.proofs.tasks.lines_of_desk.Given as goal
 
 abbrev pub invariant-loop-line : goal.invariant-loop-line

@@ -3,8 +3,8 @@ use Rattle.std.proofs.lemmas.List.Elements.{All-push}
 use Rattle.std.proofs.lemmas.List.{drop_all}
 use Rattle.mem_base.specs.script.Scripts.{Line}
 use Rattle.mem_base.specs.script.Race.{actor_number}
-use Rattle.race_actors.specs.declared.tasks.BlockLine.{BlockLine}
-use Rattle.race_actors.specs.Lines.{FitsLine}
+use Rattle.race_block.specs.declared.tasks.BlockLine.{BlockLine}
+use Rattle.race_block.specs.Lines.{FitsLine}
 use Rattle.race_inside.specs.Rooms.{copy_room}
 use Rattle.race_inside.proofs.LineLists.{AreTasksSoFar, all_so_far, next_left, not_mine, one_more}
 use Rattle.race_inside.proofs.tasks.lines_of_pass.Goals.{then-actor_number-who+in_ok-own_line+in_ok-push, else-actor_number-who}

@@ -1,5 +1,5 @@
 use Rattle.std.proofs.Common.{All, drop}
-use Rattle.race_actors.specs.Lines.{FitsLine}
+use Rattle.race_block.specs.Lines.{FitsLine}
 use Rattle.race_inside.specs.Rooms.{copy_room}
 use Rattle.race_inside.proofs.LineLists.{AreTasksSoFar}
 use Rattle.race_inside.proofs.tasks.lines_of_pass.Given as goal

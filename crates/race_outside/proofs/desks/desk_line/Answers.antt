@@ -8,7 +8,7 @@ use Rattle.mem_base.specs.script.Scripts.{Line}
 use Rattle.desk_lock.specs.Records.{RecordState}
 use Rattle.race_lines.specs.DeskLines.{desk_line_by}
 use Rattle.race_lines.specs.LineTasks.{resolved}
-use Rattle.race_level.proofs.ReadyLaws.{have_met}
+use Rattle.race_outside.proofs.ReadyLaws.{have_met}
 use Rattle.race_outside.specs.Asked.{line_asked}
 use Rattle.race_outside.specs.Outside.{StepsOn, StopsIn}
 use Rattle.race_outside.proofs.DeskLaws.{asked_steps}

@@ -1,4 +1,0 @@
-pub mod StepLaws
-pub mod KeptLaws
-pub mod DeskLaws
-pub mod DeskRunLaws

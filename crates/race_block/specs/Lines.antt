@@ -1,0 +1,101 @@
+-- What a pass does in a block, line by line.
+use Rattle.std.specs.Prelude.{◌≡◌, ℕ, ◌≤◌, false, List, [], ◌∷◌, ◌++◌, length, take}
+use mathlib.Core.List.{IsPrefix}
+use Rattle.std.specs.Prelude.{All}
+use Rattle.mem_base.specs.declared.machine.records.DeskOrder.{DeskOrder}
+use Rattle.mem_base.specs.access.AccessSteps.{reading, writing}
+use Rattle.mem_base.specs.machine.Records.{Clerk}
+use Rattle.mem_base.specs.script.Tasks.{Task, entered, left, accessed, copied}
+use Rattle.generation.specs.Published.{Published}
+use Rattle.epoch_rule.specs.Values.{PassValue}
+use Rattle.desk_lock.specs.declared.orders.Receipt.{Receipt}
+use Rattle.desk_lock.specs.Clerks.{wrote_down}
+use Rattle.desk_lock.specs.Receipts.{HasNotifier, IsReceipt}
+use Rattle.pass_lines.specs.declared.answers.LineAnswer.{LineAnswer}
+use Rattle.pass_lines.specs.Doing.{DoesLine, Grew, IsInItsGeneration}
+use Rattle.race_block.specs.declared.tasks.PassTask.{PassTask}
+use Rattle.race_block.specs.declared.tasks.PassTask.TheVariants.{Refused, Order, Enter, Leave, Read, Write, Copy}
+use Rattle.race_block.specs.declared.tasks.BlockLine.{BlockLine}
+use Rattle.race_block.specs.declared.tasks.LineGot.{LineGot}
+use Rattle.race_block.specs.declared.tasks.LineGot.TheVariants as gots
+use Rattle.race_block.specs.declared.passes.PassActor.{PassActor}
+
+-- what is asked of a task: the bounce has room for what it copies, and a notifier that is to be taken is one of those that there are
+abbrev pub FitsTask : ℕ → PassTask → Type 0
+FitsTask room (Order order) = HasNotifier order
+FitsTask room (Copy from addr len to to_addr) = len ≤ room
+FitsTask room task = Unit {0}
+
+abbrev pub FitsLine : ℕ → BlockLine → Type 0
+FitsLine room line = FitsTask room line.task
+
+-- An order was given: the pass has seen what its receipt's note tells of, made no entry and stays where it was, and the clerk wrote down
+-- what was got
+pub record HasOrdered (order : DeskOrder) (c : Clerk) (v : PassValue Published) (d : Clerk) (w : PassValue Published) : Type 0 where
+  pub receipt : Receipt
+  pub is : IsReceipt v.cabinet order receipt
+  pub grew : Grew v [] w
+  pub seen : IsPrefix receipt.note.seen w.seen
+  pub inside : IsInItsGeneration w
+  pub clerk : d ≡ wrote_down c order receipt
+
+-- the pass did what this task asks for
+pub record HasAnswered (task : Task) (c : Clerk) (v : PassValue Published) (got : LineGot) (d : Clerk) (w : PassValue Published) : Type 0 where
+  pub answer : LineAnswer
+  pub is : got ≡ gots.Answered answer
+  pub clerk : d ≡ c
+  pub does : DoesLine v task answer w
+
+-- a line was done, with what its clerk had written down and its pass was, and what both are after it
+abbrev pub HasDone : PassTask → Clerk → PassValue Published → LineGot → Clerk → PassValue Published → Type 0
+HasDone (Refused why) c v got d w = (got ≡ gots.Refused) × (d ≡ c) × (w ≡ v)
+HasDone (Order order) c v got d w = (got ≡ gots.Ordered) × HasOrdered order c v d w
+HasDone Enter c v got d w = HasAnswered entered c v got d w
+HasDone Leave c v got d w = HasAnswered left c v got d w
+HasDone (Read space addr len) c v got d w = HasAnswered (accessed space addr (reading len)) c v got d w
+HasDone (Write space addr bytes) c v got d w = HasAnswered (accessed space addr (writing bytes.now)) c v got d w
+HasDone (Copy from addr len to to_addr) c v got d w = HasAnswered (copied from addr len to to_addr) c v got d w
+
+-- the same, where what it got comes after what the lines before it got
+pub record HasStepped (line : BlockLine) (c : Clerk) (v : PassValue Published) (before : List LineGot) (d : Clerk) (w : PassValue Published)
+    (after : List LineGot) : Type 0 where
+  pub got : LineGot
+  pub done : HasDone line.task c v got d w
+  pub more : after ≡ before ++ got ∷ []
+
+-- lines were done one after another
+pub record ThenDone (Rest : Clerk → PassValue Published → List LineGot → Type 0) (line : BlockLine) (c : Clerk) (v : PassValue Published)
+    (all : List LineGot) : Type 0 where
+  pub got : LineGot
+  pub rest : List LineGot
+  pub clerk : Clerk
+  pub pass : PassValue Published
+  pub first : HasDone line.task c v got clerk pass
+  pub then : Rest clerk pass rest
+  pub is : all ≡ got ∷ rest
+
+abbrev pub HaveRun : List BlockLine → Clerk → PassValue Published → List LineGot → Clerk → PassValue Published → Type 0
+HaveRun [] c v all d w = (all ≡ []) × (d ≡ c) × (w ≡ v)
+HaveRun (line ∷ lines) c v all d w = ThenDone (λ e x rest. HaveRun lines e x rest d w) line c v all
+
+-- the first `at` of these lines were done
+pub record IsUnderway (xs : List BlockLine) (c : Clerk) (v : PassValue Published) (at : ℕ) (d : Clerk) (w : PassValue Published) (all : List LineGot)
+    : Type 0 where
+  pub ran : HaveRun (take at xs) c v all d w
+  pub count : length all ≡ at
+  pub inside : IsInItsGeneration w
+  pub cabinet : w.cabinet ≡ v.cabinet
+
+-- an actor that may begin
+pub record IsReady (a : PassActor) : Type 0 where
+  pub inside : IsInItsGeneration a.vcpu
+  pub fits : All (FitsLine a.bounce) a.lines.items
+  pub nothing : a.got.items ≡ []
+
+-- the actor did all its lines, or out of memory the first of them
+pub record HasRun (a b : PassActor) : Type 0 where
+  pub lines : b.lines.items ≡ a.lines.items
+  pub bounce : b.bounce ≡ a.bounce
+  pub most : length b.got.items ≤ length a.lines.items
+  pub ran : HaveRun (take (length b.got.items) a.lines.items) a.clerk a.vcpu b.got.items b.clerk b.vcpu
+  pub whole : b.out_of_memory ≡ false → length b.got.items ≡ length a.lines.items

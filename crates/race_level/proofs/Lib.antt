@@ -1,3 +1,0 @@
-pub mod LevelLists
-pub mod SettlingLaws
-pub mod ReadyLaws
