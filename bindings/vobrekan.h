@@ -373,8 +373,9 @@ vb_answer vb_cpu_write8(vb_cpu *handle, uint32_t space, uint64_t addr, uint64_t 
 /* Leaves where the virtual CPU is entered, and frees it, if the handle has one. The handle has none then. */
 void vb_cpu_free(vb_cpu *handle);
 
-/* What listeners were told: the call at an index, counted from the first that was ever made, where there is one. `value` of the
- * answer is how many there are, so that a caller that keeps its index polls: it reads on from there until it comes to `value`. */
+/* What listeners were told: the call at an index, counted from the first that is not forgotten, where there is one. `value` of the
+ * answer is how many there are, so that a caller that keeps its index polls: it reads on from there until it comes to `value`. Calls
+ * are kept until `vb_forget` forgets them. */
 vb_answer vb_delivery(vb_machine *handle, size_t index, vb_listener_call *out);
 
 /* Makes a machine that virtual CPUs share, over a pool of this many words of 8 bytes, at most 2^26, and its desk for a handle that has
@@ -411,6 +412,13 @@ vb_answer vb_desk_range(vb_desk *handle, uint32_t space, size_t index, vb_flat_r
 
 /* What listeners were told, as `vb_delivery` tells it. */
 vb_answer vb_desk_delivery(vb_desk *handle, size_t index, vb_listener_call *out);
+
+/* Forgets the first `count` of the calls that listeners got and that are not forgotten yet, all of them where there are fewer. `value`
+ * of the answer is how many it forgot: `vb_delivery` counts from the first that is not forgotten, so an index that a caller keeps is
+ * lower by that many. The listeners stay, and are told nothing. It takes no memory.
+ *
+ * A machine that runs for long keeps what listeners were told until it is forgotten here. */
+vb_answer vb_forget(vb_machine *handle, size_t count);
 
 /* Takes the marks of a region for one client, 0 display, 1 code, 2 migration: the pages that were written since they were last taken.
  * Page 64 i + b, of 4,096 bytes, was written where bit b of word i of `out` is set. `value` of the answer is how many pages were. QEMU's

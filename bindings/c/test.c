@@ -269,7 +269,19 @@ static void test_listeners(void)
         }
     }
     check(is_found, "the ioeventfd is told");
+    uint64_t all = told.value;
+    told = vb_forget(&m, 7);
+    check(told.code == VB_DONE && told.value == 7, "seven calls are forgotten");
+    told = vb_delivery(&m, 0, &call);
+    check(told.value == all - 7 && call.what == VB_TOLD_BEGIN, "the first that is not forgotten is the first of the commit");
+    check(vb_forget(&m, SIZE_MAX).value == all - 7, "the others are forgotten");
+    check(vb_delivery(&m, 0, &call).value == 0, "nothing is left");
+    check(vb_forget(&m, 1).value == 0, "there is nothing to forget");
+    done(vb_move(&m, ram, 0x6000), "RAM moves");
+    told = vb_delivery(&m, 2, &call);
+    check(told.value == 4 && call.what == VB_TOLD_ADD && call.range.start == 0x6000, "the listener is told of it, and stays");
     vb_free(&m);
+    check(vb_forget(&m, 1).code == VB_NO_MACHINE, "a handle that has no machine");
 }
 
 /* What accesses reach: a PC's configuration ports, and memory of the host. */

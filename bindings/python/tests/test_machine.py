@@ -152,6 +152,22 @@ class Tests(unittest.TestCase):
         later = machine.told(len(first))
         self.assertTrue(any(it.what == c.VB_TOLD_DELETE and it.range.region == uart for it in later))
 
+    def test_what_a_listener_was_told_is_forgotten(self):
+        machine, _, _, _, uart = small()
+        machine.listen(2, SPACE)
+        first = machine.told()
+        machine.enable(uart, False)
+        later = machine.told(len(first))
+        machine.forget(len(first))
+        self.assertEqual([bytes(it) for it in machine.told(len(first))], [bytes(it) for it in later])
+        with self.assertRaisesRegex(IndexError, f"up to {len(first)}"):
+            machine.told()
+        machine.forget(1 << 40)
+        end = len(first) + len(later)
+        self.assertEqual((machine.forgotten, machine.told(end)), (end, []))
+        machine.enable(uart, True)
+        self.assertTrue(any(it.what == c.VB_TOLD_ADD and it.range.region == uart for it in machine.told(end)))
+
     def test_a_write_to_a_pcs_configuration_port(self):
         machine = Machine(1 << 12)
         with machine:

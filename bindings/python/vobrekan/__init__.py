@@ -104,7 +104,7 @@ class Machine:
     """A machine over a pool of this many words of 8 bytes."""
 
     def __init__(self, words):
-        self.handle, self.dropped = c.vb_machine(), 0
+        self.handle, self.dropped, self.forgotten = c.vb_machine(), 0, 0
         accepted(LIBRARY.vb_new(self.handle, words))
 
     def __del__(self):
@@ -237,13 +237,20 @@ class Machine:
         accepted(LIBRARY.vb_unlisten(self.handle, listener))
 
     def told(self, start=0):
-        """The calls that listeners got from this index on, counted from the first that was ever made."""
-        calls = []
+        """The calls that listeners got from this index on, counted from the first that was ever made. An IndexError where the call at
+        this index is forgotten."""
+        if start < self.forgotten:
+            raise IndexError(f"what listeners were told is forgotten up to {self.forgotten}")
+        calls, first = [], start - self.forgotten
         while True:
             it = c.vb_listener_call()
-            if start + len(calls) >= accepted(LIBRARY.vb_delivery(self.handle, start + len(calls), it)).value:
+            if first + len(calls) >= accepted(LIBRARY.vb_delivery(self.handle, first + len(calls), it)).value:
                 return calls
             calls.append(it)
+
+    def forget(self, until):
+        """Forgets the calls of listeners before this index, counted from the first that was ever made; the others keep their indices."""
+        self.forgotten += accepted(LIBRARY.vb_forget(self.handle, max(until - self.forgotten, 0))).value
 
     # Accesses.
 

@@ -6,6 +6,7 @@ pub mod Buffers
 pub mod Cpus
 pub mod Deliveries
 pub mod Desks
+pub mod Forgetting
 pub mod Handles
 pub mod Marks
 pub mod Orders

@@ -166,8 +166,9 @@ pub(crate) fn put_delivery(
     }
 }
 
-/// What listeners were told: the call at an index, counted from the first that was ever made, where there is one. `value` of the
-/// answer is how many there are, so that a caller that keeps its index polls: it reads on from there until it comes to `value`.
+/// What listeners were told: the call at an index, counted from the first that is not forgotten, where there is one. `value` of the
+/// answer is how many there are, so that a caller that keeps its index polls: it reads on from there until it comes to `value`. Calls
+/// are kept until `vb_forget` forgets them.
 #[unsafe(no_mangle)]
 pub extern "C" fn vb_delivery(
     alloc: Global,

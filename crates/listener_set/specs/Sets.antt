@@ -7,7 +7,7 @@ use Rattle.mem_base.specs.declared.views.listening.Change.{Change}
 use Rattle.mem_base.specs.views.Listening.{Delivery, Listening, hears, ascending, deliveries_of_changes}
 use Rattle.listener_set.specs.declared.set.Set.TheInside.{Inside}
 
--- who listens and what was told, and for how many more calls the journal has room
+-- who listens and what was told since the journal was last taken out, and for how many more calls it has room
 pub record Listeners : Type 0 where
   pub listening : Listening
   pub room : ℕ
@@ -19,6 +19,10 @@ publishing x changes = deliveries_of_changes (ascending x.listeners) changes
 -- the journal has room for them
 abbrev pub HasRoom : Listeners → List Change → Type 0
 HasRoom s changes = length (publishing s.listening changes) ≤ s.room
+
+-- the same listeners, with these calls in the journal
+abbrev pub with_journal : List Delivery → Listening → Listening
+with_journal calls x = record x { journal = calls }
 
 -- the set with its journal and the room that is left there
 abbrev pub listeners_of : Inside → Listeners

@@ -1,11 +1,11 @@
 // The listeners, and the journal of all that they were told.
-ghost use Rattle.std.specs.Prelude.{◌≡◌, ◌≢◌, ◌↔◌, Some, None, Err, OnOk, OnErr, option_map};
+ghost use Rattle.std.specs.Prelude.{◌≡◌, ◌≢◌, ◌↔◌, [], drop, Some, None, Err, OnOk, OnErr, option_map};
 ghost use Rattle.std.specs.List.{list_any};
 ghost use Rattle.mem_base.specs.declared.map.refusals.Refusal.{Refusal};
 ghost use Rattle.mem_base.specs.declared.map.refusals.Refusal.TheVariants.{Memory};
 ghost use Rattle.mem_base.specs.views.Listening.{no_listeners, is_listener, join_refusal, joined, leave_refusal, left, delivered};
 ghost use Rattle.mem_base.specs.machine.ListenerReplay.{listener_of};
-ghost use Rattle.listener_set.specs.Sets.{HasRoom};
+ghost use Rattle.listener_set.specs.Sets.{HasRoom, with_journal};
 
 use crate::counting::count_publish;
 use crate::journal::{Told, joining, leaving, tell_all};
@@ -17,8 +17,9 @@ use mem_base::{
 };
 use std::alloc::{AllocError, Global};
 use std::marker::Model;
+use std::mem;
 
-/// The listeners of a machine, and the journal of all calls that they got.
+/// The listeners of a machine, and the journal of the calls that they got since it was last taken out.
 ///
 /// It is seen as the listeners in order of joining with the journal, and the number of calls for which the journal has
 /// room.
@@ -172,11 +173,30 @@ impl Set {
             .map(|other| other.space)
     }
 
-    /// All calls that were ever made, each with the listener that got it, from the first on.
+    /// The calls that were made and are not forgotten, each with the listener that got it, from the first on.
     pub fn journal(&self) -> &[(ListenerId, ListenerEvent)]
         ensures { result.now ≡ self.now.listening.journal }
     {
         self.journal.as_slice()
+    }
+
+    /// Hands over the calls that were made and are not forgotten, each with the listener that got it, from the first on, and
+    /// forgets them. The listeners stay, and nobody is told anything. It takes no memory; the room of the journal goes with
+    /// what is handed over.
+    pub fn take_journal(&mut self) -> Vec<(ListenerId, ListenerEvent)>
+        ensures taken { result.items ≡ self.old.listening.journal }
+        ensures left { self.new.listening ≡ with_journal [] self.old.listening }
+    {
+        mem::replace(&mut self.journal, Vec::new(self.alloc))
+    }
+
+    /// Forgets the first `count` of the calls that are not forgotten yet, all of them where there are fewer. The listeners
+    /// stay, and nobody is told anything. It takes no memory.
+    pub fn forget(&mut self, count: usize)
+        ensures { self.new.listening ≡ with_journal (drop count self.old.listening.journal) self.old.listening }
+    {
+        let count = count.min(self.journal.len());
+        self.journal.drain(..count);
     }
 
     // Why a listener may not join: it listens already, or the most listeners do.

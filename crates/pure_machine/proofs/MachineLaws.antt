@@ -5,6 +5,7 @@ use Rattle.std.proofs.lemmas.Bool.{lt-ltb}
 use Rattle.mem_base.specs.declared.map.ids.PassId.{PassId}
 use Rattle.mem_base.specs.declared.machine.events.Event.TheVariants as events
 use Rattle.mem_base.specs.map.Limits.{most_passes}
+use Rattle.mem_base.specs.views.Listening.{Delivery}
 use Rattle.mem_base.specs.machine.Completions.{KeepsWriter}
 use Rattle.mem_base.specs.machine.Composites.{is_entered}
 use Rattle.mem_base.specs.machine.Passes.{PassState, idle, is_pass}
@@ -14,6 +15,7 @@ use Rattle.view_laws.proofs.Tests.{both, true_is_not_false}
 use Rattle.world_laws.proofs.PassKeeping.{may_look}
 use Rattle.run_laws.proofs.EachCommand.{may_first}
 use Rattle.run_laws.proofs.Ordering.{same_may}
+use Rattle.world_hand.specs.Taken.{with_calls}
 use Rattle.pure_machine.specs.Machines.{IsMachine}
 
 -- at first
@@ -30,6 +32,10 @@ after_pass w v h k = record {
   rests = subst (λ (x : Writer). is_at_rest x.desk ≡ true) (sym k.writer) h.rests;
   passes = λ pass l. k.may pass (h.passes pass l);
 }
+
+-- where calls are taken out of the journal
+pub after_taking : (w v : World) (calls : List Delivery) → IsMachine w → v ≡ with_calls calls w → IsMachine v
+after_taking w v calls h is = subst IsMachine (sym is) (record { rests = h.rests; passes = h.passes })
 
 -- a pass that is out may look at the number
 pub may_enter : (w : World) (pass : PassId) → IsMachine w → pass.0 < most_passes → is_entered w pass ≡ false → possible w (events.Look pass) ≡ true

@@ -1,11 +1,12 @@
 // The machine, and what it shows of itself.
-ghost use Rattle.std.specs.Prelude.{◌≡◌, ◌≤◌, ◌^◌, IfOk, Some};
+ghost use Rattle.std.specs.Prelude.{◌≡◌, ◌≤◌, ◌^◌, [], drop, IfOk, Some};
 ghost use Rattle.std.specs.Arc.{arc_value};
 ghost use Rattle.mem_base.specs.map.Limits.{most_passes};
 ghost use Rattle.mem_base.specs.machine.Generations.{generation, generation_of};
 ghost use Rattle.mem_base.specs.machine.Passes.{pass_of};
 ghost use Rattle.mem_base.specs.machine.World.{opening};
 ghost use Rattle.world_hand.specs.Reached.{IsReached};
+ghost use Rattle.world_hand.specs.Taken.{with_calls};
 
 use generation::Generation;
 use mem_base::{ListenerEvent, ListenerId, MOST_PASSES, PassId};
@@ -43,18 +44,38 @@ impl PureMachine {
         Ok(PureMachine { world })
     }
 
-    /// A legal history leads to the machine: what is proved of legal histories holds of it.
+    /// A legal history leads to the machine, but for what was taken out of its journal: what is proved of legal histories holds of it,
+    /// of the journal with what was taken out before it.
     pub fn is_reached(&self)
         ensures { IsReached self.now }
     {
         self.world.is_reached();
     }
 
-    /// All calls that listeners ever got, each with the listener that got it, from the first on.
+    /// The calls that listeners got and that are not forgotten, each with the listener that got it, from the first on.
     pub fn journal(&self) -> &[(ListenerId, ListenerEvent)]
         ensures { result.now ≡ self.now.writer.desk.listening.journal }
     {
         self.world.journal()
+    }
+
+    /// Hands over the calls that listeners got and that are not forgotten, each with the listener that got it, from the first on,
+    /// and forgets them: the journal has no calls then, and all else is as it was. It takes no memory.
+    ///
+    /// A machine that runs for long keeps what listeners were told until it is taken out here, or forgotten.
+    pub fn take_journal(&mut self) -> Vec<(ListenerId, ListenerEvent)>
+        ensures taken { result.items ≡ self.old.writer.desk.listening.journal }
+        ensures machine { self.new ≡ with_calls [] self.old }
+    {
+        self.world.take_journal()
+    }
+
+    /// Forgets the first `count` of the calls that listeners got and that are not forgotten yet, all of them where there are
+    /// fewer; all else is as it was. It takes no memory.
+    pub fn forget(&mut self, count: usize)
+        ensures { self.new ≡ with_calls (drop count self.old.writer.desk.listening.journal) self.old }
+    {
+        self.world.forget(count);
     }
 
     /// The current generation, with its number.

@@ -2,6 +2,7 @@ pub mod AccessLaws
 pub mod CellEventLaws
 pub mod ChangeLaws
 pub mod ConfigLaws
+pub mod JournalLaws
 pub mod MadeCellLaws
 pub mod NumberLaws
 pub mod PlaceLaws

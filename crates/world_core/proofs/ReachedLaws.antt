@@ -32,7 +32,7 @@ pub reached_after : (w : World) (e : Event) → IsReached w → possible w e ≡
 reached_after w e r may = reached_on w (pure_entry e (reply w e) ∷ []) (world_after w e) r (may, refl, tt) refl
 
 pub reached_first : (pool_words passes : ℕ) → IsReached (opening pool_words passes)
-reached_first pool_words passes = record { pool_words = pool_words; passes = passes; entries = []; legal = tt; leads = refl }
+reached_first pool_words passes = record { pool_words = pool_words; passes = passes; taken = []; entries = []; legal = tt; leads = refl }
 
 pub reached_is_orderly : (w : World) → IsReached w → IsOrderly w
 reached_is_orderly w r = subst IsOrderly r.leads (order r.pool_words r.passes r.entries r.legal)

@@ -33,12 +33,14 @@ use Rattle.world_hand.specs.Reached.{IsReached}
 use Rattle.world_hand.specs.Run.{HasMade, HasRun, shared_of}
 use Rattle.world_hand.proofs.Completing.{CompletesCall, completes_call, nothing_left, reached_holds}
 use Rattle.world_hand.proofs.FlagLaws.{FlaggedTurn, flag_turn, flagged, left_with, would_with}
+use Rattle.world_hand.proofs.WithoutLaws.{drops_without}
 use Rattle.world_core.specs.Worlds.{aside, beside, filled_world, state_of, unswept, world_of, IsFilledWorld, IsWorld}
 use Rattle.world_core.specs.Rests.{StaysAtRest}
 use Rattle.world_core.proofs.ReachedLaws.{reached_is_orderly}
 
 drops_once : (w : World) → IsReached w → DropsOnce w.writer
-drops_once w r = subst (λ (v : World). DropsOnce v.writer) r.leads (regions_are_dropped_once r.pool_words r.passes r.entries r.legal)
+drops_once w r = drops_without r.taken w
+    (subst (λ (v : World). DropsOnce v.writer) r.leads (regions_are_dropped_once r.pool_words r.passes r.entries r.legal))
 
 -- the parts of a world make one in which nothing is due or unfilled
 pub record Rested (desk : IdleDesk) (due : Option Readied) (k : KeptState) (ws : List ℕ) (cells : List Cell) (w : World) : Type 0 where

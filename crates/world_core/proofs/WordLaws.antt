@@ -38,6 +38,7 @@ use Rattle.writer_desk.specs.Writers.{WriterState}
 use Rattle.world_core.specs.Hands.{published_as, shown_to, IsInside}
 use Rattle.world_core.specs.Worlds.{Aside, world_of, IsWorld}
 use Rattle.world_hand.specs.Reached.{IsReached}
+use Rattle.world_hand.proofs.WithoutLaws.{enters_without}
 use Rattle.world_hand.proofs.Completing.{all_apart, all_within, backs, reached_holds}
 use Rattle.world_core.proofs.ReachedLaws.{reached_after}
 
@@ -115,7 +116,8 @@ pub may_reach : (w : World) (pass : PassId) (p : Place) → IsReached w → IsIn
 may_reach w pass p r inside placed = go (entered_generation w.writer.generations w.passes pass) refl inside placed
   where
     held : EntersHeld w pass
-    held = subst (λ (v : World). EntersHeld v pass) r.leads (entered_generations_are_held r.pool_words r.passes r.entries r.legal pass)
+    held = enters_without r.taken w pass
+        (subst (λ (v : World). EntersHeld v pass) r.leads (entered_generations_are_held r.pool_words r.passes r.entries r.legal pass))
 
     go : (o : Option Generation) → entered_generation w.writer.generations w.passes pass ≡ o → is_some o ≡ true
         → place_in (published_as (unwrap_or (pass_of w.passes pass).entered 0) o).places p.region ≡ Some p → MayReach w pass p

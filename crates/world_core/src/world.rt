@@ -65,7 +65,8 @@ impl World {
         })
     }
 
-    /// A legal history leads to the world: what is proved of legal histories holds of it.
+    /// A legal history leads to the world, but for what was taken out of its journal: what is proved of legal histories holds of it, of
+    /// the journal with what was taken out before it.
     pub fn is_reached(&self)
         ensures { IsReached self.now }
     {

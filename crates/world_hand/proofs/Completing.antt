@@ -1,6 +1,6 @@
 -- A turn whose entries the pure machine makes one after another, from a world to which a legal history leads, is the call of the
 -- pure machine in that world.
-use Rattle.std.proofs.Common.{◌≡◌, ℕ, ◌+◌, ◌<◌, ◌≤◌, true, false, List, [], ◌∷◌, ◌++◌, length, refl, sym, ap, subst, ◌∙◌, arith, inl, Some}
+use Rattle.std.proofs.Common.{◌≡◌, ℕ, ◌+◌, ◌<◌, ◌≤◌, true, false, List, [], ◌∷◌, ◌++◌, length, append_assoc, refl, sym, ap, subst, ◌∙◌, arith, inl, Some}
 use Rattle.std.specs.Prelude.{◌==◌, slice_index}
 use Rattle.std.proofs.lemmas.Bool.{eqb-false, eqb-true}
 use Rattle.mem_base.specs.declared.access.cells.Cell.{Cell}
@@ -14,6 +14,7 @@ use Rattle.mem_base.specs.access.Cells.{Block, cells_in}
 use Rattle.mem_base.specs.access.EditionPlaces.{ArePlacesApart}
 use Rattle.mem_base.specs.access.PlaceCells.{blocks_at}
 use Rattle.mem_base.specs.access.Places.{is_notifiers, notifiers_place, past}
+use Rattle.mem_base.specs.views.Listening.{Delivery}
 use Rattle.mem_base.specs.machine.Answers.{Answer}
 use Rattle.mem_base.specs.machine.Completions.{IsCompleted}
 use Rattle.mem_base.specs.machine.Composites.{completed}
@@ -45,7 +46,10 @@ use Rattle.end_laws.proofs.TurnRuns.{Completes, completes}
 use Rattle.cell_laws.proofs.Following as following
 use Rattle.world_hand.specs.Reached.{IsReached}
 use Rattle.world_hand.specs.Run.{HasRun}
+use Rattle.world_hand.specs.Taken.{told_before, with_calls}
 use Rattle.world_hand.proofs.SameTurns.{SameTurn, legal_replies, same_turn}
+use Rattle.world_hand.proofs.TakenLaws.{call_without, entries_before, fitting_before, legal_before}
+use Rattle.world_hand.proofs.WithoutLaws.{holds_without, places_without}
 
 pub nothing_left : (cells : List Cell) → (length cells == 0) ≡ true → cells ≡ []
 nothing_left [] h = refl
@@ -69,10 +73,11 @@ module _ (pool_words : ℕ) (places : List Place)
 -- what holds of a world to which a legal history leads
 
 pub reached_holds : (w : World) → IsReached w → Holds w
-reached_holds w r = subst Holds r.leads (holds r.pool_words r.passes r.entries r.legal)
+reached_holds w r = holds_without r.taken w (subst Holds r.leads (holds r.pool_words r.passes r.entries r.legal))
 
 pub reached_places : (w : World) (r : IsReached w) → ShowsOwnPlaces r.pool_words w.writer
-reached_places w r = subst (λ (v : World). ShowsOwnPlaces r.pool_words v.writer) r.leads (generations_show_places r.pool_words r.passes r.entries r.legal)
+reached_places w r = places_without r.taken w r.pool_words
+    (subst (λ (v : World). ShowsOwnPlaces r.pool_words v.writer) r.leads (generations_show_places r.pool_words r.passes r.entries r.legal))
 
 pub backs : (w : World) → IsReached w → BacksForest w.writer.desk.pool_words w.writer.desk.forest w.writer.desk.places
 backs w r = let shown = reached_places w r in
@@ -91,16 +96,32 @@ pub reached_on : (w : World) (ys : List PureEntry) (v : World) → IsReached w �
 reached_on w ys v r legal leads = record {
   pool_words = r.pool_words;
   passes = r.passes;
+  taken = r.taken;
   entries = r.entries ++ ys;
-  legal = legal_both (opening r.pool_words r.passes) r.entries ys r.legal (subst (λ (u : World). IsLegalFrom u ys) (sym r.leads) legal);
-  leads = after_both (opening r.pool_words r.passes) r.entries ys ∙ ap (λ (u : World). after_entries u ys) r.leads ∙ leads;
+  legal = legal_both (opening r.pool_words r.passes) r.entries ys r.legal
+      (subst (λ (u : World). IsLegalFrom u ys) (sym r.leads) (legal_before r.taken ys w legal));
+  leads = after_both (opening r.pool_words r.passes) r.entries ys ∙ ap (λ (u : World). after_entries u ys) r.leads ∙ entries_before r.taken ys w
+      ∙ ap (told_before r.taken) leads;
+}
+
+-- so it does where the first calls of the journal are taken out
+pub reached_rest : (w : World) (first rest : List Delivery) → w.writer.desk.listening.journal ≡ first ++ rest → IsReached w → IsReached (with_calls rest w)
+reached_rest w first rest is r = record {
+  pool_words = r.pool_words;
+  passes = r.passes;
+  taken = r.taken ++ first;
+  entries = r.entries;
+  legal = r.legal;
+  leads = r.leads ∙ ap (λ (js : List Delivery). with_calls js w)
+      (ap (λ (js : List Delivery). r.taken ++ js) is ∙ sym (append_assoc r.taken first rest));
 }
 
 -- each call is legal where nothing is due or unfilled
 pub is_legal : (w : World) (k : Order) → IsReached w → is_at_rest w.writer.desk ≡ true → IsFitting w k → IsLegalCall w k
 is_legal w k r rest fits =
     let P : World → Type 0 = λ v. is_at_rest v.writer.desk ≡ true → IsFitting v k → IsLegalCall v k in
-    (subst P r.leads (λ ok fit. orders_are_legal r.pool_words r.passes r.entries r.legal ok k fit)) rest fits
+    call_without r.taken w k
+    ((subst P r.leads (λ ok fit. orders_are_legal r.pool_words r.passes r.entries r.legal ok k fit)) rest (fitting_before r.taken w k fits))
 
 -- and leaves the passes
 

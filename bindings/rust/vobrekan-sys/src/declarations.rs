@@ -435,8 +435,9 @@ unsafe extern "C" {
     /// Leaves where the virtual CPU is entered, and frees it, if the handle has one. The handle has none then.
     pub fn vb_cpu_free(handle: *mut vb_cpu);
 
-    /// What listeners were told: the call at an index, counted from the first that was ever made, where there is one. `value` of the
-    /// answer is how many there are, so that a caller that keeps its index polls: it reads on from there until it comes to `value`.
+    /// What listeners were told: the call at an index, counted from the first that is not forgotten, where there is one. `value` of the
+    /// answer is how many there are, so that a caller that keeps its index polls: it reads on from there until it comes to `value`. Calls
+    /// are kept until `vb_forget` forgets them.
     pub fn vb_delivery(handle: *mut vb_machine, index: usize, out: *mut vb_listener_call) -> vb_answer;
 
     /// Makes a machine that virtual CPUs share, over a pool of this many words of 8 bytes, at most 2^26, and its desk for a handle that has
@@ -473,6 +474,13 @@ unsafe extern "C" {
 
     /// What listeners were told, as `vb_delivery` tells it.
     pub fn vb_desk_delivery(handle: *mut vb_desk, index: usize, out: *mut vb_listener_call) -> vb_answer;
+
+    /// Forgets the first `count` of the calls that listeners got and that are not forgotten yet, all of them where there are fewer. `value`
+    /// of the answer is how many it forgot: `vb_delivery` counts from the first that is not forgotten, so an index that a caller keeps is
+    /// lower by that many. The listeners stay, and are told nothing. It takes no memory.
+    ///
+    /// A machine that runs for long keeps what listeners were told until it is forgotten here.
+    pub fn vb_forget(handle: *mut vb_machine, count: usize) -> vb_answer;
 
     /// Takes the marks of a region for one client, 0 display, 1 code, 2 migration: the pages that were written since they were last taken.
     /// Page 64 i + b, of 4,096 bytes, was written where bit b of word i of `out` is set. `value` of the answer is how many pages were. QEMU's

@@ -115,6 +115,8 @@ pub struct Machine {
     handle: sys::vb_machine,
     /// How many regions were dropped and are not released yet, at most.
     dropped: usize,
+    /// How many calls of listeners are forgotten.
+    forgotten: usize,
 }
 
 // The library proves that a handle may go to another thread. A call takes `&mut self`, so one works on it at a time.
@@ -135,7 +137,7 @@ impl Machine {
     /// A machine over a pool of this many words of 8 bytes, at most 2^26: the memory of RAM, ROM and ROM devices, their marks,
     /// and the registers of devices are in the pool.
     pub fn new(words: usize) -> Result<Machine, Refusal> {
-        let mut machine = Machine { handle: sys::vb_machine { at: null_mut() }, dropped: 0 };
+        let mut machine = Machine { handle: sys::vb_machine { at: null_mut() }, dropped: 0, forgotten: 0 };
         accepted(unsafe { sys::vb_new(&mut machine.handle, words) })?;
         Ok(machine)
     }
@@ -311,8 +313,9 @@ impl Machine {
     }
 
     /// The calls that listeners got from the index `from` on, counted from the first that was ever made: a caller that goes on from
-    /// where it came to misses none.
+    /// where it came to misses none. Refused where the call `from` is forgotten.
     pub fn told(&mut self, from: usize) -> Result<Vec<ListenerCall>, Refusal> {
+        let from = from.checked_sub(self.forgotten).ok_or(Refusal::Forgotten(self.forgotten as u64))?;
         let mut calls = Vec::new();
         loop {
             let mut call = ListenerCall::default();
@@ -323,6 +326,14 @@ impl Machine {
             }
             calls.push(call);
         }
+    }
+
+    /// Forgets the calls of listeners before the index `until`, counted from the first that was ever made. The others keep their
+    /// indices, and the listeners stay. A machine that runs for long keeps all that listeners were told until it is forgotten here.
+    pub fn forget(&mut self, until: usize) -> Result<(), Refusal> {
+        let count = until.saturating_sub(self.forgotten);
+        self.forgotten += accepted(unsafe { sys::vb_forget(&mut self.handle, count) })?.value as usize;
+        Ok(())
     }
 
     /// Reads bytes of a space, as many as there is room for.

@@ -71,6 +71,8 @@ pub enum Refusal {
     NotWhole(u64),
     /// All 16 virtual CPUs are handed out.
     NoCpu,
+    /// What listeners were told is forgotten up to this index.
+    Forgotten(u64),
     /// A code that this crate does not know.
     Other(u32),
 }
@@ -162,6 +164,7 @@ impl fmt::Display for Refusal {
             Refusal::NoMachine => write!(f, "the handle has no machine"),
             Refusal::NotWhole(_) => write!(f, "only a part of some word would be replaced"),
             Refusal::NoCpu => write!(f, "all virtual CPUs are handed out"),
+            Refusal::Forgotten(until) => write!(f, "what listeners were told is forgotten up to {until}"),
             Refusal::Other(code) => write!(f, "code {code}"),
         }
     }

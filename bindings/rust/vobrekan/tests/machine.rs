@@ -115,3 +115,21 @@ fn a_listener_is_polled() {
     assert!(next.iter().any(|call| call.what == 1 && call.range.region == uart.0));
     assert!(machine.told(usize::MAX).unwrap().is_empty());
 }
+
+#[test]
+fn what_a_listener_was_told_is_forgotten() {
+    let (mut machine, [_, _, _, uart]) = pc();
+    machine.listen(ListenerId(2), SPACE, 0).unwrap();
+    let first = machine.told(0).unwrap();
+    machine.enable(uart, false).unwrap();
+    let later = machine.told(first.len()).unwrap();
+    machine.forget(first.len()).unwrap();
+    assert_eq!(machine.told(first.len()).unwrap(), later);
+    assert_eq!(machine.told(0), Err(Refusal::Forgotten(first.len() as u64)));
+    let end = first.len() + later.len();
+    machine.forget(usize::MAX).unwrap();
+    assert!(machine.told(end).unwrap().is_empty());
+    machine.enable(uart, true).unwrap();
+    assert!(machine.told(end).unwrap().iter().any(|call| call.what == 2 && call.range.region == uart.0));
+    machine.unlisten(ListenerId(2)).unwrap();
+}

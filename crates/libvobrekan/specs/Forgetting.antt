@@ -1,0 +1,13 @@
+-- What listeners were told is forgotten.
+use Rattle.std.specs.Prelude.{◌≡◌, ℕ, min, drop, length, Option, Some, None}
+use Rattle.mem_base.specs.machine.World.{World}
+use Rattle.world_hand.specs.Taken.{with_calls}
+use Rattle.libvobrekan.specs.declared.answers.Answer.{Answer}
+use Rattle.libvobrekan.specs.Answers.{done, no_machine}
+
+-- the first calls of the journal of a handle's machine are forgotten, at most this many, and all else is as it was; the answer says how
+-- many they were
+abbrev pub Forgets : Option World → ℕ → Answer → Option World → Type 0
+Forgets None count answer after = (answer ≡ no_machine) × (after ≡ None)
+Forgets (Some w) count answer after = let calls = w.writer.desk.listening.journal in
+    (answer ≡ done (min count (length calls)) 0) × (after ≡ Some (with_calls (drop (min count (length calls)) calls) w))

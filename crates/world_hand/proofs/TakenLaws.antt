@@ -1,0 +1,310 @@
+-- Nothing but the answer of a journal looks at the journal: the machine goes on alike, whichever calls stand in it before the others.
+use Rattle.std.proofs.Common.{◌≡◌, ℕ, ◌+◌, Bool, true, false, ◌&&◌, if◌then◌else◌, List, [], ◌∷◌, ◌++◌, append_assoc, refl, sym, ap, subst, ◌∙◌}
+use Rattle.std.proofs.Common.{Option, Some, None}
+use Rattle.std.specs.Prelude.{◌==◌, ◌-◌, ◌||◌, not, Result, Ok, Err}
+use Rattle.mem_base.specs.declared.map.ids.ListenerId.{ListenerId}
+use Rattle.mem_base.specs.declared.map.ids.PassId.{PassId}
+use Rattle.mem_base.specs.declared.map.ids.RegionId.{RegionId}
+use Rattle.mem_base.specs.declared.map.forests.Forest.{Forest}
+use Rattle.mem_base.specs.declared.map.calls.Applied.{Applied}
+use Rattle.mem_base.specs.declared.map.calls.Applied.TheVariants.{Done, Made}
+use Rattle.mem_base.specs.declared.map.calls.Call.{Call}
+use Rattle.mem_base.specs.declared.map.calls.Call.TheVariants as calls
+use Rattle.mem_base.specs.declared.map.calls.Config.{Config}
+use Rattle.mem_base.specs.declared.map.calls.Config.TheVariants as configs
+use Rattle.mem_base.specs.declared.map.refusals.Refusal.{Refusal}
+use Rattle.mem_base.specs.declared.map.refusals.Refusal.TheVariants.{NoTransaction, TooNested}
+use Rattle.mem_base.specs.declared.views.listening.Listener.{Listener}
+use Rattle.mem_base.specs.declared.machine.events.Event.{Event}
+use Rattle.mem_base.specs.declared.machine.events.Event.TheVariants as events
+use Rattle.mem_base.specs.declared.machine.events.Hand.TheVariants as hands
+use Rattle.mem_base.specs.declared.machine.events.Reply.{Reply}
+use Rattle.mem_base.specs.map.Calls.{after, answer_of, is_quiet}
+use Rattle.mem_base.specs.map.Limits.{most_nested}
+use Rattle.mem_base.specs.map.Refusals.{first_refusal, unknown_space}
+use Rattle.mem_base.specs.access.Places.{Extent, extent_of, first_fit, words_of}
+use Rattle.mem_base.specs.views.Flattened.{view_of}
+use Rattle.mem_base.specs.views.LiveEvents.{lives_of}
+use Rattle.mem_base.specs.views.Listening.{Delivery, ascending, changes_between, deliveries_of_changes, deliveries_to, join_refusal, joined, joining, leave_refusal}
+use Rattle.mem_base.specs.views.Listening.{leaving, left}
+use Rattle.mem_base.specs.machine.Composites.{completed}
+use Rattle.mem_base.specs.machine.Configs.{after_call, answers, backed, begun, committed, configured, kept_back, listened, made, unlistened, without_listener}
+use Rattle.mem_base.specs.machine.Desk.{Desk, carried_by, is_all_swept, unswept}
+use Rattle.mem_base.specs.machine.Generations.{Generations, generations_after}
+use Rattle.mem_base.specs.machine.History.{PureEntry, Ran, IsLegalFrom, after_entries, after_entry, pure_entry, ran, run_events}
+use Rattle.mem_base.specs.machine.Orders.{Order, configure, current, events_after, events_before, harvest, journal, load, notified, private_of, reap, sweeps}
+use Rattle.mem_base.specs.machine.Passes.{passes_after}
+use Rattle.mem_base.specs.machine.Publishing.{Settled, current_forest, held_up, publishing, readied, refused_desk, settled, unless_refused, would_publish}
+use Rattle.mem_base.specs.machine.Reaps.{Writer, writer}
+use Rattle.mem_base.specs.machine.World.{World, after_telling, blocks_for, is_at_rest, number_in, possible, reply, world, world_after}
+use Rattle.history_laws.proofs.PureAppends.{ends_then, run_ends}
+use Rattle.world_laws.specs.Legal.{IsFitting, IsLegalCall}
+use Rattle.world_hand.specs.Taken.{desk_with, told_before}
+
+-- of two branches each may be changed alike
+either_branch : {A B : Type 0} (f : A → B) (test : Bool) (x y : A) (u v : B) → u ≡ f x → v ≡ f y → (if test then u else v) ≡ f (if test then x else y)
+either_branch f true x y u v a b = a
+either_branch f false x y u v a b = b
+
+module _ (taken : List Delivery) where
+  -- the desk with them before the others
+  abbrev desk_before : Desk → Desk
+  desk_before d = desk_with (taken ++ d.listening.journal) d
+
+  abbrev settled_before : Settled → Settled
+  settled_before s = record { desk = desk_before s.desk; answer = s.answer }
+
+  -- a private event leaves them, and answers the same
+
+  module _ (g : Generations) (d : Desk) where
+    publishing_before : (f : Forest) (answer : Applied) → publishing g (desk_before d) f answer ≡ settled_before (publishing g d f answer)
+    publishing_before f answer = go (held_up g)
+      where
+        go : (o : Option Refusal) → unless_refused o (desk_before d) (settled (readied g (desk_before d) f) answer)
+            ≡ settled_before (unless_refused o d (settled (readied g d f) answer))
+        go None = ap (λ (js : List Delivery). settled (desk_with js (readied g d f)) answer)
+            (append_assoc taken d.listening.journal (deliveries_of_changes (ascending d.listening.listeners) (changes_between (current_forest g) f)))
+        go (Some why) = refl
+
+    made_before : (f : Forest) (region : RegionId) (x : Extent) → made (desk_before d) f region x ≡ settled_before (made d f region x)
+    made_before f region x =
+        either_branch settled_before (words_of x == 0) (settled (record d { forest = f }) (Made region))
+        (backed d f region x (first_fit d.pool_words d.places (words_of x))) _ _ refl (go (first_fit d.pool_words d.places (words_of x)))
+      where
+        go : (o : Option ℕ) → backed (desk_before d) f region x o ≡ settled_before (backed d f region x o)
+        go None = refl
+        go (Some start) = refl
+
+    kept_before : (call : Call) (f : Forest) → kept_back (desk_before d) call f ≡ settled_before (kept_back d call f)
+    kept_before (calls.Region kind size) f = made_before f (record { 0 = d.forest.made }) (extent_of kind size)
+    kept_before (calls.Space space root) f = refl
+    kept_before (calls.Add parent offset child priority) f = refl
+    kept_before (calls.Del parent child) f = refl
+    kept_before (calls.Move child offset) f = refl
+    kept_before (calls.Resize region size) f = refl
+    kept_before (calls.Retarget alias offset) f = refl
+    kept_before (calls.Enable region on) f = refl
+    kept_before (calls.Readonly region on) f = refl
+    kept_before (calls.Nonvolatile region on) f = refl
+    kept_before (calls.Unmergeable region on) f = refl
+    kept_before (calls.Romd region on) f = refl
+    kept_before (calls.Log region client on) f = refl
+    kept_before (calls.Global on) f = refl
+    kept_before (calls.Map region iova size space translated perm) f = refl
+    kept_before (calls.Unmap region iova) f = refl
+    kept_before (calls.Event region event) f = refl
+    kept_before (calls.Unevent region offset size matched value) f = refl
+    kept_before (calls.Drop region) f = refl
+
+    call_before : (call : Call) (x : Result Forest Refusal) → after_call g (desk_before d) call x ≡ settled_before (after_call g d call x)
+    call_before call (Ok f) =
+        either_branch settled_before ((d.depth == 0) && not (is_quiet call)) (publishing g d f (answer_of d.forest call)) (kept_back d call f) _ _
+        (publishing_before f (answer_of d.forest call)) (kept_before call f)
+    call_before call (Err why) = refl
+
+    begun_before : begun (desk_before d) ≡ settled_before (begun d)
+    begun_before = either_branch settled_before (d.depth == most_nested) (refused_desk d TooNested) (settled (record d { depth = d.depth + 1 }) Done) _ _ refl refl
+
+    committed_before : committed g (desk_before d) ≡ settled_before (committed g d)
+    committed_before =
+        either_branch settled_before (d.depth == 0) (refused_desk d NoTransaction)
+        (if (d.depth == 1) && d.pending then publishing g d d.forest Done else settled (record d { depth = d.depth - 1 }) Done) _ _ refl
+        (either_branch settled_before ((d.depth == 1) && d.pending) (publishing g d d.forest Done) (settled (record d { depth = d.depth - 1 }) Done) _ _
+        (publishing_before d.forest Done) refl)
+
+    listened_before : (l : Listener) → listened g (desk_before d) l ≡ settled_before (listened g d l)
+    listened_before l = go (first_refusal (unknown_space d.forest l.space ∷ join_refusal d.listening l.listener ∷ []))
+      where
+        joins : Desk → Desk
+        joins e = record e { listening = joined e.listening l (view_of (current_forest g) l.space) (lives_of (current_forest g) l.space) }
+
+        go : (o : Option Refusal) → unless_refused o (desk_before d) (settled (joins (desk_before d)) Done)
+            ≡ settled_before (unless_refused o d (settled (joins d) Done))
+        go None = ap (λ (js : List Delivery). settled (desk_with js (joins d)) Done)
+            (append_assoc taken d.listening.journal (deliveries_to l.listener (joining (view_of (current_forest g) l.space) (lives_of (current_forest g) l.space))))
+        go (Some why) = refl
+
+    gone_before : (ls : List Listener) (id : ListenerId) → without_listener ls id g (desk_before d) ≡ desk_before (without_listener ls id g d)
+    gone_before [] id = refl
+    gone_before (l ∷ ls) id =
+        let ranges = view_of (current_forest g) l.space in
+        let lives = lives_of (current_forest g) l.space in
+        either_branch desk_before (l.listener.0 == id.0) (record d { listening = left d.listening id ranges lives }) (without_listener ls id g d) _ _
+        (ap (λ (js : List Delivery). desk_with js (record d { listening = left d.listening id ranges lives }))
+        (append_assoc taken d.listening.journal (deliveries_to id (leaving ranges lives))))
+        (gone_before ls id)
+
+    unlistened_before : (id : ListenerId) → unlistened g (desk_before d) id ≡ settled_before (unlistened g d id)
+    unlistened_before id = go (leave_refusal d.listening id)
+      where
+        go : (o : Option Refusal) → unless_refused o (desk_before d) (settled (without_listener d.listening.listeners id g (desk_before d)) Done)
+            ≡ settled_before (unless_refused o d (settled (without_listener d.listening.listeners id g d) Done))
+        go None = ap (λ (e : Desk). settled e Done) (gone_before d.listening.listeners id)
+        go (Some why) = refl
+
+    configured_before : (k : Config) → configured g (desk_before d) k ≡ settled_before (configured g d k)
+    configured_before configs.Begin = begun_before
+    configured_before (configs.Call call) = call_before call (after d.forest call)
+    configured_before configs.Commit = committed_before
+    configured_before (configs.Listen listener space priority) = listened_before (record { listener = listener; space = space; priority = priority })
+    configured_before (configs.Unlisten listener) = unlistened_before listener
+
+  would_before : (d : Desk) (k : Config) → would_publish (desk_before d) k ≡ would_publish d k
+  would_before d configs.Begin = refl
+  would_before d (configs.Call call) = refl
+  would_before d configs.Commit = refl
+  would_before d (configs.Listen listener space priority) = refl
+  would_before d (configs.Unlisten listener) = refl
+
+  -- so does every event
+
+  abbrev before : World → World
+  before w = told_before taken w
+
+  possible_before : (w : World) (e : Event) → possible (before w) e ≡ possible w e
+  possible_before w (events.Look pass) = refl
+  possible_before w (events.Announce pass) = refl
+  possible_before w (events.Enter pass) = refl
+  possible_before w (events.Leave pass) = refl
+  possible_before w (events.Sweep pass) = refl
+  possible_before w (events.Place pass) = refl
+  possible_before w events.Publish = refl
+  possible_before w (events.Word (hands.Pass pass) c step) = refl
+  possible_before w (events.Word hands.Writer c step) = refl
+  possible_before w (events.Mark pass region client page) = refl
+  possible_before w (events.Harvest region client index) = refl
+  possible_before w (events.Fill c) = refl
+  possible_before w (events.Config k) =
+      ap (λ (b : Bool). is_at_rest w.writer.desk && (not b || is_all_swept w.writer.desk)) (would_before w.writer.desk k)
+  possible_before w events.Reap = refl
+
+  reply_before : (w : World) (e : Event) → reply (before w) e ≡ reply w e
+  reply_before w (events.Look pass) = refl
+  reply_before w (events.Announce pass) = refl
+  reply_before w (events.Enter pass) = refl
+  reply_before w (events.Leave pass) = refl
+  reply_before w (events.Sweep pass) = refl
+  reply_before w (events.Place pass) = refl
+  reply_before w events.Publish = refl
+  reply_before w (events.Word hand c step) = refl
+  reply_before w (events.Mark pass region client page) = refl
+  reply_before w (events.Harvest region client index) = refl
+  reply_before w (events.Fill c) = refl
+  reply_before w (events.Config k) = ap (λ (s : Settled). answers k s.answer) (configured_before w.writer.generations w.writer.desk k)
+  reply_before w events.Reap = refl
+
+  telling_before : (w : World) (e : Event) (n : ℕ) → after_telling (before w) e n ≡ before (after_telling w e n)
+  telling_before w (events.Look pass) n = refl
+  telling_before w (events.Announce pass) n = refl
+  telling_before w (events.Enter pass) n = refl
+  telling_before w (events.Leave pass) n = refl
+  telling_before w (events.Sweep pass) n = refl
+  telling_before w (events.Place pass) n = refl
+  telling_before w events.Publish n = refl
+  telling_before w (events.Word hand c step) n = refl
+  telling_before w (events.Mark pass region client page) n = refl
+  telling_before w (events.Harvest region client index) n = refl
+  telling_before w (events.Fill c) n = refl
+  telling_before w (events.Config k) n =
+      ap (λ (s : Settled). world (writer (unswept s.desk) (generations_after w.writer.generations (events.Config k) (carried_by w.writer.desk (events.Config k)) n))
+      (passes_after w.passes (events.Config k) n) (blocks_for w.blocks (unswept s.desk)))
+      (configured_before w.writer.generations w.writer.desk k)
+  telling_before w events.Reap n = refl
+
+  -- and every history
+
+  pub entries_before : (xs : List PureEntry) (w : World) → after_entries (before w) xs ≡ before (after_entries w xs)
+  entries_before [] w = refl
+  entries_before (x ∷ xs) w = ap (λ (v : World). after_entries v xs) (telling_before w x.event (number_in x.reply)) ∙ entries_before xs (after_entry w x)
+
+  pub legal_before : (xs : List PureEntry) (w : World) → IsLegalFrom w xs → IsLegalFrom (before w) xs
+  legal_before [] w l = tt
+  legal_before (x ∷ xs) w l = (
+    possible_before w x.event ∙ l.0,
+    l.1 ∙ sym (reply_before w x.event),
+    subst (λ (v : World). IsLegalFrom v xs) (sym (telling_before w x.event (number_in x.reply))) (legal_before xs (after_entry w x) l.2),
+  )
+
+  legal_without : (xs : List PureEntry) (w : World) → IsLegalFrom (before w) xs → IsLegalFrom w xs
+  legal_without [] w l = tt
+  legal_without (x ∷ xs) w l = (
+    sym (possible_before w x.event) ∙ l.0,
+    l.1 ∙ reply_before w x.event,
+    legal_without xs (after_entry w x) (subst (λ (v : World). IsLegalFrom v xs) (telling_before w x.event (number_in x.reply)) l.2),
+  )
+
+  -- a run of events makes the same entries
+
+  abbrev ran_before : Ran → Ran
+  ran_before r = ran (before r.world) r.entries
+
+  runs_before : (es : List Event) (w : World) → run_events (before w) es ≡ ran_before (run_events w es)
+  runs_before [] w = refl
+  runs_before (e ∷ es) w =
+      let leads : world_after (before w) e ≡ before (world_after w e) =
+      ap (λ (r : Result Reply Refusal). after_telling (before w) e (number_in r)) (reply_before w e) ∙ telling_before w e (number_in (reply w e)) in
+      let rest : run_events (world_after (before w) e) es ≡ ran_before (run_events (world_after w e) es) =
+      ap (λ (v : World). run_events v es) leads ∙ runs_before es (world_after w e) in
+      λ i. ran (rest i).world (pure_entry e (reply_before w e i) ∷ (rest i).entries)
+
+  first_before : (w : World) (k : Order) → events_before (before w).writer k ≡ events_before w.writer k
+  first_before w (configure c) = ap (λ (b : Bool). if b then sweeps w.writer.generations else []) (would_before w.writer.desk c)
+  first_before w reap = refl
+  first_before w (load region offset bytes) = refl
+  first_before w (harvest region client) = refl
+  first_before w (notified number) = refl
+  first_before w journal = refl
+  first_before w current = refl
+
+  later_before : (w : World) (k : Order) → events_after (before w).writer k ≡ events_after w.writer k
+  later_before w (configure c) = refl
+  later_before w reap = refl
+  later_before w (load region offset bytes) = refl
+  later_before w (harvest region client) = refl
+  later_before w (notified number) = refl
+  later_before w journal = refl
+  later_before w current = refl
+
+  pub fitting_before : (w : World) (k : Order) → IsFitting w k → IsFitting (before w) k
+  fitting_before w (configure c) fits = fits
+  fitting_before w reap fits = fits
+  fitting_before w (load region offset bytes) fits = fits
+  fitting_before w (harvest region client) fits = fits
+  fitting_before w (notified number) fits = fits
+  fitting_before w journal fits = fits
+  fitting_before w current fits = fits
+
+  -- and a call of the writer
+
+  -- the world after it and its entries
+  abbrev call_of : World → Order → Ran
+  call_of w k = ran (completed w k).world (completed w k).entries
+
+  -- what follows some entries with which it began, and then those of its private event
+  abbrev later_then : Order → List PureEntry → Ran → Ran
+  later_then k xs p = let l = run_events p.world (events_after p.world.writer k) in ran l.world (xs ++ (p.entries ++ l.entries))
+
+  completed_before : (w : World) (k : Order) → call_of (before w) k ≡ ran_before (call_of w k)
+  completed_before w k =
+      let u : Ran = run_events w (events_before w.writer k) in
+      let p : Ran = run_events u.world (private_of k) in
+      let one : run_events (before w) (events_before (before w).writer k) ≡ ran_before u =
+      ap (λ (es : List Event). run_events (before w) es) (first_before w k) ∙ runs_before (events_before w.writer k) w in
+      let two : run_events (before u.world) (private_of k) ≡ ran_before p = runs_before (private_of k) u.world in
+      let three : run_events (before p.world) (events_after (before p.world).writer k) ≡ ran_before (run_events p.world (events_after p.world.writer k)) =
+      ap (λ (es : List Event). run_events (before p.world) es) (later_before p.world k) ∙ runs_before (events_after p.world.writer k) p.world in
+      ap (λ (r : Ran). later_then k r.entries (run_events r.world (private_of k))) one
+      ∙ ap (λ (r : Ran). later_then k u.entries r) two
+      ∙ ap (λ (r : Ran). ran r.world (u.entries ++ (p.entries ++ r.entries))) three
+
+  -- which is legal without them where it is with them
+  pub call_without : (w : World) (k : Order) → IsLegalCall (before w) k → IsLegalCall w k
+  call_without w k c =
+      let es : List Event = events_before w.writer k in
+      let u : World = (run_events w es).world in
+      let v : World = (run_events u (private_of k)).world in record {
+        legal = legal_without (completed w k).entries w
+            (subst (λ (xs : List PureEntry). IsLegalFrom (before w) xs) (ap (λ (r : Ran). r.entries) (completed_before w k)) c.legal);
+        ends = ends_then es w _ ∙ ends_then (private_of k) u _ ∙ run_ends (events_after v.writer k) v;
+        rests = sym (ap (λ (r : Ran). is_at_rest r.world.writer.desk) (completed_before w k)) ∙ c.rests;
+      }
