@@ -3,7 +3,6 @@ use Rattle.std.proofs.Common.{◌≡◌, ℕ, ◌+◌, Bool, true, false, ◌&&�
 use Rattle.std.proofs.Common.{Option, Some, None}
 use Rattle.std.specs.Prelude.{◌==◌, ◌-◌, ◌||◌, not, Result, Ok, Err}
 use Rattle.mem_base.specs.declared.map.ids.ListenerId.{ListenerId}
-use Rattle.mem_base.specs.declared.map.ids.PassId.{PassId}
 use Rattle.mem_base.specs.declared.map.ids.RegionId.{RegionId}
 use Rattle.mem_base.specs.declared.map.forests.Forest.{Forest}
 use Rattle.mem_base.specs.declared.map.calls.Applied.{Applied}
@@ -19,9 +18,11 @@ use Rattle.mem_base.specs.declared.machine.events.Event.{Event}
 use Rattle.mem_base.specs.declared.machine.events.Event.TheVariants as events
 use Rattle.mem_base.specs.declared.machine.events.Hand.TheVariants as hands
 use Rattle.mem_base.specs.declared.machine.events.Reply.{Reply}
+use Rattle.mem_base.specs.declared.machine.events.Reply.TheVariants.{Old}
 use Rattle.mem_base.specs.map.Calls.{after, answer_of, is_quiet}
 use Rattle.mem_base.specs.map.Limits.{most_nested}
 use Rattle.mem_base.specs.map.Refusals.{first_refusal, unknown_space}
+use Rattle.mem_base.specs.access.Cells.{Touch}
 use Rattle.mem_base.specs.access.Places.{Extent, extent_of, first_fit, words_of}
 use Rattle.mem_base.specs.views.Flattened.{view_of}
 use Rattle.mem_base.specs.views.LiveEvents.{lives_of}
@@ -36,7 +37,7 @@ use Rattle.mem_base.specs.machine.Orders.{Order, configure, current, events_afte
 use Rattle.mem_base.specs.machine.Passes.{passes_after}
 use Rattle.mem_base.specs.machine.Publishing.{Settled, current_forest, held_up, publishing, readied, refused_desk, settled, unless_refused, would_publish}
 use Rattle.mem_base.specs.machine.Reaps.{Writer, writer}
-use Rattle.mem_base.specs.machine.World.{World, after_telling, blocks_for, is_at_rest, number_in, possible, reply, world, world_after}
+use Rattle.mem_base.specs.machine.World.{World, after_telling, blocks_for, is_at_rest, number_in, old_at, possible, reply, touch_at, world, world_after}
 use Rattle.history_laws.proofs.PureAppends.{ends_then, run_ends}
 use Rattle.world_laws.specs.Legal.{IsFitting, IsLegalCall}
 use Rattle.world_hand.specs.Taken.{desk_with, told_before}
@@ -45,6 +46,10 @@ use Rattle.world_hand.specs.Taken.{desk_with, told_before}
 either_branch : {A B : Type 0} (f : A → B) (test : Bool) (x y : A) (u v : B) → u ≡ f x → v ≡ f y → (if test then u else v) ≡ f (if test then x else y)
 either_branch f true x y u v a b = a
 either_branch f false x y u v a b = b
+
+-- the desk with one listener more, which was told what there is
+abbrev with_listener : Generations → Listener → Desk → Desk
+with_listener g l d = record d { listening = joined d.listening l (view_of (current_forest g) l.space) (lives_of (current_forest g) l.space) }
 
 module _ (taken : List Delivery) where
   -- the desk with them before the others
@@ -115,12 +120,9 @@ module _ (taken : List Delivery) where
     listened_before : (l : Listener) → listened g (desk_before d) l ≡ settled_before (listened g d l)
     listened_before l = go (first_refusal (unknown_space d.forest l.space ∷ join_refusal d.listening l.listener ∷ []))
       where
-        joins : Desk → Desk
-        joins e = record e { listening = joined e.listening l (view_of (current_forest g) l.space) (lives_of (current_forest g) l.space) }
-
-        go : (o : Option Refusal) → unless_refused o (desk_before d) (settled (joins (desk_before d)) Done)
-            ≡ settled_before (unless_refused o d (settled (joins d) Done))
-        go None = ap (λ (js : List Delivery). settled (desk_with js (joins d)) Done)
+        go : (o : Option Refusal) → unless_refused o (desk_before d) (settled (with_listener g l (desk_before d)) Done)
+            ≡ settled_before (unless_refused o d (settled (with_listener g l d) Done))
+        go None = ap (λ (js : List Delivery). settled (desk_with js (with_listener g l d)) Done)
             (append_assoc taken d.listening.journal (deliveries_to l.listener (joining (view_of (current_forest g) l.space) (lives_of (current_forest g) l.space))))
         go (Some why) = refl
 
@@ -178,6 +180,10 @@ module _ (taken : List Delivery) where
       ap (λ (b : Bool). is_at_rest w.writer.desk && (not b || is_all_swept w.writer.desk)) (would_before w.writer.desk k)
   possible_before w events.Reap = refl
 
+  old_before : (w : World) (region : RegionId) (o : Option Touch) → old_at (before w) (Some region) o ≡ old_at w (Some region) o
+  old_before w region None = refl
+  old_before w region (Some t) = refl
+
   reply_before : (w : World) (e : Event) → reply (before w) e ≡ reply w e
   reply_before w (events.Look pass) = refl
   reply_before w (events.Announce pass) = refl
@@ -186,9 +192,10 @@ module _ (taken : List Delivery) where
   reply_before w (events.Sweep pass) = refl
   reply_before w (events.Place pass) = refl
   reply_before w events.Publish = refl
-  reply_before w (events.Word hand c step) = refl
+  reply_before w (events.Word hand c step) = ap (λ (n : ℕ). Ok (Old n)) (old_before w c.region (touch_at w (events.Word hand c step) (Some c.region)))
   reply_before w (events.Mark pass region client page) = refl
-  reply_before w (events.Harvest region client index) = refl
+  reply_before w (events.Harvest region client index) =
+      ap (λ (n : ℕ). Ok (Old n)) (old_before w region (touch_at w (events.Harvest region client index) (Some region)))
   reply_before w (events.Fill c) = refl
   reply_before w (events.Config k) = ap (λ (s : Settled). answers k s.answer) (configured_before w.writer.generations w.writer.desk k)
   reply_before w events.Reap = refl
