@@ -16,11 +16,13 @@ use Rattle.scope_words.specs.declared.requests.Request.TheVariants.{Why, Lint, D
 use Rattle.scope_run.specs.Diffs.{TellsDiff}
 use Rattle.scope_run.specs.Explains.{Explains, TellsTopic, topic_code}
 use Rattle.scope_run.specs.Files.{Tells}
-use Rattle.scope_run.specs.Imports.{FailsCheck, FailsImport, TellsImport, most_monitor}
+use Rattle.scope_run.specs.Imports.{TellsImport, most_monitor}
 use Rattle.scope_run.specs.Lints.{lint_text, tells_something}
 use Rattle.scope_run.specs.Scripts.{FailsOn, OfScript, left_by}
 use Rattle.scope_run.specs.Tables.{TellsSlots}
-use Rattle.scope_run.specs.declared.importing.MonitorStop.TheVariants.{Long}
+use Rattle.scope_run.specs.declared.importing.MonitorStop.TheVariants.{BadLine, Long, Made}
+use Rattle.monitor_text.specs.Rows.{flat_line, tree_line}
+use Rattle.monitor_text.specs.Texts.{lines_of}
 use Rattle.script_check.specs.Checks.{IsChecked}
 use Rattle.scope_run.specs.Whys.{TellsWhy}
 
@@ -107,17 +109,25 @@ abbrev pub IsSecondUnread : Holding → Type 0 → Option Text → Fault → Typ
 IsSecondUnread held failed None fault = fault ≡ faults.Memory
 IsSecondUnread held failed (Some name) fault = IsTextUnread held failed name Second fault
 
--- of `import`: a read failed, or there is no script of the texts
+-- of `import`: a read failed, or a text is too long or has a line that is none of the monitor's, or what was made is no script
 abbrev pub FailsImporting : Holding → Type 0 → Text → Option Text → Fault → Type 0
 FailsImporting held failed tree flat (faults.File which) = failed
+FailsImporting held failed tree flat (faults.Monitor (BadLine First line)) = OfFile held tree (λ bytes. lines_of tree_line bytes ≡ Err line)
+FailsImporting held failed tree flat (faults.Monitor (BadLine Second line)) = OfSecond held flat (λ bytes. lines_of flat_line bytes ≡ Err line)
+FailsImporting held failed tree flat (faults.Monitor (Long First)) = OfFile held tree (λ bytes. most_monitor < length bytes)
+FailsImporting held failed tree flat (faults.Monitor (Long Second)) = OfSecond held flat (λ bytes. most_monitor < length bytes)
+FailsImporting held failed tree flat (faults.Monitor (Made bad)) = (text : Text) × (script_of text ≡ Err bad)
 FailsImporting held failed tree flat faults.Memory = ⊤
-FailsImporting held failed tree flat fault = OfFile held tree (λ bytes. OfSecond held flat (λ printed. FailsImport bytes printed fault))
+FailsImporting held failed tree flat fault = ⊥
 
--- of `check`: a read failed, or there is nothing to compare
+-- of `check`: a read failed, or the text is no script, or that of the monitor is too long or has a line that is none of the monitor's
 abbrev pub FailsChecking : Holding → Type 0 → Text → Text → Fault → Type 0
 FailsChecking held failed script flat (faults.File which) = failed
+FailsChecking held failed script flat (faults.Script First bad) = OfFile held script (λ bytes. script_of bytes ≡ Err bad)
+FailsChecking held failed script flat (faults.Monitor (BadLine Second line)) = OfFile held flat (λ bytes. lines_of flat_line bytes ≡ Err line)
+FailsChecking held failed script flat (faults.Monitor (Long Second)) = OfFile held flat (λ bytes. most_monitor < length bytes)
 FailsChecking held failed script flat faults.Memory = ⊤
-FailsChecking held failed script flat fault = OfFile held script (λ bytes. OfFile held flat (λ printed. FailsCheck bytes printed fault))
+FailsChecking held failed script flat fault = ⊥
 
 -- why a request has no answer, by what files hold, and by whether a read failed
 abbrev pub FailsFor : Request → Holding → Type 0 → Fault → Type 0

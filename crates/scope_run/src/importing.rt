@@ -1,6 +1,8 @@
 // `import` and `check`.
-ghost use Rattle.std.specs.Prelude.{◌≡◌, ◌≤◌, ◌×◌, ◌||◌, ◌^◌, IfErr, IfOk, length, nat_lt};
+ghost use Rattle.std.specs.Prelude.{◌≡◌, ◌||◌, IfErr, IfOk, nat_lt};
 ghost use Rattle.monitor_import.specs.Drafts.{Explains};
+ghost use Rattle.script_settle.specs.Refused.{HasRefused};
+ghost use Rattle.scope_run.specs.declared.answers.Fault.TheVariants.{Memory};
 ghost use Rattle.script_check.specs.Checks.{Explains as ExplainsCheck, IsChecked};
 ghost use Rattle.scope_run.specs.Imports.{FailsCheck, FailsImport, TellsImport, has_comment};
 
@@ -23,12 +25,15 @@ pub enum MonitorStop {
     Made(BadScript),
 }
 
-// Of two texts, of which one has 2^31 bytes or more, that one.
-fn long_one(first: &[u8]) -> Which {
-    if first.len() >= 1 << 31 {
-        Which::First
+// Of two texts, of which one has 2^31 bytes or more, that one is too long.
+fn too_long(tree: &[u8], flat: &[u8]) -> Fault
+    requires { Explains tree.now flat.now ImportFault.Long }
+    ensures { FailsImport tree.now flat.now result }
+{
+    if tree.len() >= 1 << 31 {
+        Fault::Monitor(MonitorStop::Long(Which::First))
     } else {
-        Which::Second
+        Fault::Monitor(MonitorStop::Long(Which::Second))
     }
 }
 
@@ -38,7 +43,7 @@ fn no_script(tree: &[u8], flat: &[u8], fault: ImportFault) -> Fault
     ensures { FailsImport tree.now flat.now result }
 {
     match fault {
-        ImportFault::Long => Fault::Monitor(MonitorStop::Long(long_one(tree))),
+        ImportFault::Long => too_long(tree, flat),
         ImportFault::Tree { line } => Fault::Monitor(MonitorStop::BadLine {
             which: Which::First,
             line,
@@ -59,15 +64,28 @@ fn has_comment(text: &[u8]) -> bool
     text.iter().any(|byte| *byte == b'#')
 }
 
-// A script that was made, as an answer.
+// The text of a script that was made, and whether it tells of something.
 fn answer_of(alloc: Global, made: &Imported) -> Result<Answer, AllocError>
     ensures text { IfOk result (λ a. a.text ≡ made.now.text.items) }
     ensures something { IfOk result (λ a. a.something ≡ (has_comment made.now.text.items || nat_lt 0 made.now.refused)) }
 {
     let mut text = Line::new(alloc);
     text.bytes(&made.text)?;
-    let something = has_comment(&made.text) || made.refused > 0;
-    Ok(Answer { text, something })
+    let is_changed = has_comment(&made.text);
+    Ok(Answer {
+        text,
+        something: is_changed || made.refused > 0,
+    })
+}
+
+// A script that was made, as an answer.
+fn made_answer(alloc: Global, made: &Imported) -> Result<Answer, Fault>
+    requires { HasRefused made.now.text.items made.now.refused }
+    ensures told { IfOk result (λ a. TellsImport a.text a.something) }
+    ensures fails { IfErr result (λ fault. fault ≡ Memory) }
+{
+    let answer = answer_of(alloc, made)?;
+    Ok(answer)
 }
 
 /// A script of a machine, by what QEMU's monitor printed of it: `tree` by `info mtree -D`, and `flat` by `info mtree -f`, which may be
@@ -80,7 +98,7 @@ pub fn import(alloc: Global, tree: &[u8], flat: &[u8], wanted: &[Name]) -> Resul
     ensures fails { IfErr result (λ fault. FailsImport tree.now flat.now fault) }
 {
     match import_machine(alloc, tree, flat, wanted) {
-        Ok(made) => Ok(answer_of(alloc, &made)?),
+        Ok(made) => made_answer(alloc, &made),
         Err(fault) => Err(no_script(tree, flat, fault)),
     }
 }

@@ -73,9 +73,14 @@ pub(crate) fn answer_import<F: Files>(
         (Rose (F.faults files.old) (F.faults files.new)) fault) }
 {
     let wanted = names_in(alloc, spaces)?;
-    let tree = monitor_in(alloc, files, tree, Which::First)?;
-    let flat = flat_in(alloc, files, flat)?;
-    import(alloc, tree.as_slice(), flat.as_slice(), wanted.as_slice())
+    let first = monitor_in(alloc, files, tree, Which::First)?;
+    let second = flat_in(alloc, files, flat)?;
+    import(
+        alloc,
+        first.as_slice(),
+        second.as_slice(),
+        wanted.as_slice(),
+    )
 }
 
 /// What comes of a script beside what the monitor printed.
@@ -89,7 +94,7 @@ pub(crate) fn answer_check<F: Files>(
     ensures fails { IfErr result (λ fault. FailsFor (Request.Check script.entry flat.entry) (F.held files.old)
         (Rose (F.faults files.old) (F.faults files.new)) fault) }
 {
-    let script = text_in(alloc, files, script, Which::First)?;
-    let flat = monitor_in(alloc, files, flat, Which::Second)?;
-    check(alloc, script.as_slice(), flat.as_slice())
+    let first = text_in(alloc, files, script, Which::First)?;
+    let second = monitor_in(alloc, files, flat, Which::Second)?;
+    check(alloc, first.as_slice(), second.as_slice())
 }

@@ -1,3 +1,4 @@
 mod BlockLaws
+mod MarkLaws
 mod VerdictLaws
 mod CheckLaws

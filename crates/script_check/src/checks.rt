@@ -88,6 +88,24 @@ fn flat_blocks(alloc: Global, flat: &[u8]) -> Result<Vec<Block>, CheckFault>
     }
 }
 
+// What is told of all spaces of a script's map, by its regions that stand for memory.
+fn tell_spaces(
+    alloc: Global,
+    map: &ScriptMap,
+    memory: &[RegionId],
+    blocks: &[Block],
+) -> Result<Checked, AllocError>
+    ensures text { let x = compared_with map.now memory.now blocks.now in IfOk result (λ c. c.text ≡ spaces_text x x.forest.spaces) }
+    ensures differs { let x = compared_with map.now memory.now blocks.now in IfOk result (λ c. c.differs ≡ some_differs x x.forest.spaces) }
+{
+    let generation = map.generation();
+    let forest = generation.forest();
+    let spaces = forest.spaces.as_slice();
+    let mut text = Line::new(alloc);
+    let differs = add_spaces(alloc, &mut text, map, memory, blocks, spaces)?;
+    Ok(Checked { text, differs })
+}
+
 // The spaces of a script's map.
 fn check_map(
     alloc: Global,
@@ -99,10 +117,8 @@ fn check_map(
     ensures fails { IfErr result (λ fault. fault ≡ Memory) }
 {
     let memory = memory_in(alloc, script, map)?;
-    let mut text = Line::new(alloc);
-    let spaces = map.generation().forest().spaces.as_slice();
-    let differs = add_spaces(alloc, &mut text, map, &memory, blocks, spaces)?;
-    Ok(Checked { text, differs })
+    let checked = tell_spaces(alloc, map, memory.as_slice(), blocks)?;
+    Ok(checked)
 }
 
 // The spaces of a script beside the views that were printed.
