@@ -44,6 +44,7 @@ fails_on text m space region (faults.Script Second bad) h x = of_state text m (�
 fails_on text m space region faults.NoSpace h x = of_state text m (λ s. FailsIn s space region faults.NoSpace) h x
 fails_on text m space region faults.NoRegion h x = of_state text m (λ s. FailsIn s space region faults.NoRegion) h x
 fails_on text m space region faults.NoAddress h x = of_state text m (λ s. FailsIn s space region faults.NoAddress) h x
+fails_on text m space region (faults.Monitor stop) h x = of_state text m (λ s. FailsIn s space region (faults.Monitor stop)) h x
 fails_on text m space region faults.Memory h x = tt
 
 -- a text that gives no map
@@ -72,4 +73,5 @@ second_fails first second (faults.Script Second bad) x = x
 second_fails first second faults.NoSpace x = x
 second_fails first second faults.NoRegion x = x
 second_fails first second faults.NoAddress x = x
+second_fails first second (faults.Monitor stop) x = x
 second_fails first second faults.Memory x = x

@@ -32,6 +32,7 @@ unread_file held failed name space region (faults.Script Second bad) x = absurd 
 unread_file held failed name space region faults.NoSpace x = absurd x
 unread_file held failed name space region faults.NoRegion x = absurd x
 unread_file held failed name space region faults.NoAddress x = absurd x
+unread_file held failed name space region (faults.Monitor stop) x = absurd x
 unread_file held failed name space region faults.Memory x = tt
 
 -- a command that fails on what a file holds
@@ -42,6 +43,7 @@ command_file held failed name space region bytes (faults.Script which bad) t x =
 command_file held failed name space region bytes faults.NoSpace t x = (bytes, t, x)
 command_file held failed name space region bytes faults.NoRegion t x = (bytes, t, x)
 command_file held failed name space region bytes faults.NoAddress t x = (bytes, t, x)
+command_file held failed name space region bytes (faults.Monitor stop) t x = (bytes, t, x)
 command_file held failed name space region bytes faults.Memory t x = tt
 
 -- the same of `why`, which never says that the address is none once it was read
@@ -53,6 +55,7 @@ unread_why held failed script space addr region (faults.Script which bad) x =
 unread_why held failed script space addr region faults.NoSpace x = absurd x
 unread_why held failed script space addr region faults.NoRegion x = absurd x
 unread_why held failed script space addr region faults.NoAddress x = absurd x
+unread_why held failed script space addr region (faults.Monitor stop) x = absurd x
 unread_why held failed script space addr region faults.Memory x = tt
 
 pub command_why : (held : Holding) (failed : Type 0) (script space addr : Text) (region : Option Text) (bytes : Text) (fault : Fault)
@@ -62,6 +65,7 @@ command_why held failed script space addr region bytes (faults.Script which bad)
 command_why held failed script space addr region bytes faults.NoSpace t x = (bytes, t, x)
 command_why held failed script space addr region bytes faults.NoRegion t x = (bytes, t, x)
 command_why held failed script space addr region bytes faults.NoAddress t x = absurd x.2
+command_why held failed script space addr region bytes (faults.Monitor stop) t x = (bytes, t, x)
 command_why held failed script space addr region bytes faults.Memory t x = tt
 
 -- and of `diff`
@@ -76,6 +80,7 @@ unread_first held failed first second (faults.Script Second bad) x = absurd (oth
 unread_first held failed first second faults.NoSpace x = absurd x
 unread_first held failed first second faults.NoRegion x = absurd x
 unread_first held failed first second faults.NoAddress x = absurd x
+unread_first held failed first second (faults.Monitor stop) x = absurd x
 unread_first held failed first second faults.Memory x = tt
 
 pub unread_second : (held : Holding) (failed : Type 0) (first second : Text) (fault : Fault) → IsUnread held failed second Second fault
@@ -89,6 +94,7 @@ unread_second held failed first second (faults.Script Second bad) x = x.1
 unread_second held failed first second faults.NoSpace x = absurd x
 unread_second held failed first second faults.NoRegion x = absurd x
 unread_second held failed first second faults.NoAddress x = absurd x
+unread_second held failed first second (faults.Monitor stop) x = absurd x
 unread_second held failed first second faults.Memory x = tt
 
 pub command_both : (held : Holding) (failed : Type 0) (first second old new : Text) (fault : Fault) → Tells (held first) old → Tells (held second) new
@@ -99,6 +105,7 @@ command_both held failed first second old new (faults.Script Second bad) t u x =
 command_both held failed first second old new faults.NoSpace t u x = x
 command_both held failed first second old new faults.NoRegion t u x = x
 command_both held failed first second old new faults.NoAddress t u x = x
+command_both held failed first second old new (faults.Monitor stop) t u x = x
 command_both held failed first second old new faults.Memory t u x = tt
 
 -- a failed read also counts where more was read after it

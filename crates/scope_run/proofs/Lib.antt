@@ -4,3 +4,4 @@ mod TableLaws
 mod FileLaws
 mod ExplainLaws
 mod LintLaws
+mod MonitorLaws

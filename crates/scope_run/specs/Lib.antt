@@ -5,6 +5,7 @@ pub mod Lints
 pub mod Diffs
 pub mod Tables
 pub mod Explains
+pub mod Imports
 pub mod Requests
 pub mod Said
 pub mod Statuses

@@ -1,5 +1,5 @@
 -- What is asked, and what is answered by what files hold.
-use Rattle.std.specs.Prelude.{◌≡◌, ℕ, Bool, true, false, is_some, List, [], Option, Some, None, option_map, Ok, Err, ⊤}
+use Rattle.std.specs.Prelude.{◌≡◌, ◌<◌, ℕ, Bool, true, false, is_some, length, List, [], Option, Some, None, option_map, Ok, Err, ⊤}
 use Rattle.mem_base.specs.script.Operands.{address}
 use Rattle.mem_base.specs.script.Lines.{tokens_of}
 use Rattle.mem_base.specs.script.Scripts.{script_of}
@@ -12,13 +12,18 @@ use Rattle.scope_run.specs.declared.answers.Which.TheVariants.{First, Second}
 use Rattle.scope_run.specs.declared.endings.Ending.{Ending}
 use Rattle.scope_run.specs.declared.endings.Ending.TheVariants as endings
 use Rattle.scope_words.specs.declared.requests.Request.{Request}
-use Rattle.scope_words.specs.declared.requests.Request.TheVariants.{Why, Lint, Diff, Slots, Draw, Explain}
+use Rattle.scope_words.specs.declared.requests.Request.TheVariants.{Why, Lint, Diff, Slots, Draw, Explain, Import, Check}
 use Rattle.scope_run.specs.Diffs.{TellsDiff}
 use Rattle.scope_run.specs.Explains.{Explains, TellsTopic, topic_code}
 use Rattle.scope_run.specs.Files.{Tells}
+use Rattle.scope_run.specs.Imports.{TellsImport, most_monitor}
 use Rattle.scope_run.specs.Lints.{lint_text, tells_something}
 use Rattle.scope_run.specs.Scripts.{FailsOn, OfScript, left_by}
 use Rattle.scope_run.specs.Tables.{TellsSlots}
+use Rattle.scope_run.specs.declared.importing.MonitorStop.TheVariants.{BadLine, Long, Made}
+use Rattle.monitor_text.specs.Rows.{flat_line, tree_line}
+use Rattle.monitor_text.specs.Texts.{lines_of}
+use Rattle.script_check.specs.Checks.{IsChecked}
 use Rattle.scope_run.specs.Whys.{TellsWhy}
 
 -- what files hold under their names, where they tell it
@@ -54,6 +59,9 @@ AnswersTo (Slots script) held text something =
 AnswersTo (Draw script space style) held text something =
     OfFile held script.now (λ bytes. OfScript bytes (λ lines. is_some (space_named (left_by lines) space.now) ≡ true)) × (something ≡ false)
 AnswersTo (Explain what) held text something = AnswersWord held what.now (topic_code what.now) text something
+AnswersTo (Import tree flat spaces) held text something = TellsImport text something
+AnswersTo (Check script flat) held text something =
+    OfFile held script.now (λ bytes. OfFile held flat.now (λ printed. IsChecked bytes printed text something))
 
 -- a file of a request was not read: a read failed, or it is too long to be a script
 abbrev pub IsUnread : Holding → Type 0 → Text → Which → Fault → Type 0
@@ -82,6 +90,45 @@ FailsDiff held failed first second (faults.Script Second bad) = OfFile held seco
 FailsDiff held failed first second faults.Memory = ⊤
 FailsDiff held failed first second fault = ⊥
 
+-- a text of the monitor's was not read: a read failed, or it is too long
+abbrev pub IsTextUnread : Holding → Type 0 → Text → Which → Fault → Type 0
+IsTextUnread held failed name which (faults.File file) = failed
+IsTextUnread held failed name which (faults.Monitor (Long file)) = (file ≡ which) × OfFile held name (λ bytes. most_monitor < length bytes)
+IsTextUnread held failed name which faults.Memory = ⊤
+IsTextUnread held failed name which _ = ⊥
+
+-- of a second text, which may be left out, and is empty then: its bytes; these, of which this holds; and why it was not read
+abbrev pub TellsIfNamed : Holding → Option Text → Text → Type 0
+TellsIfNamed held None bytes = bytes ≡ []
+TellsIfNamed held (Some name) bytes = Tells (held name) bytes
+
+abbrev pub OfSecond : Holding → Option Text → (Text → Type 0) → Type 0
+OfSecond held name fact = (bytes : Text) × TellsIfNamed held name bytes × fact bytes
+
+abbrev pub IsSecondUnread : Holding → Type 0 → Option Text → Fault → Type 0
+IsSecondUnread held failed None fault = fault ≡ faults.Memory
+IsSecondUnread held failed (Some name) fault = IsTextUnread held failed name Second fault
+
+-- of `import`: a read failed, or a text is too long or has a line that is none of the monitor's, or what was made is no script
+abbrev pub FailsImporting : Holding → Type 0 → Text → Option Text → Fault → Type 0
+FailsImporting held failed tree flat (faults.File which) = failed
+FailsImporting held failed tree flat (faults.Monitor (BadLine First line)) = OfFile held tree (λ bytes. lines_of tree_line bytes ≡ Err line)
+FailsImporting held failed tree flat (faults.Monitor (BadLine Second line)) = OfSecond held flat (λ bytes. lines_of flat_line bytes ≡ Err line)
+FailsImporting held failed tree flat (faults.Monitor (Long First)) = OfFile held tree (λ bytes. most_monitor < length bytes)
+FailsImporting held failed tree flat (faults.Monitor (Long Second)) = OfSecond held flat (λ bytes. most_monitor < length bytes)
+FailsImporting held failed tree flat (faults.Monitor (Made bad)) = (text : Text) × (script_of text ≡ Err bad)
+FailsImporting held failed tree flat faults.Memory = ⊤
+FailsImporting held failed tree flat fault = ⊥
+
+-- of `check`: a read failed, or the text is no script, or that of the monitor is too long or has a line that is none of the monitor's
+abbrev pub FailsChecking : Holding → Type 0 → Text → Text → Fault → Type 0
+FailsChecking held failed script flat (faults.File which) = failed
+FailsChecking held failed script flat (faults.Script First bad) = OfFile held script (λ bytes. script_of bytes ≡ Err bad)
+FailsChecking held failed script flat (faults.Monitor (BadLine Second line)) = OfFile held flat (λ bytes. lines_of flat_line bytes ≡ Err line)
+FailsChecking held failed script flat (faults.Monitor (Long Second)) = OfFile held flat (λ bytes. most_monitor < length bytes)
+FailsChecking held failed script flat faults.Memory = ⊤
+FailsChecking held failed script flat fault = ⊥
+
 -- why a request has no answer, by what files hold, and by whether a read failed
 abbrev pub FailsFor : Request → Holding → Type 0 → Fault → Type 0
 FailsFor (Why script space addr region) held failed fault =
@@ -91,6 +138,8 @@ FailsFor (Diff first second) held failed fault = FailsDiff held failed first.now
 FailsFor (Slots script) held failed fault = FailsFile held failed script.now None None fault
 FailsFor (Draw script space style) held failed fault = FailsFile held failed script.now (Some space.now) None fault
 FailsFor (Explain what) held failed fault = FailsFile held failed what.now None None fault
+FailsFor (Import tree flat spaces) held failed fault = FailsImporting held failed tree.now (option_map (λ f. f.now) flat) fault
+FailsFor (Check script flat) held failed fault = FailsChecking held failed script.now flat.now fault
 
 -- how a run ends after an answer
 abbrev pub ending_of : Bool → Ending

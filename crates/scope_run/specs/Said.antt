@@ -9,6 +9,8 @@ use Rattle.scope_run.specs.declared.answers.Fault.{Fault}
 use Rattle.scope_run.specs.declared.answers.Fault.TheVariants as faults
 use Rattle.scope_run.specs.declared.answers.Which.{Which}
 use Rattle.scope_run.specs.declared.answers.Which.TheVariants.{First, Second}
+use Rattle.scope_run.specs.declared.importing.MonitorStop.{MonitorStop}
+use Rattle.scope_run.specs.declared.importing.MonitorStop.TheVariants.{BadLine, Long, Made}
 use Rattle.scope_words.specs.Requests.{address_word, first_file, region_word, second_file, space_word}
 use Rattle.scope_words.specs.declared.requests.Request.{Request}
 
@@ -35,6 +37,17 @@ line_text number = if number == 0 then [] else (codes " line " ++ decimal number
 abbrev pub bad_text : Text → BadScript → Text
 bad_text file bad = file ++ (codes ":" ++ (line_text bad.line ++ (codes " " ++ cause_words bad.cause)))
 
+-- the command of the monitor that does not print such a line
+abbrev pub unlike : Which → Text
+unlike First = codes ": no line of info mtree -D"
+unlike Second = codes ": no line of info mtree -f"
+
+-- what is said of a text of the monitor's
+abbrev pub monitor_said : Request → MonitorStop → Text
+monitor_said request (BadLine which line) = file_of request which ++ ((codes ": line " ++ decimal line) ++ unlike which)
+monitor_said request (Long which) = file_of request which ++ codes ": longer than what is read of it, which is 16777216 bytes"
+monitor_said request (Made bad) = bad_text (codes "the script that was made") bad
+
 -- what is said, without the name of the program
 abbrev pub said : Request → Fault → Text
 said request (faults.File which) = file_of request which ++ codes ": cannot be read"
@@ -42,6 +55,7 @@ said request (faults.Script which bad) = bad_text (file_of request which) bad
 said request faults.NoSpace = space_word request ++ codes ": the script has no space of this name"
 said request faults.NoRegion = region_word request ++ codes ": the script has no region of this name"
 said request faults.NoAddress = address_word request ++ codes ": no address; write 0x1000 or 4096"
+said request (faults.Monitor stop) = monitor_said request stop
 said request faults.Memory = codes "out of memory"
 
 -- mscope: and what is said

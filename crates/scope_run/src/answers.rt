@@ -4,6 +4,7 @@ ghost use Rattle.scope_run.specs.Lints.{tells_something};
 ghost use Rattle.scope_run.specs.Scripts.{stopped_by};
 ghost use Rattle.scope_run.specs.declared.answers.Fault.TheVariants.{Memory};
 
+use crate::importing::MonitorStop;
 use mem_base::BadScript;
 use script_lines::Line;
 use script_map::MapStop;
@@ -36,6 +37,8 @@ pub enum Fault {
     NoRegion,
     /// A word is no address.
     NoAddress,
+    /// A text of QEMU's monitor is of no use.
+    Monitor(MonitorStop),
     Memory,
 }
 

@@ -1,8 +1,9 @@
 // What is said of a request that cannot be answered.
-ghost use Rattle.std.specs.Prelude.{◌≡◌, ◌++◌, IfOk, OnOk};
-ghost use Rattle.scope_run.specs.Said.{bad_text, cause_words, fault_text, file_of, line_text, said};
+ghost use Rattle.std.specs.Prelude.{◌≡◌, ◌++◌, IfOk, OnOk, codes, decimal};
+ghost use Rattle.scope_run.specs.Said.{bad_text, cause_words, fault_text, file_of, line_text, monitor_said, said, unlike};
 
 use crate::answers::{Fault, Which};
+use crate::importing::MonitorStop;
 use mem_base::{BadScript, Cause};
 use scope_words::Request;
 use script_lines::Line;
@@ -62,6 +63,43 @@ fn add_word(line: &mut Line, word: &str, text: &str) -> Result<(), AllocError>
     line.text(text)
 }
 
+// The command of the monitor that does not print such a line.
+fn unlike(which: Which) -> &'static str
+    ensures { result.now ≡ unlike which }
+{
+    match which {
+        Which::First => ": no line of info mtree -D",
+        Which::Second => ": no line of info mtree -f",
+    }
+}
+
+// A line of a text that has no form of the monitor's.
+fn add_bad_line(line: &mut Line, file: &str, which: Which, number: u32) -> Result<(), AllocError>
+    ensures { OnOk result (line.new ≡ line.old ++ (file.now ++ ((codes ": line " ++ decimal number) ++ unlike which))) }
+{
+    line.text(file)?;
+    line.counted(": line ", u64::from(number))?;
+    line.text(unlike(which))
+}
+
+// What is wrong with a text of the monitor's.
+fn add_monitor(line: &mut Line, request: &Request<'_>, stop: MonitorStop) -> Result<(), AllocError>
+    ensures { OnOk result (line.new ≡ line.old ++ monitor_said request.now stop) }
+{
+    match stop {
+        MonitorStop::BadLine {
+            which,
+            line: number,
+        } => add_bad_line(line, file_of(request, which), which, number),
+        MonitorStop::Long(which) => add_word(
+            line,
+            file_of(request, which),
+            ": longer than what is read of it, which is 16777216 bytes",
+        ),
+        MonitorStop::Made(bad) => add_bad(line, "the script that was made", bad),
+    }
+}
+
 fn add_fault(line: &mut Line, request: &Request<'_>, fault: Fault) -> Result<(), AllocError>
     ensures { OnOk result (line.new ≡ line.old ++ said request.now fault) }
 {
@@ -83,6 +121,7 @@ fn add_fault(line: &mut Line, request: &Request<'_>, fault: Fault) -> Result<(),
             request.address(),
             ": no address; write 0x1000 or 4096",
         ),
+        Fault::Monitor(stop) => add_monitor(line, request, stop),
         Fault::Memory => line.text("out of memory"),
     }
 }

@@ -16,6 +16,7 @@ use crate::explaining::{explain, explain_topic};
 use crate::faults::fault_line;
 use crate::files::Files;
 use crate::linting::lint;
+use crate::monitor_files::{answer_check, answer_import};
 use crate::slotting::slots;
 use crate::whys::why;
 use mem_base::{BadScript, Cause, Name};
@@ -34,8 +35,8 @@ fn too_long() -> BadScript
     }
 }
 
-// The bytes of a file.
-fn text_in<F: Files>(
+/// The bytes of a file.
+pub(crate) fn text_in<F: Files>(
     alloc: Global,
     files: &mut F,
     name: &str,
@@ -192,6 +193,8 @@ fn answer<F: Files>(alloc: Global, request: &Request<'_>, files: &mut F) -> Resu
             style,
         } => answer_draw(alloc, files, script, space, style),
         Request::Explain { what } => answer_explain(alloc, files, what),
+        Request::Import { tree, flat, spaces } => answer_import(alloc, files, tree, flat, spaces),
+        Request::Check { script, flat } => answer_check(alloc, files, script, flat),
     }
 }
 

@@ -31,6 +31,15 @@ draw_app = with_rule (with_rule (with_rule (new_app (codes "draw")) svg_rule) (w
 abbrev pub explain_app : App
 explain_app = with_rule (new_app (codes "explain")) (word_rule (codes "WHAT"))
 
+abbrev pub spaces_rule : Rule
+spaces_rule = record (new_rule (codes "space")) { long = Some (codes "space"); action = Some Set }
+
+abbrev pub import_app : App
+import_app = with_rule (with_rule (with_rule (new_app (codes "import")) spaces_rule) (word_rule (codes "TREE"))) (more_rule (codes "FLAT"))
+
+abbrev pub check_app : App
+check_app = with_rule (one_file (codes "check")) (word_rule (codes "FLAT"))
+
 -- all of them
 abbrev pub top_app : App
 top_app = record {
@@ -38,6 +47,9 @@ top_app = record {
   subs = [];
 }
 
-abbrev pub scope_app : App
-scope_app = with_subcommand (with_subcommand (with_subcommand (with_subcommand (with_subcommand (with_subcommand top_app
+abbrev pub map_app : App
+map_app = with_subcommand (with_subcommand (with_subcommand (with_subcommand (with_subcommand (with_subcommand top_app
     why_app.top) (one_file (codes "lint")).top) diff_app.top) (one_file (codes "slots")).top) draw_app.top) explain_app.top
+
+abbrev pub scope_app : App
+scope_app = with_subcommand (with_subcommand map_app import_app.top) check_app.top

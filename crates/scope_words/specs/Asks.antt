@@ -5,7 +5,7 @@ use Rattle.scope_words.specs.App.{scope_app}
 use Rattle.scope_words.specs.declared.read.Asked.{Asked}
 use Rattle.scope_words.specs.declared.read.Asked.TheVariants as asked
 use Rattle.scope_words.specs.declared.requests.Request.{Request}
-use Rattle.scope_words.specs.declared.requests.Request.TheVariants.{Why, Lint, Diff, Slots, Draw, Explain}
+use Rattle.scope_words.specs.declared.requests.Request.TheVariants.{Why, Lint, Diff, Slots, Draw, Explain, Import, Check}
 use Rattle.scope_words.specs.declared.requests.Style.{Style}
 use Rattle.scope_words.specs.declared.requests.Style.TheVariants as styles
 
@@ -35,6 +35,11 @@ IsRequest name rows (Draw script space style) =
     (name ≡ codes "draw") × (script.now ≡ word_of (codes "SCRIPT") rows) × (space.now ≡ word_of (codes "SPACE") rows)
     × IsStyle (one_of (codes "svg") rows) style
 IsRequest name rows (Explain what) = (name ≡ codes "explain") × (what.now ≡ word_of (codes "WHAT") rows)
+IsRequest name rows (Import tree flat spaces) =
+    (name ≡ codes "import") × (tree.now ≡ word_of (codes "TREE") rows) × (option_map (λ f. f.now) flat ≡ first_of (codes "FLAT") rows)
+    × (option_map (λ s. s.now) spaces ≡ first_of (codes "space") rows)
+IsRequest name rows (Check script flat) =
+    (name ≡ codes "check") × (script.now ≡ word_of (codes "SCRIPT") rows) × (flat.now ≡ word_of (codes "FLAT") rows)
 
 -- the same of what clap found, if it found a subcommand
 abbrev pub IsFound : Option (Text × List Row) → Request → Type 0

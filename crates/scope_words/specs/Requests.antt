@@ -1,7 +1,7 @@
 -- The files and words that a request names.
 use Rattle.std.specs.Prelude.{ℕ, List, [], Some}
 use Rattle.scope_words.specs.declared.requests.Request.{Request}
-use Rattle.scope_words.specs.declared.requests.Request.TheVariants.{Why, Lint, Diff, Slots, Draw, Explain}
+use Rattle.scope_words.specs.declared.requests.Request.TheVariants.{Why, Lint, Diff, Slots, Draw, Explain, Import, Check}
 
 abbrev pub Text : Type 0
 Text = List ℕ
@@ -14,9 +14,13 @@ first_file (Diff first second) = first.now
 first_file (Slots script) = script.now
 first_file (Draw script space style) = script.now
 first_file (Explain what) = what.now
+first_file (Import tree flat spaces) = tree.now
+first_file (Check script flat) = script.now
 
 abbrev pub second_file : Request → Text
 second_file (Diff first second) = second.now
+second_file (Import tree (Some flat) spaces) = flat.now
+second_file (Check script flat) = flat.now
 second_file _ = []
 
 -- the words that it gives for a space, an address and a region; empty where it has none

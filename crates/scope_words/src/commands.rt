@@ -2,7 +2,8 @@
 ghost use Rattle.std.specs.Prelude.{◌≡◌, IfOk, false, codes};
 ghost use Rattle.clap.specs.Words.{app_of, new_app, with_rule, with_subcommand};
 ghost use Rattle.clap.specs.declared.Command.TheViews.{out-Command};
-ghost use Rattle.scope_words.specs.App.{diff_app, draw_app, explain_app, one_file, scope_app, top_app, why_app, word_rule};
+ghost use Rattle.scope_words.specs.App.{check_app, diff_app, draw_app, explain_app, import_app, map_app};
+ghost use Rattle.scope_words.specs.App.{one_file, scope_app, top_app, why_app, word_rule};
 
 use clap::{Arg, ArgAction, Command};
 use std::alloc::{AllocError, Global};
@@ -137,6 +138,38 @@ fn explain<'a>(alloc: Global) -> Result<Command<'a>, AllocError>
     )
 }
 
+fn import<'a>(alloc: Global) -> Result<Command<'a>, AllocError>
+    ensures app { IfOk result (λ c. app_of c ≡ import_app) }
+    ensures local { IfOk result (λ c. (out-Command c).has_globals ≡ false) }
+{
+    let about =
+        "A script of what QEMU's monitor printed of a machine; what it cannot hold is told in its comments";
+    let spaces = Arg::new(alloc, "space")
+        .long("space")
+        .action(ArgAction::Set)
+        .help("Takes these address spaces alone, by their names with commas between them");
+    let chosen = named(alloc, "import", about).arg(spaces)?;
+    let tree = with_word(
+        alloc,
+        chosen,
+        "TREE",
+        "What `info mtree -D` printed; - is the standard input",
+    )?;
+    let flat = Arg::new(alloc, "FLAT").action(ArgAction::Set).help(
+        "What `info mtree -f` printed, which settles what the tree leaves open",
+    );
+    tree.arg(flat)
+}
+
+fn check<'a>(alloc: Global) -> Result<Command<'a>, AllocError>
+    ensures app { IfOk result (λ c. app_of c ≡ check_app) }
+    ensures local { IfOk result (λ c. (out-Command c).has_globals ≡ false) }
+{
+    let about = "Whether each address space of a script shows what QEMU's monitor printed";
+    let script = with_script(alloc, named(alloc, "check", about))?;
+    with_word(alloc, script, "FLAT", "What `info mtree -f` printed")
+}
+
 fn top<'a>(alloc: Global) -> Command<'a>
     ensures { app_of result ≡ top_app }
 {
@@ -168,11 +201,19 @@ fn asking<'a>(alloc: Global) -> Result<Command<'a>, AllocError>
     with_sub(lint, diff(alloc)?)
 }
 
-/// The whole command line.
-pub(crate) fn command<'a>(alloc: Global) -> Result<Command<'a>, AllocError>
-    ensures { IfOk result (λ c. app_of c ≡ scope_app) }
+// The first six.
+fn on_maps<'a>(alloc: Global) -> Result<Command<'a>, AllocError>
+    ensures { IfOk result (λ c. app_of c ≡ map_app) }
 {
     let slots = with_sub(asking(alloc)?, slots(alloc)?)?;
     let draw = with_sub(slots, draw(alloc)?)?;
     with_sub(draw, explain(alloc)?)
+}
+
+/// The whole command line.
+pub(crate) fn command<'a>(alloc: Global) -> Result<Command<'a>, AllocError>
+    ensures { IfOk result (λ c. app_of c ≡ scope_app) }
+{
+    let import = with_sub(on_maps(alloc)?, import(alloc)?)?;
+    with_sub(import, check(alloc)?)
 }

@@ -72,6 +72,36 @@ fn draw<'a>(matches: &ArgMatches<'a>) -> Request<'a>
     }
 }
 
+fn import<'a>(matches: &ArgMatches<'a>) -> Request<'a>
+    ensures { IsRequest (codes "import") (rows_of (found_of matches.now)) result }
+{
+    Request::Import {
+        tree: word(matches, "TREE"),
+        flat: matches.get_str("FLAT"),
+        spaces: matches.get_str("space"),
+    }
+}
+
+fn check<'a>(matches: &ArgMatches<'a>) -> Request<'a>
+    ensures { IsRequest (codes "check") (rows_of (found_of matches.now)) result }
+{
+    Request::Check {
+        script: word(matches, "SCRIPT"),
+        flat: word(matches, "FLAT"),
+    }
+}
+
+// The request of a subcommand that is about what the monitor printed.
+fn monitor_request<'a>(name: &str, matches: &ArgMatches<'a>) -> Option<Request<'a>>
+    ensures { IfSome result (λ r. IsRequest name.now (rows_of (found_of matches.now)) r) }
+{
+    match name {
+        "import" => Some(import(matches)),
+        "check" => Some(check(matches)),
+        _ => None,
+    }
+}
+
 // The request of a subcommand.
 fn request<'a>(name: &str, matches: &ArgMatches<'a>) -> Option<Request<'a>>
     ensures { IfSome result (λ r. IsRequest name.now (rows_of (found_of matches.now)) r) }
@@ -89,7 +119,7 @@ fn request<'a>(name: &str, matches: &ArgMatches<'a>) -> Option<Request<'a>>
         "explain" => Some(Request::Explain {
             what: word(matches, "WHAT"),
         }),
-        _ => None,
+        _ => monitor_request(name, matches),
     }
 }
 

@@ -46,6 +46,21 @@ pub enum Request<'a> {
     Explain {
         what: &'a str,
     },
+    /// A script of what QEMU's monitor printed of a machine.
+    Import {
+        /// What `info mtree -D` printed.
+        tree: &'a str,
+        /// What `info mtree -f` printed.
+        flat: Option<&'a str>,
+        /// The names of the spaces that the script is to have, with commas between them.
+        spaces: Option<&'a str>,
+    },
+    /// Whether the spaces of a script show what QEMU's monitor printed.
+    Check {
+        script: &'a str,
+        /// What `info mtree -f` printed.
+        flat: &'a str,
+    },
 }
 
 impl<'a> Request<'a> {
@@ -60,6 +75,8 @@ impl<'a> Request<'a> {
             Request::Slots { script } => script,
             Request::Draw { script, .. } => script,
             Request::Explain { what } => what,
+            Request::Import { tree, .. } => tree,
+            Request::Check { script, .. } => script,
         }
     }
 
@@ -69,6 +86,11 @@ impl<'a> Request<'a> {
     {
         match self {
             Request::Diff { second, .. } => second,
+            Request::Import {
+                flat: Some(flat),
+                ..
+            } => flat,
+            Request::Check { flat, .. } => flat,
             _ => "",
         }
     }

@@ -3,7 +3,7 @@
 use crate::cases::{Case, first_case};
 use crate::memory::CaseFiles;
 use clap::Error;
-use outside::{Failed, Sink, StdSink, write_all};
+use outside::{Failed, MemSink, Sink, StdSink, write_all};
 use scope_run::{Ending, Request, mscope};
 use scope_words::{Asked, read_words};
 use std::alloc::{AllocError, Global};
@@ -45,17 +45,44 @@ fn words_in(alloc: Global, text: &str) -> Result<Vec<String>, AllocError> {
 fn answer(
     alloc: Global,
     request: &Request<'_>,
-    case: &Case<'_>,
-    previous: &[u8],
+    files: &mut CaseFiles<'_>,
 ) -> Result<(Ending, Vec<u8>), AllocError> {
-    let mut files = CaseFiles::new(case.script, previous);
     let mut written = Vec::new(alloc);
     let mut said = Vec::new(alloc);
     let mut out = StdSink::new(&mut written);
     let mut err = StdSink::new(&mut said);
-    let ending = mscope(alloc, request, &mut files, &mut out, &mut err);
+    let ending = mscope(alloc, request, files, &mut out, &mut err);
     written.extend_from_slice(said.as_slice())?;
     Ok((ending, written))
+}
+
+// What is said for it, and how it ends, where the output takes nothing.
+fn answer_closed(
+    alloc: Global,
+    request: &Request<'_>,
+    files: &mut CaseFiles<'_>,
+) -> Result<(Ending, Vec<u8>), AllocError> {
+    let mut out = MemSink::new(alloc, 0, Vec::new(alloc))?;
+    let mut said = Vec::new(alloc);
+    let mut err = StdSink::new(&mut said);
+    let ending = mscope(alloc, request, files, &mut out, &mut err);
+    Ok((ending, said))
+}
+
+// The same of a case, by its name.
+fn answer_case(
+    alloc: Global,
+    request: &Request<'_>,
+    case: &Case<'_>,
+    previous: &[u8],
+    answered: &[u8],
+) -> Result<(Ending, Vec<u8>), AllocError> {
+    let mut files = CaseFiles::new(case.script, previous, answered);
+    if case.name.ends_with("/closed-output") {
+        answer_closed(alloc, request, &mut files)
+    } else {
+        answer(alloc, request, &mut files)
+    }
 }
 
 // The status after a text of `clap`.
@@ -68,11 +95,16 @@ fn status_of(error: &Error) -> u8 {
 }
 
 // The same of words. What `clap` says of words that are no request is left out.
-fn run(alloc: Global, case: &Case<'_>, previous: &[u8]) -> Result<(u8, Vec<u8>), AllocError> {
+fn run(
+    alloc: Global,
+    case: &Case<'_>,
+    previous: &[u8],
+    answered: &[u8],
+) -> Result<(u8, Vec<u8>), AllocError> {
     let words = words_in(alloc, case.words)?;
     match read_words(alloc, words.as_slice()) {
         Asked::Request(request) => {
-            let (ending, written) = answer(alloc, &request, case, previous)?;
+            let (ending, written) = answer_case(alloc, &request, case, previous, answered)?;
             Ok((ending.status(), written))
         }
         Asked::Text(error) => Ok((status_of(&error), Vec::new(alloc))),
@@ -84,16 +116,18 @@ fn run(alloc: Global, case: &Case<'_>, previous: &[u8]) -> Result<(u8, Vec<u8>),
 pub(crate) fn answer_all<K: Sink>(alloc: Global, text: &[u8], sink: &mut K) -> Result<(), Fault> {
     let mut rest = text;
     let mut previous: &[u8] = &[];
+    let mut answered = Vec::new(alloc);
     while !rest.is_empty() {
         let Some((case, after)) = first_case(rest) else {
             return Err(Fault::Input);
         };
-        let (status, written) = run(alloc, &case, previous)?;
+        let (status, written) = run(alloc, &case, previous, &answered)?;
         let name = case.name;
         let heading = format!(in alloc; "=== {name} {status}\n")?;
         write_all(sink, heading.as_bytes())?;
         write_all(sink, &written)?;
         previous = case.script;
+        answered = written;
         rest = after;
     }
     Ok(())

@@ -1,8 +1,9 @@
 //! Asks `mscope` about scripts that stand one after another on standard input, over files and ends in memory, and prints what was written.
 //!
 //! Before each script stands a line `=== NAME LENGTH WORDS`, with its length in bytes and the words of the command, and after it a line feed. The
-//! file `-` is the script, and `previous` the script of the case before; there is no other. Before what was written for it a line `=== NAME STATUS`
-//! is printed; first comes what was written as the answer, and then what was said as an error.
+//! file `-` is the script, `previous` the script of the case before, and `answer` what was written for that case; there is no other. Before what
+//! was written for it a line `=== NAME STATUS` is printed; first comes what was written as the answer, and then what was said as an error. The
+//! output of a case whose name ends with `/closed-output` takes nothing.
 #![tactic(auto)]
 
 mod answers;

@@ -1,23 +1,25 @@
-// Two files in memory.
+// Three files in memory.
 ghost use Rattle.std.specs.Prelude.{None};
 
 use outside::ReadStop;
 use scope_run::Files;
 use std::alloc::Global;
 
-/// The script of a case, which is the file `-`, and that of the case before it, which is `previous`.
+/// The text of a case, which is the file `-`, that of the case before it, which is `previous`, and what was written for that, `answer`.
 #[derive(Drop)]
 pub(crate) struct CaseFiles<'a> {
-    script: &'a [u8],
+    text: &'a [u8],
     previous: &'a [u8],
+    answer: &'a [u8],
     faults: u64,
 }
 
 impl<'a> CaseFiles<'a> {
-    pub(crate) fn new(script: &'a [u8], previous: &'a [u8]) -> CaseFiles<'a> {
+    pub(crate) fn new(text: &'a [u8], previous: &'a [u8], answer: &'a [u8]) -> CaseFiles<'a> {
         CaseFiles {
-            script,
+            text,
             previous,
+            answer,
             faults: 0,
         }
     }
@@ -30,8 +32,9 @@ impl<'a> Files for CaseFiles<'a> {
 
     fn read(&mut self, alloc: Global, name: &str, most: usize) -> Result<Vec<u8>, ReadStop> {
         let text = match name {
-            "-" => self.script,
+            "-" => self.text,
             "previous" => self.previous,
+            "answer" => self.answer,
             _ => {
                 self.faults = self.faults.saturating_add(1);
                 return Err(ReadStop::Failed);

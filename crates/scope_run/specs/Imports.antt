@@ -1,0 +1,43 @@
+-- `import` and `check`: scripts, and what QEMU's monitor prints.
+use Rattle.std.specs.Prelude.{◌≡◌, ◌<◌, ◌==◌, ◌||◌, ℕ, Bool, nat_lt, length, Err, ⊤}
+use Rattle.std.specs.List.{list_any}
+use Rattle.mem_base.specs.script.Scripts.{script_of}
+use Rattle.mem_base.specs.script.Spelling.{Text}
+use Rattle.monitor_text.specs.Rows.{flat_line, tree_line}
+use Rattle.monitor_text.specs.Texts.{lines_of}
+use Rattle.script_settle.specs.Refused.{HasRefused}
+use Rattle.scope_run.specs.declared.answers.Fault.{Fault}
+use Rattle.scope_run.specs.declared.answers.Fault.TheVariants as faults
+use Rattle.scope_run.specs.declared.answers.Which.TheVariants.{First, Second}
+use Rattle.scope_run.specs.declared.importing.MonitorStop.TheVariants.{BadLine, Long, Made}
+
+-- how many bytes of a text of the monitor's are read at most
+abbrev pub most_monitor : ℕ
+most_monitor = 16777216
+
+-- a text has a comment
+abbrev pub has_comment : Text → Bool
+has_comment text = list_any (λ b. b == 35) text
+
+-- a script for what the monitor printed: the reading is a guess, but it is a script, and there is nothing to mend just where it has no comment,
+-- which would tell what was changed, and none of its commands is refused
+abbrev pub TellsImport : Text → Bool → Type 0
+TellsImport text something = (count : ℕ) × HasRefused text count × (something ≡ (has_comment text || nat_lt 0 count))
+
+-- of texts, why there is no script of them
+abbrev pub FailsImport : Text → Text → Fault → Type 0
+FailsImport tree flat (faults.Monitor (BadLine First line)) = lines_of tree_line tree ≡ Err line
+FailsImport tree flat (faults.Monitor (BadLine Second line)) = lines_of flat_line flat ≡ Err line
+FailsImport tree flat (faults.Monitor (Long First)) = most_monitor < length tree
+FailsImport tree flat (faults.Monitor (Long Second)) = most_monitor < length flat
+FailsImport tree flat (faults.Monitor (Made bad)) = (text : Text) × (script_of text ≡ Err bad)
+FailsImport tree flat faults.Memory = ⊤
+FailsImport tree flat _ = ⊥
+
+-- and why a script is not compared with them
+abbrev pub FailsCheck : Text → Text → Fault → Type 0
+FailsCheck script flat (faults.Script First bad) = script_of script ≡ Err bad
+FailsCheck script flat (faults.Monitor (BadLine Second line)) = lines_of flat_line flat ≡ Err line
+FailsCheck script flat (faults.Monitor (Long Second)) = most_monitor < length flat
+FailsCheck script flat faults.Memory = ⊤
+FailsCheck script flat _ = ⊥

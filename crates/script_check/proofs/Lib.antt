@@ -1,0 +1,4 @@
+mod BlockLaws
+mod MarkLaws
+mod VerdictLaws
+mod CheckLaws

@@ -1,0 +1,101 @@
+-- The spaces of a script beside the monitor's text.
+use Rattle.std.specs.Prelude.{◌≡◌, ◌≤◌, ◌^◌, ℕ, Bool, true, false, List, flat_map, length, Result, Ok, Err, ⊤}
+use Rattle.std.specs.List.{list_any}
+use Rattle.std.specs.Global.{Vec}
+use Rattle.mem_base.specs.declared.map.ids.RegionId.{RegionId}
+use Rattle.mem_base.specs.declared.map.ids.SpaceId.{SpaceId}
+use Rattle.mem_base.specs.declared.map.forests.Forest.{Forest}
+use Rattle.mem_base.specs.lists.Every.{Every}
+use Rattle.mem_base.specs.script.Spelling.{Text}
+use Rattle.mem_base.specs.script.Scripts.{script_of}
+use Rattle.mem_base.specs.script.Named.{Names, space_name}
+use Rattle.mem_base.specs.script.States.{region_named}
+use Rattle.mem_base.specs.views.Flattened.{view_of}
+use Rattle.monitor_text.specs.Rows.{flat_line}
+use Rattle.monitor_text.specs.Texts.{lines_of}
+use Rattle.monitor_text.specs.declared.flat_text.FlatLine.{FlatLine}
+use Rattle.script_map.specs.Left.{Left, left_state, shown_in}
+use Rattle.script_map.specs.Reads.{IsLeftByText}
+use Rattle.script_check.specs.Blocks.{Printed, blocks_of}
+use Rattle.script_check.specs.Marks.{memory_in}
+use Rattle.script_check.specs.Verdicts.{IsPrinted, verdict_from}
+use Rattle.script_check.specs.Told.{verdict_text}
+use Rattle.script_check.specs.declared.verdicts.Verdict.{Verdict}
+use Rattle.script_check.specs.declared.verdicts.Verdict.TheVariants.{Same, Differs, Unprinted}
+use Rattle.script_check.specs.declared.faults.CheckFault.{CheckFault}
+use Rattle.script_check.specs.declared.faults.CheckFault.TheVariants.{Script, Flat, Long, Memory}
+
+-- what is compared: the names and the forest that a script left, its regions that stand for memory, and the views that were printed
+pub record Compared : Type 0 where
+  pub names : Names
+  pub forest : Forest
+  pub memory : List RegionId
+  pub blocks : List Printed
+
+-- what comes of a space
+abbrev pub space_verdict : Compared → SpaceId → Verdict
+space_verdict x space = verdict_from x.names x.memory (space_name x.names space) (view_of x.forest space) 0 x.blocks
+
+-- what is told of it
+abbrev pub space_text : Compared → SpaceId → Text
+space_text x space = verdict_text x.names (space_name x.names space) (view_of x.forest space) x.blocks (space_verdict x space)
+
+-- the view of a space is, range by range, one that was printed of a space of its name
+abbrev pub IsSpacePrinted : Compared → SpaceId → Type 0
+IsSpacePrinted x space = IsPrinted x.names x.memory (space_name x.names space) (view_of x.forest space) x.blocks
+
+-- the space is not told as the same
+abbrev pub is_other : Verdict → Bool
+is_other Same = false
+is_other (Differs block at) = true
+is_other Unprinted = true
+
+-- what is told of some spaces, and whether one of them is not told as the same
+abbrev pub spaces_text : Compared → List (SpaceId × RegionId) → Text
+spaces_text x spaces = flat_map (λ space. space_text x space.0) spaces
+
+abbrev pub some_differs : Compared → List (SpaceId × RegionId) → Bool
+some_differs x spaces = list_any (λ space. is_other (space_verdict x space.0)) spaces
+
+-- what is compared of what a script left, with these regions that stand for memory and these views
+abbrev pub compared_with : Left → List RegionId → List Printed → Compared
+compared_with m memory blocks = record { names = (left_state m).names; forest = (shown_in (left_state m)).forest; memory = memory; blocks = blocks }
+
+-- the same by the script's text
+abbrev pub compared : Text → Left → List Printed → Compared
+compared script m blocks = compared_with m (memory_in (region_named (left_state m)) script) blocks
+
+-- what is told of a script, by what it left and the views, and whether a space is not told as the same: one that is has a view that was
+-- printed of it, and where none is not, all have
+pub record IsToldOf (script : Text) (m : Left) (blocks : List Printed) (text : Text) (differs : Bool) : Type 0 where
+  pub told : text ≡ spaces_text (compared script m blocks) (compared script m blocks).forest.spaces
+  pub found : differs ≡ some_differs (compared script m blocks) (compared script m blocks).forest.spaces
+  pub same : (space : SpaceId) → space_verdict (compared script m blocks) space ≡ Same → IsSpacePrinted (compared script m blocks) space
+  pub all : differs ≡ false → Every (λ (s : SpaceId × RegionId). IsSpacePrinted (compared script m blocks) s.0) (compared script m blocks).forest.spaces
+
+-- the same of a script by its text alone
+pub record IsToldOfText (script : Text) (blocks : List Printed) (text : Text) (differs : Bool) : Type 0 where
+  pub left : Left
+  pub reads : IsLeftByText script left
+  pub told : IsToldOf script left blocks text differs
+
+-- the views of a text, or why there are none
+abbrev pub ReadsBlocks : Text → Result (Vec Printed) CheckFault → Type 0
+ReadsBlocks flat (Ok blocks) = (lines : List (ℕ × FlatLine)) × (lines_of flat_line flat ≡ Ok lines) × (blocks.items ≡ blocks_of lines)
+ReadsBlocks flat (Err (Flat line)) = lines_of flat_line flat ≡ Err line
+ReadsBlocks flat (Err Long) = 2 ^ 31 ≤ length flat
+ReadsBlocks flat (Err Memory) = ⊤
+ReadsBlocks flat (Err (Script bad)) = ⊥
+
+-- what is told of a script beside the monitor's text, and whether a space is not told as the same
+pub record IsChecked (script flat text : Text) (differs : Bool) : Type 0 where
+  pub lines : List (ℕ × FlatLine)
+  pub printed : lines_of flat_line flat ≡ Ok lines
+  pub told : IsToldOfText script (blocks_of lines) text differs
+
+-- why nothing is compared
+abbrev pub Explains : Text → Text → CheckFault → Type 0
+Explains script flat (Script bad) = script_of script ≡ Err bad
+Explains script flat (Flat line) = lines_of flat_line flat ≡ Err line
+Explains script flat Long = 2 ^ 31 ≤ length flat
+Explains script flat Memory = ⊤

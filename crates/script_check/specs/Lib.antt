@@ -1,0 +1,5 @@
+pub mod Blocks
+pub mod Marks
+pub mod Verdicts
+pub mod Told
+pub mod Checks
