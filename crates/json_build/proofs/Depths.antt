@@ -61,3 +61,7 @@ depth_of_record n fs h = let k = fields_within n no_members fs (omega arith) h i
 pub shallow_map : {X : Type 0} (n : ℕ) (f : X → Data) (xs : List X) → ((x : X) → depth (f x) ≤ n) → AreShallow n (map f xs)
 shallow_map n f [] h = tt
 shallow_map n f (x ∷ xs) h = (h x, shallow_map n f xs h)
+
+-- a list of values that are made alike
+pub depth_of_map : {X : Type 0} (n : ℕ) (f : X → Data) (xs : List X) → ((x : X) → depth (f x) ≤ n) → depth (list_of (map f xs)) ≤ suc n
+depth_of_map n f xs h = depth_of_list n (map f xs) (shallow_map n f xs h)

@@ -1,6 +1,6 @@
-mod Facts
-mod Parts
-mod TableLaws
-mod FileLaws
+pub mod Facts
+pub mod Parts
+pub mod TableLaws
+pub mod FileLaws
 mod ExplainLaws
 mod LintLaws

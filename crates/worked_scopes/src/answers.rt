@@ -4,6 +4,7 @@ use crate::cases::{Case, first_case};
 use crate::memory::CaseFiles;
 use clap::Error;
 use outside::{Failed, Sink, StdSink, write_all};
+use scope_json::mscope_json;
 use scope_run::{Ending, Request, mscope};
 use scope_words::{Asked, read_words};
 use std::alloc::{AllocError, Global};
@@ -41,10 +42,11 @@ fn words_in(alloc: Global, text: &str) -> Result<Vec<String>, AllocError> {
     Ok(words)
 }
 
-// What is written for a request, and how it ends.
+// What is written for a request, as text or as JSON, and how it ends.
 fn answer(
     alloc: Global,
     request: &Request<'_>,
+    json: bool,
     case: &Case<'_>,
     previous: &[u8],
 ) -> Result<(Ending, Vec<u8>), AllocError> {
@@ -53,7 +55,11 @@ fn answer(
     let mut said = Vec::new(alloc);
     let mut out = StdSink::new(&mut written);
     let mut err = StdSink::new(&mut said);
-    let ending = mscope(alloc, request, &mut files, &mut out, &mut err);
+    let ending = if json {
+        mscope_json(alloc, request, &mut files, &mut out, &mut err)
+    } else {
+        mscope(alloc, request, &mut files, &mut out, &mut err)
+    };
     written.extend_from_slice(said.as_slice())?;
     Ok((ending, written))
 }
@@ -72,7 +78,11 @@ fn run(alloc: Global, case: &Case<'_>, previous: &[u8]) -> Result<(u8, Vec<u8>),
     let words = words_in(alloc, case.words)?;
     match read_words(alloc, words.as_slice()) {
         Asked::Request(request) => {
-            let (ending, written) = answer(alloc, &request, case, previous)?;
+            let (ending, written) = answer(alloc, &request, false, case, previous)?;
+            Ok((ending.status(), written))
+        }
+        Asked::Json(request) => {
+            let (ending, written) = answer(alloc, &request, true, case, previous)?;
             Ok((ending.status(), written))
         }
         Asked::Text(error) => Ok((status_of(&error), Vec::new(alloc))),

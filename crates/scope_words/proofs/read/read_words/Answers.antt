@@ -1,4 +1,4 @@
-use Rattle.std.proofs.Common.{List, rules, subst}
+use Rattle.std.proofs.Common.{List, map, rules, string_bytes, subst}
 use Rattle.clap.specs.Words.{Text, subcommand_of}
 use Rattle.scope_words.specs.App.{scope_app}
 use Rattle.scope_words.specs.Asks.{Asks, IsAskedBy}
@@ -14,5 +14,5 @@ asks_found words (Told error) h = absurd h
 asks_found words Memory h = absurd h
 
 pub returns-in-Some : goal.returns-in-Some
-returns-in-Some c = asks_found _ c.in-Some.asked
+returns-in-Some c = asks_found (map string_bytes c.args.words.now) c.in-Some.asked
     (subst (λ o. IsAskedBy o c.in-Some.asked) (taken _ _ c.in-Ok.ensures _ c.in-Ok-try_get_matches_from.ensures.matches) (search rules))
