@@ -1,5 +1,5 @@
 -- How deep answers nest.
-use Rattle.std.proofs.Common.{◌≡◌, ◌≤◌, ℕ, suc, Bool, true, false, List, [], ◌∷◌, ◌++◌, Option, Some, None, Ok, Err, is_some, map, arith, sym, subst}
+use Rattle.std.proofs.Common.{◌≡◌, ◌≤◌, ℕ, suc, Bool, List, [], ◌∷◌, Option, Some, None, Ok, Err, is_some, map, arith, sym, subst}
 use Rattle.std.specs.Prelude.{codes, flat_map, length, ◌==◌, not}
 use Rattle.std.specs.List.{list_any}
 use Rattle.serde_json.specs.Data.{Data, depth, null, string}

@@ -1,5 +1,5 @@
 -- `draw` as JSON: the rows of a picture.
-use Rattle.std.specs.Prelude.{◌≡◌, ◌^◌, ℕ, [], ◌∷◌, List, Some, codes, map}
+use Rattle.std.specs.Prelude.{◌≡◌, ◌^◌, [], ◌∷◌, List, Some, codes, map}
 use Rattle.serde_json.specs.Data.{Data}
 use Rattle.json_build.specs.Parts.{list_of, name_of}
 use Rattle.mem_base.specs.declared.map.ids.SpaceId.{SpaceId}

@@ -4,7 +4,7 @@ use Rattle.serde_json.specs.Data.{Data, null, number, string, unsigned}
 use Rattle.json_build.specs.Parts.{list_of, record_of}
 use Rattle.mem_base.specs.declared.script.faults.BadScript.{BadScript}
 use Rattle.mem_base.specs.script.RefusalLines.{cause_text}
-use Rattle.mem_base.specs.script.Scripts.{Line, Meaning}
+use Rattle.mem_base.specs.script.Scripts.{Meaning}
 use Rattle.mem_base.specs.script.Spelling.{Text}
 use Rattle.script_explain.specs.Topics.{code_now}
 use Rattle.script_explain.specs.declared.topics.Topic.{Topic}

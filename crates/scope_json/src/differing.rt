@@ -1,8 +1,8 @@
 // `diff`.
-ghost use Rattle.std.specs.Prelude.{◌≡◌, ◌++◌, [], Some, List, IfOk, IfErr, OnOk, flat_map};
+ghost use Rattle.std.specs.Prelude.{◌≡◌, ◌++◌, Some, List, IfOk, IfErr, OnOk, flat_map};
 ghost use Rattle.serde_json.specs.Data.{Data};
 ghost use Rattle.serde_json.specs.View.{view};
-ghost use Rattle.json_build.specs.Held.{members, values};
+ghost use Rattle.json_build.specs.Held.{values};
 ghost use Rattle.script_map.specs.Left.{left_state};
 ghost use Rattle.scope_run.specs.Scripts.{FailsOnBoth, FailsOnSecond, OfScript, TellsAll, left_by};
 ghost use Rattle.scope_run.specs.declared.answers.Fault.TheVariants.{Memory};

@@ -1,7 +1,6 @@
 // `draw`.
 ghost use Rattle.std.specs.Prelude.{◌≡◌, ◌^◌, false, List, IfOk, IfErr, None, Some};
 ghost use Rattle.serde_json.specs.View.{view};
-ghost use Rattle.json_build.specs.Held.{members};
 ghost use Rattle.mem_base.specs.script.Shows.{shown_forest};
 ghost use Rattle.mem_base.specs.views.Flattened.{view_of};
 ghost use Rattle.view_picture.specs.Rows.{Tiles, ranges_of};

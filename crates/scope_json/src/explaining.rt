@@ -2,14 +2,11 @@
 ghost use Rattle.std.specs.Prelude.{◌≡◌, ◌∷◌, [], false, true, is_some, codes, IfOk, IfErr, IfSome, map};
 ghost use Rattle.serde_json.specs.Data.{null};
 ghost use Rattle.serde_json.specs.View.{view};
-ghost use Rattle.json_build.specs.Held.{members};
-ghost use Rattle.json_build.specs.Parts.{list_of};
 ghost use Rattle.mem_base.specs.script.RefusalLines.{cause_text};
 ghost use Rattle.mem_base.specs.script.Scripts.{script_of};
 ghost use Rattle.scope_run.specs.Explains.{topic_code};
 ghost use Rattle.scope_run.specs.declared.answers.Fault.TheVariants.{Memory};
 ghost use Rattle.scope_json.specs.Explains.{TellsTopic, explain_data, explain_mends, explained_data, fault_data, topic_answer};
-ghost use Rattle.scope_json.specs.Lints.{refused_data};
 ghost use Rattle.scope_json.specs.Texts.{answer_of, has_any};
 
 use crate::answers::{Told, answer_to};

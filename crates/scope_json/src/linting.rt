@@ -1,7 +1,6 @@
 // `lint`.
 ghost use Rattle.std.specs.Prelude.{◌≡◌, ◌||◌, IfOk, IfErr, None, map};
 ghost use Rattle.serde_json.specs.View.{view};
-ghost use Rattle.json_build.specs.Held.{members, values};
 ghost use Rattle.json_build.specs.Parts.{list_of};
 ghost use Rattle.script_map.specs.Left.{left_state};
 ghost use Rattle.scope_run.specs.Scripts.{FailsOn, OfScript};

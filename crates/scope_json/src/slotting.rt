@@ -2,7 +2,7 @@
 ghost use Rattle.std.specs.Prelude.{◌≡◌, ◌++◌, false, List, IfOk, IfErr, OnOk, None, Some, map};
 ghost use Rattle.serde_json.specs.Data.{Data};
 ghost use Rattle.serde_json.specs.View.{view};
-ghost use Rattle.json_build.specs.Held.{members, values};
+ghost use Rattle.json_build.specs.Held.{values};
 ghost use Rattle.json_build.specs.Parts.{list_of};
 ghost use Rattle.mem_base.specs.script.States.{space_named};
 ghost use Rattle.script_names.specs.Tables.{printed_names};

@@ -1,7 +1,6 @@
 // `why`.
 ghost use Rattle.std.specs.Prelude.{◌≡◌, false, List, IfOk, IfErr, option_map, Some};
 ghost use Rattle.serde_json.specs.View.{view};
-ghost use Rattle.json_build.specs.Held.{members};
 ghost use Rattle.mem_base.specs.map.Limits.{most_translations};
 ghost use Rattle.mem_base.specs.script.Shows.{shown_forest};
 ghost use Rattle.find_why.specs.Hops.{AreHops};

@@ -1,4 +1,4 @@
-use Rattle.std.proofs.Common.{◌≡◌, ◌∙◌, Bool, true, List, [], Err, ap, sym, subst}
+use Rattle.std.proofs.Common.{◌≡◌, ◌∙◌, Bool, List, Err, ap, sym, subst}
 use Rattle.std.proofs.lemmas.Result.{IfOk-weaker}
 use Rattle.serde_json.specs.Data.{Data, null}
 use Rattle.serde_json.specs.View.{view}
@@ -10,7 +10,7 @@ use Rattle.script_map.specs.Reads.{IfBad, IsLeftByText}
 use Rattle.script_map.specs.Refusals.{Refused}
 use Rattle.script_map.specs.declared.reading.MapStop.{MapStop}
 use Rattle.script_map.specs.declared.reading.MapStop.TheVariants as stops
-use Rattle.scope_json.specs.Explains.{explain_data, explain_mends, explained_data, fault_data}
+use Rattle.scope_json.specs.Explains.{explain_data, explain_mends, explained_data}
 use Rattle.scope_json.specs.Texts.{has_any}
 use Rattle.scope_json.proofs.explaining.explain.Goals as goal
 
@@ -18,7 +18,8 @@ explained : (text : Text) (m : Left) (rs : List Refused) (d : Data) → IsLeftBy
     → d ≡ explained_data (script_of text)
 explained text m rs d h same is = is ∙ ap (λ (xs : List Refused). explain_data null xs) (same ∙ h.2.refused) ∙ ap explained_data (sym h.1)
 
-mended : (text : Text) (m : Left) (rs : List Refused) (b : Bool) → IsLeftByText text m → rs ≡ m.refused → b ≡ has_any rs → b ≡ explain_mends (script_of text)
+mended : (text : Text) (m : Left) (rs : List Refused) (b : Bool) → IsLeftByText text m → rs ≡ m.refused → b ≡ has_any rs
+    → b ≡ explain_mends (script_of text)
 mended text m rs b h same is = is ∙ ap (λ (xs : List Refused). has_any xs) (same ∙ h.2.refused) ∙ ap explain_mends (sym h.1)
 
 is_bad : (text : Text) (stop : MapStop) (bad : BadScript) → stop ≡ stops.Bad bad → IfBad stop (script_of text) → script_of text ≡ Err bad

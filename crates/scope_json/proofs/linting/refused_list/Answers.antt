@@ -1,4 +1,4 @@
-use Rattle.std.proofs.Common.{◌≡◌, ◌∷◌, ◌++◌, ◌∙◌, List, [], ap}
+use Rattle.std.proofs.Common.{◌∷◌, ◌++◌, ◌∙◌, [], ap}
 use Rattle.serde_json.specs.Data.{Data}
 use Rattle.json_build.specs.Held.{values}
 use Rattle.scope_json.specs.Lints.{refused_data}

@@ -1,4 +1,4 @@
-use Rattle.std.proofs.Common.{[], ◌<◌, ap, sym, subst, ◌∙◌, length}
+use Rattle.std.proofs.Common.{[], ◌<◌, ap, subst, ◌∙◌, length}
 use Rattle.mem_base.specs.script.Named.{Names, name_at}
 use Rattle.mem_base.specs.script.States.{space_named}
 use Rattle.script_map.specs.Left.{all_shown, left_state}
@@ -17,4 +17,5 @@ loop-number-preserved c =
     ∙ ap (λ (n : Names). name_at n.spaces c.loop-number.number) c.names-names.ensures in
     grown_more (λ name here. TellsSlotsOf (left_state c.args.map.now).names (all_shown c.args.published.now)
     (space_named (left_state c.args.map.now) name) here) (left_state c.args.map.now).names.spaces c.loop-number.number []
-    c.name_at.result.now (values c.args.items.now) (values c.loop-number.items) (values c.add_named.new.items) part.0 near called c.loop-number.invariant part.1 part.2
+    c.name_at.result.now (values c.args.items.now) (values c.loop-number.items) (values c.add_named.new.items)
+    part.0 near called c.loop-number.invariant part.1 part.2

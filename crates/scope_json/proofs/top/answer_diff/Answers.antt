@@ -1,7 +1,6 @@
 use Rattle.std.proofs.Common.{subst}
 use Rattle.scope_run.specs.Files.{Tells}
 use Rattle.scope_run.specs.Requests.{Holding}
-use Rattle.scope_run.proofs.Facts.{both_ok}
 use Rattle.scope_run.proofs.FileLaws.{told_as}
 use Rattle.scope_json.proofs.top.answer_diff.Goals as goal
 use Rattle.std.proofs.lemmas.Result.{IfOk-weaker}

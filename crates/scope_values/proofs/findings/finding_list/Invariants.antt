@@ -6,4 +6,6 @@ use Rattle.scope_values.specs.Findings.{finding_data}
 use Rattle.scope_values.proofs.findings.finding_list.Given as goal
 
 abbrev pub invariant-loop-finding : goal.invariant-loop-finding
-invariant-loop-finding l = values l.items ++ map (finding_data (printed_names l.names)) (drop l.finding-index l.finding-items) ≡ map (finding_data (printed_names l.names)) l.fn.findings
+invariant-loop-finding l =
+    values l.items ++ map (finding_data (printed_names l.names)) (drop l.finding-index l.finding-items)
+    ≡ map (finding_data (printed_names l.names)) l.fn.findings

@@ -6,4 +6,6 @@ use Rattle.scope_values.specs.Searches.{tried_data}
 use Rattle.scope_values.proofs.looks.trial_list.Given as goal
 
 abbrev pub invariant-loop-tried : goal.invariant-loop-tried
-invariant-loop-tried l = values l.items ++ map (tried_data (printed_names l.names)) (drop l.tried-index l.trials) ≡ map (tried_data (printed_names l.names)) l.trials
+invariant-loop-tried l =
+    values l.items ++ map (tried_data (printed_names l.names)) (drop l.tried-index l.trials)
+    ≡ map (tried_data (printed_names l.names)) l.trials

@@ -16,3 +16,6 @@ asks_found words Memory h = absurd h
 pub returns-in-Some : goal.returns-in-Some
 returns-in-Some c = asks_found (map string_bytes c.args.words.now) c.in-Some.asked
     (subst (λ o. IsAskedBy o c.in-Some.asked) (taken _ _ c.in-Ok.ensures _ c.in-Ok-try_get_matches_from.ensures.matches) (search rules))
+
+pub returns : goal.returns
+returns c = refused (map string_bytes c.args.words.now) _ c.in-Ok.ensures c.in-Err-try_get_matches_from.error c.in-Err-try_get_matches_from.ensures.kinds
