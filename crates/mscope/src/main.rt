@@ -1,7 +1,7 @@
 //! The program `mscope`: tools for people who debug memory maps.
 //!
 //! `main` hands the words of the process to `scope_words`, and the request, the files and the standard output to `scope_run`, which does all
-//! the rest.
+//! the rest, or to `scope_json` where the answer is to be JSON.
 #![tactic(auto)]
 
 mod host;
@@ -9,6 +9,7 @@ mod host;
 use crate::host::HostFiles;
 use clap::Error;
 use outside::StdSink;
+use scope_json::mscope_json;
 use scope_run::{Ending, Request, mscope};
 use scope_words::{Asked, read_words};
 use std::alloc::{AllocError, Global};
@@ -44,6 +45,13 @@ fn answer(rt: &HostRuntime, request: &Request<'_>) -> Ending {
     mscope(rt.alloc(), request, &mut files, &mut out, &mut err)
 }
 
+fn answer_json(rt: &HostRuntime, request: &Request<'_>) -> Ending {
+    let mut files = HostFiles::new(rt);
+    let mut out = StdSink::new(io::writer(rt));
+    let mut err = StdSink::new(rt.stderr());
+    mscope_json(rt.alloc(), request, &mut files, &mut out, &mut err)
+}
+
 fn main(rt: HostRuntime) -> ExitCode {
     let words = match words_of(rt.alloc(), std::env::args(&rt)) {
         Ok(words) => words,
@@ -51,6 +59,7 @@ fn main(rt: HostRuntime) -> ExitCode {
     };
     match read_words(rt.alloc(), words.as_slice()) {
         Asked::Request(request) => ExitCode::from(answer(&rt, &request).status()),
+        Asked::Json(request) => ExitCode::from(answer_json(&rt, &request).status()),
         Asked::Text(error) => match error.print(&rt) {
             Ok(()) => ExitCode::from(status_of(&error)),
             Err(_) => ExitCode::from(Ending::WriteFault.status()),

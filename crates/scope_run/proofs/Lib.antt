@@ -1,7 +1,7 @@
-mod Facts
-mod Parts
-mod TableLaws
-mod FileLaws
+pub mod Facts
+pub mod Parts
+pub mod TableLaws
+pub mod FileLaws
 mod ExplainLaws
 mod LintLaws
 mod MonitorLaws

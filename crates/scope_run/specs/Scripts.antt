@@ -60,7 +60,7 @@ abbrev pub FailsOnBoth : Text → Text → Fault → Type 0
 FailsOnBoth first second (faults.Script First bad) = script_of first ≡ Err bad
 FailsOnBoth first second fault = FailsOnSecond second fault
 
--- a text of parts, one for each element of a list, of each of which this holds
-abbrev pub TellsAll : {X : Type 0} → (X → Text → Type 0) → List X → Text → Type 0
+-- a text, or another list, of parts, one for each element of a list, of each of which this holds
+abbrev pub TellsAll : {X E : Type 0} → (X → List E → Type 0) → List X → List E → Type 0
 TellsAll tells [] text = text ≡ []
-TellsAll tells (x ∷ xs) text = (here : Text) × (rest : Text) × (text ≡ here ++ rest) × tells x here × TellsAll tells xs rest
+TellsAll {X} {E} tells (x ∷ xs) text = (here : List E) × (rest : List E) × (text ≡ here ++ rest) × tells x here × TellsAll tells xs rest

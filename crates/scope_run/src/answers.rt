@@ -51,7 +51,7 @@ impl From<AllocError> for Fault {
 }
 
 /// Why a text gives no map.
-pub(crate) fn stopped(which: Which, stop: MapStop) -> Fault
+pub fn stopped(which: Which, stop: MapStop) -> Fault
     ensures { result ≡ stopped_by which stop }
 {
     match stop {

@@ -18,8 +18,8 @@ use script_names::NameTable;
 use std::alloc::{AllocError, Global};
 use view_diff::{Difference, add_step, compare};
 
-// Whether both views show the range of a step alike.
-fn is_kept(step: RangeEvent) -> bool
+/// Whether both views show the range of a step alike.
+pub fn is_kept(step: RangeEvent) -> bool
     ensures { result ≡ is_kept step }
 {
     matches!(step, RangeEvent::Keep(_))
@@ -45,8 +45,8 @@ fn add_changes(text: &mut Line, labels: &NameTable, steps: &[RangeEvent]) -> Res
     Ok(())
 }
 
-// Whether some step changes something.
-fn differs(steps: &[RangeEvent]) -> bool
+/// Whether some step changes something.
+pub fn differs(steps: &[RangeEvent]) -> bool
     ensures { result ≡ list_any (λ step. not (is_kept step)) steps.now }
 {
     steps.iter().any(|step| !is_kept(*step))
@@ -66,8 +66,8 @@ fn add_difference(text: &mut Line, name: &[u8], difference: &Difference) -> Resu
     add_changes(text, &difference.labels, steps)
 }
 
-// How the view of a space of one script differs from that of a space of another.
-fn difference_of(
+/// How the view of a space of one script differs from that of a space of another.
+pub fn difference_of(
     alloc: Global,
     first: &ScriptMap,
     from: SpaceId,
@@ -107,8 +107,8 @@ fn add_alone(text: &mut Line, name: &[u8], which: &str) -> Result<(), AllocError
     text.end()
 }
 
-// The space of a script with a name.
-fn space_of(alloc: Global, map: &ScriptMap, name: &[u8]) -> Result<Option<SpaceId>, AllocError>
+/// The space of a script with a name, as bytes.
+pub fn space_of(alloc: Global, map: &ScriptMap, name: &[u8]) -> Result<Option<SpaceId>, AllocError>
     ensures { IfOk result (λ space. space ≡ space_named (left_state map.now) name.now) }
 {
     let name = Name::new(name.to_vec(alloc)?);

@@ -25,8 +25,8 @@ fn windows_in(alloc: Global, map: &ScriptMap, space: SpaceId) -> Result<Vec<Wind
     }
 }
 
-// The rows of a space's view, from the first address to the last.
-fn rows_in(alloc: Global, map: &ScriptMap, space: SpaceId) -> Result<Vec<Row>, AllocError>
+/// The rows of a space's view, from the first address to the last.
+pub fn rows_in(alloc: Global, map: &ScriptMap, space: SpaceId) -> Result<Vec<Row>, AllocError>
     ensures tiles { IfOk result (λ rows. Tiles 0 (2 ^ 64) rows.items) }
     ensures ranges { IfOk result (λ rows. ranges_of rows.items ≡ view_of (shown_forest (left_state map.now)) space) }
 {

@@ -13,9 +13,10 @@ ghost use Rattle.scope_run.specs.Tables.{HasEdges, IsTable, TellsSlots, TellsSlo
 ghost use Rattle.scope_run.specs.declared.answers.Fault.TheVariants.{Memory};
 
 use crate::answers::{Answer, Fault, Which, told};
+use crate::differing::space_of;
 use crate::views::{space_count, view_in};
 use generation::Generation;
-use mem_base::{Edition, FlatRange, Name, RangeEvent, SpaceId, View};
+use mem_base::{Edition, FlatRange, RangeEvent, SpaceId, View};
 use script_lines::Line;
 use script_map::{History, ScriptMap, follow};
 use script_names::Names;
@@ -38,8 +39,8 @@ fn add_edges(
     edges.add(&view)
 }
 
-// The edges of a space's views in all generations.
-fn edges_of(
+/// The edges of a space's views in all generations.
+pub fn edges_of(
     alloc: Global,
     published: &[Arc<Generation, Global>],
     space: SpaceId,
@@ -66,8 +67,8 @@ fn range_of(step: RangeEvent) -> FlatRange
     }
 }
 
-// The number of a slot.
-fn slot_number(edges: &Edges, range: FlatRange) -> u64
+/// The number of a slot: that of the edge at which it begins.
+pub fn slot_number(edges: &Edges, range: FlatRange) -> u64
     ensures { result ≡ slot_number edges.now range }
 {
     edges.number(range.start).unwrap_or(0) as u64
@@ -118,8 +119,8 @@ fn add_table(
     add_steps(text, names, edges, walk)
 }
 
-// The slots of a space in a generation.
-fn table_in(
+/// The slots of a space in a generation.
+pub fn table_in(
     alloc: Global,
     names: &Names,
     edges: &Edges,
@@ -172,14 +173,6 @@ fn add_space(
     let none = View::new(Vec::new(alloc));
     add_tables(alloc, text, names, &edges, &none, published, space)?;
     Ok(())
-}
-
-// The space of a script with a name.
-fn space_of(alloc: Global, map: &ScriptMap, name: &[u8]) -> Result<Option<SpaceId>, AllocError>
-    ensures { IfOk result (λ space. space ≡ space_named (left_state map.now) name.now) }
-{
-    let name = Name::new(name.to_vec(alloc)?);
-    Ok(map.space(&name))
 }
 
 // A space by its name.

@@ -35,8 +35,8 @@ fn too_long() -> BadScript
     }
 }
 
-/// The bytes of a file.
-pub(crate) fn text_in<F: Files>(
+/// The bytes of a file. It answers `File` where a read failed, `Script` where it is longer than a script may be.
+pub fn text_in<F: Files>(
     alloc: Global,
     files: &mut F,
     name: &str,
@@ -59,14 +59,15 @@ pub(crate) fn text_in<F: Files>(
     }
 }
 
-fn name_of(alloc: Global, word: &str) -> Result<Name, AllocError>
+/// A word as a name.
+pub fn name_of(alloc: Global, word: &str) -> Result<Name, AllocError>
     ensures { IfOk result (λ name. name ≡ word.now) }
 {
     Ok(Name::new(word.as_bytes().to_vec(alloc)?))
 }
 
-// The name of a region, where one is asked for.
-fn region_of(alloc: Global, word: Option<&str>) -> Result<Option<Name>, AllocError>
+/// The name of a region, where one is asked for.
+pub fn region_of(alloc: Global, word: Option<&str>) -> Result<Option<Name>, AllocError>
     ensures { IfOk result (λ name. name ≡ option_map (λ w. w.now) word.entry) }
 {
     match word {
@@ -75,8 +76,8 @@ fn region_of(alloc: Global, word: Option<&str>) -> Result<Option<Name>, AllocErr
     }
 }
 
-// The address that a word is, as the script language spells it.
-fn address_of(word: &str) -> Result<u64, Fault>
+/// The address that a word is, as the script language spells it. It answers `NoAddress` where the word is none.
+pub fn address_of(word: &str) -> Result<u64, Fault>
     ensures address { IfOk result (λ a. IsAddress word.now a) }
     ensures none { IfErr result (λ fault. (fault ≡ faults.NoAddress) × ((a : ℕ) → IsAddress word.now a → ⊥)) }
 {
@@ -198,8 +199,8 @@ fn answer<F: Files>(alloc: Global, request: &Request<'_>, files: &mut F) -> Resu
     }
 }
 
-// Writes an answer.
-fn say<K: Sink>(answer: &Answer, out: &mut K) -> Ending
+/// Writes an answer.
+pub fn say<K: Sink>(answer: &Answer, out: &mut K) -> Ending
     ensures said { (something : Bool) → result ≡ ending_of something
         → (answer.now.something ≡ something) × Takes K.written K.holds out.old out.new answer.now.text }
     ensures wrong { result ≡ Ending.Wrong → ⊥ }
@@ -211,8 +212,8 @@ fn say<K: Sink>(answer: &Answer, out: &mut K) -> Ending
     }
 }
 
-// Says why there is no answer.
-fn refuse<E: Sink>(alloc: Global, request: &Request<'_>, fault: Fault, err: &mut E) -> Ending
+/// Says why there is no answer.
+pub fn refuse<E: Sink>(alloc: Global, request: &Request<'_>, fault: Fault, err: &mut E) -> Ending
     ensures answer { (something : Bool) → result ≡ ending_of something → ⊥ }
     ensures wrong { result ≡ Ending.Wrong → (fault ≡ faults.Memory → ⊥) × Takes E.written E.holds err.old err.new (fault_text request.now fault) }
     ensures write { result ≡ Ending.WriteFault → Rose (E.faults err.old) (E.faults err.new) }

@@ -9,11 +9,7 @@ use script_names::Names;
 use std::alloc::{AllocError, Global};
 
 /// What a space shows in a generation, as a view of its own; an empty one where the space is not there.
-pub(crate) fn view_in(
-    alloc: Global,
-    generation: &Generation,
-    space: SpaceId,
-) -> Result<View, AllocError>
+pub fn view_in(alloc: Global, generation: &Generation, space: SpaceId) -> Result<View, AllocError>
     ensures { IfOk result (λ view. view ≡ view_of generation.now.forest space) }
 {
     match generation.atlas(space) {
@@ -36,7 +32,7 @@ pub(crate) fn root_in(generation: &Generation, space: SpaceId) -> Option<RegionI
 }
 
 /// How many spaces were made. There are at most 2^32, since no memory holds more names.
-pub(crate) fn space_count(names: &Names) -> Result<u32, AllocError>
+pub fn space_count(names: &Names) -> Result<u32, AllocError>
     ensures { IfOk result (λ count. count ≡ length (printed_names names.now).spaces) }
 {
     let made = names.spaces().made();

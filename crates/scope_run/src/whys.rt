@@ -19,8 +19,8 @@ use script_lines::Line;
 use script_map::{ScriptMap, read};
 use std::alloc::{AllocError, Global};
 
-// The region that was asked for, if one was.
-fn region_asked(map: &ScriptMap, region: Option<&Name>) -> Result<Option<RegionId>, Fault>
+/// The region that was asked for, if one was. It answers `NoRegion` where the map has none of the name.
+pub fn region_asked(map: &ScriptMap, region: Option<&Name>) -> Result<Option<RegionId>, Fault>
     ensures found { IfOk result (λ one. IsAsked (left_state map.now) (option_map (λ n. n.now) region.entry) one) }
     ensures missing { IfErr result (λ fault. (fault ≡ faults.NoRegion) × IsMissing (left_state map.now) (option_map (λ n. n.now) region.entry)) }
 {

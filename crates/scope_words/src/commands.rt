@@ -1,8 +1,8 @@
 // The command line as clap is told it.
 ghost use Rattle.std.specs.Prelude.{◌≡◌, IfOk, false, codes};
-ghost use Rattle.clap.specs.Words.{app_of, new_app, with_rule, with_subcommand};
+ghost use Rattle.clap.specs.Words.{app_of, with_rule, with_subcommand};
 ghost use Rattle.clap.specs.declared.Command.TheViews.{out-Command};
-ghost use Rattle.scope_words.specs.App.{check_app, diff_app, draw_app, explain_app, import_app, map_app};
+ghost use Rattle.scope_words.specs.App.{check_app, diff_app, draw_app, explain_app, import_app, map_app, named_app};
 ghost use Rattle.scope_words.specs.App.{one_file, scope_app, top_app, why_app, word_rule};
 
 use clap::{Arg, ArgAction, Command};
@@ -54,12 +54,16 @@ fn with_space<'a>(alloc: Global, command: Command<'a>) -> Result<Command<'a>, Al
     )
 }
 
-// A subcommand without words.
-fn named<'a>(alloc: Global, name: &'a str, about: &'a str) -> Command<'a>
-    ensures app { app_of result ≡ new_app name.entry.now }
-    ensures local { (out-Command result).has_globals ≡ false }
+// A subcommand without words, with the flag for JSON.
+fn named<'a>(alloc: Global, name: &'a str, about: &'a str) -> Result<Command<'a>, AllocError>
+    ensures app { IfOk result (λ c. app_of c ≡ named_app name.entry.now) }
+    ensures local { IfOk result (λ c. (out-Command c).has_globals ≡ false) }
 {
-    Command::new(alloc, name).about(about)
+    let json = Arg::new(alloc, "json")
+        .long("json")
+        .action(ArgAction::SetTrue)
+        .help("Writes the answer as one JSON text");
+    Command::new(alloc, name).about(about).arg(json)
 }
 
 fn why<'a>(alloc: Global) -> Result<Command<'a>, AllocError>
@@ -67,7 +71,7 @@ fn why<'a>(alloc: Global) -> Result<Command<'a>, AllocError>
     ensures local { IfOk result (λ c. (out-Command c).has_globals ≡ false) }
 {
     let about = "Why a region answers an address of a space, and why the others do not";
-    let script = with_script(alloc, named(alloc, "why", about))?;
+    let script = with_script(alloc, named(alloc, "why", about)?)?;
     let space = with_space(alloc, script)?;
     let addr = with_word(
         alloc,
@@ -86,7 +90,7 @@ fn lint<'a>(alloc: Global) -> Result<Command<'a>, AllocError>
     ensures local { IfOk result (λ c. (out-Command c).has_globals ≡ false) }
 {
     let about = "What looks wrong in a script and in the map that it leaves";
-    with_script(alloc, named(alloc, "lint", about))
+    with_script(alloc, named(alloc, "lint", about)?)
 }
 
 fn diff<'a>(alloc: Global) -> Result<Command<'a>, AllocError>
@@ -96,7 +100,7 @@ fn diff<'a>(alloc: Global) -> Result<Command<'a>, AllocError>
     let about = "How the views of the spaces of two scripts differ, by names";
     let first = with_word(
         alloc,
-        named(alloc, "diff", about),
+        named(alloc, "diff", about)?,
         "FIRST",
         "The first script; - is the standard input",
     )?;
@@ -108,7 +112,7 @@ fn slots<'a>(alloc: Global) -> Result<Command<'a>, AllocError>
     ensures local { IfOk result (λ c. (out-Command c).has_globals ≡ false) }
 {
     let about = "The memory slots for a hypervisor, in each generation that a script publishes";
-    with_script(alloc, named(alloc, "slots", about))
+    with_script(alloc, named(alloc, "slots", about)?)
 }
 
 fn draw<'a>(alloc: Global) -> Result<Command<'a>, AllocError>
@@ -120,7 +124,7 @@ fn draw<'a>(alloc: Global) -> Result<Command<'a>, AllocError>
         .long("svg")
         .action(ArgAction::SetTrue)
         .help("Draws a file of SVG in place of text");
-    let flagged = named(alloc, "draw", about).arg(svg)?;
+    let flagged = named(alloc, "draw", about)?.arg(svg)?;
     let script = with_script(alloc, flagged)?;
     with_space(alloc, script)
 }
@@ -132,7 +136,7 @@ fn explain<'a>(alloc: Global) -> Result<Command<'a>, AllocError>
     let about = "What is wrong with a script and what to do; or what a refusal or a cause means";
     with_word(
         alloc,
-        named(alloc, "explain", about),
+        named(alloc, "explain", about)?,
         "WHAT",
         "A script; or the number or the word of a refusal, as F19 or held, or the word of a cause, as count",
     )
@@ -148,7 +152,7 @@ fn import<'a>(alloc: Global) -> Result<Command<'a>, AllocError>
         .long("space")
         .action(ArgAction::Set)
         .help("Takes these address spaces alone, by their names with commas between them");
-    let chosen = named(alloc, "import", about).arg(spaces)?;
+    let chosen = named(alloc, "import", about)?.arg(spaces)?;
     let tree = with_word(
         alloc,
         chosen,
@@ -166,7 +170,7 @@ fn check<'a>(alloc: Global) -> Result<Command<'a>, AllocError>
     ensures local { IfOk result (λ c. (out-Command c).has_globals ≡ false) }
 {
     let about = "Whether each address space of a script shows what QEMU's monitor printed";
-    let script = with_script(alloc, named(alloc, "check", about))?;
+    let script = with_script(alloc, named(alloc, "check", about)?)?;
     with_word(alloc, script, "FLAT", "What `info mtree -f` printed")
 }
 

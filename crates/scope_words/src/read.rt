@@ -1,7 +1,7 @@
 // Reads the words.
-ghost use Rattle.std.specs.Prelude.{◌≡◌, IfSome, codes, map, string_bytes};
+ghost use Rattle.std.specs.Prelude.{◌≡◌, IfSome, Some, codes, map, string_bytes};
 ghost use Rattle.clap.specs.Words.{first_of, found_of, one_of, rows_of, subcommand_rows_of};
-ghost use Rattle.scope_words.specs.Asks.{Asks, IsFound, IsRequest, IsStyle, style_by, word_of};
+ghost use Rattle.scope_words.specs.Asks.{Asks, IsAskedBy, IsForm, IsRequest, IsStyle, style_by, word_of};
 
 use crate::commands::command;
 use crate::requests::{Request, Style};
@@ -14,6 +14,8 @@ use std::alloc::Global;
 pub enum Asked<'a> {
     /// A command of the program.
     Request(Request<'a>),
+    /// A command whose answer is to be JSON.
+    Json(Request<'a>),
     /// Help or the version, or the words are wrong: the text for the user.
     Text(Error),
     /// Memory ran out.
@@ -40,6 +42,12 @@ fn style(matches: &ArgMatches<'_>) -> Style
     ensures { IsStyle (one_of (codes "svg") (rows_of (found_of matches.now))) result }
 {
     style_by(matches.get_flag("svg"))
+}
+
+fn is_json(matches: &ArgMatches<'_>) -> bool
+    ensures { IsForm (one_of (codes "json") (rows_of (found_of matches.now))) result }
+{
+    matches.get_flag("json")
 }
 
 fn why<'a>(matches: &ArgMatches<'a>) -> Request<'a>
@@ -123,12 +131,24 @@ fn request<'a>(name: &str, matches: &ArgMatches<'a>) -> Option<Request<'a>>
     }
 }
 
-// The request that clap found.
-fn request_in<'a>(matches: &ArgMatches<'a>) -> Option<Request<'a>>
-    ensures { IfSome result (λ r. IsFound (subcommand_rows_of matches.now) r) }
+// What is asked for by a subcommand.
+fn asked_by<'a>(name: &str, matches: &ArgMatches<'a>) -> Option<Asked<'a>>
+    ensures { IfSome result (λ a. IsAskedBy (Some (name.now, rows_of (found_of matches.now))) a) }
+{
+    let request = request(name, matches)?;
+    if is_json(matches) {
+        Some(Asked::Json(request))
+    } else {
+        Some(Asked::Request(request))
+    }
+}
+
+// What is asked for by the subcommand that clap found.
+fn asked_in<'a>(matches: &ArgMatches<'a>) -> Option<Asked<'a>>
+    ensures { IfSome result (λ a. IsAskedBy (subcommand_rows_of matches.now) a) }
 {
     match matches.subcommand() {
-        Some((name, inner)) => request(name, inner),
+        Some((name, inner)) => asked_by(name, inner),
         None => None,
     }
 }
@@ -144,8 +164,8 @@ pub fn read_words<'a>(alloc: Global, words: &'a [String]) -> Asked<'a>
         Err(_) => return Asked::Memory,
     };
     match command.try_get_matches_from(words) {
-        Ok(matches) => match request_in(&matches) {
-            Some(request) => Asked::Request(request),
+        Ok(matches) => match asked_in(&matches) {
+            Some(asked) => asked,
             None => Asked::Memory,
         },
         Err(error) => match error.kind() {

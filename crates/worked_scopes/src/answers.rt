@@ -4,6 +4,7 @@ use crate::cases::{Case, first_case};
 use crate::memory::CaseFiles;
 use clap::Error;
 use outside::{Failed, MemSink, Sink, StdSink, write_all};
+use scope_json::mscope_json;
 use scope_run::{Ending, Request, mscope};
 use scope_words::{Asked, read_words};
 use std::alloc::{AllocError, Global};
@@ -41,17 +42,22 @@ fn words_in(alloc: Global, text: &str) -> Result<Vec<String>, AllocError> {
     Ok(words)
 }
 
-// What is written for a request, and how it ends.
+// What is written for a request, as text or as JSON, and how it ends.
 fn answer(
     alloc: Global,
     request: &Request<'_>,
+    json: bool,
     files: &mut CaseFiles<'_>,
 ) -> Result<(Ending, Vec<u8>), AllocError> {
     let mut written = Vec::new(alloc);
     let mut said = Vec::new(alloc);
     let mut out = StdSink::new(&mut written);
     let mut err = StdSink::new(&mut said);
-    let ending = mscope(alloc, request, files, &mut out, &mut err);
+    let ending = if json {
+        mscope_json(alloc, request, files, &mut out, &mut err)
+    } else {
+        mscope(alloc, request, files, &mut out, &mut err)
+    };
     written.extend_from_slice(said.as_slice())?;
     Ok((ending, written))
 }
@@ -73,6 +79,7 @@ fn answer_closed(
 fn answer_case(
     alloc: Global,
     request: &Request<'_>,
+    json: bool,
     case: &Case<'_>,
     previous: &[u8],
     answered: &[u8],
@@ -81,7 +88,7 @@ fn answer_case(
     if case.name.ends_with("/closed-output") {
         answer_closed(alloc, request, &mut files)
     } else {
-        answer(alloc, request, &mut files)
+        answer(alloc, request, json, &mut files)
     }
 }
 
@@ -104,7 +111,11 @@ fn run(
     let words = words_in(alloc, case.words)?;
     match read_words(alloc, words.as_slice()) {
         Asked::Request(request) => {
-            let (ending, written) = answer_case(alloc, &request, case, previous, answered)?;
+            let (ending, written) = answer_case(alloc, &request, false, case, previous, answered)?;
+            Ok((ending.status(), written))
+        }
+        Asked::Json(request) => {
+            let (ending, written) = answer_case(alloc, &request, true, case, previous, answered)?;
             Ok((ending.status(), written))
         }
         Asked::Text(error) => Ok((status_of(&error), Vec::new(alloc))),

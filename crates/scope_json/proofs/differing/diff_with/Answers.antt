@@ -1,0 +1,23 @@
+use Rattle.std.proofs.Common.{◌≡◌, List, sym, subst}
+use Rattle.std.proofs.lemmas.Result.{IfOk-weaker}
+use Rattle.serde_json.specs.Data.{Data}
+use Rattle.serde_json.specs.View.{view}
+use Rattle.script_map.specs.Left.{left_state}
+use Rattle.scope_run.specs.Scripts.{FailsOnSecond}
+use Rattle.scope_run.proofs.Facts.{if_err, of_state, stops_on_second}
+use Rattle.scope_json.specs.Diffs.{TellsDiff, diff_data}
+use Rattle.scope_json.specs.Texts.{has_any}
+use Rattle.scope_json.proofs.differing.diff_with.Goals as goal
+
+pub returns-in-Ok-clause-told : goal.returns-in-Ok-clause-told
+returns-in-Ok-clause-told c = IfOk-weaker c.diff_in.result _ _
+    (λ a t. of_state c.args.second.now c.in-Ok.map
+    (λ s. (items : List Data) × TellsDiff (left_state c.args.first.now) s items × (view a.value ≡ diff_data items) × (a.something ≡ has_any items))
+    c.in-Ok.ensures.map t) c.diff_in.ensures.told
+
+pub returns-in-Ok-clause-fails : goal.returns-in-Ok-clause-fails
+returns-in-Ok-clause-fails c =
+    if_err _ _ c.diff_in.result (λ fault x. subst (FailsOnSecond c.args.second.now) (sym x) tt) c.diff_in.ensures.fails
+
+pub returns-in-Err-clause-fails : goal.returns-in-Err-clause-fails
+returns-in-Err-clause-fails c = stops_on_second c.args.second.now c.in-Err.stop c.stopped.result c.stopped.ensures c.in-Err.ensures.bad

@@ -1,0 +1,19 @@
+use Rattle.std.proofs.Common.{Some, option_map}
+use Rattle.std.proofs.lemmas.Result.{IfOk-weaker}
+use Rattle.serde_json.specs.View.{view}
+use Rattle.scope_run.proofs.Facts.{fails_on, if_err, of_state, stops_on}
+use Rattle.scope_json.specs.Whys.{TellsWhy}
+use Rattle.scope_json.proofs.whys.why.Goals as goal
+
+pub returns-in-Ok-clause-told : goal.returns-in-Ok-clause-told
+returns-in-Ok-clause-told c = IfOk-weaker c.why_in.result _ _ (λ a t. of_state c.args.script.now c.in-Ok.map
+    (λ s. TellsWhy s c.args.space.now c.args.addr (option_map (λ n. n.now) c.args.region) (view a.value)) c.in-Ok.ensures.map t) c.why_in.ensures.told
+
+pub returns-in-Ok-clause-fails : goal.returns-in-Ok-clause-fails
+returns-in-Ok-clause-fails c = if_err _ _ c.why_in.result
+    (λ fault x. fails_on c.args.script.now c.in-Ok.map (Some c.args.space.now) (option_map (λ n. n.now) c.args.region) fault c.in-Ok.ensures.map x)
+    c.why_in.ensures.fails
+
+pub returns-in-Err-clause-fails : goal.returns-in-Err-clause-fails
+returns-in-Err-clause-fails c = stops_on c.args.script.now (Some c.args.space.now) (option_map (λ n. n.now) c.args.region) c.in-Err.stop c.stopped.result
+    c.stopped.ensures c.in-Err.ensures.bad
