@@ -9,6 +9,7 @@ from vobrekan import declarations as c  # noqa: E402
 
 LATCH = Device(kind=c.VB_DEVICE_LATCH, regs=1, valid_min=1, valid_max=4, impl_min=1, impl_max=4)
 SPACE = 1
+KINDS = ["container", "ram", "rom", "romdev", "io", "iommu", "alias", "reserve", "host"]
 MACHINES = os.path.join(os.path.dirname(os.path.abspath(__file__)), "..", "..", "..", "examples", "machines")
 
 
@@ -27,13 +28,13 @@ def small():
 class Driver:
     """Does the commands of a script by calls of a machine, as far as the scripts of examples/machines use them."""
 
-    KINDS = {"container": Machine.container, "ram": Machine.ram, "rom": Machine.rom}
+    MAKES = {"container": Machine.container, "ram": Machine.ram, "rom": Machine.rom}
 
     def __init__(self):
         self.machine, self.regions, self.spaces, self.shown = None, {}, {}, []
 
     def done(self, script):
-        """The first words of the lines that `show` writes."""
+        """The words of the lines that its commands write."""
         for line in script.splitlines():
             words = line.split("#")[0].split()
             if words:
@@ -48,8 +49,8 @@ class Driver:
         device = Device(kind=c.VB_DEVICE_LATCH, regs=1, valid_min=1, valid_max=8, impl_min=1, impl_max=8)
         if kind == "alias":
             self.regions[name] = self.machine.alias(size, self.regions[rest[0]], int(rest[1], 0))
-        elif kind in self.KINDS:
-            self.regions[name] = self.KINDS[kind](self.machine, size)
+        elif kind in self.MAKES:
+            self.regions[name] = self.MAKES[kind](self.machine, size)
         else:
             self.regions[name] = (self.machine.io if kind == "io" else self.machine.rom_device)(size, device)
 
@@ -92,17 +93,21 @@ class Driver:
         names = {number: name for name, number in self.regions.items()}
         self.shown.append(["view", space])
         for it in self.machine.view(self.spaces[space]):
-            self.shown.append([f"{it.start:x}-{it.last:x}", names[it.region], f"@{it.offset:x}"])
+            found = self.machine.find(self.spaces[space], it.start)
+            assert (found.region, found.offset, found.last) == (it.region, it.offset, it.last)
+            flags = [word for word, is_so in [("ro", it.readonly), ("nv", it.nonvolatile), ("romd", it.romd), ("um", it.unmergeable)] if is_so]
+            flags += [f"log={it.log}"] if it.log else []
+            self.shown.append([f"{it.start:x}-{it.last:x}", names[it.region], f"@{it.offset:x}", KINDS[found.kind], *flags])
 
 
 def told_in(out):
-    """The same words of what a script writes."""
+    """The same words of what a script writes: all of a range, and of a view its space."""
     for line in out.splitlines():
         words = line.split()
         if words[0] == "v0" and words[2] == "read":
             yield ["v0", "read", *words[3:5]]
         elif words[0] != "v0":
-            yield words[:2] if words[0] == "view" else words[:3]
+            yield words[:2] if words[0] == "view" else words
 
 
 class Tests(unittest.TestCase):
