@@ -20,7 +20,7 @@ use Rattle.view_slots.specs.Texts.{range_of}
 use Rattle.script_map.specs.Left.{Shown, first_of, published_in, refused_in}
 use Rattle.script_map.specs.Refusals.{Refused}
 use Rattle.scope_words.specs.declared.requests.Request.{Request}
-use Rattle.scope_words.specs.declared.requests.Request.TheVariants.{Why, Lint, Diff, Slots, Draw, Explain}
+use Rattle.scope_words.specs.declared.requests.Request.TheVariants.{Why, Lint, Diff, Slots, Draw, Explain, Import, Check}
 use Rattle.scope_run.specs.Diffs.{is_kept}
 use Rattle.scope_run.specs.Explains.{topic_code}
 use Rattle.scope_run.specs.Requests.{Holding}
@@ -36,6 +36,7 @@ use Rattle.scope_json.specs.Diffs.{TellsBetween, TellsDiff, TellsFirst, alone_da
 use Rattle.scope_json.specs.Diffs.{space_data, space_fields}
 use Rattle.scope_json.specs.Draws.{draw_data, draw_fields}
 use Rattle.scope_json.specs.Explains.{explain_fields, explained_data, fault_data, fault_fields, topic_answer}
+use Rattle.scope_json.specs.Monitors.{check_data, import_data, text_fields}
 use Rattle.scope_json.specs.Lints.{findings_in, lint_by, lint_fields, refused_data, refused_fields}
 use Rattle.scope_json.specs.Tables.{TellsSlotsIn, TellsSlotsOf, TellsTables, slots_data, slots_fields, step_data, table_data, table_fields}
 use Rattle.scope_json.specs.Texts.{answer_of}
@@ -169,3 +170,7 @@ answers_depth (Draw script space style) held d something h =
     (answer_depth 3 (codes "draw") (draw_fields space.now names told.rows) (leaf 3, (depth_of_map 2 (row_data names) told.rows (row_depth names), tt)))
     (omega arith)
 answers_depth (Explain what) held d something h = word_depth held what.now (topic_code what.now) d something h
+answers_depth (Import tree flat spaces) held d something h =
+    same_depth d (import_data h.0) 1 h.2 (answer_depth 0 (codes "import") (text_fields (codes "script") h.0) (leaf 0, tt)) (omega arith)
+answers_depth (Check script flat) held d something h =
+    same_depth d (check_data h.0) 1 h.2 (answer_depth 0 (codes "check") (text_fields (codes "spaces") h.0) (leaf 0, tt)) (omega arith)

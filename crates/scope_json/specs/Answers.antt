@@ -4,14 +4,15 @@ use Rattle.serde_json.specs.Data.{Data}
 use Rattle.mem_base.specs.script.Scripts.{script_of}
 use Rattle.mem_base.specs.script.Spelling.{Text}
 use Rattle.scope_words.specs.declared.requests.Request.{Request}
-use Rattle.scope_words.specs.declared.requests.Request.TheVariants.{Why, Lint, Diff, Slots, Draw, Explain}
+use Rattle.scope_words.specs.declared.requests.Request.TheVariants.{Why, Lint, Diff, Slots, Draw, Explain, Import, Check}
 use Rattle.scope_run.specs.Explains.{topic_code}
-use Rattle.scope_run.specs.Requests.{Holding, IsAddress, OfFile}
+use Rattle.scope_run.specs.Requests.{AnswersTo, Holding, IsAddress, OfFile}
 use Rattle.scope_run.specs.Scripts.{OfScript, left_by}
 use Rattle.scope_json.specs.Diffs.{TellsDiff, diff_data}
 use Rattle.scope_json.specs.Draws.{TellsDraw}
 use Rattle.scope_json.specs.Explains.{TellsTopic, explain_mends, explained_data}
 use Rattle.scope_json.specs.Lints.{lint_data, lint_mends}
+use Rattle.scope_json.specs.Monitors.{check_data, import_data}
 use Rattle.scope_json.specs.Tables.{TellsSlots, slots_data}
 use Rattle.scope_json.specs.Texts.{IsJson, has_any}
 use Rattle.scope_json.specs.Whys.{TellsWhy}
@@ -37,6 +38,9 @@ AnswersWith (Slots script) held d something =
 AnswersWith (Draw script space style) held d something =
     OfFile held script.now (λ bytes. OfScript bytes (λ lines. TellsDraw (left_by lines) space.now d)) × (something ≡ false)
 AnswersWith (Explain what) held d something = AnswersWord held what.now (topic_code what.now) d something
+AnswersWith (Import tree flat spaces) held d something =
+    (text : Text) × AnswersTo (Import tree flat spaces) held text something × (d ≡ import_data text)
+AnswersWith (Check script flat) held d something = (text : Text) × AnswersTo (Check script flat) held text something × (d ≡ check_data text)
 
 -- the same as a text: a line that reads as the value
 abbrev pub AnswersJson : Request → Holding → Text → Bool → Type 0

@@ -5,4 +5,5 @@ pub mod Tables
 pub mod Whys
 pub mod Draws
 pub mod Explains
+pub mod Monitors
 pub mod Answers

@@ -10,6 +10,7 @@ mod differing;
 mod drawing;
 mod explaining;
 mod linting;
+mod monitoring;
 mod slotting;
 mod top;
 mod whys;

@@ -14,6 +14,7 @@ use crate::differing::diff;
 use crate::drawing::draw;
 use crate::explaining::{explain, explain_topic};
 use crate::linting::lint;
+use crate::monitoring::{check, import};
 use crate::slotting::slots;
 use crate::whys::why;
 use outside::Sink;
@@ -127,6 +128,8 @@ fn answer<F: Files>(alloc: Global, request: &Request<'_>, files: &mut F) -> Resu
             style,
         } => answer_draw(alloc, files, script, space, style),
         Request::Explain { what } => answer_explain(alloc, files, what),
+        Request::Import { tree, flat, spaces } => import(alloc, files, tree, flat, spaces),
+        Request::Check { script, flat } => check(alloc, files, script, flat),
     }
 }
 

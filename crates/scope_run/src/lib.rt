@@ -27,6 +27,7 @@ pub use explaining::{explain, explain_topic};
 pub use files::Files;
 pub use importing::{MonitorStop, check, import};
 pub use linting::lint;
+pub use monitor_files::{answer_check, answer_import};
 pub use scope_words::{Request, Style};
 pub use slotting::{edges_of, slot_number, slots, table_in};
 pub use top::{address_of, mscope, name_of, refuse, region_of, say, text_in};

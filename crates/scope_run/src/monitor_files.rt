@@ -60,8 +60,8 @@ fn names_in(alloc: Global, words: Option<&str>) -> Result<Vec<Name>, AllocError>
     Ok(names)
 }
 
-/// The script of what the monitor printed.
-pub(crate) fn answer_import<F: Files>(
+/// The script of what the monitor printed, by the names of the files.
+pub fn answer_import<F: Files>(
     alloc: Global,
     files: &mut F,
     tree: &str,
@@ -83,8 +83,8 @@ pub(crate) fn answer_import<F: Files>(
     )
 }
 
-/// What comes of a script beside what the monitor printed.
-pub(crate) fn answer_check<F: Files>(
+/// What comes of a script beside what the monitor printed, by the names of the files.
+pub fn answer_check<F: Files>(
     alloc: Global,
     files: &mut F,
     script: &str,
