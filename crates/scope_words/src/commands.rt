@@ -2,8 +2,8 @@
 ghost use Rattle.std.specs.Prelude.{◌≡◌, IfOk, false, codes};
 ghost use Rattle.clap.specs.Words.{app_of, with_rule, with_subcommand};
 ghost use Rattle.clap.specs.declared.Command.TheViews.{out-Command};
-ghost use Rattle.scope_words.specs.App.{check_app, diff_app, draw_app, explain_app, import_app, map_app, named_app};
-ghost use Rattle.scope_words.specs.App.{one_file, scope_app, top_app, why_app, word_rule};
+ghost use Rattle.scope_words.specs.App.{check_app, diff_app, draw_app, explain_app, import_app, map_app, more_rule, named_app};
+ghost use Rattle.scope_words.specs.App.{one_file, scope_app, spaces_rule, top_app, why_app, word_rule};
 
 use clap::{Arg, ArgAction, Command};
 use std::alloc::{AllocError, Global};
@@ -142,27 +142,45 @@ fn explain<'a>(alloc: Global) -> Result<Command<'a>, AllocError>
     )
 }
 
+// A command with a choice of address spaces.
+fn with_spaces<'a>(alloc: Global, command: Command<'a>) -> Result<Command<'a>, AllocError>
+    requires { (out-Command command).has_globals ≡ false }
+    ensures app { IfOk result (λ c. app_of c ≡ with_rule (app_of command.entry) spaces_rule) }
+    ensures local { IfOk result (λ c. (out-Command c).has_globals ≡ false) }
+{
+    let spaces = Arg::new(alloc, "space")
+        .long("space")
+        .action(ArgAction::Set)
+        .help("Takes these address spaces alone, by their names with commas between them");
+    command.arg(spaces)
+}
+
+// A command with the monitor's views, which may be left out.
+fn with_views<'a>(alloc: Global, command: Command<'a>) -> Result<Command<'a>, AllocError>
+    requires { (out-Command command).has_globals ≡ false }
+    ensures app { IfOk result (λ c. app_of c ≡ with_rule (app_of command.entry) (more_rule (codes "FLAT"))) }
+    ensures local { IfOk result (λ c. (out-Command c).has_globals ≡ false) }
+{
+    let flat = Arg::new(alloc, "FLAT").action(ArgAction::Set).help(
+        "What `info mtree -f` printed, which settles what the tree leaves open",
+    );
+    command.arg(flat)
+}
+
 fn import<'a>(alloc: Global) -> Result<Command<'a>, AllocError>
     ensures app { IfOk result (λ c. app_of c ≡ import_app) }
     ensures local { IfOk result (λ c. (out-Command c).has_globals ≡ false) }
 {
     let about =
         "A script of what QEMU's monitor printed of a machine; what it cannot hold is told in its comments";
-    let spaces = Arg::new(alloc, "space")
-        .long("space")
-        .action(ArgAction::Set)
-        .help("Takes these address spaces alone, by their names with commas between them");
-    let chosen = named(alloc, "import", about)?.arg(spaces)?;
+    let chosen = with_spaces(alloc, named(alloc, "import", about)?)?;
     let tree = with_word(
         alloc,
         chosen,
         "TREE",
         "What `info mtree -D` printed; - is the standard input",
     )?;
-    let flat = Arg::new(alloc, "FLAT").action(ArgAction::Set).help(
-        "What `info mtree -f` printed, which settles what the tree leaves open",
-    );
-    tree.arg(flat)
+    with_views(alloc, tree)
 }
 
 fn check<'a>(alloc: Global) -> Result<Command<'a>, AllocError>
