@@ -1,5 +1,6 @@
 -- What is told of all spaces.
-use Rattle.std.proofs.Common.{◌≡◌, ◌∙◌, ◌||◌, ◌++◌, Bool, true, false, List, [], ◌∷◌, ap, refl, subst, sym, true≢false}
+use Rattle.std.proofs.Common.{◌≡◌, ◌∙◌, ◌||◌, ◌++◌, Bool, true, false, List, [], ◌∷◌, Result, Ok, Err, ap, refl, subst, sym, true≢false}
+use Rattle.std.specs.Prelude.{IfErr}
 use Rattle.mem_base.specs.declared.map.ids.RegionId.{RegionId}
 use Rattle.mem_base.specs.declared.map.ids.SpaceId.{SpaceId}
 use Rattle.mem_base.specs.lists.Every.{Every}
@@ -9,8 +10,11 @@ use Rattle.mem_base.specs.script.States.{region_named}
 use Rattle.mem_base.specs.views.Flattened.{view_of}
 use Rattle.script_map.specs.Left.{Left, Shown, left_state, shown_in}
 use Rattle.script_check.specs.Blocks.{Printed}
-use Rattle.script_check.specs.Checks.{Compared, IsSpacePrinted, IsToldOf, compared, compared_with, is_other, some_differs, space_verdict, spaces_text}
+use Rattle.script_check.specs.Checks.{Compared, IsSpacePrinted, Explains, IsToldOf, IsToldOfText, compared, compared_with, is_other, some_differs, space_verdict, spaces_text}
 use Rattle.script_check.specs.Marks.{memory_in}
+use Rattle.script_check.specs.declared.faults.CheckFault.{CheckFault}
+use Rattle.script_check.specs.declared.faults.CheckFault.TheVariants.{Memory}
+use Rattle.script_map.specs.Reads.{IsLeftByText}
 use Rattle.script_check.specs.declared.verdicts.Verdict.{Verdict}
 use Rattle.script_check.specs.declared.verdicts.Verdict.TheVariants.{Same, Differs, Unprinted}
 use Rattle.script_check.proofs.VerdictLaws.{same_is_printed}
@@ -57,3 +61,14 @@ is_told script m blocks memory text differs e t d =
       same = λ space same. space_printed x space same;
       all = λ none. all_printed x x.forest.spaces (sym found ∙ none);
     }
+
+pub told_of_text : (script : Text) (m : Left) (blocks : List Printed) (text : Text) (differs : Bool) → IsLeftByText script m
+    → IsToldOf script m blocks text differs → IsToldOfText script blocks text differs
+told_of_text script m blocks text differs h t = record { left = m; reads = h; told = t }
+
+pub if_err : {T E : Type 0} (P Q : E → Type 0) (r : Result T E) → ((e : E) → P e → Q e) → IfErr r P → IfErr r Q
+if_err P Q (Ok x) f h = tt
+if_err P Q (Err e) f h = f e h
+
+pub memory_explains : (script flat : Text) (fault : CheckFault) → fault ≡ Memory → Explains script flat fault
+memory_explains script flat fault e = subst (Explains script flat) (sym e) tt
