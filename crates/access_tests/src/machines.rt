@@ -39,7 +39,7 @@ impl Machine {
             }
             return Ok(());
         }
-        let prepared = self.desk.call_prepare(call, steps)?;
+        let prepared = self.desk.call_prepare(call, &[], steps)?;
         self.desk.done(prepared);
         Ok(())
     }
@@ -56,7 +56,7 @@ impl Machine {
 
     /// Commits, and publishes what is pending.
     pub(crate) fn commit<L: Ledger>(&mut self, steps: &mut Steps<L>) -> Result<(), Refusal> {
-        if let Step::Ready(prepared) = self.desk.commit_prepare(steps)? {
+        if let Step::Ready(prepared) = self.desk.commit_prepare(&[], steps)? {
             self.desk.done(prepared);
         }
         Ok(())

@@ -23,6 +23,7 @@ use Rattle.mem_base.specs.declared.map.calls.Call.TheVariants as calls
 use Rattle.mem_base.specs.declared.map.refusals.Refusal.{Refusal}
 use Rattle.mem_base.specs.declared.map.refusals.Refusal.TheVariants.{NoBacking}
 use Rattle.mem_base.specs.declared.access.cells.Place.{Place}
+use Rattle.mem_base.specs.declared.views.listening.Listener.{Listener}
 use Rattle.mem_base.specs.lists.Every.{Every}
 use Rattle.mem_base.specs.map.Limits.{most_made, most_regions, page_size, most_bytes, most_registers}
 use Rattle.mem_base.specs.map.Kinds.{device_of}
@@ -368,36 +369,36 @@ makes_none (calls.Event region event) h = refl
 makes_none (calls.Unevent region offset size matched value) h = refl
 
 -- what a change prepares
-pub ready_change : (s : BackedState) (call : Call) (p : Readied) → s.desk.state.depth ≡ 0 → is_quiet call ≡ false
+pub ready_change : (s : BackedState) (call : Call) (listeners : List Listener) (p : Readied) → s.desk.state.depth ≡ 0 → is_quiet call ≡ false
     → after (forest_at s) call ≡ Ok p.generation.forest
-    → p ≡ readied s.desk.current p.generation.forest (all_places s.backing) (Some call) → Backs (forest_at s) s.backing → IsOfBackedDesk s p
-ready_change s call p outside change e same k = record {
+    → p ≡ readied s.desk.current p.generation.forest (all_places s.backing) listeners (Some call) → Backs (forest_at s) s.backing → IsOfBackedDesk s p
+ready_change s call listeners p outside change e same k = record {
   of_desk = record {
     number = ap (λ (r : Readied). r.generation.number) same;
-    changes = ap (λ (r : Readied). r.changes) same;
     source = inl (outside, (call, ap (λ (r : Readied). r.call) same, e));
   };
   same_made = ap (λ (x : Forest). x.made) (after-accepted (forest_at s) p.generation.forest call e).1 ∙ made_same (forest_at s) call (makes_none call change);
   backs = backs_after s.backing.pool_words (forest_at s) p.generation.forest call s.backing.places e (makes_none call change) k.backs;
 }
 
-pub ready_result : (s : BackedState) (call : Call) (r : Result Readied Refusal) → s.desk.state.depth ≡ 0 → is_quiet call ≡ false
+pub ready_result : (s : BackedState) (call : Call) (listeners : List Listener) (r : Result Readied Refusal) → s.desk.state.depth ≡ 0 → is_quiet call ≡ false
     → IfOk r (λ p. after (forest_at s) call ≡ Ok p.generation.forest)
-    → IfOk r (λ p. p ≡ readied s.desk.current p.generation.forest (all_places s.backing) (Some call)) → Backs (forest_at s) s.backing
+    → IfOk r (λ p. p ≡ readied s.desk.current p.generation.forest (all_places s.backing) listeners (Some call)) → Backs (forest_at s) s.backing
     → IfOk r (IsOfBackedDesk s)
-ready_result s call (Ok p) outside change e same k = ready_change s call p outside change e same k
-ready_result s call (Err why) outside change e same k = tt
+ready_result s call listeners (Ok p) outside change e same k = ready_change s call listeners p outside change e same k
+ready_result s call listeners (Err why) outside change e same k = tt
 
 -- a commit that publishes nothing, or only prepares, leaves the forest
-pub step_forest : (old new : DeskState) (places : List Place) (step : Step) → IsStep old places new step → new.state.forest ≡ old.state.forest
-step_forest old new places Inner h = ap (λ (d : DeskState). d.state.forest) h.1
-step_forest old new places Empty h = ap (λ (d : DeskState). d.state.forest) h.2
-step_forest old new places (Ready p) h = ap (λ (d : DeskState). d.state.forest) h.2
-
-pub commit_forest : (old new : DeskState) (places : List Place) (r : Result Step Refusal) → IfOk r (IsStep old places new) → OnErr r (new ≡ old)
+pub step_forest : (old new : DeskState) (places : List Place) (listeners : List Listener) (step : Step) → IsStep old places listeners new step
     → new.state.forest ≡ old.state.forest
-commit_forest old new places (Ok step) h k = step_forest old new places step h
-commit_forest old new places (Err why) h k = ap (λ (d : DeskState). d.state.forest) k
+step_forest old new places listeners Inner h = ap (λ (d : DeskState). d.state.forest) h.1
+step_forest old new places listeners Empty h = ap (λ (d : DeskState). d.state.forest) h.2
+step_forest old new places listeners (Ready p) h = ap (λ (d : DeskState). d.state.forest) h.2
+
+pub commit_forest : (old new : DeskState) (places : List Place) (listeners : List Listener) (r : Result Step Refusal) → IfOk r (IsStep old places listeners new)
+    → OnErr r (new ≡ old) → new.state.forest ≡ old.state.forest
+commit_forest old new places listeners (Ok step) h k = step_forest old new places listeners step h
+commit_forest old new places listeners (Err why) h k = ap (λ (d : DeskState). d.state.forest) k
 
 -- a region with words that was made
 

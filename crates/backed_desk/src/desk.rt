@@ -21,7 +21,7 @@ ghost use Rattle.backed_desk.specs.Backed.{IsCalled, IsOfBackedDesk};
 ghost use Rattle.backed_desk.specs.Commits.{IfReady};
 
 use backing_pool::Pool;
-use mem_base::{Applied, Call, Kind, Place, Refusal, RegionId, Size};
+use mem_base::{Applied, Call, Kind, Listener, Place, Refusal, RegionId, Size};
 use region_tree::Tree;
 use std::alloc::{AllocError, Global};
 use std::marker::Model;
@@ -218,17 +218,19 @@ impl BackedDesk {
 
     /// Prepares a change outside all transactions, which is one by itself. The desk stays as it is until `done`.
     ///
-    /// It is refused for the forest's first reason, before anything is carved, or where memory runs out. A step is one carve: at
-    /// most the square of the root's weight for each space that the change touches, and none for any other.
+    /// How a space differs is prepared only where one of the `listeners` hears it. The call is refused for the forest's first
+    /// reason, before anything is carved, or where memory runs out. A step is one carve: at most the square of the root's
+    /// weight for each space that the change touches, and none for any other.
     pub fn call_prepare<L: Ledger>(
         &mut self,
         call: &Call,
+        listeners: &[Listener],
         steps: &mut Steps<L>,
     ) -> Result<Prepared, Refusal>
         requires outside { self.old.desk.state.depth ≡ 0 }
         requires change { is_quiet call.now ≡ false }
         ensures applied { IfOk result (λ p. after (forest_at self.old) call.now ≡ Ok p.generation.forest) }
-        ensures prepared { IfOk result (λ p. p ≡ readied self.old.desk.current p.generation.forest (all_places self.old.backing) (Some call.now)) }
+        ensures prepared { IfOk result (λ p. p ≡ readied self.old.desk.current p.generation.forest (all_places self.old.backing) listeners.now (Some call.now)) }
         ensures ready { IfOk result (λ p. IsOfBackedDesk self.new p) }
         ensures refused { IfErr result (λ why. why ≢ Refusal.Memory → after (forest_at self.old) call.now ≡ Err why) }
         ensures unchanged { self.new ≡ self.old }
@@ -236,16 +238,21 @@ impl BackedDesk {
         ensures spared { IfErr result (λ why. why ≢ Refusal.Memory → steps.new ≡ steps.old) }
     {
         let _ = self.desk.tree();
-        self.desk.call_prepare(call, self.places.as_slice(), steps)
+        self.desk
+            .call_prepare(call, self.places.as_slice(), listeners, steps)
     }
 
     /// Closes an inner transaction, or the outermost one where nothing is pending; or else prepares what is pending, and the
     /// desk stays as it is until `done`.
     ///
-    /// It is refused with `NoTransaction` where none is open, or where memory runs out, and then nothing changes. It carves at
-    /// most as often as `call_prepare` may.
-    pub fn commit_prepare<L: Ledger>(&mut self, steps: &mut Steps<L>) -> Result<Step, Refusal>
-        ensures step { IfOk result (λ step. IsStep self.old.desk (all_places self.old.backing) self.new.desk step) }
+    /// `listeners` as for `call_prepare`. It is refused with `NoTransaction` where none is open, or where memory runs out, and
+    /// then nothing changes. It carves at most as often as `call_prepare` may.
+    pub fn commit_prepare<L: Ledger>(
+        &mut self,
+        listeners: &[Listener],
+        steps: &mut Steps<L>,
+    ) -> Result<Step, Refusal>
+        ensures step { IfOk result (λ step. IsStep self.old.desk (all_places self.old.backing) listeners.now self.new.desk step) }
         ensures backing { self.new.backing ≡ self.old.backing }
         ensures ready { IfOk result (λ step. IfReady step (IsOfBackedDesk self.new)) }
         ensures refused { IfErr result (λ why. why ≢ Refusal.Memory → (why ≡ Refusal.NoTransaction) × (self.old.desk.state.depth ≡ 0)) }
@@ -255,7 +262,8 @@ impl BackedDesk {
     {
         // It tells that the forest is one that calls make.
         let _ = self.desk.tree();
-        self.desk.commit_prepare(self.places.as_slice(), steps)
+        self.desk
+            .commit_prepare(self.places.as_slice(), listeners, steps)
     }
 
     /// Makes a prepared generation the current one: no transaction is open then, and nothing is pending.

@@ -113,7 +113,7 @@ pub(crate) fn publish<L: Ledger>(
 ) -> Result<(), Failed> {
     desk.begin()?;
     do_all(desk, map.calls.as_slice());
-    if let Step::Ready(prepared) = desk.commit_prepare(steps)? {
+    if let Step::Ready(prepared) = desk.commit_prepare(&[], steps)? {
         desk.done(prepared);
     }
     Ok(())
@@ -144,7 +144,7 @@ fn change<L: Ledger>(desk: &mut BackedDesk, call: &Call, steps: &mut Steps<L>) -
     if desk.desk().depth() != 0 || call.is_quiet() {
         return false;
     }
-    match desk.call_prepare(call, steps) {
+    match desk.call_prepare(call, &[], steps) {
         Ok(prepared) => {
             desk.done(prepared);
             true
@@ -163,7 +163,7 @@ fn moves_of(child: RegionId, offset: u64) -> [Call; 2] {
 }
 
 /// For every sixteenth region that was placed, a move by a page and one back.
-fn push_moves(moves: &mut Vec<Call>, map: &Map) -> Result<(), AllocError> {
+pub(crate) fn push_moves(moves: &mut Vec<Call>, map: &Map) -> Result<(), AllocError> {
     let mut placed: u32 = 0;
     for call in &map.calls {
         if let Call::Add { offset, child, .. } = *call {

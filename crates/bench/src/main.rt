@@ -16,6 +16,7 @@ mod accesses;
 mod boards;
 mod cabinets;
 mod changes;
+mod listened;
 mod maps;
 mod pools;
 mod routes;
@@ -28,6 +29,7 @@ mod worlds;
 
 use crate::cabinets::run_cabinet;
 use crate::changes::{WORDS, publish, run_changes};
+use crate::listened::run_listened;
 use crate::maps::{Map, Shape};
 use crate::pools::run_pool;
 use crate::routes::{of_memory, run_routes};
@@ -161,6 +163,20 @@ fn run_middle<L: Ledger, R: Threads + Wait + Clock + Sync>(
     let map = Shape::Generated.map(rt.alloc(), size)?;
     run_views(rt, &map, rounds, steps)?;
     on_desk(rt, threads, &map, rounds, steps)?;
+    run_listened(rt, &map, rounds, steps)?;
+    run_changes(rt, map, rounds, steps)?;
+    run_twice(rt, size.saturating_mul(2), rounds, steps)
+}
+
+/// Changes of a generated map of another size.
+fn run_twice<L: Ledger>(
+    rt: HostRuntime,
+    size: u32,
+    rounds: u32,
+    steps: &mut Steps<L>,
+) -> Result<(), Failed> {
+    let map = Shape::Generated.map(rt.alloc(), size)?;
+    run_listened(rt, &map, rounds, steps)?;
     run_changes(rt, map, rounds, steps)
 }
 

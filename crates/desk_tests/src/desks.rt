@@ -81,7 +81,7 @@ pub(crate) fn change<L: Ledger>(
     if desk.depth() != 0 || call.is_quiet() || !needs_no_place(desk.tree())? {
         return Ok(Outcome::Unfit);
     }
-    let prepared = desk.call_prepare(call, &places(), steps)?;
+    let prepared = desk.call_prepare(call, &places(), &[], steps)?;
     desk.done(prepared);
     Ok(Outcome::Published)
 }
@@ -99,7 +99,7 @@ pub(crate) fn commit<L: Ledger>(desk: &mut Desk, steps: &mut Steps<L>) -> Result
     if !needs_no_place(desk.tree())? {
         return Ok(Outcome::Unfit);
     }
-    match desk.commit_prepare(&places(), steps)? {
+    match desk.commit_prepare(&places(), &[], steps)? {
         Step::Ready(prepared) => {
             desk.done(prepared);
             Ok(Outcome::Published)

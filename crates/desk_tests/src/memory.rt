@@ -3,7 +3,9 @@ ghost use Rattle.std.specs.Prelude.{◌≡◌, ◌<◌};
 
 use crate::calls::{add, region, space};
 use backed_desk::BackedDesk;
-use mem_base::{Call, Device, DeviceKind, Edition, Kind, Refusal, RegionId, SpaceId};
+use mem_base::{
+    Call, Device, DeviceKind, Edition, Kind, Listener, ListenerId, Refusal, RegionId, SpaceId,
+};
 use std::alloc::Global;
 use std::marker::Brand;
 use std::sync::ledger::{Blank, Ledger};
@@ -15,6 +17,16 @@ use tree_find::find;
 static WHOLE: SpaceId = SpaceId(0);
 
 static PART: SpaceId = SpaceId(1);
+
+/// Who listens: one to each space.
+fn listeners() -> [Listener; 2] {
+    let listens_to = |space: SpaceId| Listener {
+        listener: ListenerId(space.0),
+        space,
+        priority: 0,
+    };
+    [listens_to(WHOLE), listens_to(PART)]
+}
 
 /// The pages of memory in the first space.
 const PAGES: u32 = 10;
@@ -113,7 +125,7 @@ fn change<L: Ledger>(desk: &mut BackedDesk, call: &Call, steps: &mut Steps<L>) -
     if desk.desk().depth() != 0 || call.is_quiet() {
         return false;
     }
-    match desk.call_prepare(call, steps) {
+    match desk.call_prepare(call, &listeners(), steps) {
         Ok(prepared) => {
             desk.done(prepared);
             true
@@ -161,7 +173,7 @@ fn done<L: Ledger>(desk: &mut BackedDesk, steps: &mut Steps<L>) -> usize {
 fn begun<L: Ledger>(desk: &mut BackedDesk, steps: &mut Steps<L>) -> Result<usize, Refusal> {
     desk.begin()?;
     build(desk)?;
-    if let Step::Ready(prepared) = desk.commit_prepare(steps)? {
+    if let Step::Ready(prepared) = desk.commit_prepare(&listeners(), steps)? {
         desk.done(prepared);
     }
     Ok(done(desk, steps))

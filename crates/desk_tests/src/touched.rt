@@ -58,7 +58,7 @@ fn two_spaces<L: Ledger>(alloc: Global, steps: &mut Steps<L>) -> Result<BackedDe
     ] {
         inside(&mut desk, &call)?;
     }
-    if let Step::Ready(prepared) = desk.commit_prepare(steps)? {
+    if let Step::Ready(prepared) = desk.commit_prepare(&[], steps)? {
         desk.done(prepared);
     }
     Ok(desk)
@@ -82,7 +82,7 @@ fn kept_after<L: Ledger>(
         return Ok(None);
     }
     let before = Arc::try_clone(desk.desk().current())?;
-    let prepared = desk.call_prepare(call, steps)?;
+    let prepared = desk.call_prepare(call, &[], steps)?;
     desk.done(prepared);
     let now = desk.desk().current();
     let kept = (sharers(now, LARGE) == 2, sharers(now, SMALL) == 2);

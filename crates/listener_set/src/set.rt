@@ -3,7 +3,7 @@ ghost use Rattle.std.specs.Prelude.{◌≡◌, ◌≢◌, ◌↔◌, Some, None,
 ghost use Rattle.std.specs.List.{list_any};
 ghost use Rattle.mem_base.specs.declared.map.refusals.Refusal.{Refusal};
 ghost use Rattle.mem_base.specs.declared.map.refusals.Refusal.TheVariants.{Memory};
-ghost use Rattle.mem_base.specs.views.Listening.{no_listeners, is_listener, join_refusal, joined, leave_refusal, left, delivered};
+ghost use Rattle.mem_base.specs.views.Listening.{no_listeners, is_listener, join_refusal, joined, leave_refusal, left, ascending, delivered};
 ghost use Rattle.mem_base.specs.machine.ListenerReplay.{listener_of};
 ghost use Rattle.listener_set.specs.Sets.{HasRoom};
 
@@ -170,6 +170,13 @@ impl Set {
             .iter()
             .find(|other| other.listener == listener)
             .map(|other| other.space)
+    }
+
+    /// Those who listen, by ascending priority; those of one priority in order of joining.
+    pub fn in_order(&self) -> &[Listener]
+        ensures { result.now ≡ ascending self.now.listening.listeners }
+    {
+        self.order.as_slice()
     }
 
     /// All calls that were ever made, each with the listener that got it, from the first on.

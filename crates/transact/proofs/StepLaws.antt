@@ -1,7 +1,9 @@
 -- One turn of a loop over a list whose members are taken one after another.
 use Rattle.std.proofs.Common.{◌≡◌, ℕ, ◌+◌, ◌<◌, ◌≤◌, List, [], ◌∷◌, ◌++◌, map, length, drop, drop-cons, get_or, add-one, sym, ap, ◌∙◌, append_assoc, arith}
+use Rattle.std.specs.Prelude.{Bool, filter}
 use Rattle.std.specs.List.{sum_by}
 use Rattle.std.proofs.lemmas.List.{map-append}
+use Rattle.std.proofs.lemmas.List.Elements.{filter-append}
 use Rattle.std.proofs.lemmas.List.Sums.{sum_by-cons}
 
 taken : {A : Type 0} (xs : List A) (i : ℕ) (d : A) → i < length xs → drop i xs ≡ get_or xs i d ∷ drop (i + 1) xs
@@ -28,14 +30,20 @@ pub next_mapped : {A B C : Type 0} (h : C → B) (k : A → B) (done new : List 
 next_mapped h k done new whole xs i d y l more e inv =
     next_listed k (map h done) (map h new) whole xs i d (h y) l (ap (map h) more ∙ map-append h done (y ∷ [])) e inv
 
+-- the same of those that pass a test
+pub next_chosen : {A B : Type 0} (p : B → Bool) (k : A → B) (done new whole : List B) (xs : List A) (i : ℕ) (d : A) (y : B) → i < length xs
+    → new ≡ done ++ filter p (y ∷ []) → y ≡ k (get_or xs i d) → done ++ filter p (map k (drop i xs)) ≡ whole
+    → new ++ filter p (map k (drop (i + 1) xs)) ≡ whole
+next_chosen p k done new whole xs i d y l more e h =
+    let rest = map k (drop (i + 1) xs) in
+    ap (λ zs. zs ++ filter p rest) more ∙ append_assoc done (filter p (y ∷ [])) (filter p rest)
+    ∙ ap (λ zs. done ++ zs) (sym (filter-append p (y ∷ []) rest)
+    ∙ ap (filter p) (ap (λ z. z ∷ rest) e ∙ ap (map k) (sym (taken xs i d l)))) ∙ h
+
 -- what a turn spends, of what the members that are left may spend
 pub spent : {A : Type 0} (c : A → ℕ) (xs : List A) (i : ℕ) (d : A) (before now bound : ℕ) → i < length xs → before + sum_by c (drop i xs) ≤ bound
     → now ≤ before + c (get_or xs i d) → now + sum_by c (drop (i + 1) xs) ≤ bound
 spent c xs i d before now bound l h few = let all = next_sum c xs i d l in omega arith
-
-pub spent_most : {A : Type 0} (c : A → ℕ) (xs : List A) (i : ℕ) (d : A) (before now bound : ℕ) → i < length xs → before + sum_by c (drop i xs) ≤ bound
-    → now ≤ before + c (get_or xs i d) → now ≤ bound
-spent_most c xs i d before now bound l h few = let all = spent c xs i d before now bound l h few in omega arith
 
 pub beside : {A B : Type 0} {s : A} {x y : B} → x ≡ y → ◌≡◌ {A = A × B} (s, x) (s, y)
 beside {s = s} e = λ i. (s, e i)

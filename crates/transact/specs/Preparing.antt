@@ -1,5 +1,5 @@
 -- What is prepared before a generation becomes current, and how often that may carve.
-use Rattle.std.specs.Prelude.{◌≡◌, ℕ, Bool, ◌+◌, ◌*◌, ◌⊎◌, true, false, if◌then◌else◌, List, [], ◌∷◌, ◌++◌, Option, option_map, unwrap_or, Some, None, Ok, Vec}
+use Rattle.std.specs.Prelude.{◌≡◌, ℕ, Bool, ◌+◌, ◌*◌, ◌⊎◌, true, false, if◌then◌else◌, List, [], ◌∷◌, ◌++◌, filter, Option, option_map, unwrap_or, Some, None, Ok, Vec}
 use Rattle.std.specs.declared.alloc.Global.{Global}
 use Rattle.std.specs.List.{list_any, sum_by}
 use Rattle.mem_base.specs.declared.map.ids.RegionId.{RegionId}
@@ -9,6 +9,7 @@ use Rattle.mem_base.specs.declared.map.forests.Node.{Node}
 use Rattle.mem_base.specs.declared.map.calls.Call.{Call}
 use Rattle.mem_base.specs.declared.access.cells.Place.{Place}
 use Rattle.mem_base.specs.declared.views.listening.Change.{Change}
+use Rattle.mem_base.specs.declared.views.listening.Listener.{Listener}
 use Rattle.mem_base.specs.map.Search.{root_of}
 use Rattle.mem_base.specs.map.Steps.{weight_of}
 use Rattle.mem_base.specs.map.Calls.{after}
@@ -16,7 +17,7 @@ use Rattle.mem_base.specs.map.Touched.{is_touched}
 use Rattle.mem_base.specs.declared.views.flat.FlatRange.{FlatRange}
 use Rattle.mem_base.specs.views.Naming.{has_leaf}
 use Rattle.mem_base.specs.access.Places.{is_notifiers, notifiers_place}
-use Rattle.mem_base.specs.views.Listening.{changes_between}
+use Rattle.mem_base.specs.views.Listening.{changes_between, hears}
 use Rattle.mem_base.specs.machine.Committed.{transaction}
 use Rattle.mem_base.specs.machine.Desk.{shown_places}
 use Rattle.history_laws.specs.BackedForests.{BacksForest}
@@ -43,18 +44,27 @@ places_or current places = unwrap_or (option_map (λ list. list.items) places) c
 abbrev pub next_of : Published → Forest → List Place → Published
 next_of current f places = published (current.number + 1) f (shown_places f places)
 
--- what is ready to become current: a generation, the listeners' calls, and where it comes of a call outside all
+-- one of the listeners listens to the space
+abbrev pub is_heard : List Listener → SpaceId → Bool
+is_heard listeners s = list_any (hears s) listeners
+
+-- of some changes those of the spaces to which one of the listeners listens
+abbrev pub heard_by : List Listener → List Change → List Change
+heard_by listeners changes = filter (λ c. is_heard listeners c.space) changes
+
+-- what is ready to become current: a generation, what the listeners are to be told, and where it comes of a call outside all
 -- transactions, that call
 pub record Readied : Type 0 where
   pub generation : Published
   pub changes : List Change
   pub call : Option Call
 
--- what is prepared of a forest: the generation that publishes it next, and the changes from the current one to it
-abbrev pub readied : Published → Forest → List Place → Option Call → Readied
-readied current f places call = record {
+-- what is prepared of a forest: the generation that publishes it next, and the changes from the current one to it that these listeners
+-- hear
+abbrev pub readied : Published → Forest → List Place → List Listener → Option Call → Readied
+readied current f places listeners call = record {
   generation = next_of current f places;
-  changes = changes_between current.forest f;
+  changes = heard_by listeners (changes_between current.forest f);
   call = call;
 }
 
@@ -81,7 +91,6 @@ IsFromCommit d r = (d.state.depth ≡ 1) × (d.state.pending ≡ true) × (r.cal
 
 pub record IsOfDesk (d : DeskState) (r : Readied) : Type 0 where
   pub number : r.generation.number ≡ d.current.number + 1
-  pub changes : r.changes ≡ changes_between d.current.forest r.generation.forest
   pub source : IsFromCall d r ⊎ IsFromCommit d r
 
 -- the desk when what was prepared is current: no transaction is open, and nothing is pending

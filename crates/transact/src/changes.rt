@@ -7,14 +7,22 @@ ghost use Rattle.mem_base.specs.views.Flattened.{view_of};
 ghost use Rattle.mem_base.specs.views.LiveEvents.{lives_of, ShareNoLive};
 ghost use Rattle.mem_base.specs.views.Listening.{change_of};
 ghost use Rattle.transact.specs.Noted.{AreNoted};
+ghost use Rattle.transact.specs.Preparing.{is_heard};
 
 use crate::noted::Noted;
 use flat_lookup::Atlas;
 use generation::Generation;
 use ioevents::{differ, live};
-use mem_base::{Change, Forest, Lives, SpaceId, View};
+use mem_base::{Change, Forest, Listener, Lives, SpaceId, View};
 use std::alloc::{AllocError, Global};
 use view_walk::{keep_all, walk};
+
+/// Whether one of the listeners listens to a space.
+pub(crate) fn is_heard(listeners: &[Listener], space: SpaceId) -> bool
+    ensures { result ≡ is_heard listeners.now space }
+{
+    listeners.iter().any(|listener| listener.space == space)
+}
 
 // The live ioeventfds of a space of a forest, by its view: none where no region of the forest has an ioeventfd.
 fn lives(

@@ -17,7 +17,7 @@ use crate::preparing::prepare;
 use crate::regions::Regions;
 use crate::spare::{Next, Spare, lacking, replace, second};
 use generation::Generation;
-use mem_base::{Applied, Call, Edition, MOST_NESTED, Place, Refusal, SpaceId};
+use mem_base::{Applied, Call, Edition, Listener, MOST_NESTED, Place, Refusal, SpaceId};
 use region_tree::Tree;
 use std::alloc::{AllocError, Global};
 use std::marker::Model;
@@ -179,22 +179,24 @@ impl Desk {
 
     /// Prepares a change outside all transactions, which is one by itself. The desk stays as it is until `done`.
     ///
-    /// `places` are the places of all regions that have words, in order of making, and after the pool the notifiers'. It is
-    /// refused for the forest's first reason, before anything is carved, or where memory runs out. A step is one carve: at
-    /// most the square of the root's weight for each space that the change touches, and none for any other. The whole tree is
-    /// copied only where the desk has no second one: at the first change, after 64 calls that were no changes of their own, and
-    /// after memory ran out or what was prepared was dropped.
+    /// `places` are the places of all regions that have words, in order of making, and after the pool the notifiers'. How a
+    /// space differs is prepared only where one of the `listeners` hears it. It is refused for the forest's first reason,
+    /// before anything is carved, or where memory runs out. A step is one carve: at most the square of the root's weight for
+    /// each space that the change touches, and none for any other. The whole tree is copied only where the desk has no second
+    /// one: at the first change, after 64 calls that were no changes of their own, and after memory ran out or what was
+    /// prepared was dropped.
     pub fn call_prepare<L: Ledger>(
         &mut self,
         call: &Call,
         places: &[Place],
+        listeners: &[Listener],
         steps: &mut Steps<L>,
     ) -> Result<Prepared, Refusal>
         requires outside { self.old.state.depth ≡ 0 }
         requires change { is_quiet call.now ≡ false }
         requires places { AreDeskPlaces self.old.state.forest places.now }
         ensures applied { IfOk result (λ p. after self.old.state.forest call.now ≡ Ok p.generation.forest) }
-        ensures prepared { IfOk result (λ p. p ≡ readied self.old.current p.generation.forest places.now (Some call.now)) }
+        ensures prepared { IfOk result (λ p. p ≡ readied self.old.current p.generation.forest places.now listeners.now (Some call.now)) }
         ensures refused { IfErr result (λ why. why ≢ Refusal.Memory → after self.old.state.forest call.now ≡ Err why) }
         ensures unchanged { self.new ≡ self.old }
         ensures carves { (f : Forest) → after self.old.state.forest call.now ≡ Ok f → steps.new ≤ steps.old + most_carves self.old.current.forest f }
@@ -218,6 +220,7 @@ impl Desk {
             &self.noted,
             &tree,
             places,
+            listeners,
             steps,
         )?;
         Ok(prepared.with_next(Next {
@@ -230,15 +233,16 @@ impl Desk {
     /// Closes an inner transaction, or the outermost one where nothing is pending; or else prepares what is pending, and the
     /// desk stays as it is until `done`. QEMU's core, `memory_region_transaction_commit`.
     ///
-    /// `places` as for `call_prepare`. It is refused with `NoTransaction` where none is open, or where memory runs out, and
-    /// then nothing changes. It carves at most as often as `call_prepare` may.
+    /// `places` and `listeners` as for `call_prepare`. It is refused with `NoTransaction` where none is open, or where memory
+    /// runs out, and then nothing changes. It carves at most as often as `call_prepare` may.
     pub fn commit_prepare<L: Ledger>(
         &mut self,
         places: &[Place],
+        listeners: &[Listener],
         steps: &mut Steps<L>,
     ) -> Result<Step, Refusal>
         requires { AreDeskPlaces self.old.state.forest places.now }
-        ensures step { IfOk result (λ step. IsStep self.old places.now self.new step) }
+        ensures step { IfOk result (λ step. IsStep self.old places.now listeners.now self.new step) }
         ensures refused { IfErr result (λ why. why ≢ Refusal.Memory → (why ≡ Refusal.NoTransaction) × (self.old.state.depth ≡ 0)) }
         ensures unchanged { OnErr result (self.new ≡ self.old) }
         ensures carves { steps.new ≤ steps.old + most_carves self.old.current.forest self.old.state.forest }
@@ -262,6 +266,7 @@ impl Desk {
             &self.noted,
             &self.tree,
             places,
+            listeners,
             steps,
         )?;
         Ok(Step::Ready(prepared))

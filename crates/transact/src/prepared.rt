@@ -77,7 +77,7 @@ impl Prepared {
         &self.generation
     }
 
-    /// What the listeners are to be told: the changes of all its spaces from the current generation to it.
+    /// What the listeners are to be told: the changes from the current generation to it, of the spaces that they hear.
     pub fn changes(&self) -> &Changes
         ensures { result.now ≡ self.now.changes }
     {

@@ -23,7 +23,7 @@ use crate::shown::{Shown, show_spaces};
 use change_spans::{Reach, spans_of};
 use flat_lookup::Atlas;
 use generation::{Generation, is_leaf_among};
-use mem_base::{Edition, Forest, Place, RegionId, SpaceId};
+use mem_base::{Edition, Forest, Listener, Place, RegionId, SpaceId};
 use region_tree::{Features, Tree};
 use std::alloc::{AllocError, Global};
 use std::sync::Arc;
@@ -257,7 +257,8 @@ fn spans_between(
 /// The generation that publishes the forest of a tree after the current one, and what listeners are told of it.
 ///
 /// `known` has the regions that are reached in each space of the current generation, `noted` those that may have changed since;
-/// `places` the places of all regions that have words, and the notifiers'. Only spaces that are touched are rendered.
+/// `places` the places of all regions that have words, and the notifiers'. Only spaces that are touched are rendered, and how a space
+/// differs is told only where one of the `listeners` hears it.
 pub(crate) fn prepare<L: Ledger>(
     alloc: Global,
     current: &Generation,
@@ -265,6 +266,7 @@ pub(crate) fn prepare<L: Ledger>(
     noted: &Option<Noted>,
     tree: &Tree,
     places: &[Place],
+    listeners: &[Listener],
     steps: &mut Steps<L>,
 ) -> Result<Prepared, AllocError>
     requires known { known.now ≡ reached_in current.now.forest }
@@ -272,7 +274,7 @@ pub(crate) fn prepare<L: Ledger>(
     requires number { current.now.number + 1 < 2 ^ 64 }
     requires made { IsMade tree.now }
     requires places { AreDeskPlaces tree.now places.now }
-    ensures prepared { IfOk result (λ p. p ≡ readied current.now tree.now places.now None) }
+    ensures prepared { IfOk result (λ p. p ≡ readied current.now tree.now places.now listeners.now None) }
     ensures carves { steps.new ≤ steps.old + most_carves current.now.forest tree.now }
 {
     let (forest, features) = copy_of(current.forest(), noted, tree)?;
@@ -284,7 +286,7 @@ pub(crate) fn prepare<L: Ledger>(
         reached,
         changes,
     } = show_spaces(
-        alloc, current, known, noted, &spans, tree, &forest, has_events, steps,
+        alloc, current, known, noted, &spans, tree, &forest, has_events, listeners, steps,
     )?;
     let places = shown_places(
         alloc,

@@ -1,8 +1,9 @@
 // What the spaces of a forest show that is to be published: their atlases, the regions that are reached, and what is told of them.
-ghost use Rattle.std.specs.Prelude.{◌≡◌, ◌+◌, ◌*◌, ◌≤◌, Some, IsSome, IfSome, IfOk, map, length, nat_lt};
+ghost use Rattle.std.specs.Prelude.{◌≡◌, ◌+◌, ◌*◌, ◌≤◌, ◌++◌, [], ◌∷◌, Some, IsSome, IfSome, IfOk, OnOk, map, length, nat_lt};
 ghost use Rattle.std.specs.List.{list_any};
 ghost use Rattle.std.specs.Arc.{arc_value};
 ghost use Rattle.mem_base.specs.declared.map.ids.RegionId.{RegionId};
+ghost use Rattle.mem_base.specs.lists.Every.{Every};
 ghost use Rattle.mem_base.specs.map.Search.{root_of};
 ghost use Rattle.mem_base.specs.map.Steps.{weight_of};
 ghost use Rattle.mem_base.specs.map.Forest.{IsMade};
@@ -15,9 +16,9 @@ ghost use Rattle.change_spans.specs.Reaches.{ShowsWithin};
 ghost use Rattle.generation.specs.Published.{views_of};
 ghost use Rattle.transact.specs.Desks.{reached_in};
 ghost use Rattle.transact.specs.Noted.{AreNoted};
-ghost use Rattle.transact.specs.Preparing.{weight_at, carves_of, most_carves};
+ghost use Rattle.transact.specs.Preparing.{weight_at, carves_of, most_carves, heard_by};
 
-use crate::changes::change_at;
+use crate::changes::{change_at, is_heard};
 use crate::noted::Noted;
 use crate::regions::{Regions, is_same_space, reach_of};
 use change_spans::{Reach, hull};
@@ -25,7 +26,7 @@ use flat_lookup::Atlas;
 use flat_render::render;
 use flat_simplify::simplify;
 use generation::Generation;
-use mem_base::{Change, Changes, Forest, SpaceId, View};
+use mem_base::{Change, Changes, Forest, Listener, SpaceId, View};
 use region_tree::Tree;
 use std::alloc::{AllocError, Global};
 use std::sync::Arc;
@@ -33,8 +34,8 @@ use std::sync::ledger::Ledger;
 use step_counter::Steps;
 use view_splice::render_again;
 
-/// Of each space of a forest, in order of making, its atlas, the regions that are reached in it, and how it differs from the
-/// current generation.
+/// Of each space of a forest, in order of making, its atlas, the regions that are reached in it, and where somebody listens to it
+/// how it differs from the current generation.
 #[derive(Drop)]
 pub(crate) struct Shown {
     pub(crate) atlases: Vec<(SpaceId, Arc<Atlas, Global>)>,
@@ -129,7 +130,7 @@ fn atlas_of<L: Ledger>(
     Ok(Arc::try_clone(atlas)?)
 }
 
-// What one space shows: its atlas, the regions that are reached in it, and how it differs from the current generation.
+// What one space shows: its atlas, the regions that are reached in it, and whether it is touched.
 fn show_space<L: Ledger>(
     alloc: Global,
     current: &Generation,
@@ -137,34 +138,59 @@ fn show_space<L: Ledger>(
     noted: &Option<Noted>,
     spans: &Option<Vec<Reach>>,
     tree: &Tree,
-    forest: &Forest,
-    has_events: bool,
     space: SpaceId,
     steps: &mut Steps<L>,
-) -> Result<(Arc<Atlas, Global>, Regions, Change), AllocError>
+) -> Result<(Arc<Atlas, Global>, Regions, bool), AllocError>
     requires known { known.now ≡ reached_in current.now.forest }
     requires noted { AreNoted current.now.forest tree.now noted.now }
     requires spans { IfSome spans.now (λ spans. ShowsWithin current.now.forest tree.now spans.items) }
-    requires forest { forest.now ≡ tree.now }
-    requires events { has_events ≡ list_any (λ n. nat_lt 0 (length n.events)) tree.now.nodes }
     requires there { IsSome (root_of tree.now space) }
     requires made { IsMade tree.now }
     ensures view { IfOk result (λ x. arc_value x.0 ≡ view_of tree.now space) }
     ensures reach { IfOk result (λ x. x.1 ≡ reached tree.now space) }
-    ensures change { IfOk result (λ x. x.2 ≡ change_of current.now.forest tree.now space) }
-    ensures apart { IfOk result (λ x. ShareNoLive x.2.lost x.2.gained) }
+    ensures touched { IfOk result (λ x. x.2 ≡ is_touched current.now.forest tree.now space) }
     ensures carves { steps.new ≤ steps.old + carves_of current.now.forest tree.now space }
 {
     let (reach, touched) = reach_of(alloc, current.forest(), known, noted, tree, space)?;
     let atlas = atlas_of(alloc, current, spans, touched, tree, space, steps)?;
-    let change = change_at(
-        alloc, current, noted, touched, forest, has_events, &atlas, space,
-    )?;
-    Ok((atlas, reach, change))
+    Ok((atlas, reach, touched))
+}
+
+// Adds how a space differs from the current generation, where somebody listens to it.
+fn add_change(
+    changes: &mut Vec<Change>,
+    alloc: Global,
+    current: &Generation,
+    noted: &Option<Noted>,
+    touched: bool,
+    forest: &Forest,
+    has_events: bool,
+    atlas: &Atlas,
+    listeners: &[Listener],
+    space: SpaceId,
+) -> Result<(), AllocError>
+    requires made { IsMade forest.now }
+    requires events { has_events ≡ list_any (λ n. nat_lt 0 (length n.events)) forest.now.nodes }
+    requires noted { AreNoted current.now.forest forest.now noted.now }
+    requires touched { touched ≡ is_touched current.now.forest forest.now space }
+    requires atlas { atlas.now ≡ view_of forest.now space }
+    requires apart { Every (λ x. ShareNoLive x.lost x.gained) changes.old.items }
+    ensures changes { OnOk result (changes.new.items ≡ changes.old.items
+        ++ heard_by listeners.now (change_of current.now.forest forest.now space ∷ [])) }
+    ensures apart { OnOk result (Every (λ x. ShareNoLive x.lost x.gained) changes.new.items) }
+{
+    if is_heard(listeners, space) {
+        let change = change_at(
+            alloc, current, noted, touched, forest, has_events, atlas, space,
+        )?;
+        changes.push(change)?;
+    }
+    Ok(())
 }
 
 /// What the spaces of a tree show, which is this forest. `known` has the regions that are reached in each space of the current
-/// generation, `noted` those that may have changed since, and `spans` within which that may be seen.
+/// generation, `noted` those that may have changed since, and `spans` within which that may be seen. How a space differs is told
+/// only where one of the `listeners` hears it.
 pub(crate) fn show_spaces<L: Ledger>(
     alloc: Global,
     current: &Generation,
@@ -174,6 +200,7 @@ pub(crate) fn show_spaces<L: Ledger>(
     tree: &Tree,
     forest: &Forest,
     has_events: bool,
+    listeners: &[Listener],
     steps: &mut Steps<L>,
 ) -> Result<Shown, AllocError>
     requires known { known.now ≡ reached_in current.now.forest }
@@ -184,19 +211,30 @@ pub(crate) fn show_spaces<L: Ledger>(
     requires made { IsMade tree.now }
     ensures atlases { IfOk result (λ shown. map (λ p. (p.0, arc_value p.1)) shown.atlases.items ≡ views_of tree.now) }
     ensures reached { IfOk result (λ shown. shown.reached.items ≡ reached_in tree.now) }
-    ensures changes { IfOk result (λ shown. shown.changes ≡ changes_between current.now.forest tree.now) }
+    ensures changes { IfOk result (λ shown. shown.changes ≡ heard_by listeners.now (changes_between current.now.forest tree.now)) }
     ensures carves { steps.new ≤ steps.old + most_carves current.now.forest tree.now }
 {
     let mut atlases = Vec::new(alloc);
     let mut reached = Vec::new(alloc);
     let mut changes = Vec::new(alloc);
     for (space, _) in forest.spaces.as_slice() {
-        let (atlas, reach, change) = show_space(
-            alloc, current, known, noted, spans, tree, forest, has_events, *space, steps,
+        let (atlas, reach, touched) = show_space(
+            alloc, current, known, noted, spans, tree, *space, steps,
+        )?;
+        add_change(
+            &mut changes,
+            alloc,
+            current,
+            noted,
+            touched,
+            forest,
+            has_events,
+            &atlas,
+            listeners,
+            *space,
         )?;
         atlases.push((*space, atlas))?;
         reached.push((*space, reach))?;
-        changes.push(change)?;
     }
     Ok(Shown {
         atlases,

@@ -92,7 +92,7 @@ fn publish<L: Ledger>(
         return Ok(false);
     }
     let mut steps = Steps::<L>::new(blank);
-    let prepared = desk.call_prepare(call, &mut steps)?;
+    let prepared = desk.call_prepare(call, &[], &mut steps)?;
     let current = writer.current();
     if current > 1000000 || prepared.generation().number() != current + 1 {
         return Ok(false);

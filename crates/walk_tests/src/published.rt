@@ -1,5 +1,6 @@
 // Drawn desks with several spaces, which are changed by drawn calls: the view of each space that is published is the one that is rendered
-// from nothing, what is told of the change is told as by membership, and just the regions that are shown have places.
+// from nothing, what is told of the change is told as by membership, to those who listen alone, and just the regions that are shown have
+// places.
 ghost use Rattle.std.specs.Prelude.{◌≡◌, ◌<◌};
 
 use crate::draws::{any_call, building, draw};
@@ -9,7 +10,8 @@ use backed_desk::BackedDesk;
 use generation::Generation;
 use ioevents::live;
 use mem_base::{
-    Applied, Call, Change, Edition, Kind, Lives, Place, Refusal, RegionId, SpaceId, View,
+    Applied, Call, Change, Edition, Kind, Listener, ListenerId, Lives, Place, Refusal, RegionId,
+    SpaceId, View,
 };
 use rand_pcg::Lcg64Xsh32;
 use region_tree::Tree;
@@ -27,6 +29,19 @@ const CHANGES: u32 = 200;
 
 /// The words of a pool.
 const WORDS: usize = 1 << 17;
+
+/// The space to which nobody listens.
+const UNHEARD: SpaceId = SpaceId(1);
+
+/// Who listens: one to the first space, and one to the last.
+fn listeners() -> [Listener; 2] {
+    let listens_to = |number| Listener {
+        listener: ListenerId(number),
+        space: SpaceId(number),
+        priority: 0,
+    };
+    [listens_to(0), listens_to(2)]
+}
 
 /// A desk, a tree on which the same calls are done, and the generator that draws them.
 #[derive(Drop)]
@@ -120,7 +135,7 @@ impl Drawn {
 
     /// Commits, and says whether all is published and told as it is to be.
     fn commit<L: Ledger>(&mut self, alloc: Global, steps: &mut Steps<L>) -> Result<bool, Refusal> {
-        match self.desk.commit_prepare(steps)? {
+        match self.desk.commit_prepare(&listeners(), steps)? {
             Step::Ready(prepared) => {
                 let is_so = is_right(alloc, &self.desk, &self.tree, &prepared)?;
                 self.desk.done(prepared);
@@ -148,7 +163,7 @@ impl Drawn {
             self.call(&call)?;
             return Ok(true);
         }
-        match self.desk.call_prepare(&call, steps) {
+        match self.desk.call_prepare(&call, &listeners(), steps) {
             Ok(prepared) => {
                 self.tree.apply(&call)?;
                 let is_so = is_right(alloc, &self.desk, &self.tree, &prepared)?;
@@ -241,7 +256,21 @@ fn has_its_places(places: &[Place], generation: &Generation) -> bool {
     true
 }
 
-/// The same of all spaces, and whether the generation has the places of just the regions that it shows.
+/// Whether these are the changes of the spaces of a generation to which somebody listens, in order.
+fn are_heard(changes: &[Change], generation: &Generation) -> bool {
+    let mut told: usize = 0;
+    for (space, _) in generation.forest().spaces.as_slice() {
+        if *space != UNHEARD {
+            if changes.get(told).map(|change| change.space) != Some(*space) {
+                return false;
+            }
+            told = told.saturating_add(1);
+        }
+    }
+    told == changes.len()
+}
+
+/// The same of all spaces to which somebody listens, and whether the generation has the places of just the regions that it shows.
 fn is_right(
     alloc: Global,
     desk: &BackedDesk,
@@ -249,7 +278,11 @@ fn is_right(
     prepared: &Prepared,
 ) -> Result<bool, AllocError> {
     let old = desk.desk().current();
-    for change in prepared.changes().as_slice() {
+    let changes = prepared.changes().as_slice();
+    if !are_heard(changes, prepared.generation()) {
+        return Ok(false);
+    }
+    for change in changes {
         if !is_told(alloc, old, tree, prepared.generation(), change)? {
             return Ok(false);
         }

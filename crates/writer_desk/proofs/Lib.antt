@@ -1,3 +1,4 @@
+pub mod HeardLaws
 pub mod HeldLaws
 pub mod ListenedLaws
 pub mod WriterLaws

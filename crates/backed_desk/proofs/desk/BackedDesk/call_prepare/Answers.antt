@@ -26,9 +26,10 @@ returns-clause-ready g c =
     let t = backed_state c.call_prepare.new.self c.self.inside.pool in
     let same : s ≡ t = ap (λ (d : DeskState). backed_state d c.self.inside.pool) (sym c.call_prepare.ensures.unchanged) in
     let listed = c.as_slice.ensures.value ∙ c.self.invariant.listed in
-    let prepared : IfOk c.call_prepare.result (λ p. p ≡ readied s.desk.current p.generation.forest (all_places s.backing) (Some c.args.call.now)) =
-    subst (λ list. IfOk c.call_prepare.result (λ p. p ≡ readied s.desk.current p.generation.forest list (Some c.args.call.now))) listed
+    let prepared : IfOk c.call_prepare.result (λ p. p ≡ readied s.desk.current p.generation.forest (all_places s.backing) c.args.listeners.now
+    (Some c.args.call.now)) =
+    subst (λ list. IfOk c.call_prepare.result (λ p. p ≡ readied s.desk.current p.generation.forest list c.args.listeners.now (Some c.args.call.now))) listed
     c.call_prepare.ensures.prepared in
     subst (λ (x : BackedState). IfOk c.call_prepare.result (IsOfBackedDesk x)) same
-    (ready_result s c.args.call.now c.call_prepare.result (search rules) c.requires.change c.call_prepare.ensures.applied prepared
+    (ready_result s c.args.call.now c.args.listeners.now c.call_prepare.result (search rules) c.requires.change c.call_prepare.ensures.applied prepared
     (backs_of s _ _ c.self.invariant))

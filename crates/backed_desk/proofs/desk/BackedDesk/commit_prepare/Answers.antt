@@ -16,7 +16,7 @@ commit_prepare-requires g c =
 pub invariant_of-self : goal.invariant_of-self
 invariant_of-self g c =
     let s = backed_state c.self.inside.desk c.self.inside.pool in
-    let same = commit_forest c.self.inside.desk c.commit_prepare.new.self c.as_slice.result.now c.commit_prepare.result c.commit_prepare.ensures.step
+    let same = commit_forest c.self.inside.desk c.commit_prepare.new.self c.as_slice.result.now c.args.listeners.now c.commit_prepare.result c.commit_prepare.ensures.step
     c.commit_prepare.ensures.unchanged in
     let k = backs_of s _ _ c.self.invariant in
     desk_of (backed_state c.commit_prepare.new.self c.self.inside.pool) c.self.inside.made c.self.inside.places.items
