@@ -1,4 +1,0 @@
-pub mod HeardLaws
-pub mod HeldLaws
-pub mod ListenedLaws
-pub mod WriterLaws
