@@ -1,0 +1,5 @@
+pub mod HeardLaws
+pub mod HeldLaws
+pub mod ReadyLaws
+pub mod ListenedLaws
+pub mod WriterLaws
