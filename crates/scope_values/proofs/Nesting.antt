@@ -1,9 +1,9 @@
 -- How deep the values nest.
-use Rattle.std.proofs.Common.{◌≤◌, ℕ, Bool, true, false, List, [], ◌∷◌, ◌++◌, arith}
+use Rattle.std.proofs.Common.{◌≤◌, ℕ, Bool, true, false, List, [], ◌∷◌, ◌++◌, map, arith}
 use Rattle.std.specs.Prelude.{flat_map, if◌then◌else◌, Option, Some, None, codes}
 use Rattle.serde_json.specs.Data.{Data, depth}
 use Rattle.json_build.specs.Parts.{Text}
-use Rattle.json_build.proofs.Depths.{AreShallow, depth_of_list, depth_of_map, depth_of_record}
+use Rattle.json_build.proofs.Depths.{AreShallow, HaveShallow, depth_of_list, depth_of_map, depth_of_record}
 use Rattle.mem_base.specs.declared.map.ids.RegionId.{RegionId}
 use Rattle.mem_base.specs.declared.map.spots.Attrs.{Attrs}
 use Rattle.mem_base.specs.declared.map.spots.Spot.{Spot}
@@ -116,19 +116,9 @@ found_within names o = up_to_four (depth (found_data names o)) 2 (omega arith) (
 
 search_depth : (names : Names) (h : Hop) → depth (search_data names h) ≤ 5
 search_depth names h =
-    depth_of_record 4 (whole_fields names h) (
-      leaf 4,
-      (
-        leaf 4,
-        (
-          found_within names h.answer,
-          (
-            root_depth names h.root,
-            (depth_of_map 3 (look_data names) h.looks (look_depth names), (translation_depth names h.used, tt)),
-          ),
-        ),
-      ),
-    )
+    depth_of_record 4 (whole_fields names h)
+    (leaf 4, (leaf 4, (found_within names h.answer, (root_depth names h.root,
+    (depth_of_map 3 (look_data names) h.looks (look_depth names), (translation_depth names h.used, tt))))))
 
 concern_shallow : (names : Names) (r : RegionId) (t : Tried) → AreShallow 3 (concern names r t)
 concern_shallow names r t = shallow_if 3 _ (tried_data names t) (omega (arith, tried_depth names t))
