@@ -116,9 +116,19 @@ found_within names o = up_to_four (depth (found_data names o)) 2 (omega arith) (
 
 search_depth : (names : Names) (h : Hop) → depth (search_data names h) ≤ 5
 search_depth names h =
-    depth_of_record 4 (whole_fields names h)
-    (leaf 4, (leaf 4, (found_within names h.answer, (root_depth names h.root,
-    (depth_of_map 3 (look_data names) h.looks (look_depth names), (translation_depth names h.used, tt))))))
+    depth_of_record 4 (whole_fields names h) (
+      leaf 4,
+      (
+        leaf 4,
+        (
+          found_within names h.answer,
+          (
+            root_depth names h.root,
+            (depth_of_map 3 (look_data names) h.looks (look_depth names), (translation_depth names h.used, tt)),
+          ),
+        ),
+      ),
+    )
 
 concern_shallow : (names : Names) (r : RegionId) (t : Tried) → AreShallow 3 (concern names r t)
 concern_shallow names r t = shallow_if 3 _ (tried_data names t) (omega (arith, tried_depth names t))
