@@ -278,8 +278,8 @@ static void test_listeners(void)
     check(vb_delivery(&m, 0, &call).value == 0, "nothing is left");
     check(vb_forget(&m, 1).value == 0, "there is nothing to forget");
     done(vb_move(&m, ram, 0x6000), "RAM moves");
-    told = vb_delivery(&m, 2, &call);
-    check(told.value == 4 && call.what == VB_TOLD_ADD && call.range.start == 0x6000, "the listener is told of it, and stays");
+    told = vb_delivery(&m, 3, &call);
+    check(told.value == 5 && call.what == VB_TOLD_ADD && call.range.start == 0x6000, "the listener is told of it, and stays");
     vb_free(&m);
     check(vb_forget(&m, 1).code == VB_NO_MACHINE, "a handle that has no machine");
 }
