@@ -1,7 +1,8 @@
 -- Laws of what looks wrong.
-use Rattle.std.proofs.Common.{◌≡◌, ℕ, zero, suc, ◌+◌, ◌<◌, Bool, true, false, cond, List, [], ◌∷◌, ◌++◌, length, get_or, take, drop, Some, refl, sym, ap, subst}
+use Rattle.std.proofs.Common.{◌≡◌, ℕ, zero, suc, ◌+◌, ◌<◌, ◌≤◌, Bool, true, false, cond, List, [], ◌∷◌, ◌++◌, length, get_or, take, drop, Some, refl, sym, ap, subst}
 use Rattle.std.proofs.Common.{◌∙◌, arith, add-one}
-use Rattle.std.specs.Prelude.{find, flat_map, option_map}
+use Rattle.std.specs.Prelude.{find, flat_map, map, option_map}
+use Rattle.std.proofs.lemmas.Option.{same_Some}
 use Rattle.mem_base.specs.declared.map.ids.RegionId.{RegionId}
 use Rattle.mem_base.specs.declared.map.forests.Node.{Node}
 use Rattle.mem_base.specs.lists.Every.{Every}
@@ -56,13 +57,47 @@ next_at nodes r items i d ascending e l =
     let here = child_at (λ c. node_of nodes c.id ≡ Some c) cs i d (subst (λ (xs : List Sibling). i < length xs) e l) (children_there nodes r ascending) in
     (here.0, ap (λ (xs : List Sibling). (get_or xs i d).id) e ∙ here.1, here.2, here.3)
 
--- the first that passes a test is the next one
-pub found_next : (p : Node → Bool) (xs : List Node) (i : ℕ) (x : Node) → drop i xs ≡ x ∷ drop (i + 1) xs → find p (drop i xs) ≡ find p xs → p x ≡ true →
-    option_map (λ (m : Node). m.id) (find p xs) ≡ Some x.id
-found_next p xs i x e h t = ap (option_map (λ (m : Node). m.id))
-    (sym h ∙ ap (find p) e ∙ ap (λ b. cond b (Some x) (find p (drop (i + 1) xs))) t)
+-- what is found among values that are seen as regions
+pub found_mapped : {A : Type 0} (f : A → Node) (p : Node → Bool) (xs : List A)
+    → option_map (λ m. (f m).id) (find (λ m. p (f m)) xs) ≡ option_map (λ (m : Node). m.id) (find p (map f xs))
+found_mapped f p [] = refl
+found_mapped f p (x ∷ xs) = by (p (f x)) (found_mapped f p xs) where
+  by : (b : Bool) → option_map (λ m. (f m).id) (find (λ m. p (f m)) xs) ≡ option_map (λ (m : Node). m.id) (find p (map f xs))
+      → option_map (λ m. (f m).id) (cond b (Some x) (find (λ m. p (f m)) xs))
+      ≡ option_map (λ (m : Node). m.id) (cond b (Some (f x)) (find p (map f xs)))
+  by true rest = refl
+  by false rest = rest
 
--- the next one does not pass the test
-pub found_later : (p : Node → Bool) (xs : List Node) (i : ℕ) (x : Node) → drop i xs ≡ x ∷ drop (i + 1) xs → find p (drop i xs) ≡ find p xs → p x ≡ false →
-    find p (drop (i + 1) xs) ≡ find p xs
-found_later p xs i x e h t = sym (ap (find p) e ∙ ap (λ b. cond b (Some x) (find p (drop (i + 1) xs))) t) ∙ h
+pushed : {A B : Type 0} (f : A → B) (done : List A) (x : A) (rest : List B) → map f (done ++ x ∷ []) ++ rest ≡ map f done ++ (f x ∷ rest)
+pushed f [] x rest = refl
+pushed f (y ∷ ys) x rest = ap (λ zs. f y ∷ zs) (pushed f ys x rest)
+
+-- one child more
+pub listed_next : {A : Type 0} (f : A → Node) (nodes : List Node) (r : RegionId) (items : List Sibling) (i : ℕ) (d : Sibling) (done : List A) (x : A)
+    → IsAscending nodes → items ≡ siblings_of (children_of nodes r) → i < length items → Some (f x) ≡ node_of nodes (get_or items i d).id
+    → map f done ++ drop i (children_of nodes r) ≡ children_of nodes r
+    → map f (done ++ x ∷ []) ++ drop (i + 1) (children_of nodes r) ≡ children_of nodes r
+listed_next f nodes r items i d done x ascending e l found h =
+    let cs = children_of nodes r in
+    let here = next_at nodes r items i d ascending e l in
+    let same : f x ≡ here.0 = same_Some (f x) here.0 (found ∙ ap (node_of nodes) here.1 ∙ here.3) in
+    pushed f done x (drop (i + 1) cs) ∙ ap (λ y. map f done ++ (y ∷ drop (i + 1) cs)) same ∙ ap (λ ys. map f done ++ ys) (sym here.2) ∙ h
+
+drop_past : {A : Type 0} (xs : List A) (i : ℕ) → length xs ≤ i → drop i xs ≡ []
+drop_past [] zero l = refl
+drop_past [] (suc i) l = refl
+drop_past (x ∷ xs) zero l = absurd (omega (arith, l))
+drop_past (x ∷ xs) (suc i) l = drop_past xs i (omega (arith, l))
+
+as_many : (cs : List Node) → length (siblings_of cs) ≡ length cs
+as_many [] = refl
+as_many (c ∷ cs) = ap suc (as_many cs)
+
+-- all children
+pub all_listed : {A : Type 0} (f : A → Node) (nodes : List Node) (r : RegionId) (items : List Sibling) (i : ℕ) (done : List A)
+    → items ≡ siblings_of (children_of nodes r) → length items ≤ i → map f done ++ drop i (children_of nodes r) ≡ children_of nodes r
+    → map f done ≡ children_of nodes r
+all_listed f nodes r items i done e l h =
+    let cs = children_of nodes r in
+    let few : length cs ≤ i = let n : length items ≡ length cs = ap length e ∙ as_many cs in omega (arith, l, n) in
+    sym (append-nil (map f done)) ∙ ap (λ ys. map f done ++ ys) (sym (drop_past cs i few)) ∙ h

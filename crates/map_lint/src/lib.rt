@@ -11,6 +11,7 @@ ghost use Rattle.mem_base.specs.declared.map.ids.RegionId.{RegionId};
 ghost use Rattle.mem_base.specs.declared.map.forests.Forest.{Forest};
 ghost use Rattle.mem_base.specs.views.Naming.{names};
 ghost use Rattle.view_laws.specs.Named.{Names};
+ghost use Rattle.map_lint.specs.Around.{AreIn};
 ghost use Rattle.map_lint.specs.Faults.{findings_of};
 
 mod findings;
@@ -22,40 +23,44 @@ pub use findings::{Finding, Findings};
 use generation::Generation;
 use mem_base::Node;
 use regions::{clipped, past_target, unreached};
-use siblings::{Test, first_such};
+use siblings::{Siblings, Test};
 use std::alloc::{AllocError, Global};
 
 /// Adds what looks wrong in one region.
 fn add_findings(
     found: &mut Findings,
-    lists: &ChildLists,
+    siblings: &Siblings<'_>,
     generation: &Generation,
     node: &Node,
 ) -> Result<(), AllocError>
-    requires { lists.now ≡ generation.now.forest.nodes }
+    requires siblings { AreIn generation.now.forest.nodes siblings.now }
+    requires container { siblings.now.container ≡ node.now.parent }
     ensures { OnOk result (found.new ≡ found.old ++ findings_of generation.now.forest node.now) }
 {
     found.note(unreached(generation, node))?;
-    let other = first_such(Test::Ties, lists, node);
+    let other = siblings.first_such(Test::Ties, node);
     found.note(findings::tied(node.id, other))?;
     found.note(past_target(generation, node))?;
     found.note(clipped(generation, node))?;
-    let other = first_such(Test::Hides, lists, node);
+    let other = siblings.first_such(Test::Hides, node);
     found.note(findings::hidden(node.id, other))?;
     Ok(())
 }
 
 /// What looks wrong in the map of a generation, by ascending id of the regions.
 ///
-/// It fails only where memory runs out. The time is that of comparing each region with its siblings.
+/// It fails only where memory runs out. The time is that of comparing each region with its siblings, which are looked up once for regions
+/// of one container that were made one after another.
 pub fn lint(alloc: Global, generation: &Generation) -> Result<Findings, AllocError>
     ensures { IfOk result (λ found. found ≡ flat_map (findings_of generation.now.forest) generation.now.forest.nodes) }
 {
     let nodes = &generation.forest().nodes;
     let lists = ChildLists::of(alloc, nodes)?;
     let mut found = Findings::new(alloc);
+    let mut siblings = Siblings::none(alloc);
     for node in lists.nodes() {
-        add_findings(&mut found, &lists, generation, node)?;
+        siblings = siblings.of(alloc, &lists, node.parent)?;
+        add_findings(&mut found, &siblings, generation, node)?;
     }
     Ok(found)
 }

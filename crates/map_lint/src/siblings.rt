@@ -1,13 +1,16 @@
 // What looks wrong in a region by its siblings.
-ghost use Rattle.std.specs.Prelude.{◌≡◌, IsSome, find, option_map};
+ghost use Rattle.std.specs.Prelude.{◌≡◌, true, List, IfOk, IsSome, find, map, option_map};
 ghost use Rattle.std.specs.Ordering.{is_lt};
 ghost use Rattle.mem_base.specs.map.Region.{node_of};
 ghost use Rattle.mem_base.specs.map.Order.{children_of, trial_order};
+ghost use Rattle.mem_base.specs.declared.map.forests.Node.{Node as N};
 ghost use Rattle.map_lint.specs.Faults.{meets, covers, is_such, siblings_of, last_of};
+ghost use Rattle.map_lint.specs.Around.{AreIn};
 
 use crate::regions::has_own;
 use child_lists::ChildLists;
 use mem_base::{Node, RegionId};
+use std::alloc::{AllocError, Global};
 
 /// What is asked of a sibling.
 #[derive(Clone, Copy, Debug, PartialEq, Eq)]
@@ -66,32 +69,102 @@ fn is_such(test: Test, node: &Node, other: &Node) -> bool
     }
 }
 
-/// The first child of a container that is such, in the order of search.
-fn first_among(test: Test, lists: &ChildLists, container: RegionId, node: &Node) -> Option<RegionId>
-    requires { IsSome (node_of lists.now container) }
-    ensures { result ≡ option_map (λ m. m.id) (find (is_such test node.now) (children_of lists.now container)) }
+/// The first of some regions that is such.
+fn first_among(test: Test, others: &[&Node], node: &Node) -> Option<RegionId>
+    ensures { result ≡ option_map (λ m. m.now.id) (find (λ m. is_such test node.now m.now) others.now) }
 {
-    let _nodes = lists.nodes();
-    for sibling in lists.children(container) {
-        let Some(other) = lists.node(sibling.id) else {
-            unreachable!()
-        };
-        if is_such(test, node, other) {
-            return Some(sibling.id);
-        }
-    }
-    None
+    let other = others.iter().find(|other| is_such(test, node, **other))?;
+    Some(other.id)
 }
 
-/// The first sibling that is such, in the order of search.
-pub(crate) fn first_such(test: Test, lists: &ChildLists, node: &Node) -> Option<RegionId>
-    ensures { result ≡ option_map (λ m. m.id) (find (is_such test node.now) (siblings_of lists.now node.now.parent)) }
+/// The children of a container, in the order of search.
+fn children_of<'a>(
+    alloc: Global,
+    lists: &'a ChildLists,
+    container: RegionId,
+) -> Result<Vec<&'a Node>, AllocError>
+    requires { IsSome (node_of lists.now container) }
+    ensures { IfOk result (λ children. map (λ m. m.now) children.items ≡ children_of lists.now container) }
 {
-    let Some(container) = node.parent else {
-        return None;
+    let _nodes = lists.nodes();
+    let mut children = Vec::new(alloc);
+    for sibling in lists.children(container) {
+        let Some(node) = lists.node(sibling.id) else {
+            unreachable!()
+        };
+        children.push(node)?;
+    }
+    Ok(children)
+}
+
+/// The children of a container, if there is one and it is there.
+fn siblings_in<'a>(
+    alloc: Global,
+    lists: &'a ChildLists,
+    container: Option<RegionId>,
+) -> Result<Vec<&'a Node>, AllocError>
+    ensures { IfOk result (λ siblings. map (λ m. m.now) siblings.items ≡ siblings_of lists.now container) }
+{
+    let Some(container) = container else {
+        return Ok(Vec::new(alloc));
     };
     if lists.node(container).is_none() {
-        return None;
+        return Ok(Vec::new(alloc));
     }
-    first_among(test, lists, container, node)
+    children_of(alloc, lists, container)
+}
+
+/// The regions in one container.
+#[derive(Drop)]
+pub(crate) struct Siblings<'a> {
+    container: Option<RegionId>,
+    regions: Vec<&'a Node>,
+}
+
+/// Whether two regions have the same container, or both none.
+fn is_same(container: Option<RegionId>, other: Option<RegionId>) -> bool
+    ensures { result ≡ true → container ≡ other }
+{
+    match (container, other) {
+        (Some(container), Some(other)) => container.0 == other.0,
+        (None, None) => true,
+        _ => false,
+    }
+}
+
+impl<'a> Siblings<'a> {
+    /// No region, in no container.
+    pub(crate) fn none(alloc: Global) -> Siblings<'a>
+        ensures { (nodes : List N) → AreIn nodes result }
+    {
+        Siblings {
+            container: None,
+            regions: Vec::new(alloc),
+        }
+    }
+
+    /// The regions in this container. Nothing is done where these are known.
+    pub(crate) fn of(
+        self,
+        alloc: Global,
+        lists: &'a ChildLists,
+        container: Option<RegionId>,
+    ) -> Result<Siblings<'a>, AllocError>
+        requires { AreIn lists.now self }
+        ensures { IfOk result (λ s. AreIn lists.now s × (s.container ≡ container)) }
+    {
+        if is_same(self.container, container) {
+            return Ok(self);
+        }
+        let regions = siblings_in(alloc, lists, container)?;
+        Ok(Siblings { container, regions })
+    }
+
+    /// The first of them that is such, in the order of search.
+    pub(crate) fn first_such(&self, test: Test, node: &Node) -> Option<RegionId>
+        ensures { (nodes : List N) → AreIn nodes self.now
+            → result ≡ option_map (λ m. m.id) (find (is_such test node.now) (siblings_of nodes self.now.container)) }
+    {
+        first_among(test, self.regions.as_slice(), node)
+    }
 }

@@ -1,12 +1,16 @@
 // What is told of a fault, of a refused line, and of a refusal alone.
 ghost use Rattle.std.specs.Prelude.{◌≡◌, ◌++◌, OnOk};
 ghost use Rattle.mem_base.specs.script.RefusalLines.{bad_line, refused_line};
+ghost use Rattle.script_explain.specs.Faults.{Adds, TellsFault, shown_text};
 ghost use Rattle.script_explain.specs.Told.{GoesOn, advice_text, example_text, meaning_text, text_line, topic_text};
 
-use crate::lines::{first_word, line_of};
+use crate::carets::add_shown;
+use crate::choices::add_choice;
+use crate::lines::{first_word, line_at};
 use crate::topics::{Topic, topic_of};
 use mem_base::{BadScript, Cause};
 use script_lines::{Line, add_bad_line};
+use script_marks::{Mark, mark_of};
 use std::alloc::{AllocError, Global};
 
 // A text as a line.
@@ -55,16 +59,22 @@ pub fn add_topic(out: &mut Line, topic: &Topic) -> Result<(), AllocError>
     add_example(out, topic)
 }
 
+// What the word for a fault means, and what to do.
+fn add_sense(out: &mut Line, word: &[u8]) -> Result<(), AllocError> {
+    if let Some(topic) = topic_of(word) {
+        add_line(out, topic.what)?;
+        add_advice(out, &topic)?;
+    }
+    Ok(())
+}
+
 // A line of a script with its number, and what the word for its fault means.
 fn details(alloc: Global, text: &[u8], number: u32, word: &[u8]) -> Result<Line, AllocError> {
     let mut out = Line::new(alloc);
     out.counted("  ", u64::from(number))?;
-    out.named(" | ", line_of(text, number.saturating_sub(1)))?;
+    out.named(" | ", line_at(text, number))?;
     out.end()?;
-    if let Some(topic) = topic_of(word) {
-        add_line(&mut out, topic.what)?;
-        add_advice(&mut out, &topic)?;
-    }
+    add_sense(&mut out, word)?;
     Ok(out)
 }
 
@@ -80,13 +90,70 @@ fn cause_word(cause: Cause) -> &'static [u8] {
     }
 }
 
-/// The fault of a text: `bad script line N CAUSE`, the line, what is wrong, and what to do.
+// What a cause means at a mark.
+fn sense_at(cause: Cause, mark: Option<Mark>, what: &'static str) -> &'static str {
+    match (cause, mark) {
+        (Cause::Count, Some(mark)) if mark.len == 0 => "a token is missing at the end",
+        (Cause::Count, Some(_)) => "a token is left over: the line ends before it",
+        _ => what,
+    }
+}
+
+// What a cause means, what may stand there, and what to do.
+fn sense_of(
+    alloc: Global,
+    cause: Cause,
+    line: &[u8],
+    mark: Option<Mark>,
+) -> Result<Line, AllocError> {
+    let mut out = Line::new(alloc);
+    if let Some(topic) = topic_of(cause_word(cause)) {
+        add_line(&mut out, sense_at(cause, mark, topic.what))?;
+        if let Some(mark) = mark {
+            add_choice(alloc, &mut out, cause, line, mark)?;
+        }
+        add_advice(&mut out, &topic)?;
+    }
+    Ok(out)
+}
+
+// `bad script line N CAUSE`, the line with what is at fault marked, and more.
+fn add_parts(
+    alloc: Global,
+    out: &mut Line,
+    bad: BadScript,
+    line: &[u8],
+    mark: Option<Mark>,
+    more: &[u8],
+) -> Result<(), AllocError>
+    ensures { OnOk result (out.new ≡ out.old ++ (bad_line bad ++ (shown_text bad.line line.now mark ++ more.now))) }
+{
+    add_bad_line(out, bad)?;
+    add_shown(alloc, out, bad.line, line, mark)?;
+    out.bytes(more)
+}
+
+/// The fault of a text: `bad script line N CAUSE`, the line with what is at fault marked, what is wrong, what may stand there, and what to
+/// do.
+pub fn add_fault(
+    alloc: Global,
+    out: &mut Line,
+    text: &[u8],
+    bad: BadScript,
+) -> Result<(), AllocError>
+    ensures { OnOk result (Adds (TellsFault text.now bad) out.old out.new) }
+{
+    let line = line_at(text, bad.line);
+    let mark = mark_of(alloc, bad.cause, line)?;
+    let sense = sense_of(alloc, bad.cause, line, mark)?;
+    add_parts(alloc, out, bad, line, mark, sense.as_bytes())
+}
+
+/// The same, of which the clause tells the first line alone.
 pub fn add_bad(alloc: Global, out: &mut Line, text: &[u8], bad: BadScript) -> Result<(), AllocError>
     ensures { OnOk result (GoesOn out.old (bad_line bad) out.new) }
 {
-    let details = details(alloc, text, bad.line, cause_word(bad.cause))?;
-    add_bad_line(out, bad)?;
-    out.bytes(details.as_bytes())
+    add_fault(alloc, out, text, bad)
 }
 
 // `refused N`, and the words of the refusal.

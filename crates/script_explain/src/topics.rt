@@ -8,15 +8,15 @@ ghost use Rattle.script_explain.specs.Topics.{causes, code_now, refusals};
 pub struct Topic {
     /// Its number, or the word of a cause.
     pub code: &'static str,
-    /// Its words.
+    /// Its words; of a cause, that it is one.
     pub name: &'static str,
     /// What is wrong.
     pub what: &'static str,
     /// What to do.
     pub advice: &'static str,
-    /// A script that shows it, or in brackets what one does.
+    /// A script that shows it; where lines are left out, a comment says which.
     pub example: &'static str,
-    /// The line that is written then.
+    /// What it writes.
     pub answer: &'static str,
 }
 
@@ -49,7 +49,7 @@ fn of_refusal(code: &[u8]) -> Option<Topic>
             what: "the region is in a container already, and can be in one alone",
             advice: "take it out with del first, or add an alias of it to show it at a second place",
             example: "region a container 64K\nregion b container 64K\nregion r ram 4K\nadd a 0 r\nadd b 0 r",
-            answer: "refused 5 F3 has-container r",
+            answer: "refused 5 F3 has-container a",
         })
     } else if code == b"F4".as_slice() || code == b"not-child".as_slice() {
         Some(Topic {
@@ -93,8 +93,8 @@ fn of_refusal_6(code: &[u8]) -> Option<Topic>
             name: "too-deep",
             what: "some region would stand more than 32 regions and aliases deep",
             advice: "leave containers out that hold one child alone, or alias the region further down",
-            example: "(33 containers, each put into the one before)",
-            answer: "refused 66 F7 too-deep 33",
+            example: "region a1 ram 4K\nregion a2 alias 4K a1 0\nregion a3 alias 4K a2 0\n# .. and so on, each an alias of the one before ..\nregion a33 alias 4K a32 0",
+            answer: "refused 33 F7 too-deep 33",
         })
     } else if code == b"F8".as_slice() || code == b"too-wide".as_slice() {
         Some(Topic {
@@ -102,8 +102,8 @@ fn of_refusal_6(code: &[u8]) -> Option<Topic>
             name: "too-wide",
             what: "some region would have a weight above 65,536: as many places would be shown through its aliases",
             advice: "alias the smaller region, or fewer times",
-            example: "(17 containers, each with two aliases of the one before)",
-            answer: "refused N F8 too-wide 131072",
+            example: "region c0 container 4K\nregion a1 alias 4K c0 0\nregion b1 alias 4K c0 0\nregion c1 container 4K\nadd c1 0 a1\nadd c1 0 b1\n# .. and so on, each container with two aliases of the one before ..\nadd c15 0 b15",
+            answer: "refused 76 F8 too-wide 131069",
         })
     } else if code == b"F9".as_slice() || code == b"bad-size".as_slice() {
         Some(Topic {
@@ -156,7 +156,7 @@ fn of_refusal_11(code: &[u8]) -> Option<Topic>
             name: "too-nested",
             what: "64 transactions are open",
             advice: "commit what was begun; one begin and one commit make all lines between them one change",
-            example: "(65 lines begin)",
+            example: "begin\n# .. 63 lines more of it ..\nbegin",
             answer: "refused 65 F13 too-nested",
         })
     } else if code == b"F14".as_slice() || code == b"in-use".as_slice() {
@@ -201,8 +201,8 @@ fn of_refusal_16(code: &[u8]) -> Option<Topic>
             name: "limit",
             what: "a count stands at its limit, which the line names",
             advice: "drop what is not used: at most 4,096 regions, 16 spaces, 64 listeners, 64 watchers, 4,096 translations and 256 ioeventfds of a region",
-            example: "(17 lines space)",
-            answer: "refused N F17 limit spaces 16",
+            example: "region r container 4K\nspace s1 r\nspace s2 r\nspace s3 r\nspace s4 r\nspace s5 r\nspace s6 r\nspace s7 r\nspace s8 r\nspace s9 r\nspace s10 r\nspace s11 r\nspace s12 r\nspace s13 r\nspace s14 r\nspace s15 r\nspace s16 r\nspace s17 r",
+            answer: "refused 18 F17 limit spaces 16",
         })
     } else if code == b"F18".as_slice() || code == b"no-backing".as_slice() {
         Some(Topic {
@@ -210,8 +210,8 @@ fn of_refusal_16(code: &[u8]) -> Option<Topic>
             name: "no-backing",
             what: "no hole of the memory that backs regions has this number of words of 8 bytes",
             advice: "raise the size on the line machine, or drop memory that is not used and write reap",
-            example: "machine 4K\nregion a ram 4K\nregion b ram 4K",
-            answer: "refused 2 F18 no-backing 515",
+            example: "machine 8K\nregion a ram 4K\nregion b ram 4K",
+            answer: "refused 3 F18 no-backing 515",
         })
     } else if code == b"F19".as_slice() || code == b"held".as_slice() {
         Some(Topic {
@@ -219,8 +219,8 @@ fn of_refusal_16(code: &[u8]) -> Option<Topic>
             name: "held",
             what: "a virtual CPU still uses a generation so old that the next one would take its place",
             advice: "let that virtual CPU leave, with vN leave, before the map changes again",
-            example: "(v0 enter, and then more changes of the map than generations are kept)",
-            answer: "refused N F19 held v0 G",
+            example: "region a container 4K\nspace s a\nv0 enter\nenable a\nenable a\nenable a\nenable a\nenable a\nenable a\nenable a\nenable a",
+            answer: "v0 enter g1\nrefused 11 F19 held v0 1",
         })
     } else if code == b"F20".as_slice() || code == b"event-taken".as_slice() {
         Some(Topic {
@@ -243,7 +243,7 @@ fn of_cause(code: &[u8]) -> Option<Topic>
     if code == b"byte".as_slice() {
         Some(Topic {
             code: "byte",
-            name: "byte",
+            name: "as a cause",
             what: "a byte may not stand outside a comment: a line has printable ASCII, spaces and tabs",
             advice: "write it in ASCII, or after a `#`",
             example: "show m\u{e9}m",
@@ -252,16 +252,16 @@ fn of_cause(code: &[u8]) -> Option<Topic>
     } else if code == b"word".as_slice() {
         Some(Topic {
             code: "word",
-            name: "word",
+            name: "as a cause",
             what: "a word is none of those that may stand there",
-            advice: "take one of the words that are told beside the mark",
+            advice: "take one of the words that may stand there",
             example: "regin r ram 4K",
             answer: "bad script line 1 word",
         })
     } else if code == b"name".as_slice() {
         Some(Topic {
             code: "name",
-            name: "name",
+            name: "as a cause",
             what: "a name is not of the form: 1 to 32 letters, digits, `_`, `-` and `.`, the first a letter",
             advice: "shorten it, or begin it with a letter",
             example: "region 1st ram 4K",
@@ -270,25 +270,25 @@ fn of_cause(code: &[u8]) -> Option<Topic>
     } else if code == b"number".as_slice() {
         Some(Topic {
             code: "number",
-            name: "number",
+            name: "as a cause",
             what: "a number is not of the form, or past its limit",
-            advice: "write decimal digits, or 0x and hexadecimal digits, and after them at most one of K, M and G",
+            advice: "write what may stand there; sizes and addresses are decimal digits, or 0x and hexadecimal digits, and then at most one of K, M and G",
             example: "region r ram 4KB",
             answer: "bad script line 1 number",
         })
     } else if code == b"count".as_slice() {
         Some(Topic {
             code: "count",
-            name: "count",
+            name: "as a cause",
             what: "a token is missing, or one is left over",
-            advice: "compare the line with its form",
+            advice: "take away what is left over, or add what may stand there",
             example: "region r ram",
             answer: "bad script line 1 count",
         })
     } else if code == b"place".as_slice() {
         Some(Topic {
             code: "place",
-            name: "place",
+            name: "as a cause",
             what: "the line may not stand there",
             advice: "put machine first, space outside a block, and one par before one end",
             example: "region r ram 4K\nmachine 8M",
@@ -297,10 +297,10 @@ fn of_cause(code: &[u8]) -> Option<Topic>
     } else if code == b"long".as_slice() {
         Some(Topic {
             code: "long",
-            name: "long",
+            name: "as a cause",
             what: "the text has more than 1,048,576 bytes",
             advice: "split the script, or take comments out",
-            example: "",
+            example: "# .. 1,048,577 bytes ..",
             answer: "bad script line 0 long",
         })
     } else {

@@ -1,0 +1,1 @@
+region ram ram
