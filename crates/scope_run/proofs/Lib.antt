@@ -3,4 +3,3 @@ mod Parts
 mod TableLaws
 mod FileLaws
 mod ExplainLaws
-mod LintLaws
