@@ -36,7 +36,8 @@ fn ended(access: vobrekan::Access) -> &'static str {
 
 impl Reader {
     fn kind(&self, words: &[&str]) -> Kind {
-        let device = Device { regs: 1, valid_min: 1, valid_max: 8, impl_min: 1, impl_max: 8, valid_unaligned: words.contains(&"vunaligned"), ..Device::default() };
+        let unaligned = words.contains(&"vunaligned");
+        let device = Device { regs: 1, valid_min: 1, valid_max: 8, impl_min: 1, impl_max: 8, valid_unaligned: unaligned, ..Device::default() };
         match words[2] {
             "container" => Kind::Container,
             "ram" => Kind::Ram,
