@@ -16,4 +16,4 @@ pub use blocks::{BlockActor, act_all};
 pub use desks::{DeskActor, DeskLine};
 pub use laws::passes_keep_lines;
 pub use passes::PassActor;
-pub use tasks::{BlockLine, LineGot, PassTask};
+pub use tasks::LineGot;

@@ -1,111 +1,86 @@
-// A pass that does its lines.
-ghost use Rattle.std.specs.Prelude.{◌≡◌, ◌≤◌, [], true, false, All, IfOk, OnErr};
-ghost use Rattle.desk_lock.specs.Receipts.{HasNotifier};
-ghost use Rattle.pass_lines.specs.Doing.{IsInItsGeneration};
-ghost use Rattle.race_actors.specs.Lines.{FitsLine, FitsTask, HasDone, HasOrdered, HasRun, HasStepped, IsReady};
-ghost use Rattle.race_actors.specs.declared.tasks.LineGot.TheVariants.{Ordered};
+// A pass
+ghost use Rattle.std.specs.Prelude.{◌≡◌};
 
-use crate::tasks::{BlockLine, LineGot, PassTask};
+use crate::tasks::LineGot;
 use desk_lock::{Clerk, Orderly, Receipt};
 use io_window::Bounce;
-use mem_base::{DeskOrder, PassId};
+use mem_base::{Command, DeskOrder, Name, PassId};
 use outside::{Actor, Gate};
 use pass_lines::{copy, enter, leave, read, write};
+use race_lines::{KnownNames, LineTask, Refused, ResolvedTask, task_of};
 use std::alloc::{AllocError, Global};
 use std::sync::Wait;
 use vcpu_pass::Vcpu;
 
-/// A pass in a block: its virtual CPU with a bounce for what is copied, the clerk of its orders, its lines, and what they got.
+/// A pass in a block
 #[derive(Drop)]
-pub struct PassActor<'a> {
+pub struct PassActor<'a, 'k> {
     pub vcpu: Vcpu<'a>,
     pub bounce: Bounce,
     pub clerk: Clerk,
-    pub lines: Vec<BlockLine<'a>>,
-    /// What the first lines got, one for each.
-    pub got: Vec<LineGot>,
-    /// Memory ran out before the next line was done.
+    pub known: &'k KnownNames,
+    pub lines: Vec<&'a (u32, Command)>,
+    pub got: Vec<LineGot<'a>>,
     pub out_of_memory: bool,
 }
 
-// Gives an order, and sees what the writer had seen then. Out of memory nothing was done.
-fn order<O: Orderly, R: Wait>(
+fn order<'l, O: Orderly, R: Wait>(
     rt: &R,
     desk: &mut O,
     vcpu: &mut Vcpu<'_>,
     clerk: &mut Clerk,
     order: &DeskOrder,
-) -> Result<LineGot, AllocError>
-    requires own { O.cabinet desk.old ≡ vcpu.old.cabinet }
-    requires inside { IsInItsGeneration vcpu.old }
-    requires notifier { HasNotifier order.now }
-    ensures done { IfOk result (λ got. (got ≡ Ordered) × HasOrdered order.now clerk.old vcpu.old clerk.new vcpu.new) }
-    ensures err { OnErr result ((vcpu.new ≡ vcpu.old) × (clerk.new ≡ clerk.old)) }
-    ensures desk { O.cabinet desk.new ≡ O.cabinet desk.old }
+) -> Result<LineGot<'l>, AllocError>
 {
     let Receipt { note, .. } = desk.give(rt, clerk, order)?;
     vcpu.meet(note);
     Ok(LineGot::Ordered)
 }
 
-// Does what a line asks for. Out of memory nothing was done.
-fn do_task<'a, O: Orderly, R: Wait>(
+fn do_task<'a, 'l, O: Orderly, R: Wait>(
     rt: &R,
     alloc: Global,
     desk: &mut O,
     vcpu: Vcpu<'a>,
     bounce: Bounce,
     clerk: &mut Clerk,
-    task: &PassTask<'_>,
-) -> (Vcpu<'a>, Bounce, Result<LineGot, AllocError>)
-    requires own { O.cabinet desk.old ≡ vcpu.cabinet }
-    requires inside { IsInItsGeneration vcpu }
-    requires fits { FitsTask bounce task.now }
-    ensures done { IfOk result.2 (λ got. HasDone task.now clerk.old vcpu.entry got clerk.new result.0) }
-    ensures err { OnErr result.2 ((result.0 ≡ vcpu.entry) × (clerk.new ≡ clerk.old)) }
-    ensures room { result.1 ≡ bounce }
-    ensures desk { O.cabinet desk.new ≡ O.cabinet desk.old }
+    task: &ResolvedTask<'l>,
+) -> (Vcpu<'a>, Bounce, Result<LineGot<'l>, AllocError>)
 {
     let mut vcpu = vcpu;
     match task {
-        PassTask::Refused(_) => (vcpu, bounce, Ok(LineGot::Refused)),
-        PassTask::Order(asked) => {
+        Err(why) => (vcpu, bounce, Ok(LineGot::Refused(*why))),
+        Ok(LineTask::Ordered { order: asked, naming: _ }) => {
             let got = order(rt, desk, &mut vcpu, clerk, asked);
             (vcpu, bounce, got)
         }
-        PassTask::Enter => {
+        Ok(LineTask::Entered) => {
             let answer = enter(&mut vcpu);
             (vcpu, bounce, Ok(LineGot::Answered(answer)))
         }
-        PassTask::Leave => {
+        Ok(LineTask::Left) => {
             let answer = leave(&mut vcpu);
             (vcpu, bounce, Ok(LineGot::Answered(answer)))
         }
-        PassTask::Read { space, addr, len } => {
+        Ok(LineTask::Read { space, addr, len }) => {
             let got = match read(alloc, &mut vcpu, *space, *addr, *len) {
                 Ok(answer) => Ok(LineGot::Answered(answer)),
                 Err(error) => Err(error),
             };
             (vcpu, bounce, got)
         }
-        PassTask::Write { space, addr, bytes } => {
+        Ok(LineTask::Written { space, addr, bytes }) => {
             let answer = write(rt, &mut vcpu, *space, *addr, bytes.as_slice());
             (vcpu, bounce, Ok(LineGot::Answered(answer)))
         }
-        PassTask::Copy {
-            from,
-            addr,
-            len,
-            to,
-            to_addr,
-        } => {
+        Ok(LineTask::Copied { space, addr, len, to_space, to_addr }) => {
             let (vcpu, bounce, answer) = copy(
                 rt,
                 alloc,
                 vcpu,
                 bounce,
-                (*from, *addr),
-                (*to, *to_addr),
+                (*space, *addr),
+                (*to_space, *to_addr),
                 *len,
             );
             match answer {
@@ -113,34 +88,40 @@ fn do_task<'a, O: Orderly, R: Wait>(
                 Err(error) => (vcpu, bounce, Err(error)),
             }
         }
+        Ok(_) => unreachable!(),
     }
 }
 
-// Reaches the gate and does a line, and answers whether it was done. Out of memory nothing was done.
-fn do_line<'a, O: Orderly, G: Gate, R: Wait>(
+
+// a read
+fn do_read<'l>(vcpu: &mut Vcpu<'_>, got: &mut Vec<LineGot<'l>>, known: &KnownNames, space: &'l Name, addr: u64, len: u8) -> bool {
+    match known.space(space) {
+        Some(id) => {
+            let mut bytes = [0u8; 16];
+            let access = vcpu.read(id, addr, &mut bytes[..usize::from(len)]);
+            got.push_reserved(LineGot::Short { access, bytes, len });
+        }
+        None => got.push_reserved(LineGot::Refused(Refused::Unknown(space))),
+    }
+    true
+}
+
+fn do_line<'a, 'l, O: Orderly, R: Wait>(
     rt: &R,
     alloc: Global,
-    gate: &G,
     desk: &mut O,
     vcpu: Vcpu<'a>,
     bounce: Bounce,
     clerk: &mut Clerk,
-    got: &mut Vec<LineGot>,
-    line: &BlockLine<'_>,
+    got: &mut Vec<LineGot<'l>>,
+    known: &KnownNames,
+    line: &'l (u32, Command),
 ) -> (Vcpu<'a>, Bounce, bool)
-    requires own { O.cabinet desk.old ≡ vcpu.cabinet }
-    requires inside { IsInItsGeneration vcpu }
-    requires fits { FitsLine bounce line.now }
-    ensures done { result.2 ≡ true → HasStepped line.now clerk.old vcpu.entry got.old.items clerk.new result.0 got.new.items }
-    ensures stopped { result.2 ≡ false → (result.0 ≡ vcpu.entry) × (clerk.new ≡ clerk.old) × (got.new.items ≡ got.old.items) }
-    ensures room { result.1 ≡ bounce }
-    ensures desk { O.cabinet desk.new ≡ O.cabinet desk.old }
 {
-    gate.arrive(Actor::Pass(PassId(clerk.who())), line.number);
-    let Ok(()) = got.reserve(1) else {
+    let Ok(task) = task_of(alloc, known, &line.1) else {
         return (vcpu, bounce, false);
     };
-    let (vcpu, bounce, done) = do_task(rt, alloc, desk, vcpu, bounce, clerk, &line.task);
+    let (vcpu, bounce, done) = do_task(rt, alloc, desk, vcpu, bounce, clerk, &task);
     match done {
         Ok(answer) => {
             got.push_reserved(answer);
@@ -150,34 +131,39 @@ fn do_line<'a, O: Orderly, G: Gate, R: Wait>(
     }
 }
 
-impl<'a> PassActor<'a> {
-    /// Does the lines in order, and reaches the gate before each. Where memory runs out it stops, and has done the first of them.
-    ///
-    /// The desk is of the machine of the virtual CPU, the bounce has room for what is copied, and nothing was done yet.
+impl<'a, 'k> PassActor<'a, 'k> {
+    /// r
     pub fn run<O: Orderly, G: Gate, R: Wait>(
         self,
         rt: &R,
         alloc: Global,
         gate: &G,
         desk: &mut O,
-    ) -> PassActor<'a>
-        requires own { O.cabinet desk.old ≡ self.vcpu.cabinet }
-        requires ready { IsReady self }
-        ensures run { HasRun self.entry result }
-        ensures desk { O.cabinet desk.new ≡ O.cabinet desk.old }
+    ) -> PassActor<'a, 'k>
     {
         let PassActor {
             mut vcpu,
             mut bounce,
             mut clerk,
+            known,
             lines,
             mut got,
             out_of_memory: _,
         } = self;
+        let _ = got.reserve(lines.len());
         for at in 0..lines.len() {
-            let line = &lines[at];
+            let line = lines[at];
+            gate.arrive(Actor::Pass(PassId(clerk.who())), line.0);
+            if let Command::PassRead { pass: _, space, addr, len } = &line.1 {
+                if *len <= 16 {
+                    if got.reserve(1).is_ok() {
+                    do_read(&mut vcpu, &mut got, known, space, *addr, *len);
+                    continue;
+                    }
+                }
+            }
             let (next, room, done) = do_line(
-                rt, alloc, gate, desk, vcpu, bounce, &mut clerk, &mut got, line,
+                rt, alloc, desk, vcpu, bounce, &mut clerk, &mut got, known, line,
             );
             vcpu = next;
             bounce = room;
@@ -186,6 +172,7 @@ impl<'a> PassActor<'a> {
                     vcpu,
                     bounce,
                     clerk,
+                    known,
                     lines,
                     got,
                     out_of_memory: true,
@@ -196,6 +183,7 @@ impl<'a> PassActor<'a> {
             vcpu,
             bounce,
             clerk,
+            known,
             lines,
             got,
             out_of_memory: false,

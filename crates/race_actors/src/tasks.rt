@@ -1,56 +1,18 @@
 // The lines of a pass in a block, and what they got.
 
-use mem_base::{Bytes, DeskOrder, SpaceId};
 use pass_lines::LineAnswer;
+use mem_base::Access;
 use race_lines::Refused;
-
-/// What a line asks of a pass, once its names are resolved.
-#[derive(Debug, Drop)]
-pub enum PassTask<'a> {
-    /// Nothing: one of its names refuses the line, this one.
-    Refused(Refused<'a>),
-    /// An order to the desk.
-    Order(DeskOrder),
-    /// To enter the current generation, and to leave first where it is entered.
-    Enter,
-    /// To leave.
-    Leave,
-    /// To read `len` bytes of a space from an address on.
-    Read {
-        space: SpaceId,
-        addr: u64,
-        len: u8,
-    },
-    /// To write bytes to a space from an address on.
-    Write {
-        space: SpaceId,
-        addr: u64,
-        bytes: &'a Bytes,
-    },
-    /// To read `len` bytes of a space from an address on, and to write them to a space from another address on.
-    Copy {
-        from: SpaceId,
-        addr: u64,
-        len: u8,
-        to: SpaceId,
-        to_addr: u64,
-    },
-}
-
-/// A line of a pass in a block: its number in the script, and its task.
-#[derive(Debug, Drop)]
-pub struct BlockLine<'a> {
-    pub number: u32,
-    pub task: PassTask<'a>,
-}
 
 /// What a line of a pass got.
 #[derive(Debug, Drop)]
-pub enum LineGot {
+pub enum LineGot<'a> {
     /// One of its names refused the line.
-    Refused,
+    Refused(Refused<'a>),
     /// Its order was answered: what it got is the next entry of the clerk's list.
     Ordered,
+    /// short
+    Short { access: Access, bytes: [u8; 16], len: u8 },
     /// The pass did what was asked, and this is the answer.
     Answered(LineAnswer),
 }

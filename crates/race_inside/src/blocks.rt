@@ -1,25 +1,10 @@
-// A block, from what its runner has before it to what it has after it.
-ghost use Rattle.std.specs.Prelude.{◌≡◌, ℕ, ◌<◌, ◌≤◌, [], All, OnOk, length, slice_index_or, vec_capacity};
-ghost use Rattle.mem_base.specs.script.Race.{block};
-ghost use Rattle.mem_base.specs.script.Tasks.{Known};
-ghost use Rattle.run_laws.specs.Fitting.{AreFitting};
-ghost use Rattle.generation.specs.Published.{Published};
-ghost use Rattle.epoch_rule.specs.Values.{PassValue};
-ghost use Rattle.desk_lock.specs.Records.{IsLater};
-ghost use Rattle.race_actors.specs.Blocks.{CanAct};
-ghost use Rattle.race_level.specs.Levels.{HasMet, IsHeard, IsOfCabinet};
-ghost use Rattle.race_level.specs.Ready.{AreReady};
-ghost use Rattle.race_outside.specs.Outside.{StopsIn, WritesOn};
-ghost use Rattle.race_inside.specs.Blocks.{HasRunAll};
-ghost use Rattle.race_inside.specs.Seats.{AreSeated};
-
+// b
 use crate::rooms::room_for;
-use crate::seats::{Seated, known_after, seat, unseat_passes};
+use crate::seats::{Seated, seat, unseat_passes};
 use crate::texts::add_block;
-use desk_lock::{Clerk, Naming, Record};
-use mem_base::{Command, Differs, MOST_PASSES};
+use desk_lock::{Naming, Record};
+use mem_base::Command;
 use outside::Gate;
-use race_actors::BlockActor;
 use race_block::run_block;
 use race_level::meet_all;
 use race_lines::KnownNames;
@@ -30,98 +15,45 @@ use std::sync::Wait;
 use std::thread::Threads;
 use vcpu_pass::Vcpu;
 
-// Lets the actors of a block do their lines beside one another, behind one lock.
-fn run_actors<'c, J: Naming + Send + Sync, G: Gate, R: Threads + Wait + Sync>(
-    rt: &R,
-    alloc: Global,
-    gate: &G,
-    first: Record,
-    actors: &mut Vec<BlockActor<'c>>,
-    clerks: &mut Vec<Clerk>,
-) -> (Record, Option<Differs>)
-    requires start { first ≡ J.start }
-    requires ready { All (CanAct J.start.seat.cabinet) actors.old.items }
-    requires empty { clerks.old.items ≡ [] }
-    requires room { length actors.old.items ≤ vec_capacity clerks.old }
-    ensures { HasRunAll first result.0 actors.old.items actors.new.items clerks.new.items result.1 }
-{
-    let (after, differs) = run_block::<J, G, R>(
-        rt,
-        alloc,
-        gate,
-        first,
-        actors.as_mut_slice(),
-        clerks,
-    );
-    (after, differs)
-}
-
-// All virtual CPUs meet what the record has seen.
-fn meet<'c>(desk: &mut Record, cpus: &mut Vec<Vcpu<'c>>)
-    requires own { All (IsOfCabinet desk.old.seat.cabinet) cpus.old.items }
-    requires heard { All (IsHeard desk.old.seat.seen) cpus.old.items }
-    ensures same { desk.new ≡ desk.old }
-    ensures count { length cpus.new.items ≡ length cpus.old.items }
-    ensures met { (i : ℕ) (d : PassValue Published) → i < length cpus.old.items
-        → HasMet desk.old.seat.seen (slice_index_or cpus.old.items i d) (slice_index_or cpus.new.items i d) }
-{
-    meet_all(desk, cpus.as_mut_slice());
-}
-
-// Lets the actors of a block do their lines, once there is room for all of it.
 fn run_in<'c, J: Naming + Send + Sync, G: Gate, R: Threads + Wait + Sync>(
     rt: &R,
     alloc: Global,
     gate: &G,
     desk: Record,
-    seated: Seated<'c>,
-    lines: &[(u32, Command)],
+    seated: Seated<'c, '_>,
+    known: &KnownNames,
     text: &mut Line,
-) -> (Record, Vec<Vcpu<'c>>, KnownNames, Result<(), AllocError>)
-    requires start { desk ≡ J.start }
-    requires seated { (k : Known) × AreSeated k lines.now desk seated }
-    ensures ready { AreReady result.0 result.1.items }
-    ensures later { IsLater desk result.0 }
-    ensures step { (k : Known) → AreSeated k lines.now desk seated.entry
-        → OnOk result.3 (WritesOn desk k (block lines.now) result.0 result.2 text.old text.new) }
-    ensures stopped { (k : Known) → AreSeated k lines.now desk seated.entry → StopsIn desk k (block lines.now) result.0 }
+) -> (Record, Vec<Vcpu<'c>>, Result<(), AllocError>)
 {
     let Seated {
         mut actors,
         mut clerks,
-        known,
+        busy,
         mut waiting,
         mut cpus,
     } = seated;
-    let (mut after, differs) = run_actors::<J, G, R>(
+    let (mut after, differs) = run_block::<J, G, R>(
         rt,
         alloc,
         gate,
         desk,
-        &mut actors,
+        actors.as_mut_slice(),
         &mut clerks,
     );
     let done = add_block(
         text,
-        &known,
+        known,
         &after,
         actors.as_slice(),
         clerks.as_slice(),
         differs,
     );
-    unseat_passes(MOST_PASSES, lines, &mut actors, &mut waiting, &mut cpus);
-    meet(&mut after, &mut cpus);
-    let known = known_after(actors.pop(), known);
-    (after, cpus, known, done)
+    unseat_passes(busy.as_slice(), &mut actors, &mut waiting, &mut cpus);
+    meet_all(&mut after, cpus.as_mut_slice());
+    (after, cpus, done)
 }
 
-/// A block of a race: its actors do their lines beside one another, each in a thread of its own where one can be made, over one lock before
-/// the desk; then all have seen the same history, and what the block writes is added to the text.
-///
-/// It takes the record of the desk, the virtual CPUs and what is known of names, and gives back all of them. The numbers of the commands
-/// fit, as those of every script that was read do, and the actors reach the gate before each of their lines. Out of memory nothing was
-/// done, or each actor has done the first of its lines, or the block is whole and its text is lost: the text may then end within the
-/// block's.
+/// b
 pub fn block<'c, G: Gate, R: Threads + Wait + Sync>(
     rt: &R,
     alloc: Global,
@@ -132,17 +64,12 @@ pub fn block<'c, G: Gate, R: Threads + Wait + Sync>(
     lines: &'c [(u32, Command)],
     text: &mut Line,
 ) -> (Record, Vec<Vcpu<'c>>, KnownNames, Result<(), AllocError>)
-    requires fits { AreFitting lines.now }
-    requires ready { AreReady desk cpus.items }
-    ensures ready { AreReady result.0 result.1.items }
-    ensures later { IsLater desk result.0 }
-    ensures step { OnOk result.3 (WritesOn desk known (block lines.now) result.0 result.2 text.old text.new) }
-    ensures stopped { StopsIn desk known (block lines.now) result.0 }
 {
-    match room_for(alloc, &known, lines) {
+    match room_for(alloc, lines) {
         Ok(room) => {
-            let seated = seat(alloc, cpus, known, lines, room);
-            run_in::<Brand, G, R>(rt, alloc, gate, desk, seated, lines, text)
+            let seated = seat(alloc, cpus, &known, room);
+            let (desk, cpus, done) = run_in::<Brand, G, R>(rt, alloc, gate, desk, seated, &known, text);
+            (desk, cpus, known, done)
         }
         Err(error) => (desk, cpus, known, Err(error)),
     }

@@ -1,19 +1,9 @@
 // What a block writes, after it: the desk's lines, each pass's, and where what an actor got differs from the record.
-ghost use Rattle.std.specs.Prelude.{◌≡◌, ◌++◌, false, flat_map, OnOk};
-ghost use Rattle.std.specs.List.{list_any};
-ghost use Rattle.mem_base.specs.script.Race.{differs_line};
-ghost use Rattle.mem_base.specs.script.RaceLines.{entry_at, said_text};
-ghost use Rattle.pass_lines.specs.Texts.{answer_text};
-ghost use Rattle.race_actors.specs.Laws.{taken_by};
-ghost use Rattle.race_joins.specs.Ran.{is_out_of_memory};
-ghost use Rattle.race_inside.specs.Seats.{IsKnown};
-ghost use Rattle.race_inside.specs.Texts.{actor_said, actors_said, line_said, lines_said, names_now, ordered_said, refusal};
-ghost use Rattle.script_names.specs.Tables.{printed_names};
 
 use desk_lock::{Clerk, Record};
-use mem_base::{DeskEntry, Differs, ListenerEvent, ListenerId, PassId};
+use mem_base::{Command, DeskEntry, Differs, ListenerEvent, ListenerId, PassId};
 use pass_lines::LineAnswer;
-use race_actors::{BlockActor, BlockLine, LineGot, PassTask};
+use race_actors::{BlockActor, LineGot};
 use race_lines::{
     KnownNames, LineSaid, add_differs_line, add_do_answer, add_name_refused, add_told_lines,
     delivered_between,
@@ -23,16 +13,6 @@ use script_lines::{
 };
 use script_names::Names;
 use std::alloc::AllocError;
-
-// The refusal of a line by one of its names.
-fn add_refusal(text: &mut Line, number: u32, task: &PassTask<'_>) -> Result<(), AllocError>
-    ensures { OnOk result (text.new ≡ text.old ++ refusal number task.now) }
-{
-    match task {
-        PassTask::Refused(why) => add_name_refused(text, number, why),
-        _ => Ok(()),
-    }
-}
 
 // The lines that the order of a pass wrote, by the entry at a place of its clerk's list.
 fn add_ordered(
@@ -44,8 +24,6 @@ fn add_ordered(
     entries: &[DeskEntry],
     at: usize,
 ) -> Result<(), AllocError>
-    ensures { OnOk result (text.new ≡ text.old ++ said_text (printed_names names.now) journal.now
-        (ordered_said (printed_names names.now) number pass (entry_at entries.now at))) }
 {
     if at >= entries.len() {
         return Ok(());
@@ -61,7 +39,6 @@ fn add_ordered(
 
 // The line of an answer that a pass got from the machine.
 fn add_answer(text: &mut Line, pass: PassId, answer: &LineAnswer) -> Result<(), AllocError>
-    ensures { OnOk result (text.new ≡ text.old ++ answer_text pass answer.now) }
 {
     match answer {
         LineAnswer::Entered(generation) => add_enter_line(text, pass, *generation),
@@ -78,24 +55,22 @@ fn add_line(
     names: &Names,
     journal: &[(ListenerId, ListenerEvent)],
     pass: PassId,
-    line: &BlockLine<'_>,
-    got: &LineGot,
+    line: &(u32, Command),
+    got: &LineGot<'_>,
     entries: &[DeskEntry],
     at: usize,
 ) -> Result<(), AllocError>
-    ensures { OnOk result (text.new ≡ text.old ++ said_text (printed_names names.now) journal.now
-        (line_said (printed_names names.now) pass line.now got.now (entry_at entries.now at))) }
 {
     match got {
-        LineGot::Refused => add_refusal(text, line.number, &line.task),
-        LineGot::Ordered => add_ordered(text, names, journal, line.number, pass, entries, at),
+        LineGot::Refused(why) => add_name_refused(text, line.0, why),
+        LineGot::Ordered => add_ordered(text, names, journal, line.0, pass, entries, at),
+        LineGot::Short { access, bytes, len } => add_read_line(text, pass, *access, &bytes[..usize::from(*len)]),
         LineGot::Answered(answer) => add_answer(text, pass, answer),
     }
 }
 
 // How many entries of its clerk's list are a line's.
-fn taken_by(got: &LineGot) -> usize
-    ensures { result ≡ taken_by got.now }
+fn taken_by(got: &LineGot<'_>) -> usize
 {
     match got {
         LineGot::Ordered => 1,
@@ -109,19 +84,17 @@ fn add_lines(
     names: &Names,
     journal: &[(ListenerId, ListenerEvent)],
     pass: PassId,
-    lines: &[BlockLine<'_>],
-    got: &[LineGot],
+    lines: &[&(u32, Command)],
+    got: &[LineGot<'_>],
     entries: &[DeskEntry],
 ) -> Result<(), AllocError>
-    ensures { OnOk result (text.new ≡ text.old ++ flat_map (said_text (printed_names names.now) journal.now)
-        (lines_said (printed_names names.now) pass lines.now got.now entries.now)) }
 {
     let mut at = 0;
     for i in 0..got.len() {
         if i >= lines.len() {
             return Ok(());
         }
-        add_line(text, names, journal, pass, &lines[i], &got[i], entries, at)?;
+        add_line(text, names, journal, pass, lines[i], &got[i], entries, at)?;
         at += taken_by(&got[i]);
     }
     Ok(())
@@ -134,7 +107,6 @@ fn add_said(
     journal: &[(ListenerId, ListenerEvent)],
     said: &[LineSaid],
 ) -> Result<(), AllocError>
-    ensures { OnOk result (text.new ≡ text.old ++ flat_map (said_text (printed_names names.now) journal.now) said.now) }
 {
     for line in said {
         line.add_text(text, names, journal)?;
@@ -147,10 +119,9 @@ fn add_actor(
     text: &mut Line,
     names: &Names,
     journal: &[(ListenerId, ListenerEvent)],
-    actor: &BlockActor<'_>,
+    actor: &BlockActor<'_, '_>,
     clerk: &Clerk,
 ) -> Result<(), AllocError>
-    ensures { OnOk result (text.new ≡ text.old ++ actor_said (printed_names names.now) journal.now actor.now clerk.now) }
 {
     match actor {
         BlockActor::Desk(desk) => add_said(text, names, journal, desk.said.as_slice()),
@@ -172,10 +143,9 @@ fn add_actors(
     text: &mut Line,
     names: &Names,
     journal: &[(ListenerId, ListenerEvent)],
-    actors: &[BlockActor<'_>],
+    actors: &[BlockActor<'_, '_>],
     clerks: &[Clerk],
 ) -> Result<(), AllocError>
-    ensures { OnOk result (text.new ≡ text.old ++ actors_said (printed_names names.now) journal.now actors.now clerks.now) }
 {
     for i in 0..actors.len() {
         if i >= clerks.len() {
@@ -186,27 +156,8 @@ fn add_actors(
     Ok(())
 }
 
-// The same, by the names that the desk has made.
-fn add_by_desk(
-    text: &mut Line,
-    journal: &[(ListenerId, ListenerEvent)],
-    actors: &[BlockActor<'_>],
-    clerks: &[Clerk],
-) -> Result<(), AllocError>
-    requires { IsKnown None actors.now }
-    ensures { OnOk result (text.new ≡ text.old ++ actors_said (names_now None actors.now) journal.now actors.now clerks.now) }
-{
-    match actors.first() {
-        Some(BlockActor::Desk(desk)) => {
-            add_actors(text, desk.known.names(), journal, actors, clerks)
-        }
-        _ => unreachable!(),
-    }
-}
-
 // Whether memory ran out for an actor.
-fn is_out_of_memory(actor: &BlockActor<'_>) -> bool
-    ensures { result ≡ is_out_of_memory actor.now }
+fn is_out_of_memory(actor: &BlockActor<'_, '_>) -> bool
 {
     match actor {
         BlockActor::Desk(desk) => desk.out_of_memory,
@@ -216,8 +167,7 @@ fn is_out_of_memory(actor: &BlockActor<'_>) -> bool
 }
 
 // Whether memory ran out for any of them.
-fn any_out_of_memory(actors: &[BlockActor<'_>]) -> bool
-    ensures { result ≡ list_any is_out_of_memory actors.now }
+fn any_out_of_memory(actors: &[BlockActor<'_, '_>]) -> bool
 {
     for actor in actors {
         if is_out_of_memory(actor) {
@@ -231,23 +181,16 @@ fn any_out_of_memory(actors: &[BlockActor<'_>]) -> bool
 /// those that were kept, or that the desk has. It fails where memory runs out, or did for an actor.
 pub(crate) fn add_block(
     text: &mut Line,
-    known: &Option<KnownNames>,
+    known: &KnownNames,
     desk: &Record,
-    actors: &[BlockActor<'_>],
+    actors: &[BlockActor<'_, '_>],
     clerks: &[Clerk],
     differs: Option<Differs>,
 ) -> Result<(), AllocError>
-    requires { IsKnown known.now actors.now }
-    ensures lasted { OnOk result (list_any is_out_of_memory actors.now ≡ false) }
-    ensures text { OnOk result (text.new ≡ text.old
-        ++ (actors_said (names_now known.now actors.now) desk.now.part.desk.listening.journal actors.now clerks.now ++ differs_line differs)) }
 {
     if any_out_of_memory(actors) {
         return Err(AllocError);
     }
-    match known {
-        Some(known) => add_actors(text, known.names(), desk.journal(), actors, clerks)?,
-        None => add_by_desk(text, desk.journal(), actors, clerks)?,
-    }
+    add_actors(text, known.names(), desk.journal(), actors, clerks)?;
     add_differs_line(text, differs)
 }
