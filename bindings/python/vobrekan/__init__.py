@@ -359,6 +359,14 @@ class Cpu:
         answer = accepted(LIBRARY.vb_cpu_read(self.handle, space, addr, out, count))
         return bytes(out[:count]), answer.what
 
+    def write(self, space, addr, data, tries=64):
+        """Writes bytes, and answers how many of the first are written, and how that ended: each part of a word is tried this many times."""
+        given = (ctypes.c_uint8 * max(len(data), 1)).from_buffer_copy(bytes(data) or b"\0")
+        answer = LIBRARY.vb_cpu_write(self.handle, space, addr, given, len(data), tries)
+        if answer.code == c.VB_CONTENDED:
+            return answer.value, answer.what
+        return len(data), accepted(answer).what
+
     def write8(self, space, addr, value):
         """Writes the eight bytes of a number, the lowest first. It is refused where only a part of some word would be replaced."""
         return accepted(LIBRARY.vb_cpu_write8(self.handle, space, addr, value)).what

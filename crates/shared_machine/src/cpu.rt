@@ -3,7 +3,9 @@ ghost use Rattle.std.specs.Prelude.{◌≡◌, length, MatchResult};
 ghost use Rattle.std.specs.Arc.{arc_value};
 ghost use Rattle.mem_base.specs.access.AccessSteps.{reading};
 ghost use Rattle.vcpu_pass.specs.Calls.{HasAccessed, HasEntered, HasLeft, HasRefused, HasWritten8};
+ghost use Rattle.bounded_write.specs.Writes.{HasWritten};
 
+use bounded_write::{Written, write_bounded};
 use epoch_rule::{Cabinet, Pass};
 use generation::Generation;
 use mem_base::{Access, SpaceId};
@@ -95,6 +97,19 @@ impl Cpu {
         let access = vcpu.read(space, addr, out);
         self.pass = Some(vcpu.into_parts().1);
         access
+    }
+
+    /// Writes bytes to a space from an address on, each part of a word by at most `tries` exchanges, and answers how many of the first bytes
+    /// are written, how their write ended, and in which generation. QEMU's core, `address_space_write`. It never waits.
+    pub fn write_bounded(&mut self, space: SpaceId, addr: u64, bytes: &[u8], tries: u32) -> Written
+        ensures { HasWritten self.old space addr bytes.now tries result self.new }
+    {
+        let Some(mut pass) = self.pass.take() else {
+            unreachable!()
+        };
+        let written = write_bounded(&self.cabinet, &mut pass, space, addr, bytes, tries);
+        self.pass = Some(pass);
+        written
     }
 
     /// Writes the eight bytes of a number, the lowest first, from an address on, and answers how that ended, in which
