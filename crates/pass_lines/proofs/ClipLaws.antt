@@ -18,7 +18,7 @@ use Rattle.generation.specs.Published.{Published}
 use Rattle.epoch_rule.specs.Values.{PassValue}
 use Rattle.access_run.specs.Chunks.{steps_below}
 use Rattle.access_run.proofs.AccessLaws.{at_end, read_past, write_past}
-use Rattle.access_run.proofs.MemoryLaws.{part_length}
+use Rattle.access_base.proofs.MemoryLaws.{part_length}
 use Rattle.vcpu_pass.specs.Steps.{HasMade, generation_in}
 use Rattle.io_window.specs.Calls.{Does}
 use Rattle.io_window.specs.Whole.{HasRun}
