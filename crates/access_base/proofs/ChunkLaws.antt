@@ -1,7 +1,8 @@
 -- Laws of the chunks of an access, and of its addresses above 2^64 - 1.
 use Rattle.std.proofs.Common.{◌≡◌, ℕ, zero, suc, ◌+◌, ◌-◌, ◌^◌, ◌<◌, ◌≤◌, ◌&&◌, Bool, true, false, List, [], ◌∷◌, ◌++◌, Option, Some, None}
-use Rattle.std.proofs.Common.{refl, sym, ap, subst, ◌∙◌, arith}
+use Rattle.std.proofs.Common.{◌⊎◌, inl, inr, refl, sym, ap, subst, ◌∙◌, arith}
 use Rattle.std.specs.Prelude.{flat_map}
+use Rattle.std.proofs.lemmas.Bool.{cases_lt}
 use Rattle.mem_base.specs.declared.map.ids.SpaceId.{SpaceId}
 use Rattle.mem_base.specs.declared.map.forests.Forest.{Forest}
 use Rattle.mem_base.specs.declared.access.accesses.Target.{Target}
@@ -115,3 +116,11 @@ module _ (f : Forest) (closed : IsClosedForest f) (w : Bool) (s : SpaceId) where
       let rest = blank_from m (a + 1) (omega (arith, e)) (λ i l. let at : a + 1 + i
       ≡ a + suc i = omega arith in ap (shares_next f w s) at ∙ h (suc i) (omega (arith, l))) in
       blank_before a (ap (shares_next f w s) here ∙ h 0 (omega arith)) rest.0 rest.1
+
+-- the first bytes end at 2^64 where they are not all
+pub at_end : (addr below n : ℕ) → below < n → (addr + n ≤ 2 ^ 64 → below ≡ n) → (2 ^ 64 < addr + n → addr + below ≡ 2 ^ 64) → addr + below ≡ 2 ^ 64
+at_end addr below n less all past = go (cases_lt (2 ^ 64) (addr + n))
+  where
+    go : (2 ^ 64 < addr + n) ⊎ (addr + n ≤ 2 ^ 64) → addr + below ≡ 2 ^ 64
+    go (inl l) = past l
+    go (inr l) = let same : below ≡ n = all l in absurd (omega (arith, same, less))

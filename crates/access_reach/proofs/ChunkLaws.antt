@@ -25,7 +25,7 @@ use Rattle.access_reach.proofs.TakenLaws.{taken_split}
 use Rattle.mem_base.specs.lists.Every.{Every}
 use Rattle.access_reach.proofs.ReachLaws.{AreBusLaws, underway_then, underway_shows, reached_then, reached_nothing}
 use Rattle.access_base.proofs.RunLaws.{first_run}
-use Rattle.access_base.proofs.ChunkLaws.{chunks_then, nothing_past, shares_past, blank_from}
+use Rattle.access_base.proofs.ChunkLaws.{at_end, chunks_then, nothing_past, shares_past, blank_from}
 use Rattle.plan_laws.proofs.FirstRuns.{IsFirst, first_is}
 
 -- plans of which the same is asked, and which have the same outcome
@@ -321,14 +321,6 @@ module _ {S : Type 0} (asks : Asks S) (shows : S → Published) (laws : AreBusLa
       let z : HasReached asks y past (outcome [] (tx false true)) y = reached_nothing asks shows laws y 0 (tx false true) [] refl in
       same_reached asks shows laws host x y (plan_by host f s addr (writing bytes)) (ds ++ past) (outcome [] (either r (tx false true))) d'
       (reached_then asks shows laws x y y ds past (outcome [] r) (outcome [] (tx false true)) h z)
-
--- the first bytes end at 2^64 where they are not all
-pub at_end : (addr below n : ℕ) → below < n → (addr + n ≤ 2 ^ 64 → below ≡ n) → (2 ^ 64 < addr + n → addr + below ≡ 2 ^ 64) → addr + below ≡ 2 ^ 64
-at_end addr below n less all past = go (cases_lt (2 ^ 64) (addr + n))
-  where
-    go : (2 ^ 64 < addr + n) ⊎ (addr + n ≤ 2 ^ 64) → addr + below ≡ 2 ^ 64
-    go (inl l) = past l
-    go (inr l) = let same : below ≡ n = all l in absurd (omega (arith, same, less))
 
 -- what is taken of a whole access is taken of its first bytes, which may be all
 pub takes_first : {S : Type 0} (host : Bool) (f : Forest) (takes : S → Asked → Type 0) (x : S) (s : SpaceId) (addr below : ℕ) (bytes : List ℕ) → IsMade f

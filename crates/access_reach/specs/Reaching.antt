@@ -8,7 +8,6 @@ use Rattle.mem_base.specs.access.AccessSteps.{Transfer, is_write}
 use Rattle.mem_base.specs.lists.Every.{Every}
 use Rattle.mem_base.specs.map.Limits.{page_size}
 use Rattle.mem_base.specs.map.Region.{node_of}
-use Rattle.mem_base.specs.map.Kinds.{is_memory}
 use Rattle.mem_base.specs.views.Naming.{names}
 use Rattle.mem_base.specs.lists.Runs.{Run}
 use Rattle.mem_base.specs.access.Plans.{Reached, mark}
@@ -33,12 +32,6 @@ pub record IsUnderway {S : Type 0} (asks : Asks S) (before : S) (whole rest : Li
   pub done : HasReached asks before first end now
   pub parts : whole ≡ first ++ rest
 
--- the forest names the region, and the bytes from an offset on lie in its memory
-pub record IsInMemory (f : Forest) (region : RegionId) (offset bytes : ℕ) : Type 0 where
-  pub named : names f region ≡ true
-  pub kind : IsSomeAnd (node_of f.nodes region) (λ n. is_memory n.kind ≡ true)
-  pub within : IfSome (node_of f.nodes region) (λ n. offset + bytes ≤ n.size)
-
 -- the region is memory whose bytes the machine has: all memory, or all but the host's
 abbrev pub IsMemoryBy : Bool → Forest → RegionId → Type 0
 IsMemoryBy host f region = IsSomeAnd (node_of f.nodes region) (λ n. has_memory host n.kind ≡ true)
@@ -48,6 +41,10 @@ pub record IsInMemoryBy (host : Bool) (f : Forest) (region : RegionId) (offset b
   pub named : names f region ≡ true
   pub kind : IsMemoryBy host f region
   pub within : IfSome (node_of f.nodes region) (λ n. offset + bytes ≤ n.size)
+
+-- the same of a machine that has the bytes of the host's memory
+abbrev pub IsInMemory : Forest → RegionId → ℕ → ℕ → Type 0
+IsInMemory f region offset bytes = IsInMemoryBy true f region offset bytes
 
 -- what a plan asks is taken
 abbrev pub AllTaken : {S : Type 0} → (S → Asked → Type 0) → S → List Reached → Type 0

@@ -1,7 +1,6 @@
 -- Laws of the end of an access that goes past 2^64 - 1.
-use Rattle.std.proofs.Common.{◌≡◌, ℕ, ◌+◌, ◌^◌, ◌<◌, ◌≤◌, true, false, List, [], ◌++◌, ◌⊎◌, inl, inr, length, refl, sym, ap, subst, ◌∙◌, arith}
+use Rattle.std.proofs.Common.{◌≡◌, ℕ, ◌+◌, ◌^◌, ◌<◌, ◌≤◌, true, false, List, [], ◌++◌, length, refl, sym, ap, subst, ◌∙◌, arith}
 use Rattle.std.specs.Prelude.{replicate}
-use Rattle.std.proofs.lemmas.Bool.{cases_lt}
 use Rattle.mem_base.specs.declared.map.ids.PassId.{PassId}
 use Rattle.mem_base.specs.declared.map.ids.SpaceId.{SpaceId}
 use Rattle.mem_base.specs.declared.map.forests.Forest.{Forest}
@@ -65,11 +64,3 @@ module _ {S : Type 0} (makes : Makes S) (pass : S → PassId) (shows : S → Pub
         same_done x y (access f s addr (writing bytes)) (ds ++ past) [] d' (done_then makes pass shows laws x y y ds past [] [] h z),
         ap (λ q. either q (tx false true)) is ∙ sym (results_append ds past) ∙ sym d'.result,
       )
-
--- the first bytes end at 2^64 where they are not all
-pub at_end : (addr below n : ℕ) → below < n → (addr + n ≤ 2 ^ 64 → below ≡ n) → (2 ^ 64 < addr + n → addr + below ≡ 2 ^ 64) → addr + below ≡ 2 ^ 64
-at_end addr below n less all past = go (cases_lt (2 ^ 64) (addr + n))
-  where
-    go : (2 ^ 64 < addr + n) ⊎ (addr + n ≤ 2 ^ 64) → addr + below ≡ 2 ^ 64
-    go (inl l) = past l
-    go (inr l) = let same : below ≡ n = all l in absurd (omega (arith, same, less))

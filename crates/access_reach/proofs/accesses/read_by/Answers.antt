@@ -8,8 +8,9 @@ use Rattle.access_base.proofs.MemoryLaws.{part_length}
 use Rattle.access_plan.specs.HostPlans.{plan_by}
 use Rattle.access_reach.specs.Asking.{outcome}
 use Rattle.access_reach.specs.Reaching.{HasReached}
+use Rattle.access_base.proofs.ChunkLaws.{at_end}
 use Rattle.access_reach.proofs.ReachLaws.{AreBusLaws}
-use Rattle.access_reach.proofs.ChunkLaws.{read_past, at_end}
+use Rattle.access_reach.proofs.ChunkLaws.{read_past}
 use Rattle.access_reach.proofs.accesses.read_by.Goals as goal
 use borrow.Rule.Slice.PartMut.{post_of}
 

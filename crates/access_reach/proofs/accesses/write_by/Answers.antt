@@ -5,8 +5,9 @@ use Rattle.generation.specs.Published.{Published}
 use Rattle.access_plan.specs.HostPlans.{plan_by}
 use Rattle.access_reach.specs.Asking.{outcome}
 use Rattle.access_reach.specs.Reaching.{HasReached}
+use Rattle.access_base.proofs.ChunkLaws.{at_end}
 use Rattle.access_reach.proofs.ReachLaws.{AreBusLaws}
-use Rattle.access_reach.proofs.ChunkLaws.{write_past, at_end, takes_first}
+use Rattle.access_reach.proofs.ChunkLaws.{write_past, takes_first}
 use Rattle.access_reach.proofs.accesses.write_by.Goals as goal
 
 pub returns-then-below-bytes : goal.returns-then-below-bytes
