@@ -29,10 +29,10 @@ use Rattle.mem_base.specs.declared.access.cells.Place.{Place}
 use Rattle.mem_base.specs.access.PlacesByRegion.{place_in}
 use Rattle.mem_base.specs.access.EditionPlaces.{IsEdition}
 use Rattle.mem_base.specs.access.Plans as plans
-use Rattle.access_plan.specs.HostPlans.{is_host_kind, is_host, answerer_by, answerer_with_host}
+use Rattle.access_plan.specs.HostPlans.{is_host_kind, is_host, answerer_with_host}
 use Rattle.access_plan.specs.declared.answerers.Answerer.{Answerer}
 use Rattle.access_plan.specs.declared.answerers.Answerer.TheVariants as who
-use Rattle.access_plan.specs.Answering.{memory_unless, rom_device, meant, IsSoundDevice, IsSoundMemory, IsSound, IsAnswerer, has_memory, HasMemory, IsAnswererBy}
+use Rattle.access_plan.specs.Answering.{memory_unless, rom_device, meant, IsSoundDevice, IsSoundMemory, IsSound, IsAnswerer, HasMemory, IsAnswererBy}
 
 -- a device in a forest that calls made
 sound_device : (f : Forest) → IsMade f → (spot : Spot) (n : Node) → node_of f.nodes spot.leaf ≡ Some n → (device : Device) → device_of n.kind ≡ Some device

@@ -18,7 +18,7 @@ use Rattle.generation.specs.Published.{Published}
 use Rattle.mem_base.specs.map.Forest.{IsMade}
 use Rattle.map_laws.proofs.SoundCallLaws.{IsClosedForest-made}
 use Rattle.access_reach.specs.Asking as asks_of
-use Rattle.access_reach.specs.Asking.{Asked, asked_of, asked, Reply, Outcome, outcome, followed_by, told, outcome_of}
+use Rattle.access_reach.specs.Asking.{Asked, asked, Reply, Outcome, outcome, followed_by, told, outcome_of}
 use Rattle.access_plan.specs.HostPlans.{answerer_by, plan_by}
 use Rattle.access_reach.specs.Reaching.{Asks, HasReached, IsUnderway, AllTaken, in_chunk, plan_below}
 use Rattle.access_reach.proofs.TakenLaws.{taken_split}

@@ -55,7 +55,7 @@ use Rattle.access_reach.specs.Asking.{Asked, asked, Reply, Outcome, outcome, fol
 use Rattle.access_reach.specs.Asking.{reads, writes, calls, sets, marks, taken}
 use Rattle.access_reach.specs.Reaching.{HasReached}
 use Rattle.access_run.specs.Runs.{Makes, HasDone, TakesAll}
-use Rattle.access_run.specs.WordReplies.{as_reached, steps_asked, AsksWords, TakesAsked, number_told, word_reply, words_told, word_replies}
+use Rattle.access_run.specs.WordReplies.{as_reached, AsksWords, TakesAsked, number_told, word_reply, words_told, word_replies}
 use Rattle.access_run.proofs.HandLaws.{bytes_append, results_append}
 use Rattle.access_run.proofs.AnswerLaws.{words_read_fine, words_taken}
 

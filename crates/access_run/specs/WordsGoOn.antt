@@ -12,13 +12,13 @@ use Rattle.mem_base.specs.declared.machine.events.Event.{Event}
 use Rattle.mem_base.specs.map.Region.{node_of}
 use Rattle.mem_base.specs.access.AccessSteps.{reading, writing, AccessStep, blank, steps, marks, event_of, events_of_steps}
 use Rattle.mem_base.specs.access.MemoryAccess.{on_words}
-use Rattle.mem_base.specs.access.Plans.{answers, takes, Reached, memory, callback, notifier, mark, nothing}
+use Rattle.mem_base.specs.access.Plans.{takes, Reached, memory, callback, notifier, mark, nothing}
 use Rattle.mem_base.specs.access.PlanSteps.{by_region, steps_of}
 use Rattle.mem_base.proofs.EveryLaws.{weaker}
 use Rattle.generation.specs.Published.{Published}
 use Rattle.access_reach.specs.Asking as asking
 use Rattle.access_reach.specs.Asking.{Asked, Reply}
-use Rattle.access_run.specs.Runs.{Makes, TakesStep, TakesAll}
+use Rattle.access_run.specs.Runs.{Makes, TakesStep}
 use Rattle.access_run.specs.WordReplies.{as_reached, steps_asked, AsksWords, TakesAsked, word_reply, words_told, word_replies}
 
 module _ (f : Forest) (p : PassId) where

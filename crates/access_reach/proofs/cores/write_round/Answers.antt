@@ -1,4 +1,3 @@
-use Rattle.mem_base.specs.access.AccessSteps.{writing}
 use Rattle.access_reach.proofs.TakenLaws.{all_taken}
 use Rattle.access_reach.proofs.cores.write_round.Goals as goal
 

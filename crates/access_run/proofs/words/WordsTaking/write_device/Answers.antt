@@ -1,8 +1,8 @@
-use Rattle.std.proofs.Common.{ℕ, ◌≡◌, ◌+◌, [], ◌∷◌, Some, refl, sym, ap, subst, ◌∙◌}
+use Rattle.std.proofs.Common.{ℕ, ◌≡◌, ◌+◌, [], ◌∷◌, refl, sym, ap, subst, ◌∙◌}
 use Rattle.mem_base.specs.declared.map.ids.RegionId.{RegionId}
 use Rattle.mem_base.specs.access.Cells.{cell}
 use Rattle.mem_base.specs.access.Places.{data_words}
-use Rattle.mem_base.specs.access.AccessSteps.{AccessStep, writing, steps, nothing_shown}
+use Rattle.mem_base.specs.access.AccessSteps.{writing, steps, nothing_shown}
 use Rattle.mem_base.specs.access.DeviceAccess.{on_device}
 use Rattle.mem_base.specs.access.Plans.{takes}
 use Rattle.mem_base.specs.access.PlanSteps.{by_region}
