@@ -1,5 +1,5 @@
 -- A block, from the places that its actors took to what its runner has after it.
-use Rattle.std.proofs.Common.{◌≡◌, ◌⊎◌, ℕ, ◌+◌, ◌<◌, false, List, [], ◌∷◌, ◌++◌, length, get_or, refl, sym, ap, subst, ◌∙◌, arith}
+use Rattle.std.proofs.Common.{◌≡◌, ◌⊎◌, ℕ, ◌+◌, ◌<◌, Bool, false, List, [], ◌∷◌, ◌++◌, length, get_or, refl, sym, ap, subst, ◌∙◌, arith}
 use Rattle.std.proofs.lemmas.List.{length_push, nil_from_length}
 use Rattle.std.proofs.Common.{zero, suc, inl, inr, All, Option, Some, None, OnOk, Result, Ok, Err, option_to_list}
 use Rattle.std.specs.List.{range_with_len, list_any}
@@ -26,7 +26,7 @@ use Rattle.race_outside.specs.Outside.{StepsOn, StopsIn, WritesOn, stand_of}
 use Rattle.race_inside.specs.Starts.{AreAtStart}
 use Rattle.race_inside.specs.Ran.{HasRunBlock, block_text, is_out_of_memory, known_after_block}
 use Rattle.race_inside.specs.Blocks.{HasRunAll}
-use Rattle.race_inside.specs.Seats.{AreSeated, ComeBack, acting, known_now}
+use Rattle.race_inside.specs.Seats.{AllComeBack, AreSeated, ComeBack, acting, known_now}
 use Rattle.race_inside.specs.Texts.{actors_said, names_now}
 use Rattle.race_inside.specs.declared.seats.Seated.{Seated}
 use Rattle.race_inside.proofs.SeatLaws.{all_can, all_start}
@@ -89,9 +89,13 @@ module _ (k : Known) (lines : List Line) (v w : RecordState) (s : Seated) (h : A
       → HasJoined w.seat.seen (get_or xs i d) (get_or news i d) (get_or clerks i c)) h.actors r.joined)
 
   -- all virtual CPUs have come back
-  pub came_back : (rest : List BlockActor) (cpus : List (PassValue Published)) → ComeBack lines most_passes news rest s.waiting.items s.cpus.items cpus
-      → (rest ≡ parts.front) × AllBack lines v w cpus
-  came_back rest cpus comes =
+  pub came_back : (told : List Bool) (rest : List BlockActor) (cpus : List (PassValue Published)) → told ≡ s.busy.items
+      → AllComeBack told news rest s.waiting.items s.cpus.items cpus → (rest ≡ parts.front) × AllBack lines v w cpus
+  came_back told rest cpus same come =
+      let all : AllComeBack s.busy.items news rest s.waiting.items s.cpus.items cpus =
+      subst (λ (bs : List Bool). AllComeBack bs news rest s.waiting.items s.cpus.items cpus) same come in
+      let comes : ComeBack lines most_passes news rest s.waiting.items s.cpus.items cpus =
+      subst (λ (n : ℕ). ComeBack lines n news rest s.waiting.items s.cpus.items cpus) h.all_busy (all lines h.busy) in
       let b = comes v w parts.front parts.passes parts.is parts.seats h.wait in
       (b.rest_is, all_back lines v w parts.front rest s.cpus.items cpus h.no_cpus b)
 

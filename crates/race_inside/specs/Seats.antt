@@ -21,7 +21,7 @@ use Rattle.race_block.specs.Desks as desks
 use Rattle.race_block.specs.Joined.{new_clerk}
 use Rattle.race_inside.specs.Starts.{AreAtStart, DeskStarts}
 use Rattle.race_inside.specs.declared.rooms.PassWork.{PassWork}
-use Rattle.race_inside.specs.declared.rooms.PassWork.TheVariants.{Nothing, Lines}
+use Rattle.race_inside.specs.Rooms.{acts}
 use Rattle.race_inside.specs.declared.seats.Seated.{Seated}
 
 -- Before the block
@@ -65,12 +65,16 @@ pub record IsNewActor (who : ℕ) (cpu : PassValue Published) (own : List BlockL
   pub room : a.bounce ≡ bounce
   pub nothing : a.got.items ≡ []
 
--- the pass has lines and is one actor more, or waits
+-- a pass that has lines is one actor more, and any other waits
+abbrev pub TakesSeat : Bool → ℕ → PassValue Published → PassWork → List BlockActor → List BlockActor → List (PassValue Published)
+    → List (PassValue Published) → Type 0
+TakesSeat true who cpu work olds news before after =
+    (after ≡ before) × (a : PassActor) × (news ≡ olds ++ Pass a ∷ []) × IsNewActor who cpu work.lines.items work.bounce a
+TakesSeat false who cpu work olds news before after = (news ≡ olds) × (after ≡ before ++ cpu ∷ [])
+
 abbrev pub SeatsPass : ℕ → PassValue Published → PassWork → List BlockActor → List BlockActor → List (PassValue Published) → List (PassValue Published)
     → Type 0
-SeatsPass who cpu Nothing olds news before after = (news ≡ olds) × (after ≡ before ++ cpu ∷ [])
-SeatsPass who cpu (Lines own bounce) olds news before after =
-    (after ≡ before) × (a : PassActor) × (news ≡ olds ++ Pass a ∷ []) × IsNewActor who cpu own.items bounce a
+SeatsPass who cpu work = TakesSeat (acts work) who cpu work
 
 -- the first `n` passes have their places: those with lines are actors, and the others wait
 pub record HaveSeats (k : Known) (lines : List Line) (r : RecordState) (n : ℕ) (olds news : List BlockActor) (before after : List (PassValue Published))
@@ -83,6 +87,10 @@ pub record HaveSeats (k : Known) (lines : List Line) (r : RecordState) (n : ℕ)
   pub aside : after ≡ before ++ others
   pub wait : AreSeats r (idle lines n) others
 
+-- these are the passes that have lines, of the first ones
+abbrev pub AreBusy : List Line → List Bool → Type 0
+AreBusy lines busy = (p : ℕ) (d : Bool) → p < length busy → slice_index_or busy p d ≡ has_lines (block lines) p
+
 -- all have their places
 pub record AreSeated (k : Known) (lines : List Line) (r : RecordState) (s : Seated) : Type 0 where
   pub front : List BlockActor
@@ -92,6 +100,8 @@ pub record AreSeated (k : Known) (lines : List Line) (r : RecordState) (s : Seat
   pub starts : AreAtStart k lines r.seat.seen (acting lines most_passes) passes
   pub can : Every (CanAct r.seat.cabinet) passes
   pub wait : AreSeats r (idle lines most_passes) s.waiting.items
+  pub all_busy : length s.busy.items ≡ most_passes
+  pub busy : AreBusy lines s.busy.items
   pub no_cpus : s.cpus.items ≡ []
   pub cpus_fit : most_passes ≤ vec_capacity s.cpus
   pub no_clerks : s.clerks.items ≡ []
@@ -136,6 +146,12 @@ abbrev pub ComeBack : List Line → ℕ → List BlockActor → List BlockActor 
 ComeBack lines n olds rest waiting before after =
     (v w : RecordState) (front passes : List BlockActor) → olds ≡ front ++ passes → AreActorsOf w (acting lines n) passes
     → AreSeats v (idle lines n) waiting → AreBack lines v w n front rest before after
+
+-- all of the first ones, as many as are told of, by which of them are busy
+abbrev pub AllComeBack : List Bool → List BlockActor → List BlockActor → List (PassValue Published) → List (PassValue Published)
+    → List (PassValue Published) → Type 0
+AllComeBack busy olds rest waiting before after =
+    (lines : List Line) → AreBusy lines busy → ComeBack lines (length busy) olds rest waiting before after
 
 -- What is known, after the block
 

@@ -17,7 +17,7 @@ use crate::rooms::room_for;
 use crate::seats::{Seated, known_after, seat, unseat_passes};
 use crate::texts::add_block;
 use desk_lock::{Clerk, Naming, Record};
-use mem_base::{Command, Differs, MOST_PASSES};
+use mem_base::{Command, Differs};
 use outside::Gate;
 use race_block::{BlockActor, run_block};
 use race_lines::KnownNames;
@@ -89,6 +89,7 @@ fn run_in<'c, J: Naming + Send + Sync, G: Gate, R: Threads + Wait + Sync>(
         mut actors,
         mut clerks,
         known,
+        busy,
         mut waiting,
         mut cpus,
     } = seated;
@@ -108,7 +109,7 @@ fn run_in<'c, J: Naming + Send + Sync, G: Gate, R: Threads + Wait + Sync>(
         clerks.as_slice(),
         differs,
     );
-    unseat_passes(MOST_PASSES, lines, &mut actors, &mut waiting, &mut cpus);
+    unseat_passes(busy.as_slice(), &mut actors, &mut waiting, &mut cpus);
     meet(&mut after, &mut cpus);
     let known = known_after(actors.pop(), known);
     (after, cpus, known, done)

@@ -9,24 +9,25 @@ ghost use Rattle.race_block.specs.declared.blocks.BlockActor.TheVariants.{Pass};
 ghost use Rattle.race_block.specs.Desks as desks;
 ghost use Rattle.race_block.specs.Desks.{lines_meant};
 ghost use Rattle.race_inside.specs.Rooms.{AreWorksOf, IsRoomFor};
-ghost use Rattle.race_inside.specs.Seats.{AreSeated, AreSeatsOf, ComeBack, HaveSeats, IsKnown, SeatsDesk, SeatsPass, TakesCpu, known_now};
+ghost use Rattle.race_inside.specs.Seats.{AllComeBack, AreSeated, AreSeatsOf, HaveSeats, IsKnown, SeatsDesk, SeatsPass, TakesCpu, known_now};
 
-use crate::rooms::{PassWork, Room};
+use crate::rooms::{PassWork, Room, acts};
 use desk_lock::Clerk;
 use mem_base::Command;
-use race_block::{BlockActor, DeskActor, DeskLine, PassActor};
+use race_block::{BlockActor, DeskActor, DeskLine, LineGot, PassActor};
 use race_lines::KnownNames;
-use race_phases::{DESK_NUMBER, has_line};
-use std::alloc::Global;
+use race_phases::DESK_NUMBER;
+use std::alloc::{AllocError, Global};
 use vcpu_pass::Vcpu;
 
-/// The actors of a block, with room for their clerks; the virtual CPUs that wait, and what is known, where the desk waits; and room for
-/// all virtual CPUs after the block.
+/// The actors of a block, with room for their clerks; which passes are among them, and the virtual CPUs that wait; what is known, where
+/// the desk waits; and room for all virtual CPUs after the block.
 #[derive(Drop)]
 pub(crate) struct Seated<'a> {
     pub(crate) actors: Vec<BlockActor<'a>>,
     pub(crate) clerks: Vec<Clerk>,
     pub(crate) known: Option<KnownNames>,
+    pub(crate) busy: Vec<bool>,
     pub(crate) waiting: Vec<Vcpu<'a>>,
     pub(crate) cpus: Vec<Vcpu<'a>>,
 }
@@ -46,7 +47,7 @@ fn seat_desk<'a>(
     ensures desk { SeatsDesk known lines.now result actors.new.items }
     ensures capacity { vec_capacity actors.new ≡ vec_capacity actors.old }
 {
-    if !has_line(DESK_NUMBER, lines) {
+    if own.is_empty() {
         return Some(known);
     }
     actors.push_reserved(BlockActor::Desk(DeskActor {
@@ -58,6 +59,16 @@ fn seat_desk<'a>(
         out_of_memory: false,
     }));
     None
+}
+
+// No answers, with room for those of this many lines where there is memory for it; else room is asked for line by line.
+fn room_for_answers(alloc: Global, lines: usize) -> Vec<LineGot>
+    ensures { result.items ≡ [] }
+{
+    match Vec::with_capacity(alloc, lines) {
+        Ok(got) => got,
+        Err(AllocError) => Vec::new(alloc),
+    }
 }
 
 // A pass takes its place.
@@ -75,17 +86,20 @@ fn seat_pass<'a>(
     ensures actors_room { vec_capacity actors.new ≡ vec_capacity actors.old }
     ensures waiting_room { vec_capacity waiting.new ≡ vec_capacity waiting.old }
 {
-    match work {
-        PassWork::Nothing => waiting.push_reserved(cpu),
-        PassWork::Lines { lines, bounce } => actors.push_reserved(BlockActor::Pass(PassActor {
-            vcpu: cpu,
-            bounce,
-            clerk: Clerk::new(alloc, who),
-            lines,
-            got: Vec::new(alloc),
-            out_of_memory: false,
-        })),
+    if !acts(&work) {
+        waiting.push_reserved(cpu);
+        return;
     }
+    let PassWork { lines, bounce } = work;
+    let got = room_for_answers(alloc, lines.len());
+    actors.push_reserved(BlockActor::Pass(PassActor {
+        vcpu: cpu,
+        bounce,
+        clerk: Clerk::new(alloc, who),
+        lines,
+        got,
+        out_of_memory: false,
+    }));
 }
 
 // All passes take their places, by what each has to do.
@@ -133,6 +147,7 @@ pub(crate) fn seat<'a>(
     let Room {
         desk_lines,
         mut works,
+        busy,
         mut actors,
         mut waiting,
         cpus: after,
@@ -145,6 +160,7 @@ pub(crate) fn seat<'a>(
         actors,
         clerks,
         known,
+        busy,
         waiting,
         cpus: after,
     }
@@ -174,26 +190,23 @@ fn take_cpu<'a>(
     waiting.pop()
 }
 
-/// The first passes stand in order of their numbers again, from the ends of the actors and of those that wait.
+/// The first passes stand in order of their numbers again, from the ends of the actors, where they are busy, and of those that wait.
 pub(crate) fn unseat_passes<'a>(
-    count: u32,
-    lines: &[(u32, Command)],
+    busy: &[bool],
     actors: &mut Vec<BlockActor<'a>>,
     waiting: &mut Vec<Vcpu<'a>>,
     cpus: &mut Vec<Vcpu<'a>>,
 )
-    requires fit { length cpus.old.items + count ≤ vec_capacity cpus.old }
-    ensures back { ComeBack lines.now count actors.old.items actors.new.items waiting.old.items cpus.old.items cpus.new.items }
-    ensures most { length cpus.new.items ≤ length cpus.old.items + count }
+    requires fit { length cpus.old.items + length busy.now ≤ vec_capacity cpus.old }
+    ensures back { AllComeBack busy.now actors.old.items actors.new.items waiting.old.items cpus.old.items cpus.new.items }
+    ensures most { length cpus.new.items ≤ length cpus.old.items + length busy.now }
     ensures room { vec_capacity cpus.new ≡ vec_capacity cpus.old }
 {
-    if count == 0 {
+    let Some((acts, others)) = busy.split_last() else {
         return;
-    }
-    let pass = count - 1;
-    let acts = has_line(pass, lines);
-    let cpu = take_cpu(acts, actors, waiting);
-    unseat_passes(pass, lines, actors, waiting, cpus);
+    };
+    let cpu = take_cpu(*acts, actors, waiting);
+    unseat_passes(others, actors, waiting, cpus);
     if let Some(cpu) = cpu {
         cpus.push_reserved(cpu);
     }

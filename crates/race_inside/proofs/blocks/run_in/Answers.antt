@@ -40,8 +40,8 @@ meet-requires-clause-own g c =
     let clerks = c.run_actors-after.new.clerks.items in
     let differs = c.run_actors-after.result.1 in
     let r : HasRunAll v w s.actors.items news clerks differs = c.run_actors-after.ensures in
-    let back = came_back c.requires.seated.0 lines v w s c.requires.seated.1 news clerks differs r c.unseat_passes.new.actors.items
-    c.unseat_passes.new.cpus.items c.unseat_passes.ensures.back in
+    let back = came_back c.requires.seated.0 lines v w s c.requires.seated.1 news clerks differs r c.as_slice-3.result.now c.unseat_passes.new.actors.items
+    c.unseat_passes.new.cpus.items c.as_slice-3.ensures.value c.unseat_passes.ensures.back in
     all_own lines v w c.unseat_passes.new.cpus.items r.later back.1
 
 pub meet-requires-clause-heard : goal.meet-requires-clause-heard
@@ -54,8 +54,8 @@ meet-requires-clause-heard g c =
     let clerks = c.run_actors-after.new.clerks.items in
     let differs = c.run_actors-after.result.1 in
     let r : HasRunAll v w s.actors.items news clerks differs = c.run_actors-after.ensures in
-    let back = came_back c.requires.seated.0 lines v w s c.requires.seated.1 news clerks differs r c.unseat_passes.new.actors.items
-    c.unseat_passes.new.cpus.items c.unseat_passes.ensures.back in
+    let back = came_back c.requires.seated.0 lines v w s c.requires.seated.1 news clerks differs r c.as_slice-3.result.now c.unseat_passes.new.actors.items
+    c.unseat_passes.new.cpus.items c.as_slice-3.ensures.value c.unseat_passes.ensures.back in
     all_heard lines v w c.unseat_passes.new.cpus.items r.later back.1
 
 pub known_after-known-requires : goal.known_after-known-requires
@@ -68,8 +68,8 @@ known_after-known-requires g c =
     let clerks = c.run_actors-after.new.clerks.items in
     let differs = c.run_actors-after.result.1 in
     let r : HasRunAll v w s.actors.items news clerks differs = c.run_actors-after.ensures in
-    let back = came_back c.requires.seated.0 lines v w s c.requires.seated.1 news clerks differs r c.unseat_passes.new.actors.items
-    c.unseat_passes.new.cpus.items c.unseat_passes.ensures.back in
+    let back = came_back c.requires.seated.0 lines v w s c.requires.seated.1 news clerks differs r c.as_slice-3.result.now c.unseat_passes.new.actors.items
+    c.unseat_passes.new.cpus.items c.as_slice-3.ensures.value c.unseat_passes.ensures.back in
     let p = parts c.requires.seated.0 lines v w s c.requires.seated.1 news clerks differs r in
     let none : c.pop.result ≡ None → length c.unseat_passes.new.actors.items ≡ 0 = search rules in
     subst (IsKnown s.known) (sym (known_list c.requires.seated.0 lines v w s c.requires.seated.1 news clerks differs r c.unseat_passes.new.actors.items
@@ -85,8 +85,8 @@ returns-clause-ready g c =
     let clerks = c.run_actors-after.new.clerks.items in
     let differs = c.run_actors-after.result.1 in
     let r : HasRunAll v w s.actors.items news clerks differs = c.run_actors-after.ensures in
-    let back = came_back c.requires.seated.0 lines v w s c.requires.seated.1 news clerks differs r c.unseat_passes.new.actors.items
-    c.unseat_passes.new.cpus.items c.unseat_passes.ensures.back in
+    let back = came_back c.requires.seated.0 lines v w s c.requires.seated.1 news clerks differs r c.as_slice-3.result.now c.unseat_passes.new.actors.items
+    c.unseat_passes.new.cpus.items c.as_slice-3.ensures.value c.unseat_passes.ensures.back in
     subst (λ (x : RecordState). AreReady x c.meet.new.cpus.items) (sym c.meet.ensures.same)
     (all_ready lines v w c.unseat_passes.new.cpus.items c.meet.new.cpus.items r.later back.1
     c.meet.ensures.count c.meet.ensures.met)
@@ -101,8 +101,8 @@ returns-clause-step g c = λ k h.
     let clerks = c.run_actors-after.new.clerks.items in
     let differs = c.run_actors-after.result.1 in
     let r : HasRunAll v w s.actors.items news clerks differs = c.run_actors-after.ensures in
-    let back = came_back k lines v w s h news clerks differs r c.unseat_passes.new.actors.items
-    c.unseat_passes.new.cpus.items c.unseat_passes.ensures.back in
+    let back = came_back k lines v w s h news clerks differs r c.as_slice-3.result.now c.unseat_passes.new.actors.items
+    c.unseat_passes.new.cpus.items c.as_slice-3.ensures.value c.unseat_passes.ensures.back in
     let whole : HasRunBlock k lines v w s.actors.items news clerks differs =
     has_run k lines v w s h news clerks differs r c.unseat_passes.new.cpus.items c.meet.new.cpus.items back.1 c.meet.ensures.met in
     let none : c.pop.result ≡ None → length c.unseat_passes.new.actors.items ≡ 0 = search rules in
@@ -122,8 +122,8 @@ returns-clause-stopped g c = λ k h.
     let clerks = c.run_actors-after.new.clerks.items in
     let differs = c.run_actors-after.result.1 in
     let r : HasRunAll v w s.actors.items news clerks differs = c.run_actors-after.ensures in
-    let back = came_back k lines v w s h news clerks differs r c.unseat_passes.new.actors.items
-    c.unseat_passes.new.cpus.items c.unseat_passes.ensures.back in
+    let back = came_back k lines v w s h news clerks differs r c.as_slice-3.result.now c.unseat_passes.new.actors.items
+    c.unseat_passes.new.cpus.items c.as_slice-3.ensures.value c.unseat_passes.ensures.back in
     subst (λ (x : RecordState). StopsIn v k (block lines) x) (sym c.meet.ensures.same)
     (blocks_may_stop k lines v w s.actors.items news clerks differs
     (has_run k lines v w s h news clerks differs r c.unseat_passes.new.cpus.items c.meet.new.cpus.items back.1 c.meet.ensures.met))
