@@ -48,7 +48,8 @@ use Rattle.race_block.specs.declared.tasks.BlockLine.{BlockLine}
 use Rattle.race_block.specs.declared.tasks.LineGot.{LineGot}
 use Rattle.race_block.specs.declared.tasks.LineGot.TheVariants as gots
 use Rattle.race_block.specs.Lines.{HasAnswered, HasDone, HasOrdered, HasStepped, HaveRun, IsUnderway}
-use Rattle.race_block.specs.Laws.{StandsFor, count_own, said_of, taken_by, why_of}
+use Rattle.race_block.specs.Resolving.{StandsFor}
+use Rattle.race_block.specs.Laws.{count_own, said_of, taken_by, why_of}
 
 -- one line after others
 

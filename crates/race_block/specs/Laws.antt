@@ -22,28 +22,11 @@ use Rattle.pass_lines.specs.Doing.{Grew, IsInItsGeneration, state_seen}
 use Rattle.pass_lines.specs.Laws.{KeepsLines}
 use Rattle.pass_lines.specs.Texts.{answer_text}
 use Rattle.race_lines.specs.LineTasks.{refused_text}
-use Rattle.race_block.specs.declared.tasks.PassTask.{PassTask}
-use Rattle.race_block.specs.declared.tasks.PassTask.TheVariants.{Refused, Order, Enter, Leave, Read, Write, Copy}
 use Rattle.race_block.specs.declared.tasks.BlockLine.{BlockLine}
 use Rattle.race_block.specs.declared.tasks.LineGot.{LineGot}
 use Rattle.race_block.specs.declared.tasks.LineGot.TheVariants as gots
 use Rattle.race_block.specs.Lines.{HaveRun}
-
--- the task is what a line asks for, once its names are resolved
-abbrev pub StandsFor : PassTask → Resolved Task → Type 0
-StandsFor (Refused why) r = r ≡ Err (refused_text why)
-StandsFor (Order order) r = (name : Text) × (r ≡ Ok (ordered order name))
-StandsFor Enter r = r ≡ Ok entered
-StandsFor Leave r = r ≡ Ok left
-StandsFor (Read space addr len) r = r ≡ Ok (accessed space addr (reading len))
-StandsFor (Write space addr bytes) r = r ≡ Ok (accessed space addr (writing bytes.now))
-StandsFor (Copy from addr len to to_addr) r = r ≡ Ok (copied from addr len to to_addr)
-
--- these are the tasks of a script's lines, by what is known as the block starts
-abbrev pub AreTasksOf : Known → List Line → List BlockLine → Type 0
-AreTasksOf k [] [] = Unit {0}
-AreTasksOf k (line ∷ lines) (x ∷ xs) = (x.number ≡ line.0) × StandsFor x.task (task_of k line.1) × AreTasksOf k lines xs
-AreTasksOf k _ _ = ⊥
+use Rattle.race_block.specs.Resolving.{AreTasksOf}
 
 -- what a pass did, from where it stood
 abbrev pub deed_from : PassState → List Line → List HistoryEntry → List DeskEntry → PassState → PassDeed

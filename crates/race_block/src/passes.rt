@@ -2,10 +2,11 @@
 ghost use Rattle.std.specs.Prelude.{◌≡◌, ◌≤◌, [], true, false, All, IfOk, OnErr};
 ghost use Rattle.desk_lock.specs.Receipts.{HasNotifier};
 ghost use Rattle.pass_lines.specs.Doing.{IsInItsGeneration};
-ghost use Rattle.race_block.specs.Lines.{FitsLine, FitsTask, HasDone, HasOrdered, HasRun, HasStepped, IsReady};
+ghost use Rattle.race_block.specs.Lines.{FitsLine, FitsTask, HasDone, HasOrdered, HasRun, HasRunLines, HasStepped, IsReady};
 ghost use Rattle.race_block.specs.declared.tasks.LineGot.TheVariants.{Ordered};
 
-use crate::tasks::{BlockLine, LineGot, PassTask};
+use crate::resolving::resolve;
+use crate::tasks::{BlockLine, LineGot, PassLines, PassTask};
 use desk_lock::{Clerk, Orderly, Receipt};
 use io_window::Bounce;
 use mem_base::{DeskOrder, PassId};
@@ -17,11 +18,11 @@ use vcpu_pass::Vcpu;
 
 /// A pass in a block: its virtual CPU with a bounce for what is copied, the clerk of its orders, its lines, and what they got.
 #[derive(Drop)]
-pub struct PassActor<'a> {
+pub struct PassActor<'a, 'k> {
     pub vcpu: Vcpu<'a>,
     pub bounce: Bounce,
     pub clerk: Clerk,
-    pub lines: Vec<BlockLine<'a>>,
+    pub lines: PassLines<'a, 'k>,
     /// What the first lines got, one for each.
     pub got: Vec<LineGot>,
     /// Memory ran out before the next line was done.
@@ -150,8 +151,57 @@ fn do_line<'a, O: Orderly, G: Gate, R: Wait>(
     }
 }
 
-impl<'a> PassActor<'a> {
-    /// Does the lines in order, and reaches the gate before each. Where memory runs out it stops, and has done the first of them.
+// Does lines in order, and reaches the gate before each. Where memory runs out it stops, and has done the first of them.
+fn run_lines<'a, 'k, O: Orderly, G: Gate, R: Wait>(
+    rt: &R,
+    alloc: Global,
+    gate: &G,
+    desk: &mut O,
+    mut vcpu: Vcpu<'a>,
+    mut bounce: Bounce,
+    mut clerk: Clerk,
+    lines: Vec<BlockLine<'a>>,
+    mut got: Vec<LineGot>,
+) -> PassActor<'a, 'k>
+    requires own { O.cabinet desk.old ≡ vcpu.cabinet }
+    requires inside { IsInItsGeneration vcpu }
+    requires fits { All (FitsLine bounce) lines.items }
+    requires nothing { got.items ≡ [] }
+    ensures run { HasRunLines lines.entry.items bounce clerk vcpu.entry result }
+    ensures desk { O.cabinet desk.new ≡ O.cabinet desk.old }
+{
+    let _ = got.reserve(lines.len());
+    for at in 0..lines.len() {
+        let line = &lines[at];
+        let (next, room, done) = do_line(
+            rt, alloc, gate, desk, vcpu, bounce, &mut clerk, &mut got, line,
+        );
+        vcpu = next;
+        bounce = room;
+        if !done {
+            return PassActor {
+                vcpu,
+                bounce,
+                clerk,
+                lines: PassLines::Resolved(lines),
+                got,
+                out_of_memory: true,
+            };
+        }
+    }
+    PassActor {
+        vcpu,
+        bounce,
+        clerk,
+        lines: PassLines::Resolved(lines),
+        got,
+        out_of_memory: false,
+    }
+}
+
+impl<'a, 'k> PassActor<'a, 'k> {
+    /// Resolves the names of the lines, where this was not done before; then does the lines in order, and reaches the gate before each. Where
+    /// memory runs out it stops, and has done the first of them.
     ///
     /// The desk is of the machine of the virtual CPU, the bounce has room for what is copied, and nothing was done yet.
     pub fn run<O: Orderly, G: Gate, R: Wait>(
@@ -160,45 +210,30 @@ impl<'a> PassActor<'a> {
         alloc: Global,
         gate: &G,
         desk: &mut O,
-    ) -> PassActor<'a>
+    ) -> PassActor<'a, 'k>
         requires own { O.cabinet desk.old ≡ self.vcpu.cabinet }
         requires ready { IsReady self }
         ensures run { HasRun self.entry result }
         ensures desk { O.cabinet desk.new ≡ O.cabinet desk.old }
     {
         let PassActor {
-            mut vcpu,
-            mut bounce,
-            mut clerk,
-            lines,
-            mut got,
-            out_of_memory: _,
-        } = self;
-        for at in 0..lines.len() {
-            let line = &lines[at];
-            let (next, room, done) = do_line(
-                rt, alloc, gate, desk, vcpu, bounce, &mut clerk, &mut got, line,
-            );
-            vcpu = next;
-            bounce = room;
-            if !done {
-                return PassActor {
-                    vcpu,
-                    bounce,
-                    clerk,
-                    lines,
-                    got,
-                    out_of_memory: true,
-                };
-            }
-        }
-        PassActor {
             vcpu,
             bounce,
             clerk,
             lines,
             got,
-            out_of_memory: false,
+            out_of_memory: _,
+        } = self;
+        match resolve(alloc, lines) {
+            Ok(lines) => run_lines(rt, alloc, gate, desk, vcpu, bounce, clerk, lines, got),
+            Err(_) => PassActor {
+                vcpu,
+                bounce,
+                clerk,
+                lines: PassLines::Resolved(Vec::new(alloc)),
+                got,
+                out_of_memory: true,
+            },
         }
     }
 }

@@ -1,8 +1,15 @@
 // The lines of a pass in a block, and what they got.
 
-use mem_base::{Bytes, DeskOrder, SpaceId};
+use mem_base::{Bytes, Command, DeskOrder, SpaceId};
 use pass_lines::LineAnswer;
-use race_lines::Refused;
+use race_lines::{KnownNames, Refused};
+
+/// A line of an actor in a block: its number in the script, and its command.
+#[derive(Clone, Copy)]
+pub struct OwnLine<'a> {
+    pub number: u32,
+    pub command: &'a Command,
+}
 
 /// What a line asks of a pass, once its names are resolved.
 #[derive(Debug, Drop)]
@@ -42,6 +49,18 @@ pub enum PassTask<'a> {
 pub struct BlockLine<'a> {
     pub number: u32,
     pub task: PassTask<'a>,
+}
+
+/// The lines of a pass in a block.
+#[derive(Drop)]
+pub enum PassLines<'a, 'k> {
+    /// As they stand in the script. Their names are resolved by these, which nobody changes in the block.
+    Unresolved {
+        lines: Vec<OwnLine<'a>>,
+        names: &'k KnownNames,
+    },
+    /// With their tasks.
+    Resolved(Vec<BlockLine<'a>>),
 }
 
 /// What a line of a pass got.

@@ -15,7 +15,8 @@ use Rattle.race_block.specs.declared.tasks.PassTask.TheVariants.{Refused, Order,
 use Rattle.race_block.specs.declared.tasks.BlockLine.{BlockLine}
 use Rattle.race_block.specs.declared.tasks.LineGot.{LineGot}
 use Rattle.race_block.specs.declared.tasks.LineGot.TheVariants as gots
-use Rattle.race_block.specs.Laws.{AreTasksOf, StandsFor, said_of, saids, taken_by, why_of}
+use Rattle.race_block.specs.Resolving.{AreTasksOf, StandsFor}
+use Rattle.race_block.specs.Laws.{said_of, saids, taken_by, why_of}
 use Rattle.race_block.specs.Lines.{HasDone, HaveRun}
 use Rattle.race_inside.specs.Texts.{line_said, lines_said}
 

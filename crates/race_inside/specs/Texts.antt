@@ -20,6 +20,7 @@ use Rattle.race_block.specs.declared.tasks.LineGot.TheVariants as gots
 use Rattle.race_block.specs.declared.tasks.PassTask.{PassTask}
 use Rattle.race_block.specs.declared.tasks.PassTask.TheVariants.{Refused}
 use Rattle.race_block.specs.Laws.{taken_by}
+use Rattle.race_block.specs.Resolving.{tasks_in}
 
 -- the refusal of a line by one of its names
 abbrev pub refusal : ℕ → PassTask → Text
@@ -45,7 +46,7 @@ lines_said names pass _ _ entries = []
 -- all that an actor's lines said, by its clerk
 abbrev pub actor_said : Names → List Delivery → BlockActor → Clerk → Text
 actor_said names journal (Desk a) c = flat_map (said_text names journal) a.said.items
-actor_said names journal (Pass a) c = flat_map (said_text names journal) (lines_said names (pass_id c.who) a.lines.items a.got.items c.got)
+actor_said names journal (Pass a) c = flat_map (said_text names journal) (lines_said names (pass_id c.who) (tasks_in a.lines) a.got.items c.got)
 actor_said names journal Gone c = []
 
 abbrev pub actors_said : Names → List Delivery → List BlockActor → List Clerk → Text

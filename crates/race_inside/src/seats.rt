@@ -8,37 +8,38 @@ ghost use Rattle.desk_lock.specs.Records.{RecordState};
 ghost use Rattle.race_block.specs.declared.blocks.BlockActor.TheVariants.{Pass};
 ghost use Rattle.race_block.specs.Desks as desks;
 ghost use Rattle.race_block.specs.Desks.{lines_meant};
-ghost use Rattle.race_inside.specs.Rooms.{AreWorksOf, IsRoomFor};
-ghost use Rattle.race_inside.specs.Seats.{AllComeBack, AreSeated, AreSeatsOf, HaveSeats, IsKnown, SeatsDesk, SeatsPass, TakesCpu, known_now};
+ghost use Rattle.race_inside.specs.Rooms.{AreWorksOf, IsPassRoomFor};
+ghost use Rattle.race_inside.specs.Seats.{AllComeBack, AreSeated, AreSeatsOf, GivesLines, HaveSeats, IsTold, KeepsKnown, SeatsDesk};
+ghost use Rattle.race_inside.specs.Seats.{SeatsPass, TakesCpu, desks_known, names_then};
 
-use crate::rooms::{PassWork, Room, acts};
+use crate::rooms::{PassRoom, Work, acts};
 use desk_lock::Clerk;
 use mem_base::Command;
-use race_block::{BlockActor, DeskActor, DeskLine, LineGot, PassActor};
+use race_block::{BlockActor, BlockLine, DeskActor, OwnLine, PassActor, PassLines};
 use race_lines::KnownNames;
 use race_phases::DESK_NUMBER;
-use std::alloc::{AllocError, Global};
+use std::alloc::Global;
 use vcpu_pass::Vcpu;
 
 /// The actors of a block, with room for their clerks; which passes are among them, and the virtual CPUs that wait; what is known, where
 /// the desk waits; and room for all virtual CPUs after the block.
 #[derive(Drop)]
-pub(crate) struct Seated<'a> {
-    pub(crate) actors: Vec<BlockActor<'a>>,
+pub(crate) struct Seated<'a, 'k> {
+    pub(crate) actors: Vec<BlockActor<'a, 'k>>,
     pub(crate) clerks: Vec<Clerk>,
-    pub(crate) known: Option<KnownNames>,
+    pub(crate) known: &'k Option<KnownNames>,
     pub(crate) busy: Vec<bool>,
     pub(crate) waiting: Vec<Vcpu<'a>>,
     pub(crate) cpus: Vec<Vcpu<'a>>,
 }
 
-// The desk takes its place as the first actor, where it has lines; else what is known is kept.
-fn seat_desk<'a>(
+/// The desk takes its place as the first actor, where it has lines; else what is known is kept.
+pub(crate) fn seat_desk<'a>(
     alloc: Global,
     known: KnownNames,
-    own: Vec<DeskLine<'a>>,
+    own: Vec<OwnLine<'a>>,
     lines: &[(u32, Command)],
-    actors: &mut Vec<BlockActor<'a>>,
+    actors: &mut Vec<BlockActor<'a, '_>>,
 ) -> Option<KnownNames>
     requires lines { lines_meant own.items ≡ lines_by desk_number (block lines.now) }
     requires fits { All desks.FitsLine own.items }
@@ -61,28 +62,33 @@ fn seat_desk<'a>(
     None
 }
 
-// No answers, with room for those of this many lines where there is memory for it; else room is asked for line by line.
-fn room_for_answers(alloc: Global, lines: usize) -> Vec<LineGot>
-    ensures { result.items ≡ [] }
+// The lines of a pass: as they stand with what is known, where this is kept; else with the tasks that were made before.
+fn lines_for<'a, 'k>(
+    known: &'k Option<KnownNames>,
+    own: Vec<OwnLine<'a>>,
+    tasks: Vec<BlockLine<'a>>,
+) -> PassLines<'a, 'k>
+    ensures { GivesLines known.now own.entry.items tasks.entry.items result }
 {
-    match Vec::with_capacity(alloc, lines) {
-        Ok(got) => got,
-        Err(AllocError) => Vec::new(alloc),
+    match known {
+        Some(names) => PassLines::Unresolved { lines: own, names },
+        None => PassLines::Resolved(tasks),
     }
 }
 
 // A pass takes its place.
-fn seat_pass<'a>(
+fn seat_pass<'a, 'k>(
     alloc: Global,
     who: u32,
+    known: &'k Option<KnownNames>,
     cpu: Vcpu<'a>,
-    work: PassWork<'a>,
-    actors: &mut Vec<BlockActor<'a>>,
+    work: Work<'a>,
+    actors: &mut Vec<BlockActor<'a, 'k>>,
     waiting: &mut Vec<Vcpu<'a>>,
 )
     requires actors_fit { length actors.old.items < vec_capacity actors.old }
     requires waiting_fit { length waiting.old.items < vec_capacity waiting.old }
-    ensures seat { SeatsPass who cpu.entry work.entry actors.old.items actors.new.items waiting.old.items waiting.new.items }
+    ensures seat { SeatsPass who known.now cpu.entry work.entry actors.old.items actors.new.items waiting.old.items waiting.new.items }
     ensures actors_room { vec_capacity actors.new ≡ vec_capacity actors.old }
     ensures waiting_room { vec_capacity waiting.new ≡ vec_capacity waiting.old }
 {
@@ -90,31 +96,33 @@ fn seat_pass<'a>(
         waiting.push_reserved(cpu);
         return;
     }
-    let PassWork { lines, bounce } = work;
-    let got = room_for_answers(alloc, lines.len());
+    let Work { own, tasks, bounce } = work;
+    let lines = lines_for(known, own, tasks);
     actors.push_reserved(BlockActor::Pass(PassActor {
         vcpu: cpu,
         bounce,
         clerk: Clerk::new(alloc, who),
         lines,
-        got,
+        got: Vec::new(alloc),
         out_of_memory: false,
     }));
 }
 
 // All passes take their places, by what each has to do.
-fn seat_passes<'a>(
+fn seat_passes<'a, 'k>(
     alloc: Global,
+    known: &'k Option<KnownNames>,
     cpus: &mut Vec<Vcpu<'a>>,
-    works: &mut Vec<PassWork<'a>>,
-    actors: &mut Vec<BlockActor<'a>>,
+    works: &mut Vec<Work<'a>>,
+    actors: &mut Vec<BlockActor<'a, 'k>>,
     waiting: &mut Vec<Vcpu<'a>>,
 )
     requires most { length cpus.old.items ≤ most_passes }
     requires works { length works.old.items ≡ length cpus.old.items }
     requires actors_fit { length actors.old.items + length cpus.old.items ≤ vec_capacity actors.old }
     requires waiting_fit { length waiting.old.items + length cpus.old.items ≤ vec_capacity waiting.old }
-    ensures seats { (k : Known) (lines : List Line) (r : RecordState) → AreSeatsOf r cpus.old.items → AreWorksOf k lines works.old.items
+    ensures seats { (k : Known) (lines : List Line) (r : RecordState) → KeepsKnown k lines known.now → AreSeatsOf r cpus.old.items
+        → AreWorksOf k lines works.old.items
         → HaveSeats k lines r (length cpus.old.items) actors.old.items actors.new.items waiting.old.items waiting.new.items }
     ensures actors_most { length actors.new.items ≤ length actors.old.items + length cpus.old.items }
     ensures waiting_most { length waiting.new.items ≤ length waiting.old.items + length cpus.old.items }
@@ -128,36 +136,44 @@ fn seat_passes<'a>(
         unreachable!();
     };
     let who = cpus.len() as u32;
-    seat_passes(alloc, cpus, works, actors, waiting);
-    seat_pass(alloc, who, cpu, work, actors, waiting);
+    seat_passes(alloc, known, cpus, works, actors, waiting);
+    seat_pass(alloc, who, known, cpu, work, actors, waiting);
 }
 
-/// The desk and all passes take their places before a block.
-pub(crate) fn seat<'a>(
+/// All passes take their places before a block, after the desk.
+pub(crate) fn seat<'a, 'k>(
     alloc: Global,
+    known: &'k Option<KnownNames>,
     cpus: Vec<Vcpu<'a>>,
-    known: KnownNames,
     lines: &[(u32, Command)],
-    room: Room<'a>,
-) -> Seated<'a>
+    actors: Vec<BlockActor<'a, 'k>>,
+    room: PassRoom<'a>,
+) -> Seated<'a, 'k>
     requires all { length cpus.items ≡ most_passes }
-    requires room { IsRoomFor known lines.now room }
-    ensures { (r : RecordState) → AreSeatsOf r cpus.entry.items → AreSeated known lines.now r result }
+    requires fit { most_passes + 1 ≤ vec_capacity actors }
+    requires room { (k : Known) × SeatsDesk k lines.now known.now actors.items × IsPassRoomFor k lines.now room }
+    ensures { (k : Known) (r : RecordState) → SeatsDesk k lines.now known.now actors.entry.items → IsPassRoomFor k lines.now room.entry
+        → AreSeatsOf r cpus.entry.items → AreSeated k lines.now r result }
 {
-    let Room {
-        desk_lines,
+    let PassRoom {
         mut works,
         busy,
-        mut actors,
         mut waiting,
         cpus: after,
         clerks,
     } = room;
     let mut before = cpus;
-    let known = seat_desk(alloc, known, desk_lines, lines, &mut actors);
-    seat_passes(alloc, &mut before, &mut works, &mut actors, &mut waiting);
+    let mut seated = actors;
+    seat_passes(
+        alloc,
+        known,
+        &mut before,
+        &mut works,
+        &mut seated,
+        &mut waiting,
+    );
     Seated {
-        actors,
+        actors: seated,
         clerks,
         known,
         busy,
@@ -167,7 +183,7 @@ pub(crate) fn seat<'a>(
 }
 
 // The virtual CPU of an actor.
-fn cpu_of<'a>(actor: Option<BlockActor<'a>>) -> Option<Vcpu<'a>>
+fn cpu_of<'a>(actor: Option<BlockActor<'a, '_>>) -> Option<Vcpu<'a>>
     ensures { (a : PassActor) → actor.entry ≡ Some (Pass a) → result ≡ Some a.vcpu }
 {
     match actor {
@@ -179,7 +195,7 @@ fn cpu_of<'a>(actor: Option<BlockActor<'a>>) -> Option<Vcpu<'a>>
 // The virtual CPU of the last pass that acts, or of the last one that waits.
 fn take_cpu<'a>(
     acts: bool,
-    actors: &mut Vec<BlockActor<'a>>,
+    actors: &mut Vec<BlockActor<'a, '_>>,
     waiting: &mut Vec<Vcpu<'a>>,
 ) -> Option<Vcpu<'a>>
     ensures { TakesCpu acts actors.old.items actors.new.items waiting.old.items waiting.new.items result }
@@ -193,7 +209,7 @@ fn take_cpu<'a>(
 /// The first passes stand in order of their numbers again, from the ends of the actors, where they are busy, and of those that wait.
 pub(crate) fn unseat_passes<'a>(
     busy: &[bool],
-    actors: &mut Vec<BlockActor<'a>>,
+    actors: &mut Vec<BlockActor<'a, '_>>,
     waiting: &mut Vec<Vcpu<'a>>,
     cpus: &mut Vec<Vcpu<'a>>,
 )
@@ -212,16 +228,26 @@ pub(crate) fn unseat_passes<'a>(
     }
 }
 
+/// What the desk knows after a block, where it acted.
+pub(crate) fn desks_known(desk: Option<BlockActor<'_, '_>>) -> Option<KnownNames>
+    ensures { result ≡ desks_known (option_to_list desk.entry) }
+{
+    match desk {
+        Some(BlockActor::Desk(lines)) => Some(lines.known),
+        _ => None,
+    }
+}
+
 /// What is known after a block: what was kept, or what the desk knows then.
-pub(crate) fn known_after(desk: Option<BlockActor<'_>>, kept: Option<KnownNames>) -> KnownNames
-    requires { IsKnown kept (option_to_list desk) }
-    ensures { (k : Known) → result ≡ known_now k kept (option_to_list desk.entry) }
+pub(crate) fn known_after(desks: Option<KnownNames>, kept: Option<KnownNames>) -> KnownNames
+    requires { IsTold kept desks }
+    ensures { (k : Known) → result ≡ names_then k kept desks }
 {
     match kept {
         Some(known) => known,
-        None => match desk {
-            Some(BlockActor::Desk(lines)) => lines.known,
-            _ => unreachable!(),
+        None => match desks {
+            Some(known) => known,
+            None => unreachable!(),
         },
     }
 }

@@ -3,4 +3,4 @@ use Rattle.race_inside.proofs.LineLists.{AreDealt}
 use Rattle.race_inside.proofs.tasks.deal.Given as goal
 
 abbrev pub invariant-loop-line : goal.invariant-loop-line
-invariant-loop-line l = AreDealt l.known l.lines (drop l.line-index l.lines) l.desk.items l.works.items
+invariant-loop-line l = AreDealt l.lines (drop l.line-index l.lines) l.works.items
