@@ -2,6 +2,7 @@
 use Rattle.std.proofs.Common.{◌≡◌, ◌==◌, ◌&&◌, ◌+◌, ◌-◌, ℕ, zero, suc, Bool, true, false, cond, List, [], ◌∷◌, map, filter, find, refl, sym, ap, subst, ◌∙◌}
 use Rattle.std.proofs.Common.{Option, Some, None}
 use Rattle.std.specs.Prelude.{nat_le, nat_lt, option_map, option_and_then}
+use Rattle.std.proofs.lemmas.Option.{none-some, same_Some}
 use Rattle.std.specs.List.{list_any}
 use Rattle.std.specs.Option.{option_or}
 use Rattle.std.specs.Ordering.{is_lt}
@@ -124,17 +125,21 @@ inside_told memory f below above n a device off same = by (list_any (λ r. r.0 =
 
 found_device : (memory : List RegionId) (nodes : List Node) (r : RegionId) (n : Node) → Every (IsDeviceAmong memory) nodes → node_of nodes r ≡ Some n
     → IsDeviceAmong memory n
-found_device memory [] r n all e = absurd (none_some e)
+found_device memory [] r n all e = absurd (none-some n e)
+found_device memory (m ∷ ms) r n all e = by (has_id r m) e (λ rest. found_device memory ms r n all.1 rest)
   where
-    none_some : {A : Type 0} {x : A} → None ≡ Some x → ⊥
-    none_some e = cc
-found_device memory (m ∷ ms) r n all e = by (has_id r m) e
-  where
-    by : (b : Bool) → cond b (Some m) (node_of ms r) ≡ Some n → IsDeviceAmong memory n
-    by true e = subst (IsDeviceAmong memory) (some_same m n e) all.0
-    by false e = found_device memory ms r n all.1 e
-    some_same : (x y : Node) → Some x ≡ Some y → x ≡ y
-    some_same x y e = ap (λ o. elim o as (λ z. Node) [ | None ↦ x | Some z ↦ z ]) e
+    by : (b : Bool) → cond b (Some m) (node_of ms r) ≡ Some n → (node_of ms r ≡ Some n → IsDeviceAmong memory n) → IsDeviceAmong memory n
+    by true e later = subst (IsDeviceAmong memory) (same_Some m n e) all.0
+    by false e later = later e
+
+found_step : (memory : List RegionId) (f : Forest) → Every (IsDeviceAmong memory) f.nodes → f.global ≡ false → (below above : Search)
+    → ((q : RegionId) (b : ℕ) → above q b ≡ below q b) → (r : RegionId) (a : ℕ) (o : Option Node) → node_of f.nodes r ≡ o
+    → option_and_then (λ n. at_node (memory_forest memory f) above n a) (option_map (memory_node memory) o)
+    ≡ option_and_then (λ n. at_node f below n a) o
+found_step memory f devices off below above same r a None e = refl
+found_step memory f devices off below above same r a (Some n) e =
+    ap (λ x. cond (n.enabled && nat_lt a n.size) (option_map (passed n) x) None)
+    (inside_told memory f below above n a (found_device memory f.nodes r n devices e) off same)
 
 pub found_told : (memory : List RegionId) (f : Forest) → Every (IsDeviceAmong memory) f.nodes → f.global ≡ false → (depth : ℕ) (r : RegionId) (a : ℕ)
     → found_in (memory_forest memory f) depth r a ≡ found_in f depth r a
@@ -142,16 +147,8 @@ unfolding found_in
 found_told memory f devices off zero r a = refl
 found_told memory f devices off (suc depth) r a =
     ap (option_and_then (λ n. at_node (memory_forest memory f) (found_in (memory_forest memory f) depth) n a)) (node_told memory f.nodes r)
-    ∙ by (node_of f.nodes r) refl
-  where
-    below : (q : RegionId) (b : ℕ) → found_in (memory_forest memory f) depth q b ≡ found_in f depth q b
-    below q b = found_told memory f devices off depth q b
-    by : (o : Option Node) → node_of f.nodes r ≡ o
-        → option_and_then (λ n. at_node (memory_forest memory f) (found_in (memory_forest memory f) depth) n a) (option_map (memory_node memory) o)
-        ≡ option_and_then (λ n. at_node f (found_in f depth) n a) o
-    by None e = refl
-    by (Some n) e = ap (λ x. cond (n.enabled && nat_lt a n.size) (option_map (passed n) x) None)
-        (inside_told memory f (found_in f depth) (found_in (memory_forest memory f) depth) n a (found_device memory f.nodes r n devices e) off below)
+    ∙ found_step memory f devices off (found_in f depth) (found_in (memory_forest memory f) depth)
+    (λ q b. found_told memory f devices off depth q b) r a (node_of f.nodes r) refl
 
 found_told_at : (memory : List RegionId) (f : Forest) (s : SpaceId) → Every (IsDeviceAmong memory) f.nodes → f.global ≡ false → (a : ℕ)
     → found_at (memory_forest memory f) s a ≡ found_at f s a
