@@ -17,12 +17,7 @@ use script_memory::{ToldMap, read_told};
 use std::alloc::{AllocError, Global};
 
 // The rows of a space.
-fn value_of(
-    alloc: Global,
-    map: &ToldMap,
-    name: &Name,
-    space: SpaceId,
-) -> Result<Value, AllocError>
+fn value_of(alloc: Global, map: &ToldMap, name: &Name, space: SpaceId) -> Result<Value, AllocError>
     ensures { IfOk result (λ v. (rows : List Row) × Tiles 0 (2 ^ 64) rows × (ranges_of rows ≡ view_of (shown_forest map.now.state) space)
         × (view v ≡ draw_data name.now map.now.state.names rows)) }
 {

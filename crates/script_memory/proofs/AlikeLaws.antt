@@ -1,5 +1,5 @@
 -- That the search finds the same whether regions are devices or memory.
-use Rattle.std.proofs.Common.{◌≡◌, ◌==◌, ◌&&◌, ◌+◌, ◌-◌, ℕ, zero, suc, Bool, true, false, cond, List, [], ◌∷◌, map, filter, find, refl, sym, ap, subst, ◌∙◌}
+use Rattle.std.proofs.Common.{◌≡◌, ◌==◌, ◌^◌, ◌&&◌, ◌+◌, ◌-◌, ℕ, zero, suc, Bool, true, false, cond, List, [], ◌∷◌, map, filter, find, refl, sym, ap, subst, ◌∙◌}
 use Rattle.std.proofs.Common.{Option, Some, None}
 use Rattle.std.specs.Prelude.{nat_le, nat_lt, option_map, option_and_then}
 use Rattle.std.proofs.lemmas.Option.{none-some, same_Some}
@@ -111,8 +111,10 @@ inside_told memory f below above n a device off same = by (list_any (λ r. r.0 =
     own : itself f.global (memory_node memory n).kind (memory_node memory n) a ≡ itself f.global n.kind n a
     own = ap (λ g. itself g (memory_node memory n).kind (memory_node memory n) a) off ∙ itself_told memory n a device
         ∙ sym (ap (λ g. itself g n.kind n a) off)
+
     first : first_of_children above (children_of (memory_forest memory f).nodes n.id) a ≡ first_of_children below (children_of f.nodes n.id) a
     first = ap (λ cs. first_of_children above cs a) (children_told memory f.nodes n.id) ∙ first_told memory below above same (children_of f.nodes n.id) a
+
     by : (b : Bool) → (b ≡ true → (d : Device) × (n.kind ≡ Io d))
         → inside (memory_forest memory f) above (cond b Ram n.kind) (memory_node memory n) a ≡ inside f below n.kind n a
     by true is =

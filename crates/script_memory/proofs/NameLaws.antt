@@ -45,16 +45,17 @@ kind_next memory kinds i kind old new whole at e h =
     ap (λ (xs : List Kind). xs ++ rest) e ∙ append_assoc old (told_kind memory i kind ∷ []) rest
     ∙ ap (λ ks. old ++ told_kinds memory i ks) (sym cut) ∙ h
 
-past_end : {X : Type 0} (xs : List X) (i : ℕ) → slice_get xs i ≡ None → length xs ≤ i
+-- a list that has no element with a number has ended there
+pub past_end : {X : Type 0} (xs : List X) (i : ℕ) → slice_get xs i ≡ None → length xs ≤ i
 past_end [] i e = omega arith
 past_end (x ∷ xs) zero e = absurd (none-some x (sym e))
 past_end (x ∷ xs) (suc i) e = let h = past_end xs i e in omega (arith, h)
 
 -- all kinds
-pub kinds_all : (memory : List RegionId) (kinds : List Kind) (i : ℕ) (now whole : List Kind) → slice_get kinds i ≡ None
+pub kinds_all : (memory : List RegionId) (kinds : List Kind) (i : ℕ) (now whole : List Kind) → length kinds ≤ i
     → now ++ told_kinds memory i (drop i kinds) ≡ whole → now ≡ whole
-kinds_all memory kinds i now whole none h =
-    sym (append-nil now) ∙ ap (λ ks. now ++ told_kinds memory i ks) (sym (drop_all i kinds (past_end kinds i none))) ∙ h
+kinds_all memory kinds i now whole past h =
+    sym (append-nil now) ∙ ap (λ ks. now ++ told_kinds memory i ks) (sym (drop_all i kinds past)) ∙ h
 
 -- the names that are told, of those of regions, then of spaces, and no others
 pub all_told : (memory : List RegionId) (names none regions all : AllNames)

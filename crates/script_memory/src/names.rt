@@ -1,5 +1,6 @@
 // The names by which lines are told.
-ghost use Rattle.std.specs.Prelude.{◌≡◌, ◌++◌, ◌∷◌, ◌<◌, ◌^◌, [], IfOk, OnOk, length};
+ghost use Rattle.std.specs.Prelude.{◌≡◌, ◌==◌, ◌++◌, ◌∷◌, ◌<◌, ◌^◌, [], IfOk, OnOk, length};
+ghost use Rattle.std.specs.List.{list_any};
 ghost use Rattle.mem_base.specs.script.Named.{name_at};
 ghost use Rattle.script_names.specs.Tables.{printed_names};
 ghost use Rattle.script_memory.specs.Told.{AddsRegion, told_kind, told_kinds, told_names};
@@ -8,11 +9,18 @@ use mem_base::{Kind, RegionId};
 use script_names::{NameTable, Names};
 use std::alloc::{AllocError, Global};
 
+// Whether the region with this number is among these.
+fn is_among(memory: &[RegionId], region: u32) -> bool
+    ensures { result ≡ list_any (λ r. r.0 == region) memory.now }
+{
+    memory.iter().any(|one| one.0 == region)
+}
+
 // The kind as which a region is told.
 fn told_kind(memory: &[RegionId], region: u32, kind: Kind) -> Kind
     ensures { result ≡ told_kind memory.now region kind }
 {
-    if memory.iter().any(|one| one.0 == region) {
+    if is_among(memory, region) {
         Kind::Ram
     } else {
         kind
@@ -75,12 +83,7 @@ fn add_regions(
 }
 
 // Adds the space with this number; no two have one name.
-fn add_space(
-    alloc: Global,
-    told: &mut Names,
-    names: &Names,
-    number: u32,
-) -> Result<(), AllocError>
+fn add_space(alloc: Global, told: &mut Names, names: &Names, number: u32) -> Result<(), AllocError>
     requires room { length told.old.spaces.made < 2 ^ 32 }
     ensures spaces { OnOk result (told.new.spaces.made ≡ told.old.spaces.made ++ name_at names.now.spaces.made number ∷ []) }
     ensures others { OnOk result (told.new ≡ record told.old { spaces = told.new.spaces }) }

@@ -11,7 +11,7 @@ loop-end-preserved c =
     c.split_at-in-Some.ensures.back ∙ ap (drop 1) c.split_at.ensures.back ∙ drop-drop 1 c.in-Some.end c.loop-end.rest.now in
     let next = lines_next is_commented c.in-Some.end c.loop-end.rest.now c.loop-end.lines.items c.push-in-Some.new.self.items _
     (sym c.line_end.ensures ∙ c.in-Some.is)
-    (c.in_ok-push-in-Some.ensures.items
+    (c.in_ok-push-2.ensures.items
     ∙ ap (λ b. c.loop-end.lines.items ++ b ∷ []) (c.is_commented.ensures ∙ ap is_commented c.split_at.ensures.front)) c.loop-end.invariant in
     rw rest next
 
@@ -19,4 +19,4 @@ pub returns : goal.returns
 returns c =
     lines_last is_commented c.loop-end.rest.now c.loop-end.lines.items c.push-2.new.self.items _
     (sym c.line_end.ensures ∙ none_from_not_some c.line_end.result c.in_default.not-Some)
-    (c.in_ok-push-2.ensures.items ∙ ap (λ b. c.loop-end.lines.items ++ b ∷ []) c.is_commented-2.ensures) c.loop-end.invariant
+    (c.in_ok-push-3.ensures.items ∙ ap (λ b. c.loop-end.lines.items ++ b ∷ []) c.is_commented-2.ensures) c.loop-end.invariant

@@ -1,12 +1,14 @@
-use Rattle.std.proofs.Common.{◌++◌, ◌<◌, length, refl, ap, subst, sym, ◌∙◌, arith}
-use Rattle.script_memory.proofs.NameLaws.{count_next, kind_next, name_next}
+use Rattle.std.proofs.Common.{◌≡◌, ◌++◌, ◌<◌, ◌≤◌, None, length, refl, ap, subst, ◌∙◌, arith, rules}
+use Rattle.std.specs.List.{slice_get}
+use Rattle.script_memory.specs.Told.{told_kinds}
+use Rattle.script_memory.proofs.NameLaws.{count_next, kind_next, kinds_all, name_next, past_end}
 use Rattle.script_names.specs.Tables.{Table}
 use Rattle.script_memory.proofs.names.add_regions.Goals as goal
 
 pub loop-number-init : goal.loop-number-init
 loop-number-init c = record {
   regions = ap (λ xs. xs ++ c.args.names.now.regions.made) c.requires.none;
-  kinds = ap (λ xs. xs ++ _) c.requires.kinds;
+  kinds = ap (λ xs. xs ++ told_kinds c.args.memory.now 0 c.args.names.now.kinds) c.requires.kinds;
   count = ap length c.requires.none;
   others = refl;
 }
@@ -26,3 +28,10 @@ loop-number-preserved c =
         kinds = c.add_region.new.told.kinds;
       });
     }
+
+pub returns-clause-kinds : goal.returns-clause-kinds
+returns-clause-kinds c =
+    let kinds = c.args.names.now.kinds in
+    let none : slice_get kinds c.in_ok-count.count ≡ None = search rules in
+    let past : length kinds ≤ c.in_ok-count.count = past_end kinds c.in_ok-count.count none in
+    kinds_all c.args.memory.now kinds c.loop-number.number c.loop-number.told.kinds _ (omega (arith, past)) c.loop-number.invariant.kinds

@@ -5,5 +5,5 @@ use Rattle.script_memory.proofs.regions.memory_among.Goals as goal
 pub loop-number-preserved : goal.loop-number-preserved
 loop-number-preserved c =
     line_next c.args.commented.now c.args.refused.now c.args.lines.now c.loop-number.number-index c.loop-number-item.result c.loop-number.count
-    c.in_ok-take_line.field-0 c.loop-number.found.items c.take_line.new.found.items _ c.loop-number-test.true c.loop-number-item.is
-    (c.take_line.ensures (drop (c.loop-number.number-index + 1) c.args.lines.now)) c.loop-number.invariant
+    _ c.loop-number.found.items c.take_line.new.found.items _ c.loop-number-test.true c.loop-number-item.is
+    (c.in_ok-count.ensures (drop (c.loop-number.number-index + 1) c.args.lines.now)) c.loop-number.invariant
