@@ -1,5 +1,5 @@
--- The state that is told where some regions are read as memory: that of the run, in which their kind is RAM. Search, views, flags and
--- generations stay: no kind that has a region answer for itself plays a part in them, but for the logging mask under global logging.
+-- The state that is told where some regions are read as memory: that of the run, in which their kind is RAM. All else stays. A map in which
+-- they are RAM would show the same (`Alike`), but that global logging marks memory, and these have no marks.
 use Rattle.std.specs.Prelude.{◌≡◌, ℕ, ◌+◌, ◌==◌, if◌then◌else◌, List, [], ◌∷◌, ◌++◌, Ok, Some}
 use Rattle.std.specs.List.{list_any, slice_get}
 use Rattle.mem_base.specs.declared.map.ids.RegionId.{RegionId}
