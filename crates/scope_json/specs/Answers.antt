@@ -34,7 +34,8 @@ AnswersWith (Diff first second) held d something =
     OfFile held first.now (λ old. OfFile held second.now (λ new. OfScript old (λ a. OfScript new (λ b.
     (items : List Data) × TellsDiff (told_by old a) (told_by new b) items × (d ≡ diff_data items) × (something ≡ has_any items)))))
 AnswersWith (Slots script) held d something =
-    OfFile held script.now (λ bytes. OfScript bytes (λ lines. (items : List Data) × TellsSlots bytes lines items × (d ≡ slots_data items))) × (something ≡ false)
+    OfFile held script.now (λ bytes. OfScript bytes (λ lines. (items : List Data) × TellsSlots bytes lines items × (d ≡ slots_data items)))
+    × (something ≡ false)
 AnswersWith (Draw script space style) held d something =
     OfFile held script.now (λ bytes. OfScript bytes (λ lines. TellsDraw (told_by bytes lines) space.now d)) × (something ≡ false)
 AnswersWith (Explain what) held d something = AnswersWord held what.now (topic_code what.now) d something

@@ -230,7 +230,8 @@ fn diff_with(alloc: Global, first: &ToldMap, second: &[u8]) -> Result<Told, Faul
 /// How the views of the spaces of two scripts differ, by names.
 pub(crate) fn diff(alloc: Global, first: &[u8], second: &[u8]) -> Result<Told, Fault>
     ensures told { IfOk result (λ t. OfScript first.now (λ old. OfScript second.now (λ new.
-        (items : List Data) × TellsDiff (told_by first.now old) (told_by second.now new) items × (view t.value ≡ diff_data items) × (t.something ≡ has_any items)))) }
+        (items : List Data) × TellsDiff (told_by first.now old) (told_by second.now new) items × (view t.value ≡ diff_data items)
+        × (t.something ≡ has_any items)))) }
     ensures fails { IfErr result (λ fault. FailsOnBoth first.now second.now fault) }
 {
     match read_told(alloc, first) {

@@ -226,7 +226,8 @@ fn slots_of(alloc: Global, text: &[u8], script: &Script) -> Result<Told, Fault>
 
 /// The memory slots of each space in each generation that a script publishes.
 pub(crate) fn slots(alloc: Global, script: &[u8]) -> Result<Told, Fault>
-    ensures told { IfOk result (λ t. OfScript script.now (λ lines. (items : List Data) × TellsSlots script.now lines items × (view t.value ≡ slots_data items))) }
+    ensures told { IfOk result (λ t. OfScript script.now (λ lines. (items : List Data) × TellsSlots script.now lines items
+        × (view t.value ≡ slots_data items))) }
     ensures nothing { IfOk result (λ t. t.something ≡ false) }
     ensures fails { IfErr result (λ fault. FailsOn script.now None None fault) }
 {

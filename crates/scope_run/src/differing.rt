@@ -235,7 +235,8 @@ fn diff_with(alloc: Global, first: &ToldMap, second: &[u8]) -> Result<Answer, Fa
 ///
 /// There is something to mend just where the text is not empty. It answers `Script` where a text is no script.
 pub fn diff(alloc: Global, first: &[u8], second: &[u8]) -> Result<Answer, Fault>
-    ensures told { IfOk result (λ a. OfScript first.now (λ old. OfScript second.now (λ new. TellsDiff (told_by first.now old) (told_by second.now new) a.text))) }
+    ensures told { IfOk result (λ a. OfScript first.now (λ old. OfScript second.now (λ new.
+        TellsDiff (told_by first.now old) (told_by second.now new) a.text))) }
     ensures something { IfOk result (λ a. a.something ≡ tells_something a.text) }
     ensures fails { IfErr result (λ fault. FailsOnBoth first.now second.now fault) }
 {

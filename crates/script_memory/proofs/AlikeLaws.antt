@@ -1,5 +1,5 @@
 -- That the search finds the same whether regions are devices or memory.
-use Rattle.std.proofs.Common.{◌≡◌, ◌==◌, ◌^◌, ◌&&◌, ◌+◌, ◌-◌, ℕ, zero, suc, Bool, true, false, cond, List, [], ◌∷◌, map, filter, find, refl, sym, ap, subst, ◌∙◌}
+use Rattle.std.proofs.Common.{◌≡◌, ◌==◌, ◌^◌, ◌&&◌, ◌+◌, ◌-◌, ℕ, zero, suc, Bool, true, false, cond, List, [], ◌∷◌, map, filter, refl, sym, ap, subst, ◌∙◌}
 use Rattle.std.proofs.Common.{Option, Some, None}
 use Rattle.std.specs.Prelude.{nat_le, nat_lt, option_map, option_and_then}
 use Rattle.std.proofs.lemmas.Option.{none-some, same_Some}
@@ -18,10 +18,9 @@ use Rattle.mem_base.specs.lists.Sorting.{put_by, sorted_by}
 use Rattle.mem_base.specs.map.Limits.{most_depth}
 use Rattle.mem_base.specs.map.Order.{children_of, trial_order}
 use Rattle.mem_base.specs.map.Region.{has_id, is_child_of, node_of}
-use Rattle.mem_base.specs.map.Search.{Found, Search, at_node, found_at, found_in, first_of_children, inside, itself, passed, path_of, root_of, spot_of}
+use Rattle.mem_base.specs.map.Search.{Search, at_node, found_at, found_in, first_of_children, inside, itself, passed, path_of, root_of, spot_of}
 use Rattle.mem_base.specs.views.Flattened.{ranges_from, view_of}
 use Rattle.script_memory.specs.Alike.{IsDeviceAmong, ShowsTheSame, memory_forest, memory_node}
-use Rattle.script_memory.specs.Told.{told_kind}
 
 node_told : (memory : List RegionId) (nodes : List Node) (r : RegionId)
     → node_of (map (memory_node memory) nodes) r ≡ option_map (memory_node memory) (node_of nodes r)

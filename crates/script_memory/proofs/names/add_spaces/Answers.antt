@@ -1,4 +1,4 @@
-use Rattle.std.proofs.Common.{◌++◌, ◌<◌, length, refl, ap, subst, sym, ◌∙◌, arith}
+use Rattle.std.proofs.Common.{◌++◌, ◌<◌, length, refl, ap, subst, ◌∙◌}
 use Rattle.script_memory.proofs.NameLaws.{count_next, name_next}
 use Rattle.script_names.specs.Tables.{Table}
 use Rattle.script_memory.proofs.names.add_spaces.Goals as goal
