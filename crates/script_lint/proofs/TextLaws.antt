@@ -1,5 +1,5 @@
 -- Lines that are made of texts one after another.
-use Rattle.std.proofs.Common.{◌≡◌, ◌<◌, ◌+◌, ℕ, suc, List, [], ◌∷◌, ◌++◌, length, drop, get_or, Result, Ok, Err, Option, refl, sym, ap, ◌∙◌, append_assoc, add-one, codes}
+use Rattle.std.proofs.Common.{◌≡◌, ◌<◌, ◌+◌, ℕ, suc, List, ◌∷◌, ◌++◌, length, drop, get_or, Result, Ok, Err, Option, sym, ap, ◌∙◌, append_assoc, add-one, codes}
 use Rattle.std.specs.Prelude.{OnOk, decimal, flat_map}
 use Rattle.std.proofs.Math.Seq.{drop-cons}
 use Rattle.mem_base.specs.script.RefusalLines.{line_feed}
