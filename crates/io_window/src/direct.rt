@@ -12,10 +12,10 @@ use mem_base::{Attrs, Edition, Kind, Place, Spot, Target, WindowStart};
 
 /// The memory of a direct window: the place of its region, the offset of its first byte, and the logging mask there.
 #[derive(Clone, Copy, Debug, PartialEq, Eq)]
-pub(crate) struct Memory {
-    pub(crate) place: Place,
-    pub(crate) offset: u64,
-    pub(crate) log: u8,
+pub struct Memory {
+    pub place: Place,
+    pub offset: u64,
+    pub log: u8,
 }
 
 // Whether what answers is memory that is read, or written, directly. QEMU's core, `memory_access_is_direct`.
@@ -48,8 +48,11 @@ fn place_at(g: &Generation, spot: &Spot, write: bool) -> Option<Place>
     Some(place)
 }
 
-/// The memory of a direct window, and how long it is: its first chunk of `len` addresses.
-pub(crate) fn memory_at(g: &Generation, start: WindowStart, len: u64) -> Option<(Memory, u64)>
+/// The memory of a direct window, and how long it is: its first chunk of `len` addresses. `None` where the first byte does not lead to
+/// memory that is read, or written, directly. QEMU's core, `memory_access_is_direct`.
+///
+/// There is one address at least, and none lies above 2^64 - 1.
+pub fn memory_at(g: &Generation, start: WindowStart, len: u64) -> Option<(Memory, u64)>
     requires some { 0 < len }
     requires within { start.addr + len ≤ 2 ^ 64 }
     ensures { MatchOption result (is_direct g.now.forest start ≡ false)

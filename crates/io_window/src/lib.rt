@@ -21,6 +21,7 @@ mod windows;
 
 pub use bounces::Bounce;
 pub use copies::copy;
+pub use direct::{Memory, memory_at};
 pub use laws::{access_is_cut, direct_puts_are_marked, whole_get_is_read, whole_put_is_write};
 pub use moves::{joined, read_by_windows, write_by_windows};
 pub use openings::open;
