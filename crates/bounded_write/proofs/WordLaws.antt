@@ -121,7 +121,7 @@ one_more_done u v w region offset k c n bytes d before now same ends less is =
 pub same_pass : (v w : PassValue Published) → Stays v w → w.seen ≡ v.seen → w ≡ v
 same_pass v w s seen = λ i. record { cabinet = s.0 i; number = s.1 i; sizes = s.2 i; seen = seen i; edition = s.3 i }
 
--- with so many tries left a word was found with this value at last, and changed at each try before
+-- with this number of tries left a word was found with this value at last, and changed at each try before
 pub record TriedSoFar (z : Sizes) (seen : List HistoryEntry) (word old left tries : ℕ) : Type 0 where
   pub earlier : List ℕ
   pub count : length earlier + left ≡ tries

@@ -1,4 +1,4 @@
--- What is tried at most so many times, and why it was given up.
+-- What is tried at most n times, and why it was given up.
 use Rattle.std.specs.Prelude.{◌≡◌, ◌≢◌, ℕ, ◌+◌, Bool, true, false, ◌||◌, List, [], ◌∷◌, ◌++◌, length}
 use Rattle.mem_base.specs.declared.machine.events.Event.{Event}
 use Rattle.mem_base.specs.declared.machine.events.HistoryEntry.{HistoryEntry}

@@ -1,4 +1,4 @@
-// Steps on words by an entered pass, each of which is tried at most so many times.
+// Steps on words by an entered pass, each of which is tried at most n times.
 ghost use Rattle.std.specs.Prelude.{◌≡◌, ℕ, ◌+◌, ◌<◌, ◌≤◌, [], ◌∷◌, is_some, true, MatchBool};
 ghost use Rattle.mem_base.specs.declared.access.cells.WordStep.TheVariants.{Replace};
 ghost use Rattle.mem_base.specs.declared.machine.events.Event.TheVariants as events;
