@@ -1,6 +1,9 @@
 -- A desk that took a pass in again is as it was before it handed the pass out; what a call answers.
-use Rattle.std.proofs.Common.{◌≡◌, ◌∙◌, ℕ, Bool, true, false, cond, List, [], ◌∷◌, Option, None, Ok, Err, length, slice_set, refl, ap, subst, inl, inr}
+use Rattle.std.proofs.Common.{◌≡◌, ◌∙◌, ℕ, Bool, true, false, cond, List, [], ◌∷◌, Option, Ok, Err, length, slice_set, refl, sym, ap, subst, inl}
 use Rattle.std.specs.Prelude.{Result, nat_lt}
+use Rattle.std.specs.Global.{Box}
+use Rattle.std.specs.declared.alloc.AllocError.{AllocError}
+use Rattle.mem_base.specs.lists.Every.{Every}
 use Rattle.mem_base.specs.declared.map.calls.Applied.{Applied}
 use Rattle.mem_base.specs.declared.map.calls.Call.{Call}
 use Rattle.mem_base.specs.declared.map.calls.Config.TheVariants as configs
@@ -11,9 +14,8 @@ use Rattle.generation.specs.Published.{Published}
 use Rattle.epoch_rule.specs.Values.{PassValue, first_free}
 use Rattle.epoch_rule.specs.Wrote.{IsNewPass, longer}
 use Rattle.writer_run.specs.Turns.{answer_by}
-use Rattle.std.specs.declared.alloc.AllocError.{AllocError}
 use Rattle.config_desk.specs.Configs.{ConfigState}
-use Rattle.shared_machine.specs.Desks.{HandsOut, HandsOutAgain, TakesBack}
+use Rattle.shared_machine.specs.Desks.{HandsOut, HandsOutAgain, handed}
 
 either : {A : Type 0} (b : Bool) (x : A) → cond b x x ≡ x
 either true x = refl
@@ -57,26 +59,15 @@ taken_again c m d p q new same seen part is now_seen now_out now_same now_part =
     same_desk c d (now_same.0 ∙ same.0) (now_same.1 ∙ same.1) (now_seen ∙ longest ∙ longer_itself c.seat.seen) (now_out ∙ again ∙ out_again c.seat.out)
     (now_part ∙ part)
 
--- a virtual CPU was handed out, or none, or memory ran out
-pub at_once : (c d : ConfigState) (made : Result (Option (PassValue Published)) AllocError) → HandsOut c made d → HandsOutAgain c made d
-at_once c d made h = (c, inl refl, h)
+-- where memory ran out the desk is as it was
+pub failed : (c d : ConfigState) (r : Result (Option (Box (PassValue Published))) AllocError) (e : AllocError) → r ≡ Err e → d ≡ c
+    → HandsOutAgain c (handed r) d
+failed c d r e is same = (c, inl refl, subst (λ (x : Result (Option (Box (PassValue Published))) AllocError). HandsOut c (handed x) d) (sym is) same)
 
--- where all passes are out the desk is as it was
-pub none_left : (c d : ConfigState) → HandsOut c (Ok None) d → d ≡ c
-none_left c d h = same_desk c d h.1.cabinet h.1.sizes h.1.seen h.0.1 h.1.part
+-- whatever was answered, it is a desk of the same cabinet
+pub same_cabinet : (c d : ConfigState) (made : Result (Option (PassValue Published)) AllocError) → HandsOut c made d → d.seat.cabinet ≡ c.seat.cabinet
+same_cabinet c d (Ok cpu) h = h.1.cabinet
+same_cabinet c d (Err e) h = ap (λ (x : ConfigState). x.seat.cabinet) h
 
--- and a pass is taken in before one is handed out
-pub again : (c m e d : ConfigState) (p : PassValue Published) (made : Result (Option (PassValue Published)) AllocError) → HandsOut c (Ok None) m
-    → p.cabinet ≡ m.seat.cabinet → p.edition ≡ None → e.seat.seen ≡ longer m.seat.seen p.seen → e.seat.out ≡ slice_set m.seat.out p.number false
-    → (e.seat.cabinet ≡ m.seat.cabinet) × (e.seat.sizes ≡ m.seat.sizes) → e.part ≡ m.part → HandsOut e made d → HandsOutAgain c made d
-again c m e d p made all own idle seen out same part then =
-    let back : TakesBack m e = record {
-      pass = p;
-      own = own;
-      idle = idle;
-      out = out;
-      seen = seen;
-      cabinet = same.0;
-      sizes = same.1;
-      part = part;
-    } in (e, inr (all.0.0, subst (λ (x : ConfigState). TakesBack x e) (none_left c m all) back), then)
+pub keeps_every : {A : Type 0} (xs ys : List A) (P : A → Type 0) → ys ≡ xs → Every P xs → Every P ys
+keeps_every {A = A} xs ys P same all = subst (λ (zs : List A). Every P zs) (sym same) all

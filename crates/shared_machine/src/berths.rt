@@ -1,9 +1,12 @@
 // Where a virtual CPU leaves its pass once it is closed, and its desk finds it.
-ghost use Rattle.std.specs.Prelude.{◌≡◌, None, IfSome};
+ghost use Rattle.std.specs.Prelude.{◌≡◌, None, IfOk, IfSome};
+ghost use Rattle.std.specs.Arc.{arc_value};
 
 use counted_slot::{Counted, FREE, Fits, PRESENT, TAKEN};
 use epoch_rule::{Cabinet, Pass};
 use generation::Generation;
+use std::alloc::{AllocError, Global};
+use std::sync::Arc;
 
 /// A pass that nobody works with.
 #[derive(Drop)]
@@ -21,11 +24,15 @@ impl Fits for Resting {
 /// A place for one such pass. Contracts see the cabinet whose passes it takes.
 pub(crate) type Berth = Counted<Option<Resting>>;
 
-/// An empty berth for passes of a cabinet.
-pub(crate) fn empty(cabinet: &Cabinet<Generation>) -> Berth
-    ensures { result ≡ cabinet.now }
+/// An empty berth for passes of a cabinet. It fails only where memory runs out.
+pub(crate) fn empty(
+    alloc: Global,
+    cabinet: &Cabinet<Generation>,
+) -> Result<Arc<Berth, Global>, AllocError>
+    ensures { IfOk result (λ berth. arc_value berth ≡ cabinet.now) }
 {
-    Counted::new(None, cabinet)
+    let berth = Arc::new(alloc, Counted::new(None, cabinet))?;
+    Ok(berth)
 }
 
 /// Leaves a pass that is not entered in a berth of its cabinet. Where the berth is not free, the pass is lost.

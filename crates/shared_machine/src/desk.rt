@@ -70,7 +70,7 @@ impl Desk {
     pub fn cpu(&mut self, alloc: Global) -> Result<Option<Box<Cpu, Global>>, AllocError>
         ensures { HandsOutAgain self.old (handed result) self.new }
     {
-        let berth = Arc::new(alloc, empty(&self.cabinet))?;
+        let berth = empty(alloc, &self.cabinet)?;
         let kept = Arc::try_clone(&berth)?;
         self.berths.reserve(1)?;
         if let Some(cpu) = hand_out(&self.cabinet, &mut self.config, alloc, berth)? {
