@@ -41,6 +41,7 @@ extern "C" {
 #define VB_NO_SCRIPT 25 /* The text is no script: `other` is the number of its first line at fault. */
 #define VB_NOT_WHOLE 26 /* Only a part of some word would be replaced, in the generation `other`. */
 #define VB_NO_CPU 27 /* All 16 virtual CPUs are handed out. */
+#define VB_CONTENDED 28 /* Of a write only the first `value` bytes are written, in the generation `other`: a word was changed each time that it was tried. */
 
 #define VB_SORT_REGION 0
 #define VB_SORT_SPACE 1
@@ -101,6 +102,7 @@ extern "C" {
 #define VB_PERM_BOTH 3
 #define VB_ACCESS_ERROR 1
 #define VB_ACCESS_DECODE 2
+#define VB_ACCESS_BEGUN 4
 #define VB_WAY_CHUNKS 0
 #define VB_WAY_QEMU 1
 #define VB_REACHED_MEMORY 0
@@ -136,7 +138,8 @@ typedef struct vb_cpu {
 /* What a call answers: a code, and what it names.
  *
  * The code is 0 where it is done. 1 to 20 are the refusals of the machine, numbered as the lines of a script number them, and
- * above these stand those of the library itself. A refused call changes nothing. */
+ * above these stand those of the library itself. A refused call changes nothing. The code 28 alone is no refusal: a write was given up
+ * after its first bytes. */
 typedef struct vb_answer {
     uint32_t code;
     /* Which sort of thing `value` is: of a refusal that may name several, or 1 where a region was made. */
@@ -370,7 +373,15 @@ vb_answer vb_cpu_read(vb_cpu *handle, uint32_t space, uint64_t addr, uint8_t *ou
  * `address_space_write`. */
 vb_answer vb_cpu_write8(vb_cpu *handle, uint32_t space, uint64_t addr, uint64_t value);
 
-/* Leaves where the virtual CPU is entered, and frees it, if the handle has one. The handle has none then. */
+/* Writes bytes to a space, as `vb_cpu_read` reads them. It never waits: a part of a word is replaced by an exchange, which fails where
+ * another changed the word meanwhile, and each is tried at most `tries` times. QEMU's core, `address_space_write`.
+ *
+ * Where all are written the answer is that of `vb_write`. Else its code is 28, `value` is how many of the first bytes are written, with the
+ * marks of just these, `what` how their write ended, and `other` the number of the generation: the caller may go on after them. `what` has 4
+ * where a device, whose access takes several callbacks, has taken the first of those that come next. */
+vb_answer vb_cpu_write(vb_cpu *handle, uint32_t space, uint64_t addr, const uint8_t *bytes, size_t bytes_len, uint32_t tries);
+
+/* Leaves where the virtual CPU is entered, and gives it back to its desk, if the handle has one. The handle has none then. */
 void vb_cpu_free(vb_cpu *handle);
 
 /* What listeners were told: the call at an index, counted from the first that is not forgotten, where there is one. `value` of the
@@ -391,8 +402,8 @@ void vb_desk_free(vb_desk *handle);
  * generation that a publish would overwrite, seven before the current one, it is refused with the code 19. */
 vb_answer vb_desk_ask(vb_desk *handle, const vb_order *order);
 
-/* Hands out a virtual CPU, for a handle that has none. There are 16, numbered from 0 in the order in which they are handed out, and after
- * these it is refused with the code 27. It has seen all that the desk has done. */
+/* Hands out a virtual CPU, for a handle that has none. There are 16, numbered from 0 in the order in which they are handed out. Once all are
+ * out, one that was freed is handed out again, and where none was it is refused with the code 27. It has seen all that the desk has done. */
 vb_answer vb_desk_cpu(vb_desk *handle, vb_cpu *cpu);
 
 /* Takes a notifier, as `vb_notified` does. */

@@ -381,6 +381,44 @@ static void test_paths_and_pages(void)
     vb_free(&m);
 }
 
+/* Writes of parts of words by a virtual CPU, at 0 of a space in which memory of a page is: without a try they are given up. */
+static void test_parts(vb_desk *d, vb_cpu *cpu, uint32_t ram)
+{
+    static const uint8_t bytes[16] = "0123456789abcdef";
+    uint8_t out[16];
+    uint64_t pages = 0;
+    vb_order order = { .what = VB_DO_LOG, .region = ram, .client = VB_CLIENT_CODE, .on = true };
+    done(vb_desk_ask(d, &order), "its pages are logged");
+    done(vb_cpu_write8(cpu, 1, 0x20, 0), "a word of zeros");
+    done(vb_cpu_write8(cpu, 1, 0x28, 0), "and another");
+    vb_answer ended = vb_cpu_write(cpu, 1, 0x23, bytes, 10, 1);
+    check(ended.code == VB_DONE && ended.what == 0, "parts of two words");
+    vb_cpu_read(cpu, 1, 0x20, out, 16);
+    check(memcmp(out, "\0\0\0000123456789\0\0\0", 16) == 0, "just these bytes are written");
+    ended = vb_cpu_write(cpu, 1, 0x24, bytes, 3, 0);
+    check(ended.code == VB_CONTENDED && ended.what == 0 && ended.value == 0, "a part that is not tried");
+    ended = vb_cpu_write(cpu, 1, 0x20, bytes, 12, 0);
+    check(ended.code == VB_CONTENDED && ended.value == 8, "only the word before the part is written");
+    vb_cpu_read(cpu, 1, 0x20, out, 16);
+    check(memcmp(out, "0123456756789\0\0\0", 16) == 0, "and nothing of the part");
+    done(vb_cpu_write(cpu, 1, 0x20, bytes, 16, 0), "whole words need no try");
+    done(vb_cpu_write(cpu, 1, 0x20, bytes, 0, 0), "nor does nothing");
+    ended = vb_cpu_write(cpu, 1, 0xffc, bytes, 8, 4);
+    check(ended.code == VB_DONE && ended.what == VB_ACCESS_DECODE, "the last bytes of memory, and what is above it");
+    ended = vb_cpu_write(cpu, 9, 0, bytes, 8, 4);
+    check(ended.code == VB_DONE && ended.what == VB_ACCESS_DECODE, "a space that is not there");
+    done(vb_desk_harvest(d, ram, VB_CLIENT_CODE, &pages, 1), "the marks are taken");
+    check(pages == 1, "the page is marked");
+    done(vb_cpu_enter(cpu), "it enters");
+    ended = vb_cpu_write(cpu, 1, 0x23, bytes, 3, 0);
+    check(ended.code == VB_CONTENDED && ended.value == 0, "a part that is not tried, while it is entered");
+    done(vb_desk_harvest(d, ram, VB_CLIENT_CODE, &pages, 1), "the marks are taken again");
+    check(pages == 0, "what is not written is not marked");
+    done(vb_cpu_leave(cpu), "it leaves");
+    order.on = false;
+    done(vb_desk_ask(d, &order), "its pages are logged no more");
+}
+
 /* A desk, and virtual CPUs beside it. */
 static void test_desks(void)
 {
@@ -400,6 +438,7 @@ static void test_desks(void)
     refused(vb_cpu_leave(&cpu), VB_NO_MACHINE, 0, 0, "none leaves");
     refused(vb_cpu_read(&cpu, 0, 0, out, 8), VB_NO_MACHINE, 0, 0, "none reads");
     refused(vb_cpu_write8(&cpu, 0, 0, 1), VB_NO_MACHINE, 0, 0, "none writes");
+    refused(vb_cpu_write(&cpu, 0, 0, out, 8, 1), VB_NO_MACHINE, 0, 0, "nor parts of words");
     vb_cpu_free(&cpu);
     vb_desk_free(&d);
     refused(vb_desk_new(&d, SIZE_MAX), VB_ARGUMENT, 0, SIZE_MAX, "a pool that is too large");
@@ -429,15 +468,16 @@ static void test_desks(void)
     check(ended.code == VB_DONE && ended.what == 0 && out[0] == 3 && out[3] == 6, "and reads a part of it");
     ended = vb_cpu_write8(&cpu, 1, 0x14, 1);
     check(ended.code == VB_NOT_WHOLE && ended.other == 2, "parts of two words are not replaced");
+    test_parts(&d, &cpu, ram);
     ended = vb_cpu_enter(&cpu);
-    check(ended.code == VB_DONE && ended.other == 2, "it enters generation 2");
+    check(ended.code == VB_DONE && ended.other == 4, "it enters generation 4");
     order = (vb_order){ .what = VB_DO_MOVE, .region = ram, .offset = 0x4000 };
     done(vb_desk_ask(&d, &order), "RAM moves");
     ended = vb_cpu_read(&cpu, 1, 0x10, out, 1);
-    check(ended.what == 0 && out[0] == 1 && ended.value == 2, "it sees the old map");
+    check(ended.what == 0 && out[0] == 1 && ended.value == 4, "it sees the old map");
     done(vb_cpu_leave(&cpu), "it leaves");
     ended = vb_cpu_read(&cpu, 1, 0x10, out, 1);
-    check((ended.what & VB_ACCESS_DECODE) != 0 && ended.value == 3, "it sees the new one");
+    check((ended.what & VB_ACCESS_DECODE) != 0 && ended.value == 5, "it sees the new one");
     done(vb_cpu_enter(&cpu), "it enters");
     uint64_t held = 0;
     for (uint64_t i = 0; i < 20 && held == 0; i++) {
@@ -448,10 +488,15 @@ static void test_desks(void)
     check(held != 0, "a virtual CPU that stays holds the seventh publish after it up");
     vb_cpu_free(&cpu);
     done(vb_desk_ask(&d, &order), "once it was freed it does not");
-    for (int i = 0; i < 15; i++) {
+    for (int i = 0; i < 16; i++) {
         done(vb_desk_cpu(&d, &cpus[i]), "a virtual CPU");
     }
-    refused(vb_desk_cpu(&d, &cpus[15]), VB_NO_CPU, 0, 0, "there are 16");
+    refused(vb_desk_cpu(&d, &cpu), VB_NO_CPU, 0, 0, "there are 16");
+    done(vb_cpu_enter(&cpus[7]), "one of them enters");
+    vb_cpu_free(&cpus[7]);
+    done(vb_desk_cpu(&d, &cpus[7]), "once it is freed it is handed out again");
+    vb_cpu_read(&cpus[7], 1, order.offset, out, 1);
+    check(vb_cpu_write(&cpus[7], 1, order.offset, out, 1, 1).code == VB_DONE, "and works");
     vb_desk_free(&d);
     ended = vb_cpu_write8(&cpus[3], 1, order.offset, 5);
     check(ended.code == VB_DONE && ended.what == 0, "virtual CPUs outlive their desk");
@@ -532,6 +577,7 @@ static void test_texts(void)
         { { VB_NO_SCRIPT, 0, 12, 1 }, "the text is no script" },
         { { VB_NOT_WHOLE, 0, 0, 3 }, "only a part of some word would be replaced" },
         { { VB_NO_CPU, 0, 0, 0 }, "all virtual CPUs are handed out" },
+        { { VB_CONTENDED, 0, 3, 1 }, "others changed a word each time that it was tried" },
         { { 99, 0, 0, 0 }, "this is no answer of the library" },
         { { VB_UNKNOWN, 6, 0, 0 }, "this is no answer of the library" },
         { { VB_UNKNOWN, VB_SORT_REGION, 1ull << 32, 0 }, "this is no answer of the library" },

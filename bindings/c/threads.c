@@ -96,6 +96,55 @@ static int run_desk(void)
     return moves == 200 ? good : 0;
 }
 
+/* Virtual CPUs write bytes of one word beside one another: each its own byte, to which nobody else writes. */
+static void *run_byte(void *given)
+{
+    struct cpu *me = given;
+    for (uint64_t i = 1; i <= ROUNDS; i++) {
+        uint8_t byte = (uint8_t)i, found = 0;
+        uint32_t tries = i % 2 == 0 ? 1 : 8;
+        vb_answer wrote = { .code = VB_CONTENDED };
+        for (int again = 0; wrote.code == VB_CONTENDED && again < 1000000; again++) {
+            wrote = vb_cpu_write(&me->cpu, 0, me->number, &byte, 1, tries);
+            me->failed += wrote.code == VB_CONTENDED && wrote.value != 0;
+        }
+        vb_cpu_read(&me->cpu, 0, me->number, &found, 1);
+        me->failed += wrote.code != VB_DONE || wrote.what != 0 || found != byte;
+    }
+    vb_cpu_free(&me->cpu);
+    return NULL;
+}
+
+/* How many of the virtual CPUs found each byte that they wrote. They are freed on their threads, and handed out again here. */
+static int run_bytes(void)
+{
+    vb_desk desk = VB_DESK_INIT;
+    pthread_t threads[CPUS];
+    vb_cpu again[16] = { VB_CPU_INIT };
+    int good = 0, out = 0;
+    vb_desk_new(&desk, 1 << 10);
+    uint32_t ram = (uint32_t)ask(&desk, (vb_order){ .what = VB_DO_REGION, .kind = VB_KIND_RAM, .size = 0x1000 }).value;
+    ask(&desk, (vb_order){ .what = VB_DO_SPACE, .space = 0, .other = ram });
+    for (int i = 0; i < CPUS; i++) {
+        cpus[i] = (struct cpu){ .number = (uint64_t)i };
+        vb_desk_cpu(&desk, &cpus[i].cpu);
+        pthread_create(&threads[i], NULL, run_byte, &cpus[i]);
+    }
+    for (int i = 0; i < 16 - CPUS; i++) {
+        out += vb_desk_cpu(&desk, &again[i]).code == VB_DONE;
+    }
+    for (int i = 0; i < CPUS; i++) {
+        pthread_join(threads[i], NULL);
+        good += cpus[i].failed == 0;
+        out += vb_desk_cpu(&desk, &again[16 - CPUS + i]).code == VB_DONE;
+    }
+    for (int i = 0; i < 16; i++) {
+        vb_cpu_free(&again[i]);
+    }
+    vb_desk_free(&desk);
+    return out == 16 ? good : 0;
+}
+
 int main(void)
 {
     static struct work works[THREADS];
@@ -112,9 +161,9 @@ int main(void)
         passed += works[i].failed == 0 && is_found;
         failed += works[i].failed != 0 || !is_found;
     }
-    int good = run_desk();
+    int good = run_desk() + run_bytes();
     passed += good;
-    failed += CPUS - good;
+    failed += 2 * CPUS - good;
     printf("%d passed, %d failed\n", passed, failed);
     return failed != 0;
 }

@@ -239,6 +239,33 @@ class Tests(unittest.TestCase):
             cpu.write8(SPACE, 0x4004, 1)
         self.assertEqual(it.exception.code, c.VB_NOT_WHOLE)
 
+    def test_a_write_of_parts_of_words(self):
+        desk = Desk(1 << 12)
+        system, ram = desk.region(c.VB_KIND_CONTAINER), desk.region(c.VB_KIND_RAM, 0x2000)
+        desk.ask(c.VB_DO_SPACE, space=SPACE, other=system)
+        desk.ask(c.VB_DO_ADD, region=system, other=ram)
+        desk.ask(c.VB_DO_LOG, region=ram, client=c.VB_CLIENT_MIGRATION, on=True)
+        cpu = desk.cpu()
+        self.assertEqual(cpu.write(SPACE, 0xFFD, b"abcdefgh"), (8, 0))
+        self.assertEqual(cpu.read(SPACE, 0xFFC, 10), (b"\0abcdefgh\0", 0))
+        self.assertEqual(desk.harvest(ram, c.VB_CLIENT_MIGRATION), [0, 1])
+        self.assertEqual(cpu.write(SPACE, 0xFF8, b"0123456789", tries=0), (8, 0))
+        self.assertEqual(cpu.read(SPACE, 0xFF8, 10), (b"01234567de", 0))
+        self.assertEqual(desk.harvest(ram, c.VB_CLIENT_MIGRATION), [0])
+        self.assertEqual(cpu.write(SPACE, 0x1FFE, b"xyz"), (3, c.VB_ACCESS_DECODE))
+
+    def test_virtual_cpus_are_handed_out_again(self):
+        desk = Desk(64)
+        cpus = [desk.cpu() for _ in range(16)]
+        with self.assertRaises(Refused) as it:
+            desk.cpu()
+        self.assertEqual(it.exception.code, c.VB_NO_CPU)
+        for _ in range(40):
+            cpus[5].enter()
+            del cpus[5]
+            cpus.append(desk.cpu())
+        self.assertEqual(len(cpus), 16)
+
 
 if __name__ == "__main__":
     ran = unittest.main(argv=sys.argv[:1], exit=False, verbosity=0).result

@@ -315,7 +315,7 @@ class Desk:
         return self.ask(c.VB_DO_REGION, kind=kind, size=size, **numbers).value
 
     def cpu(self):
-        """A virtual CPU, which has seen all that the desk has done. There are 16."""
+        """A virtual CPU, which has seen all that the desk has done. There are 16; one that is freed is handed out again once all are out."""
         return Cpu(self)
 
     def reap(self):
@@ -358,6 +358,14 @@ class Cpu:
         out = (ctypes.c_uint8 * max(count, 1))()
         answer = accepted(LIBRARY.vb_cpu_read(self.handle, space, addr, out, count))
         return bytes(out[:count]), answer.what
+
+    def write(self, space, addr, data, tries=64):
+        """Writes bytes, and answers how many of the first are written, and how that ended: each part of a word is tried this many times."""
+        given = (ctypes.c_uint8 * max(len(data), 1)).from_buffer_copy(bytes(data) or b"\0")
+        answer = LIBRARY.vb_cpu_write(self.handle, space, addr, given, len(data), tries)
+        if answer.code == c.VB_CONTENDED:
+            return answer.value, answer.what
+        return len(data), accepted(answer).what
 
     def write8(self, space, addr, value):
         """Writes the eight bytes of a number, the lowest first. It is refused where only a part of some word would be replaced."""

@@ -29,6 +29,7 @@ VB_HAS_MACHINE = 24  # The handle has one.
 VB_NO_SCRIPT = 25  # The text is no script: `other` is the number of its first line at fault.
 VB_NOT_WHOLE = 26  # Only a part of some word would be replaced, in the generation `other`.
 VB_NO_CPU = 27  # All 16 virtual CPUs are handed out.
+VB_CONTENDED = 28  # Of a write only the first `value` bytes are written, in the generation `other`: a word was changed each time that it was tried.
 
 VB_SORT_REGION = 0
 VB_SORT_SPACE = 1
@@ -89,6 +90,7 @@ VB_PERM_WRITE = 2
 VB_PERM_BOTH = 3
 VB_ACCESS_ERROR = 1
 VB_ACCESS_DECODE = 2
+VB_ACCESS_BEGUN = 4
 VB_WAY_CHUNKS = 0
 VB_WAY_QEMU = 1
 VB_REACHED_MEMORY = 0
@@ -135,7 +137,8 @@ class vb_answer(Structure):
     """What a call answers: a code, and what it names.
 
     The code is 0 where it is done. 1 to 20 are the refusals of the machine, numbered as the lines of a script number them, and
-    above these stand those of the library itself. A refused call changes nothing."""
+    above these stand those of the library itself. A refused call changes nothing. The code 28 alone is no refusal: a write was given up
+    after its first bytes."""
 
     _fields_ = [
         ("code", c_uint32),
@@ -303,6 +306,7 @@ FUNCTIONS = {
     "vb_cpu_leave": ([POINTER(vb_cpu)], vb_answer),
     "vb_cpu_read": ([POINTER(vb_cpu), c_uint32, c_uint64, POINTER(c_uint8), c_size_t], vb_answer),
     "vb_cpu_write8": ([POINTER(vb_cpu), c_uint32, c_uint64, c_uint64], vb_answer),
+    "vb_cpu_write": ([POINTER(vb_cpu), c_uint32, c_uint64, POINTER(c_uint8), c_size_t, c_uint32], vb_answer),
     "vb_cpu_free": ([POINTER(vb_cpu)], None),
     "vb_delivery": ([POINTER(vb_machine), c_size_t, POINTER(vb_listener_call)], vb_answer),
     "vb_desk_new": ([POINTER(vb_desk), c_size_t], vb_answer),

@@ -9,10 +9,13 @@ use Rattle.mem_base.specs.machine.World.{World}
 use Rattle.libvobrekan.specs.declared.answers.Answer.{Answer}
 use Rattle.libvobrekan.specs.Answers.{code_done, no_machine, told}
 
--- how an access ended: 1 a device's fault, 2 bytes that nothing answers, 3 both; and the number of its generation
+-- how an access ended: 1 a device's fault, 2 bytes that nothing answers, 3 both
+abbrev pub ended_so : Access → ℕ
+ended_so access = (if access.result.error then 1 else 0) + (if access.result.decode then 2 else 0)
+
+-- that, and the number of its generation
 abbrev pub access_told : Access → Answer
-access_told access =
-    told code_done ((if access.result.error then 1 else 0) + (if access.result.decode then 2 else 0)) access.number 0
+access_told access = told code_done (ended_so access) access.number 0
 
 -- an access was made by the machine
 pub record Accesses (w : World) (pass : PassId) (space : SpaceId) (addr : ℕ) (transfer : Transfer) (answer : Answer) (after : Option World) : Type 0 where

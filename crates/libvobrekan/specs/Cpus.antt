@@ -1,5 +1,5 @@
 -- What a handle's virtual CPU does, by what it had seen before and has seen after.
-use Rattle.std.specs.Prelude.{◌≡◌, ℕ, List, length, Option, Some, None, Result, Ok, Err}
+use Rattle.std.specs.Prelude.{◌≡◌, ℕ, ◌+◌, ◌==◌, if◌then◌else◌, List, length, Option, Some, None, Result, Ok, Err}
 use Rattle.mem_base.specs.declared.map.ids.SpaceId.{SpaceId}
 use Rattle.mem_base.specs.declared.access.accesses.Access.{Access}
 use Rattle.mem_base.specs.access.AccessSteps.{reading}
@@ -7,9 +7,11 @@ use Rattle.generation.specs.Published.{Published}
 use Rattle.epoch_rule.specs.Values.{PassValue}
 use Rattle.vcpu_pass.specs.declared.vcpu.NotWhole.{NotWhole}
 use Rattle.vcpu_pass.specs.Calls.{HasAccessed, HasEntered, HasLeft, HasRefused, HasWritten8}
+use Rattle.bounded_write.specs.declared.accesses.Written.{Written}
+use Rattle.bounded_write.specs.Writes.{HasWritten}
 use Rattle.libvobrekan.specs.declared.answers.Answer.{Answer}
-use Rattle.libvobrekan.specs.Accesses.{access_told}
-use Rattle.libvobrekan.specs.Answers.{done, no_machine, not_whole}
+use Rattle.libvobrekan.specs.Accesses.{access_told, ended_so}
+use Rattle.libvobrekan.specs.Answers.{contended, done, no_machine, not_whole}
 
 abbrev pub Pass : Type 0
 Pass = PassValue Published
@@ -45,3 +47,15 @@ abbrev pub WritesWord : Option Pass → SpaceId → ℕ → ℕ → Answer → O
 WritesWord None space addr value answer after = (answer ≡ no_machine) × (after ≡ None)
 WritesWord (Some v) space addr value answer after =
     (w : Pass) × (end : Result Access NotWhole) × (after ≡ Some w) × (answer ≡ wrote_told end) × HasWrittenWord v space addr value end w
+
+-- how a write of some bytes ended: where not all are written, how many of the first ones are, with 4 beside how their write ended where a device has
+-- taken a part of what comes after them
+abbrev pub written_told : ℕ → Written → Answer
+written_told len written = if written.count == len then access_told written.access
+    else contended (ended_so written.access + (if written.begun then 4 else 0)) written.count written.access.number
+
+-- it wrote bytes, or the first of them
+abbrev pub WritesFirst : Option Pass → SpaceId → ℕ → List ℕ → ℕ → Answer → Option Pass → Type 0
+WritesFirst None space addr bytes tries answer after = (answer ≡ no_machine) × (after ≡ None)
+WritesFirst (Some v) space addr bytes tries answer after =
+    (w : Pass) × (written : Written) × (after ≡ Some w) × (answer ≡ written_told (length bytes) written) × HasWritten v space addr bytes tries written w

@@ -1,7 +1,7 @@
 // Accesses by passes.
 ghost use Rattle.std.specs.Prelude.{◌≡◌, ◌<◌, ◌≤◌};
 ghost use Rattle.mem_base.specs.access.AccessSteps.{writing};
-ghost use Rattle.libvobrekan.specs.Accesses.{HasAccessed, HasRead, access_told};
+ghost use Rattle.libvobrekan.specs.Accesses.{HasAccessed, HasRead, access_told, ended_so};
 ghost use Rattle.libvobrekan.specs.Answers.{bad_argument};
 ghost use Rattle.libvobrekan.specs.Arguments.{pass_at, space_at};
 ghost use Rattle.libvobrekan.specs.Asked.{IsRefused};
@@ -11,15 +11,23 @@ use crate::handle::Handle;
 use mem_base::{Access, MOST_PASSES, PassId, SpaceId};
 use std::alloc::Global;
 
+/// How an access ended, as a number.
+pub(crate) fn ended_so(access: &Access) -> u32
+    ensures so { result ≡ ended_so access.now }
+    ensures small { result ≤ 3 }
+{
+    let error = if access.result.error { 1 } else { 0 };
+    let decode = if access.result.decode { 2 } else { 0 };
+    error + decode
+}
+
 /// How an access ended.
 pub(crate) fn ended(access: Access) -> Answer
     ensures { result ≡ access_told access }
 {
-    let error = if access.result.error { 1 } else { 0 };
-    let decode = if access.result.decode { 2 } else { 0 };
     Answer {
         code: 0,
-        what: error + decode,
+        what: ended_so(&access),
         value: access.number,
         other: 0,
     }

@@ -1,6 +1,6 @@
 // What a call answers to C.
 ghost use Rattle.std.specs.Prelude.{◌≡◌};
-ghost use Rattle.libvobrekan.specs.Answers.{bad_argument, call_told, commit_told, done, has_machine, no_cpu, no_machine, no_script, not_whole};
+ghost use Rattle.libvobrekan.specs.Answers.{bad_argument, call_told, commit_told, contended, done, has_machine, no_cpu, no_machine, no_script, not_whole};
 ghost use Rattle.libvobrekan.specs.Answers.{number_of, number_of_user, plain_told, published, refusal_told, sort_of, sort_of_limit, sort_of_user, told};
 
 use mem_base::{Applied, Refusal, RegionId, User, What, Which};
@@ -8,7 +8,8 @@ use mem_base::{Applied, Refusal, RegionId, User, What, Which};
 /// What a call answers: a code, and what it names.
 ///
 /// The code is 0 where it is done. 1 to 20 are the refusals of the machine, numbered as the lines of a script number them, and
-/// above these stand those of the library itself. A refused call changes nothing.
+/// above these stand those of the library itself. A refused call changes nothing. The code 28 alone is no refusal: a write was given up
+/// after its first bytes.
 #[repr(C)]
 #[derive(Clone, Copy, Debug, PartialEq, Eq)]
 pub struct Answer {
@@ -83,6 +84,13 @@ pub(crate) fn no_cpu() -> Answer
     ensures { result ≡ no_cpu }
 {
     told(27, 0, 0, 0)
+}
+
+/// Only this number of the first bytes of a write are written.
+pub(crate) fn contended(how: u32, count: u64, number: u64) -> Answer
+    ensures { result ≡ contended how count number }
+{
+    told(28, how, count, number)
 }
 
 // A refusal that names a thing.

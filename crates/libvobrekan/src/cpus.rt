@@ -2,11 +2,12 @@
 ghost use Rattle.std.specs.Prelude.{◌≡◌, None, length};
 ghost use Rattle.mem_base.specs.access.AccessSteps.{reading};
 ghost use Rattle.libvobrekan.specs.Arguments.{space_at};
-ghost use Rattle.libvobrekan.specs.Cpus.{Enters, Leaves, Reads, WritesWord, wrote_told};
+ghost use Rattle.libvobrekan.specs.Cpus.{Enters, Leaves, Reads, WritesFirst, WritesWord, written_told, wrote_told};
 
-use crate::accesses::ended;
-use crate::answers::{Answer, done, no_machine, not_whole};
+use crate::accesses::{ended, ended_so};
+use crate::answers::{Answer, contended, done, no_machine, not_whole};
 use crate::cpu_handle::CpuHandle;
+use bounded_write::Written;
 use mem_base::{Access, SpaceId};
 use std::alloc::Global;
 use vcpu_pass::NotWhole;
@@ -89,12 +90,52 @@ pub extern "C" fn vb_cpu_write8(
     wrote(end)
 }
 
-/// Leaves where the virtual CPU is entered, and frees it, if the handle has one. The handle has none then.
+// How a write of some bytes ended.
+fn wrote_first(len: usize, written: Written) -> Answer
+    ensures { result ≡ written_told len written }
+{
+    if written.count == len {
+        return ended(written.access);
+    }
+    let begun = if written.begun { 4 } else { 0 };
+    contended(
+        ended_so(&written.access) + begun,
+        written.count as u64,
+        written.access.number,
+    )
+}
+
+/// Writes bytes to a space, as `vb_cpu_read` reads them. It never waits: a part of a word is replaced by an exchange, which fails where
+/// another changed the word meanwhile, and each is tried at most `tries` times. QEMU's core, `address_space_write`.
+///
+/// Where all are written the answer is that of `vb_write`. Else its code is 28, `value` is how many of the first bytes are written, with the
+/// marks of just these, `what` how their write ended, and `other` the number of the generation: the caller may go on after them. `what` has 4
+/// where a device, whose access takes several callbacks, has taken the first of those that come next.
+#[unsafe(no_mangle)]
+pub extern "C" fn vb_cpu_write(
+    alloc: Global,
+    handle: &mut CpuHandle,
+    space: u32,
+    addr: u64,
+    bytes: &[u8],
+    tries: u32,
+) -> Answer
+    ensures { WritesFirst handle.old.cpu (space_at space) addr bytes.now tries result handle.new.cpu }
+{
+    let Some(mut cpu) = handle.take(alloc) else {
+        return no_machine();
+    };
+    let written = cpu.write_bounded(SpaceId(space), addr, bytes, tries);
+    handle.put(alloc, cpu);
+    wrote_first(bytes.len(), written)
+}
+
+/// Leaves where the virtual CPU is entered, and gives it back to its desk, if the handle has one. The handle has none then.
 #[unsafe(no_mangle)]
 pub extern "C" fn vb_cpu_free(alloc: Global, handle: &mut CpuHandle)
     ensures { handle.new.cpu ≡ None }
 {
-    if let Some(mut cpu) = handle.take(alloc) {
-        cpu.leave();
+    if let Some(cpu) = handle.take(alloc) {
+        Box::into_inner(cpu).close();
     }
 }

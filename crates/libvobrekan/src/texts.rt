@@ -121,6 +121,7 @@ fn text_of_code(code: u32) -> &'static str
         25 => "the text is no script",
         26 => "only a part of some word would be replaced",
         27 => "all virtual CPUs are handed out",
+        28 => "others changed a word each time that it was tried",
         _ => "this is no answer of the library",
     }
 }

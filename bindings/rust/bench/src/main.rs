@@ -79,6 +79,8 @@ fn main() {
     cpu.enter().unwrap();
     println!("{:8.0}  the same while it is entered", least(500_000, |_| _ = black_box(cpu.read(SPACE, 8, &mut [0; 8]))));
     println!("{:8.0}  write a word of memory, by a virtual CPU that is entered", least(500_000, |i| _ = black_box(cpu.write8(SPACE, 8, u64::from(i)))));
+    println!("{:8.0}  write four bytes, by a virtual CPU that is entered", least(500_000, |i| _ = black_box(cpu.write(SPACE, 8, &i.to_le_bytes(), 8))));
+    println!("{:8.0}  write 4 KiB, by a virtual CPU that is entered", least(20_000, |_| _ = black_box(cpu.write(SPACE, 0, &[7; 4096], 8))));
     println!("{:8.0}  the path of an address", least(100, |i| _ = black_box(machine.path(SPACE, at(i)))));
     let moved = leaves[1000];
     println!("{:8.0}  move a region, and publish", least(200, |i| _ = black_box(machine.move_to(moved, u64::from(i % 2) * 0x800 + 0xc000))));

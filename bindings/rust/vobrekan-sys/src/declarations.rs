@@ -84,6 +84,9 @@ pub const VB_NOT_WHOLE: u32 = 26;
 /// All 16 virtual CPUs are handed out.
 pub const VB_NO_CPU: u32 = 27;
 
+/// Of a write only the first `value` bytes are written, in the generation `other`: a word was changed each time that it was tried.
+pub const VB_CONTENDED: u32 = 28;
+
 pub const VB_SORT_REGION: u32 = 0;
 pub const VB_SORT_SPACE: u32 = 1;
 pub const VB_SORT_LISTENER: u32 = 2;
@@ -143,6 +146,7 @@ pub const VB_PERM_WRITE: u32 = 2;
 pub const VB_PERM_BOTH: u32 = 3;
 pub const VB_ACCESS_ERROR: u32 = 1;
 pub const VB_ACCESS_DECODE: u32 = 2;
+pub const VB_ACCESS_BEGUN: u32 = 4;
 pub const VB_WAY_CHUNKS: u32 = 0;
 pub const VB_WAY_QEMU: u32 = 1;
 pub const VB_REACHED_MEMORY: u32 = 0;
@@ -184,7 +188,8 @@ pub struct vb_cpu {
 /// What a call answers: a code, and what it names.
 ///
 /// The code is 0 where it is done. 1 to 20 are the refusals of the machine, numbered as the lines of a script number them, and
-/// above these stand those of the library itself. A refused call changes nothing.
+/// above these stand those of the library itself. A refused call changes nothing. The code 28 alone is no refusal: a write was given up
+/// after its first bytes.
 #[repr(C)]
 #[derive(Clone, Copy, Debug, Default, PartialEq, Eq)]
 pub struct vb_answer {
@@ -432,7 +437,15 @@ unsafe extern "C" {
     /// `address_space_write`.
     pub fn vb_cpu_write8(handle: *mut vb_cpu, space: u32, addr: u64, value: u64) -> vb_answer;
 
-    /// Leaves where the virtual CPU is entered, and frees it, if the handle has one. The handle has none then.
+    /// Writes bytes to a space, as `vb_cpu_read` reads them. It never waits: a part of a word is replaced by an exchange, which fails where
+    /// another changed the word meanwhile, and each is tried at most `tries` times. QEMU's core, `address_space_write`.
+    ///
+    /// Where all are written the answer is that of `vb_write`. Else its code is 28, `value` is how many of the first bytes are written, with the
+    /// marks of just these, `what` how their write ended, and `other` the number of the generation: the caller may go on after them. `what` has 4
+    /// where a device, whose access takes several callbacks, has taken the first of those that come next.
+    pub fn vb_cpu_write(handle: *mut vb_cpu, space: u32, addr: u64, bytes: *const u8, bytes_len: usize, tries: u32) -> vb_answer;
+
+    /// Leaves where the virtual CPU is entered, and gives it back to its desk, if the handle has one. The handle has none then.
     pub fn vb_cpu_free(handle: *mut vb_cpu);
 
     /// What listeners were told: the call at an index, counted from the first that is not forgotten, where there is one. `value` of the
@@ -453,8 +466,8 @@ unsafe extern "C" {
     /// generation that a publish would overwrite, seven before the current one, it is refused with the code 19.
     pub fn vb_desk_ask(handle: *mut vb_desk, order: *const vb_order) -> vb_answer;
 
-    /// Hands out a virtual CPU, for a handle that has none. There are 16, numbered from 0 in the order in which they are handed out, and after
-    /// these it is refused with the code 27. It has seen all that the desk has done.
+    /// Hands out a virtual CPU, for a handle that has none. There are 16, numbered from 0 in the order in which they are handed out. Once all are
+    /// out, one that was freed is handed out again, and where none was it is refused with the code 27. It has seen all that the desk has done.
     pub fn vb_desk_cpu(handle: *mut vb_desk, cpu: *mut vb_cpu) -> vb_answer;
 
     /// Takes a notifier, as `vb_notified` does.

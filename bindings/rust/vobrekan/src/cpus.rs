@@ -112,7 +112,7 @@ impl Desk {
         Ok(desk)
     }
 
-    /// A virtual CPU, which has seen all that the desk has done. There are 16.
+    /// A virtual CPU, which has seen all that the desk has done. There are 16; one that is dropped is handed out again once all are out.
     pub fn cpu(&mut self) -> Result<Cpu, Refusal> {
         let mut cpu = Cpu(sys::vb_cpu { at: null_mut() });
         accepted(unsafe { sys::vb_desk_cpu(&mut self.handle, &mut cpu.0) })?;
@@ -188,7 +188,18 @@ impl Desk {
     }
 }
 
-/// A virtual CPU. It never waits, and may outlive its desk.
+/// What was written of some bytes.
+#[derive(Clone, Copy, Debug, PartialEq, Eq)]
+pub struct Written {
+    /// How many of the first bytes are written.
+    pub count: usize,
+    /// How their write ended.
+    pub access: Access,
+    /// Where not all are written: a device, whose access takes several callbacks, has taken the first of those that come next.
+    pub begun: bool,
+}
+
+/// A virtual CPU. It never waits, and may outlive its desk. One that is dropped goes back to its desk.
 #[derive(Debug)]
 pub struct Cpu(sys::vb_cpu);
 
@@ -216,6 +227,17 @@ impl Cpu {
     /// Reads bytes of a space, as many as there is room for.
     pub fn read(&mut self, space: SpaceId, addr: u64, out: &mut [u8]) -> Result<Access, Refusal> {
         Ok(access(accepted(unsafe { sys::vb_cpu_read(&mut self.0, space.0, addr, out.as_mut_ptr(), out.len()) })?))
+    }
+
+    /// Writes bytes of a space. Each part of a word is tried at most `tries` times: where another changed the word each time, only the bytes
+    /// before it are written, and a caller that wants all of them goes on there.
+    pub fn write(&mut self, space: SpaceId, addr: u64, bytes: &[u8], tries: u32) -> Result<Written, Refusal> {
+        let answer = unsafe { sys::vb_cpu_write(&mut self.0, space.0, addr, bytes.as_ptr(), bytes.len(), tries) };
+        if answer.code != sys::VB_CONTENDED {
+            return Ok(Written { count: bytes.len(), access: access(accepted(answer)?), begun: false });
+        }
+        let first = sys::vb_answer { value: answer.other, ..answer };
+        Ok(Written { count: answer.value as usize, access: access(first), begun: answer.what & sys::VB_ACCESS_BEGUN != 0 })
     }
 
     /// Writes the eight bytes of a number, the lowest first. Where it would replace only a part of some word, it is refused.

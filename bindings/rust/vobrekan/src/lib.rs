@@ -15,7 +15,7 @@ use std::ptr::null_mut;
 use vobrekan_sys as sys;
 
 pub use bus::Bus;
-pub use cpus::{Cpu, Desk, Order};
+pub use cpus::{Cpu, Desk, Order, Written};
 pub use pages::Pages;
 pub use refusal::{Refusal, What};
 pub use script::{Ran, run};

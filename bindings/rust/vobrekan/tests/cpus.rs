@@ -68,6 +68,42 @@ fn a_generation_that_is_in_use_stays() {
     assert!(desk.harvest(ram, vobrekan::Client::Display).unwrap().is_empty());
     let mut rest: Vec<_> = (0..15).map(|_| desk.cpu().unwrap()).collect();
     assert_eq!(desk.cpu().err(), Some(Refusal::NoCpu));
+    drop(rest.pop());
+    rest.push(desk.cpu().unwrap());
+    assert_eq!(desk.cpu().err(), Some(Refusal::NoCpu));
     drop(desk);
     assert_eq!(rest[3].enter(), Ok(2));
+}
+
+#[test]
+fn parts_of_words_are_written_beside_others() {
+    let (mut desk, _, _) = map();
+    let writers: Vec<_> = (0..4u64)
+        .map(|number| {
+            let mut cpu = desk.cpu().unwrap();
+            thread::spawn(move || {
+                (0..2_000u32).all(|i| {
+                    let byte = [i as u8];
+                    while cpu.write(SPACE, number, &byte, 4).unwrap().count == 0 {}
+                    let mut out = [0];
+                    cpu.read(SPACE, number, &mut out).unwrap();
+                    out == byte
+                })
+            })
+        })
+        .collect();
+    assert!(writers.into_iter().all(|writer| writer.join().unwrap()));
+}
+
+#[test]
+fn the_first_bytes_of_a_write() {
+    let (mut desk, _, _) = map();
+    let mut cpu = desk.cpu().unwrap();
+    let written = cpu.write(SPACE, 0x20, b"0123456789", 0).unwrap();
+    assert_eq!((written.count, written.begun, written.access.generation), (8, false, 1));
+    let written = cpu.write(SPACE, 0xffe, b"0123", 8).unwrap();
+    assert_eq!((written.count, written.access.decode), (4, true));
+    let mut out = [0; 10];
+    cpu.read(SPACE, 0x20, &mut out).unwrap();
+    assert_eq!(&out, b"01234567\0\0");
 }

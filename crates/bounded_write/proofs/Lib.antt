@@ -1,0 +1,6 @@
+mod CutLaws
+mod EndLaws
+mod HandLaws
+mod PastLaws
+mod RunLaws
+mod WordLaws
