@@ -28,7 +28,7 @@ struct Cpu<'c> {
 }
 
 fn make(config: &mut Config, kind: Kind, bytes: u128) -> Result<RegionId> {
-    let size = Size::new(bytes).context("a region of no bytes")?;
+    let size = Size::new(bytes).context("at most 2^64 bytes")?;
     match config.call(&Call::Region { kind, size })? {
         (Applied::Made(region), _) => Ok(region),
         _ => anyhow::bail!("no region was made"),

@@ -21,7 +21,7 @@ struct Names {
 }
 
 fn size(bytes: u64) -> Result<Size> {
-    Size::new(u128::from(bytes)).context("a region of no bytes")
+    Size::new(u128::from(bytes)).context("at most 2^64 bytes")
 }
 
 // Memory, video memory in front of it, devices in the hole below 4 GiB, and the firmware at its end.

@@ -71,7 +71,7 @@ impl Parts for Ports {
 
 // Makes a region, and answers its id.
 fn make(machine: &mut PureMachine, kind: Kind, bytes: u128) -> Result<RegionId> {
-    let size = Size::new(bytes).context("a region of no bytes")?;
+    let size = Size::new(bytes).context("at most 2^64 bytes")?;
     match machine.call(&Call::Region { kind, size })? {
         (Applied::Made(region), _) => Ok(region),
         _ => anyhow::bail!("no region was made"),

@@ -28,8 +28,8 @@ impl Map {
         self.make(Kind::Container, size)
     }
 
-    /// Makes memory that a guest reads and writes, of whole pages. It answers the new region's id. QEMU's
-    /// core, `memory_region_init_ram`.
+    /// Makes memory that a guest reads and writes, of whole pages of 4,096 bytes, at most 512 MiB. It answers the new region's id.
+    /// Larger memory is `host`. QEMU's core, `memory_region_init_ram`.
     pub fn ram(&mut self, size: Size) -> Result<RegionId, Refusal>
         ensures does { Does self.old (calls.Region kinds.Ram size) self.new result }
         ensures id { IfOk result (λ id. id.0 ≡ self.old.made) }
@@ -37,8 +37,8 @@ impl Map {
         self.make(Kind::Ram, size)
     }
 
-    /// Makes memory that a guest only reads, of whole pages. It answers the new region's id. QEMU's
-    /// core, `memory_region_init_rom`.
+    /// Makes memory that a guest only reads, of whole pages of 4,096 bytes, at most 512 MiB. It answers the new region's id.
+    /// QEMU's core, `memory_region_init_rom`.
     pub fn rom(&mut self, size: Size) -> Result<RegionId, Refusal>
         ensures does { Does self.old (calls.Region kinds.Rom size) self.new result }
         ensures id { IfOk result (λ id. id.0 ≡ self.old.made) }
@@ -46,8 +46,8 @@ impl Map {
         self.make(Kind::Rom, size)
     }
 
-    /// Makes memory that is read directly and written through a device, of whole pages. It answers the new region's id. QEMU's
-    /// core, `memory_region_init_rom_device`.
+    /// Makes memory that is read directly and written through a device, of whole pages of 4,096 bytes, at most 512 MiB. It answers
+    /// the new region's id. QEMU's core, `memory_region_init_rom_device`.
     pub fn rom_device(&mut self, device: Device, size: Size) -> Result<RegionId, Refusal>
         ensures does { Does self.old (calls.Region (kinds.RomDevice device) size) self.new result }
         ensures id { IfOk result (λ id. id.0 ≡ self.old.made) }
@@ -64,8 +64,8 @@ impl Map {
         self.make(Kind::Io(device), size)
     }
 
-    /// Makes memory whose bytes the caller keeps, of whole pages. The map has none of its bytes. It answers the new region's id. QEMU's
-    /// core, `memory_region_init_ram_ptr`.
+    /// Makes memory whose bytes the caller keeps, of whole pages of 4,096 bytes, up to 2^64 bytes. The map has none of its bytes. It
+    /// answers the new region's id. QEMU's core, `memory_region_init_ram_ptr`.
     pub fn host(&mut self, size: Size) -> Result<RegionId, Refusal>
         ensures does { Does self.old (calls.Region kinds.Host size) self.new result }
         ensures id { IfOk result (λ id. id.0 ≡ self.old.made) }
