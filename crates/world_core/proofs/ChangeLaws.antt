@@ -25,7 +25,7 @@ use Rattle.kept_generations.specs.KeptState.{KeptState, generations_of}
 use Rattle.mem_base.specs.access.PlaceCells.{blocks_at}
 use Rattle.transact.specs.Preparing.{Readied}
 use Rattle.backing_pool.specs.Backing.{Backing}
-use Rattle.backed_desk.specs.Backed.{all_places}
+use Rattle.transact.specs.Backed.{all_places}
 use Rattle.writer_desk.specs.Writers.{WriterState, Beside, desk_of, settled_as, standing, IsConfigured, IsAccepted, IsReady}
 use Rattle.world_core.specs.Worlds.{Aside, aside, beside, world_of, filled_beside, filled_world, IsWorld, IsFilledWorld, cleared_at, unswept}
 use Rattle.world_hand.specs.Reached.{IsReached}

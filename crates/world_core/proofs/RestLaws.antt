@@ -22,7 +22,7 @@ use Rattle.turn_laws.proofs.Coupled.{seen}
 use Rattle.world_laws.specs.Legal.{IsFitting}
 use Rattle.kept_generations.specs.KeptState.{KeptState, generations_of}
 use Rattle.transact.specs.Preparing.{Readied}
-use Rattle.backed_desk.specs.Backed.{all_places}
+use Rattle.transact.specs.Backed.{all_places}
 use Rattle.writer_desk.specs.declared.idle.IdleDesk.{IdleDesk}
 use Rattle.writer_desk.specs.Listened.{resting}
 use Rattle.writer_desk.specs.Writers.{desk_of}

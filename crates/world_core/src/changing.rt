@@ -12,13 +12,13 @@ ghost use Rattle.world_core.specs.Unfilled.{cells_at};
 
 use crate::unfilled::Unfilled;
 use crate::world::World;
-use backed_desk::BackedDesk;
 use mem_base::{Applied, Call, Config, Refusal, Reply};
 use place_words::Words;
 use std::alloc::AllocError;
 use std::marker::Brand;
 use std::sync::ledger::{Blank, Ledger};
 use step_counter::Steps;
+use transact::BackedDesk;
 use writer_desk::{Due, ListenedDesk, Planned, note_drop};
 
 // The private event, with a counter of carves of its own. What it publishes is due then, unless `held` says that a pass holds it up.

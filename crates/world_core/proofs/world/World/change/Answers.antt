@@ -9,7 +9,7 @@ use Rattle.mem_base.specs.machine.World.{World, possible}
 use Rattle.view_laws.proofs.Tests.{both_of}
 use Rattle.kept_generations.specs.KeptState.{generations_of}
 use Rattle.transact.specs.Preparing.{Readied}
-use Rattle.backed_desk.specs.Backed.{BackedState}
+use Rattle.transact.specs.Backed.{BackedState}
 use Rattle.writer_desk.specs.Listened.{resting}
 use Rattle.writer_desk.specs.Writers.{WriterState, writer_state, IsConfigured, IsAccepted, dropped_with, made_place}
 use Rattle.writer_run.proofs.TurnLaws.{held_tells}

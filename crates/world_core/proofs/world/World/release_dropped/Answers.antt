@@ -8,7 +8,7 @@ use Rattle.mem_base.specs.machine.World.{World, possible, world_after}
 use Rattle.view_laws.proofs.Tests.{both_of}
 use Rattle.kept_generations.specs.KeptState.{generations_of}
 use Rattle.transact.specs.Preparing.{Readied}
-use Rattle.backed_desk.specs.Backed.{forest_at}
+use Rattle.transact.specs.Backed.{forest_at}
 use Rattle.writer_run.proofs.ReapLaws.{none_there}
 use Rattle.world_core.specs.Worlds.{aside, state_with, world_of, IsWorld}
 use Rattle.world_core.proofs.ReapLaws.{IsReleased, released_by}

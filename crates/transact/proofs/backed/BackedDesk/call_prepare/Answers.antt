@@ -3,9 +3,9 @@ use Rattle.std.specs.Prelude.{IfOk}
 use Rattle.mem_base.specs.map.Forest.{IsMade}
 use Rattle.transact.specs.Desks.{DeskState}
 use Rattle.transact.specs.Preparing.{AreDeskPlaces, readied}
-use Rattle.backed_desk.specs.Backed.{BackedState, backed_state, forest_at, all_places, IsBackedDesk, IsOfBackedDesk}
-use Rattle.backed_desk.proofs.BackedLaws.{backs_of, desk_places, ready_result}
-use Rattle.backed_desk.proofs.desk.BackedDesk.call_prepare.Goals as goal
+use Rattle.transact.specs.Backed.{BackedState, backed_state, forest_at, all_places, IsBackedDesk, IsOfBackedDesk}
+use Rattle.transact.proofs.BackedLaws.{backs_of, desk_places, ready_result}
+use Rattle.transact.proofs.backed.BackedDesk.call_prepare.Goals as goal
 
 pub call_prepare-requires-clause-places : goal.call_prepare-requires-clause-places
 call_prepare-requires-clause-places g c =

@@ -1,9 +1,9 @@
 use Rattle.std.proofs.Common.{rules, ◌≡◌, sym, subst, ◌∙◌}
 use Rattle.mem_base.specs.map.Forest.{IsMade}
 use Rattle.transact.specs.Preparing.{AreDeskPlaces}
-use Rattle.backed_desk.specs.Backed.{BackedState, backed_state, forest_at, all_places}
-use Rattle.backed_desk.proofs.BackedLaws.{backs_of, desk_places}
-use Rattle.backed_desk.proofs.desk.BackedDesk.places.Goals as goal
+use Rattle.transact.specs.Backed.{BackedState, backed_state, forest_at, all_places}
+use Rattle.transact.proofs.BackedLaws.{backs_of, desk_places}
+use Rattle.transact.proofs.backed.BackedDesk.places.Goals as goal
 
 pub returns-clause-fit : goal.returns-clause-fit
 returns-clause-fit c =

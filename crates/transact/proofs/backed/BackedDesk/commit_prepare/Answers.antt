@@ -2,9 +2,9 @@ use Rattle.std.proofs.Common.{rules, sym, ap, subst, ◌∙◌}
 use Rattle.mem_base.specs.declared.map.forests.Forest.{Forest}
 use Rattle.mem_base.specs.map.Forest.{IsMade}
 use Rattle.transact.specs.Preparing.{AreDeskPlaces}
-use Rattle.backed_desk.specs.Backed.{backed_state, forest_at}
-use Rattle.backed_desk.proofs.BackedLaws.{Backs, backs_of, desk_of, desk_places, commit_forest}
-use Rattle.backed_desk.proofs.desk.BackedDesk.commit_prepare.Goals as goal
+use Rattle.transact.specs.Backed.{backed_state, forest_at}
+use Rattle.transact.proofs.BackedLaws.{Backs, backs_of, desk_of, desk_places, commit_forest}
+use Rattle.transact.proofs.backed.BackedDesk.commit_prepare.Goals as goal
 
 pub commit_prepare-requires : goal.commit_prepare-requires
 commit_prepare-requires g c =

@@ -14,12 +14,13 @@ ghost use Rattle.mem_base.specs.access.Places.{extent, extent_of, words_of};
 ghost use Rattle.generation.specs.Published.{AscendByRegion};
 ghost use Rattle.transact.specs.Desks.{with_state};
 ghost use Rattle.transact.specs.Preparing.{AreDeskPlaces, readied, when_done, most_carves};
-ghost use Rattle.transact.specs.Commits.{IsStep};
-ghost use Rattle.backed_desk.specs.Backed.{first_backed, forest_at, all_places, extent_made, words_made, refusal_at};
-ghost use Rattle.backed_desk.specs.Backed.{by_region, without, backing_without};
-ghost use Rattle.backed_desk.specs.Backed.{IsCalled, IsOfBackedDesk};
-ghost use Rattle.backed_desk.specs.Commits.{IfReady};
+ghost use Rattle.transact.specs.Commits.{IfReady, IsStep};
+ghost use Rattle.transact.specs.Backed.{first_backed, forest_at, all_places, extent_made, words_made, refusal_at};
+ghost use Rattle.transact.specs.Backed.{by_region, without, backing_without};
+ghost use Rattle.transact.specs.Backed.{IsCalled, IsOfBackedDesk};
 
+use crate::desk::Desk;
+use crate::prepared::{Prepared, Step};
 use backing_pool::Pool;
 use mem_base::{Applied, Call, Kind, Listener, Place, Refusal, RegionId, Size};
 use region_tree::Tree;
@@ -27,7 +28,6 @@ use std::alloc::{AllocError, Global};
 use std::marker::Model;
 use std::sync::ledger::Ledger;
 use step_counter::Steps;
-use transact::{Desk, Prepared, Step};
 
 /// What the writer keeps of the map, with the words of its regions.
 ///
@@ -43,7 +43,7 @@ pub struct BackedDesk {
 }
 
 impl Model for BackedDesk {
-    ghost use Rattle.backed_desk.specs.Backed.{BackedState, backed_state, IsBackedDesk};
+    ghost use Rattle.transact.specs.Backed.{BackedState, backed_state, IsBackedDesk};
 
     ghost Value = { BackedState };
 

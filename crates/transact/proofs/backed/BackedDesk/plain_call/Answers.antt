@@ -4,9 +4,9 @@ use Rattle.mem_base.specs.declared.map.calls.Applied.TheVariants.{Made, Done}
 use Rattle.mem_base.specs.declared.map.refusals.Refusal.TheVariants.{Memory}
 use Rattle.mem_base.specs.map.Calls.{after, answer_of}
 use Rattle.mem_base.specs.map.Forest.{IsMade}
-use Rattle.backed_desk.specs.Backed.{BackedState, backed_state, forest_at, refusal_at}
-use Rattle.backed_desk.proofs.BackedLaws.{refused_plain, few_after, plain_desk}
-use Rattle.backed_desk.proofs.desk.BackedDesk.plain_call.Goals as goal
+use Rattle.transact.specs.Backed.{BackedState, backed_state, forest_at, refusal_at}
+use Rattle.transact.proofs.BackedLaws.{refused_plain, few_after, plain_desk}
+use Rattle.transact.proofs.backed.BackedDesk.plain_call.Goals as goal
 
 pub returns-in_err-applied-clause-refused : goal.returns-in_err-applied-clause-refused
 returns-in_err-applied-clause-refused c =

@@ -2,9 +2,9 @@ use Rattle.std.proofs.Common.{rules, ◌≡◌, None, sym, subst}
 use Rattle.mem_base.specs.map.Forest.{IsMade}
 use Rattle.mem_base.specs.map.Region.{node_of}
 use Rattle.backing_pool.specs.Backing.{Backing}
-use Rattle.backed_desk.specs.Backed.{backed_state, forest_at, backing_without, IsBackedDesk}
-use Rattle.backed_desk.proofs.BackedLaws.{ascends, desk_released, none_released}
-use Rattle.backed_desk.proofs.desk.BackedDesk.release.Goals as goal
+use Rattle.transact.specs.Backed.{backed_state, forest_at, backing_without, IsBackedDesk}
+use Rattle.transact.proofs.BackedLaws.{ascends, desk_released, none_released}
+use Rattle.transact.proofs.backed.BackedDesk.release.Goals as goal
 
 pub invariant_of-self : goal.invariant_of-self
 invariant_of-self c =

@@ -1,9 +1,9 @@
 use Rattle.std.proofs.Common.{rules, sym}
 use Rattle.std.proofs.lemmas.Fn.{always_returns_same}
 use Rattle.mem_base.proofs.PlaceLaws.{place_of-searched}
-use Rattle.backed_desk.specs.Backed.{by_region}
-use Rattle.backed_desk.proofs.BackedLaws.{rises}
-use Rattle.backed_desk.proofs.desk.position.Goals as goal
+use Rattle.transact.specs.Backed.{by_region}
+use Rattle.transact.proofs.BackedLaws.{rises}
+use Rattle.transact.proofs.backed.position.Goals as goal
 
 pub returns-clause-place : goal.returns-clause-place
 returns-clause-place c =

@@ -10,9 +10,9 @@ use Rattle.mem_base.specs.lists.Every.{Every}
 use Rattle.mem_base.specs.map.Calls.{after, refusal_of}
 use Rattle.mem_base.specs.map.Forest.{IsMade}
 use Rattle.backing_pool.specs.Backing.{Backing}
-use Rattle.backed_desk.specs.Backed.{BackedState, backed_state, backing_at, forest_at, refusal_at, backing_without, IsBackedDesk, IsCalled}
-use Rattle.backed_desk.proofs.BackedLaws.{may_be_made, bytes_fit, unplaced, refused_result, desk_made, given_back}
-use Rattle.backed_desk.proofs.desk.BackedDesk.make.Goals as goal
+use Rattle.transact.specs.Backed.{BackedState, backed_state, backing_at, forest_at, refusal_at, backing_without, IsBackedDesk, IsCalled}
+use Rattle.transact.proofs.BackedLaws.{may_be_made, bytes_fit, unplaced, refused_result, desk_made, given_back}
+use Rattle.transact.proofs.backed.BackedDesk.make.Goals as goal
 
 pub take-requires-clause-none : goal.take-requires-clause-none
 take-requires-clause-none c =

@@ -62,14 +62,14 @@ use Rattle.transact.proofs.MadeLaws.{closed_made, ordered_made}
 use Rattle.backing_pool.specs.Backing.{Backing}
 use Rattle.backing_pool.proofs.PlaceLaws.{all_stay, not_found}
 use Rattle.backing_pool.proofs.PoolLaws.{some_words}
-use Rattle.backed_desk.specs.Backed.{extent_made, words_made, no_backing, new_places, places_for, backing_at, backing_after}
-use Rattle.backed_desk.specs.Backed.{BackedState, backed_state, IsBackedDesk, IsOfBackedDesk, forest_at, refusal_at}
+use Rattle.transact.specs.Backed.{extent_made, words_made, no_backing, new_places, places_for, backing_at, backing_after}
+use Rattle.transact.specs.Backed.{BackedState, backed_state, IsBackedDesk, IsOfBackedDesk, forest_at, refusal_at}
 use Rattle.transact.specs.Desks.{DeskState}
 use Rattle.transact.specs.Preparing.{Readied, readied}
 use Rattle.transact.specs.Commits.{IsStep}
 use Rattle.transact.specs.declared.prepared.Step.{Step}
 use Rattle.transact.specs.declared.prepared.Step.TheVariants.{Inner, Empty, Ready}
-use Rattle.backed_desk.specs.Backed.{by_region, is_place_of, without, backing_without, all_places}
+use Rattle.transact.specs.Backed.{by_region, is_place_of, without, backing_without, all_places}
 use Rattle.transact.specs.Preparing.{AreDeskPlaces}
 
 -- the places back a forest, in order of their regions, each of a region that was made

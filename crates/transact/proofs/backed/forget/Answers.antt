@@ -1,8 +1,8 @@
 use Rattle.std.proofs.Common.{◌≡◌, sym, ap, Ok, Err, ◌∙◌}
 use Rattle.mem_base.specs.lists.Sorting.{place_of}
-use Rattle.backed_desk.specs.Backed.{by_region}
-use Rattle.backed_desk.proofs.BackedLaws.{taken_out, absent}
-use Rattle.backed_desk.proofs.desk.forget.Goals as goal
+use Rattle.transact.specs.Backed.{by_region}
+use Rattle.transact.proofs.BackedLaws.{taken_out, absent}
+use Rattle.transact.proofs.backed.forget.Goals as goal
 
 pub returns-in-Ok : goal.returns-in-Ok
 returns-in-Ok c =
