@@ -1,6 +1,6 @@
 use Rattle.std.proofs.Common.{rules, ◌≡◌, Ok, Err, inl, inr, refl}
 use Rattle.mem_base.specs.declared.map.refusals.Refusal.TheVariants.{Memory}
-use Rattle.world_core.proofs.settling.settled.Goals as goal
+use Rattle.world_core.proofs.calls.settled.Goals as goal
 
 pub returns-in-Ok-clause-flags : goal.returns-in-Ok-clause-flags
 returns-in-Ok-clause-flags g c =
