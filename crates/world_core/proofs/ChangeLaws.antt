@@ -35,7 +35,7 @@ use Rattle.world_hand.proofs.Completing.{backs, reached_holds}
 use Rattle.writer_run.proofs.MadeLaws.{kept_beside, pool_stays, unfilled_with}
 use Rattle.writer_desk.specs.Writers.{dropped_with, made_place}
 use Rattle.world_core.specs.Events.{IsChanged, makes_region}
-use Rattle.world_core.specs.Unfilled.{cells_at}
+use Rattle.place_words.specs.Unfilled.{cells_at}
 use Rattle.world_core.proofs.MadeCellLaws.{made_only}
 use Rattle.world_core.proofs.MadeCellLaws as made
 use Rattle.world_core.proofs.ReachedLaws.{reached_after}

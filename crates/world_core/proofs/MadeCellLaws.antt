@@ -30,7 +30,7 @@ use Rattle.writer_desk.specs.Writers.{backing_by, applied_by}
 use Rattle.writer_desk.specs.Writers.{made_place}
 use Rattle.world_core.specs.Worlds.{cleared_at}
 use Rattle.world_core.specs.Events.{makes_region}
-use Rattle.world_core.specs.Unfilled.{cells_at}
+use Rattle.place_words.specs.Unfilled.{cells_at}
 use Rattle.world_hand.proofs.Completing.{all_apart, all_within}
 use Rattle.writer_run.proofs.MadeLaws.{unfilled_with}
 

@@ -12,7 +12,6 @@ mod events;
 mod hands;
 mod numbers;
 mod possible;
-mod unfilled;
 mod world;
 
 pub use world::World;

@@ -9,11 +9,10 @@ ghost use Rattle.world_core.specs.Hands.{IsInside, shown_to};
 ghost use Rattle.world_hand.specs.Reached.{IsReached};
 ghost use Rattle.world_hand.specs.Taken.{with_calls};
 
-use crate::unfilled::Unfilled;
 use generation::Generation;
 use kept_generations::Kept;
 use mem_base::{ListenerEvent, ListenerId, NOTIFIER_COUNT, PassId};
-use place_words::Words;
+use place_words::{Unfilled, Words};
 use std::alloc::{AllocError, Global};
 use std::marker::Model;
 use std::sync::Arc;

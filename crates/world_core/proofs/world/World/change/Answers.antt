@@ -10,7 +10,7 @@ use Rattle.transact.specs.Backed.{BackedState}
 use Rattle.writer_desk.specs.Writers.{WriterState, writer_state, dropped_with, made_place}
 use Rattle.writer_run.proofs.TurnLaws.{held_tells}
 use Rattle.world_core.specs.Worlds.{aside, cleared_at, state_with, world_of, IsWorld, Aside}
-use Rattle.world_core.specs.Unfilled.{cells_at}
+use Rattle.place_words.specs.Unfilled.{cells_at}
 use Rattle.world_core.proofs.ChangeLaws.{ChangesWorld, accepted_so, made_there, refused_so}
 use Rattle.world_core.proofs.RestLaws.{Rested, rested}
 use Rattle.world_core.proofs.world.World.change.Goals.{After-configured, After-unsweep, After-unsweep-in_default}

@@ -3,9 +3,9 @@ use Rattle.std.specs.Prelude.{not, filter}
 use Rattle.std.specs.List.{list_any}
 use Rattle.mem_base.specs.declared.access.cells.Cell.{Cell}
 use Rattle.mem_base.specs.access.Cells.{is_same_cell}
-use Rattle.world_core.specs.Unfilled.{Waiting, cells_left}
-use Rattle.world_core.proofs.UnfilledLaws.{IsLeft, is_left, one_less, less_left}
-use Rattle.world_core.proofs.unfilled.Unfilled.fill.Goals as goal
+use Rattle.place_words.specs.Unfilled.{Waiting, cells_left}
+use Rattle.place_words.proofs.UnfilledLaws.{IsLeft, is_left, one_less, less_left}
+use Rattle.place_words.proofs.unfilled.Unfilled.fill.Goals as goal
 
 pub lower-requires : goal.lower-requires
 lower-requires c =

@@ -7,7 +7,7 @@ use Rattle.std.proofs.Common.{eq-eqb, ne_eqb}
 use Rattle.mem_base.specs.declared.map.ids.RegionId.{RegionId}
 use Rattle.mem_base.specs.declared.access.cells.Cell.{Cell}
 use Rattle.mem_base.specs.access.Cells.{cell, is_same_cell}
-use Rattle.world_core.specs.Unfilled.{cells_left}
+use Rattle.place_words.specs.Unfilled.{cells_left}
 
 never_both : (b : Bool) → (b && false) ≡ false
 never_both true = refl

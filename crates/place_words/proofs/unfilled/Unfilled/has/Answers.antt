@@ -2,9 +2,9 @@ use Rattle.std.proofs.Common.{rules, ◌≡◌, Bool, List, get_or, true, false,
 use Rattle.std.specs.Prelude.{◌==◌}
 use Rattle.std.specs.List.{list_any}
 use Rattle.mem_base.specs.access.Cells.{is_same_cell}
-use Rattle.world_core.specs.Unfilled.{Waiting}
-use Rattle.world_core.proofs.UnfilledLaws.{none_of_other, one_by_flag}
-use Rattle.world_core.proofs.unfilled.Unfilled.has.Goals as goal
+use Rattle.place_words.specs.Unfilled.{Waiting}
+use Rattle.place_words.proofs.UnfilledLaws.{none_of_other, one_by_flag}
+use Rattle.place_words.proofs.unfilled.Unfilled.has.Goals as goal
 
 pub returns-then-cell-self : goal.returns-then-cell-self
 returns-then-cell-self c =

@@ -1,5 +1,5 @@
 use Rattle.std.proofs.Common.{◌≡◌, ◌≤◌, true, replicate, vec_len, vec_capacity}
-use Rattle.world_core.proofs.unfilled.raise.Given as goal
+use Rattle.place_words.proofs.unfilled.raise.Given as goal
 
 abbrev pub invariant-loop : goal.invariant-loop
 invariant-loop l = record {

@@ -4,7 +4,7 @@ ghost use Rattle.std.specs.Prelude.{slice_index_or, slice_set, vec_capacity, OnO
 ghost use Rattle.std.specs.List.{list_any};
 ghost use Rattle.mem_base.specs.access.Cells.{is_same_cell};
 ghost use Rattle.mem_base.specs.machine.Desk.{cells_of};
-ghost use Rattle.world_core.specs.Unfilled.{Waiting};
+ghost use Rattle.place_words.specs.Unfilled.{Waiting};
 
 use mem_base::{Cell, Place, RegionId};
 use std::alloc::{AllocError, Global};
@@ -14,7 +14,7 @@ use std::marker::Model;
 ///
 /// It is seen as the cells of these words, and the number of flags for which there is room.
 #[derive(Drop)]
-pub(crate) struct Unfilled {
+pub struct Unfilled {
     region: RegionId,
     flags: Vec<bool>,
     // how many flags are on
@@ -23,7 +23,7 @@ pub(crate) struct Unfilled {
 
 impl Model for Unfilled {
     ghost use Rattle.std.specs.Prelude.{◌≡◌, length, vec_capacity};
-    ghost use Rattle.world_core.specs.Unfilled.{Waiting, waiting, cells_left};
+    ghost use Rattle.place_words.specs.Unfilled.{Waiting, waiting, cells_left};
 
     ghost Value = { Waiting };
 
@@ -64,7 +64,7 @@ fn lower(flags: &mut Vec<bool>, at: usize)
 
 impl Unfilled {
     /// No word. It takes no memory.
-    pub(crate) fn none(alloc: Global) -> Unfilled
+    pub fn none(alloc: Global) -> Unfilled
         ensures { result.cells ≡ [] }
     {
         Unfilled {
@@ -75,7 +75,7 @@ impl Unfilled {
     }
 
     /// Whether the cell is one of them.
-    pub(crate) fn has(&self, cell: &Cell) -> bool
+    pub fn has(&self, cell: &Cell) -> bool
         ensures { result ≡ list_any (is_same_cell cell.now) self.now.cells }
     {
         if cell.region.0 != self.region.0 {
@@ -85,14 +85,14 @@ impl Unfilled {
     }
 
     /// Whether each word is cleared.
-    pub(crate) fn is_empty(&self) -> bool
+    pub fn is_empty(&self) -> bool
         ensures { result ≡ (length self.now.cells == 0) }
     {
         self.left == 0
     }
 
     /// Makes room for the flags of so large a region.
-    pub(crate) fn reserve(&mut self, words: usize) -> Result<(), AllocError>
+    pub fn reserve(&mut self, words: usize) -> Result<(), AllocError>
         requires none { self.old.cells ≡ [] }
         ensures cells { self.new.cells ≡ [] }
         ensures room { OnOk result (words ≤ self.new.room) }
@@ -103,7 +103,7 @@ impl Unfilled {
     }
 
     /// No word of this place is cleared yet.
-    pub(crate) fn begin(&mut self, place: &Place)
+    pub fn begin(&mut self, place: &Place)
         requires room { place.now.words ≤ self.old.room }
         ensures { self.new.cells ≡ cells_of place.now }
     {
@@ -113,7 +113,7 @@ impl Unfilled {
     }
 
     /// The cell is cleared.
-    pub(crate) fn fill(&mut self, cell: &Cell)
+    pub fn fill(&mut self, cell: &Cell)
         requires waits { list_any (is_same_cell cell.now) self.old.cells ≡ true }
         ensures { self.new.cells ≡ filter (λ x. not (is_same_cell cell.now x)) self.old.cells }
     {

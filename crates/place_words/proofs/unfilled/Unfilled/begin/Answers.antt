@@ -1,5 +1,5 @@
-use Rattle.world_core.proofs.UnfilledLaws.{all_left, all_count}
-use Rattle.world_core.proofs.unfilled.Unfilled.begin.Goals as goal
+use Rattle.place_words.proofs.UnfilledLaws.{all_left, all_count}
+use Rattle.place_words.proofs.unfilled.Unfilled.begin.Goals as goal
 
 pub invariant_of-self : goal.invariant_of-self
 invariant_of-self c = all_count c.args.place.now.region c.args.place.now.words c.raise.new.flags.items c.raise.ensures
