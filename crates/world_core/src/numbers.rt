@@ -37,9 +37,7 @@ impl World {
         self.hand.kept.enter(pass)
     }
 
-    /// The pass leaves its generation.
-    ///
-    /// It is entered.
+    /// The pass, which is entered, leaves its generation.
     pub fn leave(&mut self, pass: PassId)
         requires { possible self.old (events.Leave pass) ≡ true }
         ensures world { self.new ≡ after_events self.old (leaves pass) }

@@ -44,9 +44,8 @@ impl Model for World {
 }
 
 impl World {
-    /// The world at first: an empty map over a pool of this many words, at most 2^26, and 1 to 16 passes.
-    ///
-    /// It fails only where memory runs out.
+    /// The world at first: an empty map over a pool of this many words, at most 2^26, and 1 to 16 passes. It fails only where memory
+    /// runs out.
     pub fn new(alloc: Global, words: usize, passes: u32) -> Result<World, AllocError>
         requires words { words ≤ 2 ^ 26 }
         requires some { 0 < passes }
