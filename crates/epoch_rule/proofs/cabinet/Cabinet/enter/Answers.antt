@@ -17,7 +17,7 @@ use Rattle.epoch_rule.proofs.ActorSteps.{look, announce, enter}
 use Rattle.epoch_rule.proofs.PassLaws.{pass_added, entered_counts, stands_out, stands_in, edition_of, three, top_of, suits_on, ends_added}
 use Rattle.epoch_rule.proofs.SizeLaws.{near_in}
 use Rattle.epoch_rule.proofs.cabinet.Cabinet.enter.Given.{Over}
-use Rattle.epoch_rule.proofs.cabinet.Cabinet.enter.Goals.{After-exchange, After-load-looked, After-load-number, After-store}
+use Rattle.epoch_rule.proofs.cabinet.Cabinet.enter.Goals.{After-load-looked, After-load-number, After-store, Joined-pass-exchange}
 use Rattle.epoch_rule.proofs.cabinet.Cabinet.enter.Goals as goal
 
 pub load-looked-requires : goal.load-looked-requires
@@ -102,33 +102,33 @@ exchange-requires g c =
       (took.0, took.1 ∙ ap (λ l. (16 * p + c.load-number.result % 8, took.0) ∷ rest l) (sym took.1)),
     )
 
-came : (g : Over) (c : After-exchange g) → ComesNext (c.pass.inside.number + 1) c.store.new.seat.me.0 (Enter (pass_id c.pass.inside.number)) Nothing
+came : (g : Over) (c : Joined-pass-exchange g) → ComesNext (c.pass.inside.number + 1) c.store.new.seat.me.0 (Enter (pass_id c.pass.inside.number)) Nothing
     c.load-number.result c.load-number.new.seat.me.0
 came g c = (c.load-number.ensures.2 c.pass.inside.number (role g (goal.at.returns-clause-current g c).After-load-number ∙ c.pass.invariant.0)).0
 
 -- what the exchange leaves
 
-seen : (g : Over) (c : After-exchange g) → c.exchange.new.seat.me.0.seen ≡ c.load-number.new.seat.me.0.seen
+seen : (g : Over) (c : Joined-pass-exchange g) → c.exchange.new.seat.me.0.seen ≡ c.load-number.new.seat.me.0.seen
 seen g c = ap (λ m. m.0.seen) c.exchange.ensures.3
 
-sizes : (g : Over) (c : After-exchange g) → c.exchange.new.seat.me.0.sizes ≡ c.store.new.seat.me.0.sizes
+sizes : (g : Over) (c : Joined-pass-exchange g) → c.exchange.new.seat.me.0.sizes ≡ c.store.new.seat.me.0.sizes
 sizes g c = ap (λ m. m.0.sizes) c.exchange.ensures.3 ∙ (came g c).sizes
 
-copy : (g : Over) (c : After-exchange g) → IsCopy g.E.Edition.counted g.E.Edition.forest g.E.Edition.places c.load-number.result
+copy : (g : Over) (c : Joined-pass-exchange g) → IsCopy g.E.Edition.counted g.E.Edition.forest g.E.Edition.places c.load-number.result
     (generation_published c.exchange.new.seat.me.0.seen c.load-number.result) c.exchange.result
 copy g c =
     let took = (c.load-number.ensures.2 c.pass.inside.number (role g (goal.at.returns-clause-current g c).After-load-number ∙ c.pass.invariant.0)).1 in
     let same : c.exchange.result ≡ took.0 = ap (top_of took.0) (sym c.exchange.ensures.2 ∙ took.1) in
     (took.2.0, same ∙ took.2.1, took.2.2, took.2.3 ∙ (λ i. generation_published (sym (seen g c) i) c.load-number.result))
 
-counts : (g : Over) (c : After-exchange g) → length (generations_published c.exchange.new.seat.me.0.seen) ≡ c.load-number.result + 1
+counts : (g : Over) (c : Joined-pass-exchange g) → length (generations_published c.exchange.new.seat.me.0.seen) ≡ c.load-number.result + 1
 counts g c = ap (λ l. length (generations_published l)) (seen g c) ∙ entered_counts c.pass.inside.number _ c.load-number.result _ (came g c)
 
-lawful : (g : Over) (c : After-exchange g) → IsLegal c.store.new.seat.me.0.sizes c.exchange.new.seat.me.0.seen
+lawful : (g : Over) (c : Joined-pass-exchange g) → IsLegal c.store.new.seat.me.0.sizes c.exchange.new.seat.me.0.seen
 lawful g c = subst (λ (l : List HistoryEntry). IsLegal c.store.new.seat.me.0.sizes l) (sym (seen g c)) (came g c).lawful
 
 -- all three together
-all : (g : Over) (c : After-exchange g) → IsPrefix c.pass.inside.seat.me.0.seen c.exchange.new.seat.me.0.seen
+all : (g : Over) (c : Joined-pass-exchange g) → IsPrefix c.pass.inside.seat.me.0.seen c.exchange.new.seat.me.0.seen
     × (own_entries (c.pass.inside.number + 1) c.exchange.new.seat.me.0.seen ≡ own_entries (c.pass.inside.number + 1) c.pass.inside.seat.me.0.seen
     ++ entries_of_enter (pass_id c.pass.inside.number) c.load-looked.result c.load-number.result)
 all g c =
@@ -145,7 +145,7 @@ invariant_of-pass g c =
     let p : ℕ = c.pass.inside.number in
     let now = c.exchange.ensures in
     let r : ℕ = c.load-number.result in
-    let here = at.After-exchange in
+    let here : Joined-pass-exchange g = c in
     let both = c.load-number.ensures.2 p (role g at.After-load-number ∙ inv.0) in
     let bare : rest c.load-number.new.seat.me.1 ≡ [] =
     ap rest both.1.1 ∙ (c.store.ensures.2.0 ∙ (c.load-looked.ensures.2.0 ∙ (out g at.After-load-looked).1)) in
