@@ -1,19 +1,20 @@
-use Rattle.std.proofs.Common.{arith, ◌≡◌, ℕ, ◌+◌, ◌<◌, [], ◌∷◌, ◌++◌, length, sym, refl, ap, ◌∙◌, subst, Some, None, false, get_or}
+use Rattle.std.proofs.Common.{arith, ◌≡◌, ℕ, ◌+◌, ◌<◌, List, [], ◌∷◌, ◌++◌, length, sym, refl, ap, ◌∙◌, subst, Some, None, false, get_or}
 use Rattle.std.specs.Arc.{arc_value}
 use lib.ListN.{length-map}
 use Rattle.mem_base.specs.declared.machine.events.Event.TheVariants as events
 use Rattle.mem_base.specs.declared.machine.events.Hand.TheVariants.{Writer}
+use Rattle.mem_base.specs.declared.machine.events.HistoryEntry.{HistoryEntry}
 use Rattle.mem_base.specs.machine.Actors.{number_seen, own_entries}
 use Rattle.mem_base.specs.machine.Publishing.{held_up}
 use Rattle.mem_base.specs.machine.Turns.{history_entry}
 use Rattle.epoch_rule.specs.declared.views.Sizes.{Sizes}
 use Rattle.epoch_rule.specs.declared.views.Picked.{Picked}
 use Rattle.epoch_rule.specs.declared.views.View.{View}
-use Rattle.epoch_rule.specs.Rule.{PlacesFit, carried_pick, generation_of_pick, generations_seen}
+use Rattle.epoch_rule.specs.Rule.{IsLegal, PlacesFit, carried_pick, generation_of_pick, generations_seen}
 use Rattle.epoch_rule.specs.Copies.{picked}
 use Rattle.epoch_rule.specs.Wrote.{Wrote}
 use Rattle.epoch_rule.specs.Writing.{IsWriting, stored}
-use Rattle.epoch_rule.specs.Calls.{generations_in_seen, refusal_of, sweeps_of, places_of, held_in, AreCopies, HasPlaced, HasSwept, HasWritten}
+use Rattle.epoch_rule.specs.Calls.{generations_in_seen, refusal_of, sweeps_of, places_of, held_in, HasPlaced, HasSwept, HasWritten}
 use Rattle.epoch_rule.proofs.SweepLaws.{sweeping_current, all_near, all_free, writes_more}
 use Rattle.epoch_rule.proofs.PublishLaws.{wrote_of, writes_both, swept_writing, placed_all, placed_current, published_writing, held_is, copies_of, held_not}
 use Rattle.epoch_rule.proofs.PassLaws.{ends_added}
@@ -39,17 +40,11 @@ swept : (g : Over) (c : After-sweep_all g) → IsWriting c.sweep_all.new.seat.ta
 swept g c = swept_writing _ _ c.writer.inside.seat.me c.sweep_all.new.seat.me _ _ c.sweep_all.new.known.items _ c.self.inside.passes
     c.sweep_all.ensures.seat.0 c.sweep_all.ensures.seat.1 c.sweep_all.ensures.swept c.writer.invariant
 
--- the batch has the next number
-next : (g : Over) (c : After-sweep_all g) → g.E.Edition.counted (arc_value c.next.inside.edition) ≡ c.writer.inside.current + 1
-next g c =
-    let v : View = c.writer.inside.seat.me.0 in
-    ap (λ y. g.E.Edition.counted y.edition) c.next.view_is ∙ (c.requires.next ∙ (ap (λ y. number_seen y.seen + 1) (sym c.writer.view_is)
-    ∙ ap (λ (y : ℕ). y + 1) (sym (c.writer.invariant.is_current ∙ current_seen v.sizes v.seen c.writer.invariant.lawful))))
-
-copies : (g : Over) (c : After-sweep_all g) → AreCopies g.E.Edition.counted g.E.Edition.forest g.E.Edition.places (c.writer.inside.current + 1)
-    (picked g.E.Edition.forest g.E.Edition.places (arc_value c.next.inside.edition)) c.next.inside.copies.items
-copies g c = copies_of g.E.Edition.counted g.E.Edition.forest g.E.Edition.places (c.writer.inside.current + 1) (arc_value c.next.inside.edition)
-    c.next.inside.copies.items (next g c) c.next.invariant
+-- a number after the last one that was seen is the one after the current
+next_is : (v : View) (current n : ℕ) (seen : List HistoryEntry) → current ≡ (generations_seen v).current → IsLegal v.sizes v.seen → v.seen ≡ seen
+    → n ≡ number_seen seen + 1 → n ≡ current + 1
+next_is v current n seen now lawful same is =
+    is ∙ ap (λ (y : ℕ). y + 1) (ap number_seen (sym same) ∙ sym (now ∙ current_seen v.sizes v.seen lawful))
 
 -- no pass holds it up
 free : (g : Over) (c : In_default g) → held_in c.writer.inside.current 0 c.sweep_all.new.known.items ≡ None
@@ -128,16 +123,26 @@ place_all-requires-clause-free g c =
 
 pub place_all-requires-clause-copies : goal.place_all-requires-clause-copies
 place_all-requires-clause-copies g c =
-    (picked g.E.Edition.forest g.E.Edition.places (arc_value c.next.inside.edition), copies g (goal.at.place_all-requires-clause-copies g c).After-sweep_all)
+    let inv = c.writer.invariant in
+    let next = next_is c.writer.inside.seat.me.0 c.writer.inside.current _ _ inv.is_current inv.lawful (ap (λ y. y.seen) c.writer.view_is)
+    (ap (λ y. g.E.Edition.counted y.edition) c.next.view_is ∙ c.requires.next) in (
+      picked g.E.Edition.forest g.E.Edition.places (arc_value c.next.inside.edition),
+      copies_of g.E.Edition.counted g.E.Edition.forest g.E.Edition.places (c.writer.inside.current + 1) (arc_value c.next.inside.edition)
+          c.next.inside.copies.items next c.next.invariant,
+    )
 
 -- all have their copies
 
 abbrev edition : (g : Over) → After-place_all g → Picked
 edition g c = picked g.E.Edition.forest g.E.Edition.places (arc_value c.next.inside.edition)
 
-placed : (g : Over) (c : After-place_all g) → AreCopies g.E.Edition.counted g.E.Edition.forest g.E.Edition.places (c.writer.inside.current + 1)
-    (edition g c) c.next.inside.copies.items → HasPlaced c.sweep_all.new.seat.me.0 c.place_all.new.seat.me.0 (edition g c) c.self.inside.passes
-placed g c are = c.place_all.ensures.placed (edition g c) are
+next : (g : Over) (c : After-place_all g) → g.E.Edition.counted (arc_value c.next.inside.edition) ≡ c.writer.inside.current + 1
+next g c = next_is c.writer.inside.seat.me.0 c.writer.inside.current _ _ c.writer.invariant.is_current c.writer.invariant.lawful
+    (ap (λ y. y.seen) c.writer.view_is) (ap (λ y. g.E.Edition.counted y.edition) c.next.view_is ∙ c.requires.next)
+
+placed : (g : Over) (c : After-place_all g) → HasPlaced c.sweep_all.new.seat.me.0 c.place_all.new.seat.me.0 (edition g c) c.self.inside.passes
+placed g c = c.place_all.ensures.placed (edition g c) (copies_of g.E.Edition.counted g.E.Edition.forest g.E.Edition.places (c.writer.inside.current + 1)
+    (arc_value c.next.inside.edition) c.next.inside.copies.items (next g c) c.next.invariant)
 
 is_next : (g : Over) (c : After-place_all g) → HasPlaced c.sweep_all.new.seat.me.0 c.place_all.new.seat.me.0 (edition g c) c.self.inside.passes
     → c.place_all.new.seat.me.0.next ≡ edition g c
@@ -146,7 +151,7 @@ is_next g c p = let some = c.self.invariant.some in let counts = c.self.invarian
 pub publish-requires-clause-writer : goal.publish-requires-clause-writer
 publish-requires-clause-writer g c =
     let at = goal.at.publish-requires-clause-writer g c in
-    (placed g at.After-place_all (copies g at.After-sweep_all)).writes.role ∙ (c.sweep_all.ensures.swept.writes.role ∙ c.writer.invariant.role)
+    (placed g at.After-place_all).writes.role ∙ (c.sweep_all.ensures.swept.writes.role ∙ c.writer.invariant.role)
 
 pub publish-requires-clause-next : goal.publish-requires-clause-next
 publish-requires-clause-next g c =
@@ -154,8 +159,8 @@ publish-requires-clause-next g c =
     let n : ℕ = c.self.inside.passes in
     let w : View = c.sweep_all.new.seat.me.0 in
     let now = sweeping_current c.writer.inside.seat.me.0 w c.sweep_all.new.known.items n c.sweep_all.ensures.swept in
-    let p = placed g at.After-place_all (copies g at.After-sweep_all) in
-    let number = next g at.After-sweep_all in (
+    let p = placed g at.After-place_all in
+    let number = next g at.After-place_all in (
       ap (λ (y : ℕ). y + 1) (c.writer.invariant.is_current ∙ (sym now.0 ∙ sym (placed_current w c.place_all.new.seat.me.0 (edition g at.After-place_all) n p))),
       (let small = c.requires.small in let same = ap (λ y. g.E.Edition.counted y.edition) c.next.view_is in omega (arith, number)),
     )
@@ -166,7 +171,7 @@ publish-requires-clause-placed g c =
     let n : ℕ = c.self.inside.passes in
     let w : View = c.sweep_all.new.seat.me.0 in
     let now = sweeping_current c.writer.inside.seat.me.0 w c.sweep_all.new.known.items n c.sweep_all.ensures.swept in
-    placed_all w c.place_all.new.seat.me.0 (edition g at.After-place_all) n (placed g at.After-place_all (copies g at.After-sweep_all))
+    placed_all w c.place_all.new.seat.me.0 (edition g at.After-place_all) n (placed g at.After-place_all)
     (passes g at.After-sweep_all ∙ sym now.1)
 
 pub publish-requires-clause-roomy : goal.publish-requires-clause-roomy
@@ -174,7 +179,7 @@ publish-requires-clause-roomy g c =
     let at = goal.at.publish-requires-clause-roomy g c in
     let x : Picked = edition g at.After-place_all in
     subst (λ (q : Picked). PlacesFit c.self.inside.table.shared.key.words (generation_of_pick q))
-    (sym (is_next g at.After-place_all (placed g at.After-place_all (copies g at.After-sweep_all))))
+    (sym (is_next g at.After-place_all (placed g at.After-place_all)))
     (subst (λ (m : ℕ). PlacesFit m (generation_of_pick x)) (sizes g at.After-sweep_all).1
     (subst (λ y. PlacesFit y.sizes.words (generation_of_pick x)) (sym c.writer.view_is)
     (subst (λ y. PlacesFit c.args.writer.now.sizes.words (generation_of_pick (picked g.E.Edition.forest g.E.Edition.places y.edition))) (sym c.next.view_is)
@@ -203,12 +208,12 @@ written g c x p =
 pub invariant_of-writer-2 : goal.invariant_of-writer-2
 invariant_of-writer-2 g c =
     let at = goal.at.invariant_of-writer-2 g c in
-    done g at.After-publish (edition g at.After-place_all) (placed g at.After-place_all (copies g at.After-sweep_all)) (swept g at.After-sweep_all)
+    done g at.After-publish (edition g at.After-place_all) (placed g at.After-place_all) (swept g at.After-sweep_all)
 
 pub returns-clause-current : goal.returns-clause-current
 returns-clause-current g c =
     let at = goal.at.returns-clause-current g c in
-    let after = done g at.After-publish (edition g at.After-place_all) (placed g at.After-place_all (copies g at.After-sweep_all))
+    let after = done g at.After-publish (edition g at.After-place_all) (placed g at.After-place_all)
     (swept g at.After-sweep_all) in
     let y : View = c.publish.new.seat.me.0 in
     sym (after.is_current ∙ current_seen y.sizes y.seen after.lawful)
@@ -221,10 +226,10 @@ returns-clause-done g c =
     let cur : ℕ = c.writer.inside.current in
     let u : View = c.place_all.new.seat.me.0 in
     let s = c.sweep_all.ensures.swept in
-    let p = placed g at.After-place_all (copies g at.After-sweep_all) in
+    let p = placed g at.After-place_all in
     let all : n ≡ v.sizes.passes = passes g at.After-sweep_all ∙ c.writer.invariant.many in
     rw (sym c.writer.view_is, sym c.next.view_is) (
-      sym (next g at.After-sweep_all),
+      sym (next g at.After-place_all),
       (
         s.rs,
         s.many ∙ all,
@@ -242,7 +247,7 @@ returns-clause-same g c =
     rw (sym c.writer.view_is) (
       c.publish.ensures.seat.0 ∙ (c.place_all.ensures.seat.0 ∙ c.sweep_all.ensures.seat.0),
       c.publish.ensures.adds.sizes
-          ∙ ((placed g at.After-place_all (copies g at.After-sweep_all)).writes.sizes ∙ c.sweep_all.ensures.swept.writes.sizes),
+          ∙ ((placed g at.After-place_all).writes.sizes ∙ c.sweep_all.ensures.swept.writes.sizes),
       refl,
     )
 
@@ -256,5 +261,5 @@ pub returns-clause-home : goal.returns-clause-home
 returns-clause-home g c q out =
     let at = goal.at.returns-clause-home g c in
     let free = ap (λ l. get_or l q false) (sym (c.writer.invariant.is_out)) ∙ (ap (λ w. get_or w.out q false) c.writer.view_is ∙ out) in
-    (written g at.After-publish (edition g at.After-place_all) (placed g at.After-place_all (copies g at.After-sweep_all))).home q free
+    (written g at.After-publish (edition g at.After-place_all) (placed g at.After-place_all)).home q free
     ∙ ap (λ w. own_entries (q + 1) w.seen) c.writer.view_is

@@ -1,10 +1,11 @@
-use Rattle.std.proofs.Common.{arith, ℕ, ◌+◌, ◌<◌, ◌≤◌, sym, refl, ap, ◌∙◌, subst}
+use Rattle.std.proofs.Common.{arith, ◌≡◌, ℕ, ◌+◌, ◌<◌, ◌≤◌, sym, refl, ap, ◌∙◌, subst}
+use Rattle.atomic_table.specs.Seated.{TableId}
 use Rattle.mem_base.specs.declared.machine.events.Hand.TheVariants.{Pass}
 use Rattle.mem_base.specs.access.Places.{past}
 use Rattle.epoch_rule.specs.declared.views.Sizes.{Sizes}
 use Rattle.mem_base.specs.machine.Passes.{pass_id}
 use Rattle.epoch_rule.specs.Touches.{IsTouch}
-use Rattle.epoch_rule.specs.Copies.{IsEnteredIn, value_in}
+use Rattle.epoch_rule.specs.Copies.{IsEnteredIn, Suits, value_in}
 use Rattle.mem_base.specs.access.EditionPlaces.{IsEdition}
 use Rattle.view_laws.proofs.Tests.{same_some}
 use Rattle.epoch_rule.proofs.PassLaws.{entered_at, stands_still, suits_on}
@@ -30,10 +31,11 @@ law g c =
 kind : (g : Over) (c : After-number g) → IsTouch (Pass (pass_id c.self.inside.number)) c.args.place.now c.args.word c.args.touch
 kind g c = subst (λ (n : ℕ). IsTouch (Pass (pass_id n)) c.args.place.now c.args.word c.args.touch) (ap (λ v. v.number) (sym c.self.view_is)) c.requires.kind
 
-room : (g : Over) (c : After-number g) → c.args.place.now.start + c.args.word < c.cabinet.inside.table.shared.key.words
-room g c =
-    let t = ap (λ v. v.cabinet) c.self.view_is ∙ (c.requires.own ∙ sym (ap (λ w. w.id) c.cabinet.view_is)) in
-    let wide = (same_sizes _ _ _ _ t c.self.invariant.2 c.cabinet.invariant.suits).1 in
+room : (g : Over) (c : After-number g) (t : TableId) (z : Sizes) → c.self.inside.seat.table_id ≡ t → Suits t z
+    → c.args.place.now.start + c.args.word < z.words
+room g c t z same suits =
+    let wide : c.self.inside.seat.me.0.sizes.words ≡ z.words =
+    (same_sizes c.self.inside.seat.table_id t c.self.inside.seat.me.0.sizes z same c.self.invariant.2 suits).1 in
     let may = c.requires.may in
     let fits : past c.args.place.now ≤ c.self.inside.seat.me.0.sizes.words =
     one_of (λ q. past q ≤ c.self.inside.seat.me.0.sizes.words) c.args.place.now (g.E.Edition.places may.0) (entered g c).roomy may.2.0 in
@@ -48,10 +50,12 @@ touch_word-requires-clause-ready g c =
     let inv = c.self.invariant in
     ready_pass g.E.Edition.counted g.E.Edition.forest g.E.Edition.places c.cabinet.inside.table.shared.key c.self.inside.number c.self.inside.seat.me.0
     c.requires.may.0 c.args.place.now c.args.word c.args.touch (law g at) inv.0 (near_in _ _ _ _ _ t inv.2 c.cabinet.invariant.suits inv.1) (entered g at)
-    (room g at) (kind g at) c.requires.may.2
+    (room g at _ _ t c.cabinet.invariant.suits) (kind g at) c.requires.may.2
 
 pub touch_word-requires-clause-room : goal.touch_word-requires-clause-room
-touch_word-requires-clause-room g c = room g (goal.at.touch_word-requires-clause-room g c).After-number
+touch_word-requires-clause-room g c =
+    let t = ap (λ v. v.cabinet) c.self.view_is ∙ (c.requires.own ∙ sym (ap (λ w. w.id) c.cabinet.view_is)) in
+    room g (goal.at.touch_word-requires-clause-room g c).After-number _ _ t c.cabinet.invariant.suits
 
 pub invariant_of-self : goal.invariant_of-self
 invariant_of-self g c =
