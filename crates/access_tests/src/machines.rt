@@ -1,12 +1,11 @@
 // A desk with a hand, as one machine.
 use crate::hands::PlainHand;
-use backed_desk::BackedDesk;
 use mem_base::{Applied, Call, NOTIFIER_COUNT, Refusal, RegionId};
 use std::alloc::Global;
 use std::sync::Arc;
 use std::sync::ledger::Ledger;
 use step_counter::Steps;
-use transact::Step;
+use transact::{BackedDesk, Step};
 
 /// A desk with a pool, and a hand that makes accesses.
 #[derive(Drop)]

@@ -6,9 +6,9 @@ use crate::plain_devices::{
 };
 use crate::plain_trails::{Trail, sharing, trail_of};
 use crate::plain_words::{data_byte, mark_bit, mark_word, set_data_byte, word_of};
-use backed_desk::BackedDesk;
 use mem_base::{Client, Device, Ioevent, Kind, NOTIFIER_COUNT, Place, SpaceId, Spot, TxResult};
 use std::alloc::{AllocError, Global};
+use transact::BackedDesk;
 
 /// The words of a pool, with those of the notifiers after it.
 #[derive(Drop)]

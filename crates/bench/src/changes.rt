@@ -1,13 +1,12 @@
 // How long a change takes that is published at once: in the space of a map, and in a small space beside it.
 use crate::maps::Map;
 use crate::times::{Failed, Least, begin};
-use backed_desk::BackedDesk;
 use mem_base::{Call, RegionId};
 use region_tree::Tree;
 use std::alloc::{AllocError, Global};
 use std::sync::ledger::Ledger;
 use step_counter::Steps;
-use transact::Step;
+use transact::{BackedDesk, Step};
 
 /// The words of a pool, enough for the memory and the registers of each map.
 pub(crate) const WORDS: usize = 1 << 21;

@@ -39,7 +39,6 @@ use crate::trees::run_tree;
 use crate::vcpus::run_vcpus;
 use crate::views::run_views;
 use crate::worlds::run_worlds;
-use backed_desk::BackedDesk;
 use std::marker::Brand;
 use std::process::ExitCode;
 use std::sync::Wait;
@@ -47,6 +46,7 @@ use std::sync::ledger::{Blank, Ledger};
 use std::thread::Threads;
 use std::time::Clock;
 use step_counter::Steps;
+use transact::BackedDesk;
 
 /// How large the maps are, how often each is built, and how often each is rendered then. All that is timed beside them is timed over a
 /// generated map of the size `middle`.

@@ -2,7 +2,6 @@
 ghost use Rattle.std.specs.Prelude.{◌≡◌, ◌<◌};
 
 use crate::calls::{add, region, space};
-use backed_desk::BackedDesk;
 use mem_base::{
     Call, Device, DeviceKind, Edition, Kind, Listener, ListenerId, Refusal, RegionId, SpaceId,
 };
@@ -11,7 +10,7 @@ use std::marker::Brand;
 use std::sync::ledger::{Blank, Ledger};
 use std::test::Fail;
 use step_counter::Steps;
-use transact::Step;
+use transact::{BackedDesk, Step};
 use tree_find::find;
 
 static WHOLE: SpaceId = SpaceId(0);

@@ -2,7 +2,6 @@
 ghost use Rattle.std.specs.Prelude.{◌≡◌, ◌<◌};
 
 use crate::calls::{add, map, region, space};
-use backed_desk::BackedDesk;
 use generation::Generation;
 use mem_base::{Call, Device, DeviceKind, Ioevent, Kind, Perm, Refusal, RegionId, SpaceId};
 use std::alloc::Global;
@@ -11,7 +10,7 @@ use std::sync::Arc;
 use std::sync::ledger::{Blank, Ledger};
 use std::test::Fail;
 use step_counter::Steps;
-use transact::Step;
+use transact::{BackedDesk, Step};
 
 static LARGE: SpaceId = SpaceId(0);
 

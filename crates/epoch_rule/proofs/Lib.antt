@@ -7,6 +7,7 @@ pub mod OpeningLaws
 pub mod PassLaws
 pub mod PublishLaws
 pub mod SeatSteps
+pub mod SizeLaws
 pub mod SlotLaws
 pub mod SlotSteps
 pub mod SweepLaws

@@ -1,3 +1,4 @@
 pub mod PartLaws
 pub mod FrameLaws
 pub mod CellLaws
+pub mod UnfilledLaws

@@ -1,7 +1,9 @@
 -- Draws of one turn, beside the definitions of whole lists.
-use Rattle.std.specs.Prelude.{◌≡◌, ◌+◌, ◌++◌, suc, [], ◌∷◌, ℕ, List, Option, None, ℤ, pos, ◌-ℤ◌}
+use Rattle.std.specs.Prelude.{◌≡◌, ◌+◌, ◌++◌, suc, [], ◌∷◌, ℕ, Bool, if◌then◌else◌, List, Option, None, ℤ, pos, ◌-ℤ◌}
+use Rattle.mem_base.specs.declared.map.ids.PassId.{PassId}
 use Rattle.mem_base.specs.declared.script.commands.Command.{Command}
-use Rattle.mem_base.specs.script.Make.{Drawn, Generator, draw, draw_access, draw_accesses, draw_regions}
+use Rattle.mem_base.specs.declared.script.commands.Command.TheVariants as commands
+use Rattle.mem_base.specs.script.Make.{Drawn, Generator, draw, draw_access, draw_accesses, draw_regions, draw_write, give, space}
 
 -- a priority from -2 to 2
 abbrev pub draw_priority : {G : Type 0} → Generator G → Drawn G ℤ
@@ -10,6 +12,10 @@ draw_priority next g = let x = draw next 5 g in (pos x.0 -ℤ pos 2, x.1)
 -- a length from 1 to 8
 abbrev pub draw_len : {G : Type 0} → Generator G → Drawn G ℕ
 draw_len next g = let x = draw next 8 g in (1 + x.0, x.1)
+
+-- a read, or else a write of bytes that are drawn
+abbrev pub draw_either : {G : Type 0} → Generator G → Bool → PassId → ℕ → ℕ → Drawn G Command
+draw_either next reads pass addr len = if reads then give (commands.PassRead pass space addr len) else draw_write next pass addr len
 
 -- what was made so far, and then what a list of draws gives
 abbrev pub onto : {X G : Type 0} → List X → List X × G → List X × G

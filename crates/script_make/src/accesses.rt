@@ -1,7 +1,7 @@
 // The lines that read and write, and the moves between them.
 ghost use Rattle.std.specs.Prelude.{◌≡◌, ◌<◌, ◌≤◌, IfOk, OnOk, ◌++◌, ◌∷◌, []};
-ghost use Rattle.mem_base.specs.script.Make.{draw, draw_access, draw_accesses, draw_bytes, draw_move, draw_move_at, draw_way, draw_write};
-ghost use Rattle.script_make.specs.Draws.{AccessPushed, Appended, AccessDrawn, draw_len, first_accesses, one_access};
+ghost use Rattle.mem_base.specs.script.Make.{draw, draw_access, draw_accesses, draw_bytes, draw_move, draw_move_at, draw_write};
+ghost use Rattle.script_make.specs.Draws.{AccessPushed, Appended, AccessDrawn, draw_either, draw_len, first_accesses, one_access};
 ghost use Rattle.rand_pcg.specs.Pcg.{pcg32};
 
 use crate::draws::{draw, draw_page, name_of, region_name};
@@ -66,18 +66,18 @@ fn draw_bytes(alloc: Global, rng: &mut Lcg64Xsh32, count: u8) -> Result<Vec<u8>,
     Ok(bytes)
 }
 
-// A read where the way is 0, else a write.
+// A read, or else a write of bytes that are drawn.
 fn draw_way(
     alloc: Global,
     rng: &mut Lcg64Xsh32,
-    way: u32,
+    reads: bool,
     pass: PassId,
     addr: u64,
     len: u8,
 ) -> Result<Command, AllocError>
-    ensures { IfOk result (λ command. (command, rng.new) ≡ draw_way pcg32 way pass addr len rng.old) }
+    ensures { IfOk result (λ command. (command, rng.new) ≡ draw_either pcg32 reads pass addr len rng.old) }
 {
-    if way == 0 {
+    if reads {
         return Ok(Command::PassRead {
             pass,
             space: name_of(alloc, b"s")?,
@@ -112,7 +112,7 @@ fn draw_access(alloc: Global, rng: &mut Lcg64Xsh32) -> Result<Command, AllocErro
     let page = draw_page(rng, 4096);
     let offset = draw(rng, 4096);
     let len = draw_len(rng);
-    let command = draw_way(alloc, rng, way, pass, page + u64::from(offset), len)?;
+    let command = draw_way(alloc, rng, way == 0, pass, page + u64::from(offset), len)?;
     Ok(command)
 }
 

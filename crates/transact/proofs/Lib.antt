@@ -10,3 +10,4 @@ pub mod NotedLaws
 pub mod StayLaws
 pub mod LiveLaws
 pub mod RegionLaws
+pub mod BackedLaws

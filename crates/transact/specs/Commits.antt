@@ -6,7 +6,7 @@ use Rattle.mem_base.specs.declared.access.cells.Place.{Place}
 use Rattle.mem_base.specs.declared.views.listening.Listener.{Listener}
 use Rattle.mem_base.specs.machine.Committed.{transaction_after}
 use Rattle.transact.specs.Desks.{DeskState, with_state}
-use Rattle.transact.specs.Preparing.{readied}
+use Rattle.transact.specs.Preparing.{Readied, readied}
 use Rattle.transact.specs.declared.prepared.Step.{Step}
 use Rattle.transact.specs.declared.prepared.Step.TheVariants.{Inner, Empty, Ready}
 
@@ -21,3 +21,8 @@ IsStep old places listeners new Inner = (1 < old.state.depth) × (new ≡ closed
 IsStep old places listeners new Empty = (old.state.depth ≡ 1) × (old.state.pending ≡ false) × (new ≡ closed old)
 IsStep old places listeners new (Ready p) =
     (old.state.depth ≡ 1) × (old.state.pending ≡ true) × (new ≡ old) × (p ≡ readied old.current old.state.forest places listeners None)
+
+-- where a commit prepares something, this holds of it
+abbrev pub IfReady : Step → (Readied → Type 0) → Type 0
+IfReady (Ready p) holds = holds p
+IfReady _ holds = Unit {0}

@@ -4,3 +4,4 @@ pub mod Commits
 pub mod Spares
 pub mod Noted
 pub mod Marks
+pub mod Backed

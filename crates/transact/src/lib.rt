@@ -4,8 +4,14 @@
 //! a call outside all transactions is one by itself. The layer above may rely on it that a prepared generation shows what the
 //! forest shows, that only spaces that the change touches are carved anew, that preparing changes nothing, and that `done`
 //! takes no memory and cannot fail.
+//!
+//! `BackedDesk` is the desk with the pool in which its regions have their words: memory, registers and dirty marks. A region
+//! that is made gets its words at once, in the first hole that fits, or the call is refused; they are given back when the region
+//! is released. QEMU's core allocates the RAM of each region by itself. Every region that has words has its place, no two places
+//! meet, and a refused call leaves desk and pool as they were.
 #![tactic(auto)]
 
+mod backed;
 mod changes;
 mod desk;
 mod marks;
@@ -17,5 +23,6 @@ mod shown;
 mod spare;
 mod touched;
 
+pub use backed::BackedDesk;
 pub use desk::{Desk, fits_types};
 pub use prepared::{Prepared, Step};

@@ -4,7 +4,6 @@ ghost use Rattle.std.specs.Prelude.{◌≡◌, ◌≤◌};
 use crate::calls::{add, region, shift, space};
 use crate::lines::GOOD;
 use crate::machines::{PASSES, call, open};
-use backed_desk::BackedDesk;
 use epoch_rule::{Cabinet, WriterSeat};
 use generation::Generation;
 use mem_base::{Call, Kind, Refusal, SpaceId};
@@ -12,6 +11,7 @@ use std::alloc::Global;
 use std::sync::Wait;
 use std::thread;
 use std::thread::Threads;
+use transact::BackedDesk;
 use vcpu_pass::Vcpu;
 
 /// The space that all read and write.

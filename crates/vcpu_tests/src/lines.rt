@@ -2,13 +2,13 @@
 ghost use Rattle.std.specs.Prelude.{◌≡◌};
 
 use crate::machines::{WORDS, call, open};
-use backed_desk::BackedDesk;
 use epoch_rule::{Cabinet, WriterSeat};
 use generation::Generation;
 use mem_base::{Access, Call, Place, Refusal, RegionId, SpaceId, TxResult};
 use shared_words::{store_part, take};
 use std::alloc::Global;
 use std::sync::Wait;
+use transact::BackedDesk;
 use vcpu_pass::{NotWhole, Vcpu};
 
 /// It ended well.

@@ -5,7 +5,6 @@ ghost use Rattle.mem_base.specs.lists.Every.{Every};
 ghost use Rattle.vcpu_tests.specs.Fits.{IsFit};
 ghost use Rattle.mem_base.specs.map.Calls.{is_quiet};
 
-use backed_desk::BackedDesk;
 use epoch_rule::{Batch, Cabinet, WriterSeat};
 use generation::Generation;
 use mem_base::{Call, Edition, Place, Refusal};
@@ -14,6 +13,7 @@ use std::marker::Brand;
 use std::sync::Arc;
 use std::sync::ledger::{Blank, Ledger};
 use step_counter::Steps;
+use transact::BackedDesk;
 
 /// The passes of a machine.
 pub(crate) const PASSES: u32 = 16;

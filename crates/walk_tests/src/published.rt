@@ -6,7 +6,6 @@ ghost use Rattle.std.specs.Prelude.{◌≡◌, ◌<◌};
 use crate::draws::{any_call, building, draw};
 use crate::maps::{add, alias, latch, region, viewed_in};
 use crate::plain::{plain_walk, without};
-use backed_desk::BackedDesk;
 use generation::Generation;
 use ioevents::live;
 use mem_base::{
@@ -20,7 +19,7 @@ use std::marker::Brand;
 use std::sync::ledger::{Blank, Ledger};
 use std::test::Fail;
 use step_counter::Steps;
-use transact::{Prepared, Step};
+use transact::{BackedDesk, Prepared, Step};
 
 /// How many desks are drawn, and how many changes and transactions of each are published: 10,000.
 const DESKS: u64 = 50;

@@ -26,7 +26,7 @@ use Rattle.turn_laws.proofs.Coupled.{IsWhole}
 use Rattle.world_laws.proofs.Lists.{found_has}
 use Rattle.kept_generations.specs.KeptState.{KeptState, generations_of}
 use Rattle.mem_base.specs.access.PlaceCells.{blocks_at}
-use Rattle.backed_desk.specs.Backed.{all_places}
+use Rattle.transact.specs.Backed.{all_places}
 use Rattle.writer_desk.specs.Writers.{WriterState, desk_of}
 use Rattle.world_core.specs.Worlds.{Aside, aside, beside, world_of, IsWorld}
 use Rattle.world_hand.specs.Reached.{IsReached}

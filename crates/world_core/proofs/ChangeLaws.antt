@@ -25,18 +25,21 @@ use Rattle.kept_generations.specs.KeptState.{KeptState, generations_of}
 use Rattle.mem_base.specs.access.PlaceCells.{blocks_at}
 use Rattle.transact.specs.Preparing.{Readied}
 use Rattle.backing_pool.specs.Backing.{Backing}
-use Rattle.backed_desk.specs.Backed.{all_places}
+use Rattle.transact.specs.Backed.{all_places}
 use Rattle.writer_desk.specs.Writers.{WriterState, Beside, desk_of, settled_as, standing, IsConfigured, IsAccepted, IsReady}
-use Rattle.world_core.specs.Worlds.{Aside, aside, beside, world_of, filled_beside, filled_world, IsWorld, IsFilledWorld, cleared_at, unswept}
+use Rattle.world_core.specs.declared.world.World.TheInside.{Inside}
+use Rattle.writer_desk.specs.Listened.{resting}
+use Rattle.world_core.specs.Worlds.{Aside, aside, state_of, beside, world_of, filled_beside, filled_world, IsWorld, IsFilledWorld, cleared_at, unswept}
 use Rattle.world_hand.specs.Reached.{IsReached}
 use Rattle.world_hand.proofs.Completing.{backs, reached_holds}
 use Rattle.writer_run.proofs.MadeLaws.{kept_beside, pool_stays, unfilled_with}
 use Rattle.writer_desk.specs.Writers.{dropped_with, made_place}
 use Rattle.world_core.specs.Events.{IsChanged, makes_region}
-use Rattle.world_core.specs.Unfilled.{cells_at}
+use Rattle.place_words.specs.Unfilled.{cells_at}
 use Rattle.world_core.proofs.MadeCellLaws.{made_only}
 use Rattle.world_core.proofs.MadeCellLaws as made
 use Rattle.world_core.proofs.ReachedLaws.{reached_after}
+use Rattle.world_core.proofs.RestLaws.{Rested, filled}
 
 -- the parts make a world, and the event leads there with this answer
 pub record ChangesWorld (w : World) (c : Config) (answer : Result Applied Refusal) (d : WriterState) (k : KeptState) (ws : List ℕ)
@@ -167,6 +170,40 @@ module _ (d : WriterState) (k : KeptState) (ws : List ℕ) (dropped : List Regio
         (changes e (Ok a) (dropped_with c dropped) (unfilled_with d.backed c) settled_so ws_then
         (clears_so.cells ∙ ap (λ (vs : List ℕ). blocks_at vs (all_places e.backed.backing)) (sym cleared))
         (long ∙ h.wide ∙ ap (λ (n : ℕ). n + notifier_count) (sym (ap (λ (n : Backing). n.pool_words) ok.backing ∙ pool_stays d.backed c))) ok.current ready)
+
+-- the same by the fields of the struct
+module _ (s : Inside) (w : World) (f : Rested s w) (c : Config) (may : possible w (events.Config c) ≡ true) (held : Option Refusal)
+    (told : held ≡ held_up (generations_of s.hand.kept)) (e : WriterState) where
+  able : possible (filled s.desk s.hand.kept s.hand.words) (events.Config c) ≡ true
+  able = ap (λ (v : World). possible v (events.Config c)) f.view ∙ may
+
+  is_so : (r : Result Applied Refusal) → IsConfigured (state_of s.desk s.due) c held e r → IsConfigured (resting s.desk.listened) c held e r
+  is_so r is = subst (λ (o : Option Readied). IsConfigured (state_of s.desk o) c held e r) f.none_due is
+
+  module _ (a : Applied) (is : IsConfigured (state_of s.desk s.due) c held e (Ok a)) (ok : IsAccepted (state_of s.desk s.due) c e a) where
+    ok_so : IsAccepted (resting s.desk.listened) c e a
+    ok_so = subst (λ (o : Option Readied). IsAccepted (state_of s.desk o) c e a) f.none_due ok
+
+    pub made_there : IfSome (made_place e.backed.backing.places a) (λ p. past p ≤ length s.hand.words)
+    made_there =
+        has_words (resting s.desk.listened) s.hand.kept s.hand.words s.desk.dropped.items f.world refl c able e held a (is_so (Ok a) is) told ok_so
+
+    pub accepted_so : IfSome e.due (IsReady e.backed) → (ws : List ℕ) → ws ≡ cleared_at s.hand.words (made_place e.backed.backing.places a)
+        → length ws ≡ length s.hand.words → (k : KeptState) → k ≡ unswept s.hand.kept
+        → (dropped : List RegionId) → dropped ≡ dropped_with c s.desk.dropped.items
+        → (cells : List Cell) → cells ≡ cells_at (made_place e.backed.backing.places a) → ChangesWorld w c (Ok a) e k ws (aside dropped cells)
+    accepted_so ready ws cleared long k kept dropped drops cells left =
+        subst (λ (v : World). ChangesWorld v c (Ok a) e k ws (aside dropped cells)) f.view
+        (accepted (resting s.desk.listened) s.hand.kept s.hand.words s.desk.dropped.items f.world refl c able e held a (is_so (Ok a) is) told ok_so
+        ready ws cleared long k kept dropped drops cells left)
+
+  pub refused_so : e ≡ resting s.desk.listened → (why : Refusal) → IsConfigured (state_of s.desk s.due) c held e (Err why)
+      → (k : KeptState) → k ≡ unswept s.hand.kept → (dropped : List RegionId) → dropped ≡ s.desk.dropped.items → (cells : List Cell) → cells ≡ []
+      → ChangesWorld w c (Err why) e k s.hand.words (aside dropped cells)
+  refused_so same why is k kept dropped drops cells none =
+      subst (λ (v : World). ChangesWorld v c (Err why) e k s.hand.words (aside dropped cells)) f.view
+      (refused (resting s.desk.listened) s.hand.kept s.hand.words s.desk.dropped.items f.world refl c able e same held why (is_so (Err why) is) told
+      k kept dropped drops cells none)
 
 -- where nothing is due or unfilled and not every pass was swept, only what publishes nothing may happen
 

@@ -10,5 +10,4 @@ pub mod PublishEventLaws
 pub mod ReachedLaws
 pub mod ReapLaws
 pub mod RestLaws
-pub mod UnfilledLaws
 pub mod WordLaws

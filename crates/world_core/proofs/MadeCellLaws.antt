@@ -25,12 +25,12 @@ use Rattle.mem_base.specs.access.PlaceCells.{blocks_at}
 use Rattle.place_words.specs.Blocks.{AreWithin}
 use Rattle.place_words.proofs.CellLaws.{new_cleared, places_keep}
 use Rattle.backing_pool.specs.Backing.{Backing}
-use Rattle.backed_desk.specs.Backed.{BackedState, all_places, backing_at, places_for, forest_at}
+use Rattle.transact.specs.Backed.{BackedState, all_places, backing_at, places_for, forest_at}
 use Rattle.writer_desk.specs.Writers.{backing_by, applied_by}
 use Rattle.writer_desk.specs.Writers.{made_place}
 use Rattle.world_core.specs.Worlds.{cleared_at}
 use Rattle.world_core.specs.Events.{makes_region}
-use Rattle.world_core.specs.Unfilled.{cells_at}
+use Rattle.place_words.specs.Unfilled.{cells_at}
 use Rattle.world_hand.proofs.Completing.{all_apart, all_within}
 use Rattle.writer_run.proofs.MadeLaws.{unfilled_with}
 

@@ -23,7 +23,7 @@ use Rattle.kept_generations.specs.KeptState.{KeptState}
 use Rattle.writer_desk.specs.Writers.{WriterState}
 use Rattle.world_core.specs.Worlds.{Aside, world_of, IsWorld}
 use Rattle.world_hand.proofs.Completing.{reached_holds}
-use Rattle.world_core.proofs.WordLaws.{backing, cells_change, word_before}
+use Rattle.world_core.proofs.WordLaws.{backing, cells_change, far, word_before}
 
 -- the notifiers' place is the last one, and those of regions come before it
 
@@ -54,27 +54,32 @@ module _ (d : WriterState) (k : KeptState) (ws : List ℕ) (x : Aside) (h : IsWo
       d.backed.backing.places (backing d k ws x h).inside) refl
       ∙ ap (λ (n : ℕ). Some (notifiers_place n)) same
 
-  -- the mark words of a place are among its words
-  pub mark_within : (p : Place) (client : Client) (index : ℕ) → place_in_world here p.region ≡ Some p → index < mark_words p.bytes
-      → mark_word p client index < p.words
-  mark_within p client index placed l =
-      let w : World = here in
-      let whole : IsWhole (places_of w.writer.desk) p = found_has (IsWhole (places_of w.writer.desk)) (places_of w.writer.desk) p.region p
-      (reached_holds w h.reached).kept.coupled.whole placed in
-      let first : index * 64 < pages_in p = omega (arith, l) in
-      let same : index * 64 / 64 ≡ index = omega arith in
-      subst (λ (n : ℕ). mark_word p client n < p.words) same (whole.marks client (index * 64) first)
+  -- of a region's place, and one of its mark words
+  module _ (r : RegionId) (p : Place) (placed : place_in_world here r ≡ Some p) (client : Client) (index : ℕ) (inside : index < mark_words p.bytes) where
+    -- the mark words of a place are among its words
+    pub mark_within : mark_word p client index < p.words
+    mark_within =
+        let w : World = here in
+        let whole : IsWhole (places_of w.writer.desk) p = found_has (IsWhole (places_of w.writer.desk)) (places_of w.writer.desk) r p
+        (reached_holds w h.reached).kept.coupled.whole placed in
+        let first : index * 64 < pages_in p = omega (arith, inside) in
+        let same : index * 64 / 64 ≡ index = omega arith in
+        subst (λ (n : ℕ). mark_word p client n < p.words) same (whole.marks client (index * 64) first)
 
-  -- a mark word that is taken
-  pub take_is : (p : Place) (client : Client) (index : ℕ) → place_in_world here p.region ≡ Some p → mark_word p client index < p.words
-      → world_of d k (words_after ws (p.start + mark_word p client index) Take) x ≡ world_after here (events.Harvest p.region client index)
-  take_is p client index placed near = ap (λ (bs : List Block). world here.writer k.states bs)
-      (cells_change d k ws x h p.region p placed (events.Harvest p.region client index) (touch (mark_word p client index) Take true) refl near)
+    pub mark_far : p.start + mark_word p client index < length ws
+    mark_far = far d k ws x h r p (mark_word p client index) placed mark_within
 
-  pub take_tells : (p : Place) (client : Client) (index : ℕ) → place_in_world here p.region ≡ Some p → mark_word p client index < p.words
-      → slice_index ws (p.start + mark_word p client index) ≡ number_in (reply here (events.Harvest p.region client index))
-  take_tells p client index placed near =
-      word_before d k ws x h p.region p placed (events.Harvest p.region client index) (touch (mark_word p client index) Take true) refl near
+    -- a mark word that is taken
+    pub take_is : (word : ℕ) → word ≡ mark_word p client index → (vs : List ℕ) → vs ≡ words_after ws (p.start + word) Take
+        → world_of d k vs x ≡ world_after here (events.Harvest r client index)
+    take_is word is vs same =
+        ap (λ (us : List ℕ). world_of d k us x) (same ∙ ap (λ (n : ℕ). words_after ws (p.start + n) Take) is)
+        ∙ ap (λ (bs : List Block). world here.writer k.states bs)
+        (cells_change d k ws x h r p placed (events.Harvest r client index) (touch (mark_word p client index) Take true) refl mark_within)
+
+    pub take_tells : (word : ℕ) → word ≡ mark_word p client index → slice_index ws (p.start + word) ≡ number_in (reply here (events.Harvest r client index))
+    take_tells word is = ap (λ (n : ℕ). slice_index ws (p.start + n)) is
+        ∙ word_before d k ws x h r p placed (events.Harvest r client index) (touch (mark_word p client index) Take true) refl mark_within
 
 -- the mark word of its first page is the mark word
 pub mark_is_at : (p : Place) (client : Client) (index page word : ℕ) → page ≡ index * 64 → word ≡ word_of_page p client page → word ≡ mark_word p client index

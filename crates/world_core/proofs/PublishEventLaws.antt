@@ -17,7 +17,7 @@ use Rattle.mem_base.specs.machine.Publishing.{forest_in}
 use Rattle.kept_generations.specs.KeptState.{KeptState, generations_of, shown_by, after_publish, with_tracks}
 use Rattle.mem_base.specs.access.PlaceCells.{blocks_at}
 use Rattle.transact.specs.Preparing.{Readied}
-use Rattle.backed_desk.specs.Backed.{all_places}
+use Rattle.transact.specs.Backed.{all_places}
 use Rattle.writer_desk.specs.Writers.{WriterState, writer_state, desk_of, standing, IsReady, published_with}
 use Rattle.world_core.specs.Worlds.{Aside, beside, world_of, IsWorld}
 use Rattle.world_hand.specs.Reached.{IsReached}

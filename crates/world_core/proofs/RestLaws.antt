@@ -1,7 +1,9 @@
 -- A world in which nothing is due or unfilled, by its parts, and what a call of the writer leaves of it.
-use Rattle.std.proofs.Common.{◌≡◌, ◌⊎◌, inl, inr, ⊎_elim, ℕ, ◌+◌, true, false, List, [], length, Option, Some, None, refl, sym, ap, subst, ◌∙◌, arith}
-use Rattle.std.specs.Prelude.{Bool, if◌then◌else◌, is_some, not}
+use Rattle.std.proofs.Common.{◌≡◌, ◌≢◌, ◌⊎◌, inl, inr, ⊎_elim, ℕ, ◌+◌, true, false, List, [], length, Option, Some, None, refl, sym, ap, subst, ◌∙◌, arith}
+use Rattle.std.specs.Prelude.{Bool, Result, Ok, Err, if◌then◌else◌, is_some, not}
 use Rattle.mem_base.specs.declared.map.calls.Config.{Config}
+use Rattle.mem_base.specs.declared.map.refusals.Refusal.{Refusal}
+use Rattle.mem_base.specs.declared.map.refusals.Refusal.TheVariants.{Memory}
 use Rattle.mem_base.specs.declared.access.cells.Cell.{Cell}
 use Rattle.mem_base.specs.declared.machine.events.HistoryEntry.{HistoryEntry}
 use Rattle.mem_base.specs.access.PlaceCells.{blocks_at}
@@ -22,7 +24,7 @@ use Rattle.turn_laws.proofs.Coupled.{seen}
 use Rattle.world_laws.specs.Legal.{IsFitting}
 use Rattle.kept_generations.specs.KeptState.{KeptState, generations_of}
 use Rattle.transact.specs.Preparing.{Readied}
-use Rattle.backed_desk.specs.Backed.{all_places}
+use Rattle.transact.specs.Backed.{all_places}
 use Rattle.writer_desk.specs.declared.idle.IdleDesk.{IdleDesk}
 use Rattle.writer_desk.specs.Listened.{resting}
 use Rattle.writer_desk.specs.Writers.{desk_of}
@@ -30,10 +32,12 @@ use Rattle.writer_run.specs.Parts.{AreParts, part_of}
 use Rattle.writer_run.specs.Turns.{IsTurn, number_told}
 use Rattle.writer_run.proofs.EntryLaws.{same_flags}
 use Rattle.world_hand.specs.Reached.{IsReached}
+use Rattle.world_hand.specs.declared.hand.PureHand.{PureHand}
 use Rattle.world_hand.specs.Run.{HasMade, HasRun, shared_of}
 use Rattle.world_hand.proofs.Completing.{CompletesCall, completes_call, nothing_left, reached_holds}
 use Rattle.world_hand.proofs.FlagLaws.{FlaggedTurn, flag_turn, flagged, left_with, would_with}
 use Rattle.world_hand.proofs.WithoutLaws.{drops_without}
+use Rattle.world_core.specs.declared.world.World.TheInside.{Inside}
 use Rattle.world_core.specs.Worlds.{aside, beside, filled_world, state_of, unswept, world_of, IsFilledWorld, IsWorld}
 use Rattle.world_core.specs.Rests.{StaysAtRest}
 use Rattle.world_core.proofs.ReachedLaws.{reached_is_orderly}
@@ -42,24 +46,40 @@ drops_once : (w : World) → IsReached w → DropsOnce w.writer
 drops_once w r = drops_without r.taken w
     (subst (λ (v : World). DropsOnce v.writer) r.leads (regions_are_dropped_once r.pool_words r.passes r.entries r.legal))
 
--- the parts of a world make one in which nothing is due or unfilled
-pub record Rested (desk : IdleDesk) (due : Option Readied) (k : KeptState) (ws : List ℕ) (cells : List Cell) (w : World) : Type 0 where
-  pub none_due : due ≡ None
-  pub none_left : cells ≡ []
-  pub world : IsFilledWorld (resting desk.listened) k ws desk.dropped.items
-  pub view : filled_world (resting desk.listened) k ws desk.dropped.items ≡ w
+-- memory ran out, or it did not
+pub memory_or_not : {A : Type 0} (r : Result A Refusal) → (r ≡ Err Memory) ⊎ (r ≢ Err Memory)
+memory_or_not (Ok a) = inr (λ e. cc)
+memory_or_not (Err Memory) = inl refl
+memory_or_not (Err why) = inr (λ e. cc)
 
-pub rested : (desk : IdleDesk) (due : Option Readied) (k : KeptState) (ws : List ℕ) (cells : List Cell) (w : World)
-    → IsWorld (state_of desk due) k ws (aside desk.dropped.items cells) → world_of (state_of desk due) k ws (aside desk.dropped.items cells) ≡ w
-    → is_at_rest w.writer.desk ≡ true → Rested desk due k ws cells w
-rested desk due k ws cells w h view rest =
+-- what the fields of the struct make
+abbrev pub shown : Inside → World
+shown s = world_of (state_of s.desk s.due) s.hand.kept s.hand.words (aside s.desk.dropped.items s.unfilled.cells)
+
+abbrev pub IsShown : Inside → Type 0
+IsShown s = IsWorld (state_of s.desk s.due) s.hand.kept s.hand.words (aside s.desk.dropped.items s.unfilled.cells)
+
+-- the same where nothing is due or unfilled
+abbrev pub filled : IdleDesk → KeptState → List ℕ → World
+filled desk k ws = filled_world (resting desk.listened) k ws desk.dropped.items
+
+-- the parts of a world make one in which nothing is due or unfilled
+pub record Rested (s : Inside) (w : World) : Type 0 where
+  pub none_due : s.due ≡ None
+  pub none_left : s.unfilled.cells ≡ []
+  pub world : IsFilledWorld (resting s.desk.listened) s.hand.kept s.hand.words s.desk.dropped.items
+  pub view : filled s.desk s.hand.kept s.hand.words ≡ w
+
+pub rested : (s : Inside) (w : World) → IsShown s → shown s ≡ w → is_at_rest w.writer.desk ≡ true → Rested s w
+rested s w h view rest =
     let t = both_of _ _ (ap (λ (v : World). is_at_rest v.writer.desk) view ∙ rest) in
-    let no_due : due ≡ None = go due t.0 in
-    let none : cells ≡ [] = nothing_left cells t.1 in record {
+    let no_due : s.due ≡ None = go s.due t.0 in
+    let none : s.unfilled.cells ≡ [] = nothing_left s.unfilled.cells t.1 in record {
       none_due = no_due;
       none_left = none;
-      world = subst (λ (z : Option Readied × List Cell). IsWorld (state_of desk z.0) k ws (aside desk.dropped.items z.1)) (λ i. (no_due i, none i)) h;
-      view = (λ i. world_of (state_of desk (sym no_due i)) k ws (aside desk.dropped.items (sym none i))) ∙ view;
+      world = subst (λ (z : Option Readied × List Cell). IsWorld (state_of s.desk z.0) s.hand.kept s.hand.words (aside s.desk.dropped.items z.1))
+          (λ i. (no_due i, none i)) h;
+      view = (λ i. world_of (state_of s.desk (sym no_due i)) s.hand.kept s.hand.words (aside s.desk.dropped.items (sym none i))) ∙ view;
     }
   where
     go : (o : Option Readied) → not (is_some o) ≡ true → o ≡ None
@@ -77,10 +97,12 @@ pub record LeavesAll (w : World) (o : Order) (answer : Answer) (e : IdleDesk) (d
   pub world : IsWorld (state_of e due) l vs (aside e.dropped.items cells)
   pub is : IsCompleted w o answer (world_of (state_of e due) l vs (aside e.dropped.items cells))
 
-pub leaves_all : (desk : IdleDesk) (due : Option Readied) (k : KeptState) (ws : List ℕ) (cells : List Cell) (w : World) → Rested desk due k ws cells w
-    → (o : Order) (answer : Answer) (e : IdleDesk) (l : KeptState) (vs : List ℕ)
-    → Leaves (filled_world (resting desk.listened) k ws desk.dropped.items) o answer e l vs → LeavesAll w o answer e due l vs cells
-leaves_all desk due k ws cells w r o answer e l vs m =
+abbrev pub LeavesIn : World → Order → Answer → Inside → IdleDesk → KeptState → List ℕ → Type 0
+LeavesIn w o answer s e l vs = LeavesAll w o answer e s.due l vs s.unfilled.cells
+
+pub leaves_all : (s : Inside) (w : World) → Rested s w → (o : Order) (answer : Answer) (e : IdleDesk) (l : KeptState) (vs : List ℕ)
+    → Leaves (filled s.desk s.hand.kept s.hand.words) o answer e l vs → LeavesIn w o answer s e l vs
+leaves_all s w r o answer e l vs m =
     subst (λ (z : Option Readied × List Cell). LeavesAll w o answer e z.0 l vs z.1) (λ i. (sym r.none_due i, sym r.none_left i))
     (subst (λ (v : World). LeavesAll v o answer e None l vs []) r.view (record { world = m.world; is = m.is }))
 
@@ -187,66 +209,63 @@ module _ (desk : IdleDesk) (k : KeptState) (ws : List ℕ) (h : IsFilledWorld (r
       ∙ same
       ∙ (λ i. desk_of (resting desk.listened) (beside (aside desk.dropped.items []) (same_flags k.tracks k.swept (sym flags) i)))
 
--- a call of the writer, for which memory may run out
+pub parts_of : (s : Inside) (w : World) → IsShown s → shown s ≡ w → is_at_rest w.writer.desk ≡ true
+    → AreParts s.desk (generations_of s.hand.kept) (length s.hand.words)
+parts_of s w h view rest = parts s.desk s.hand.kept s.hand.words (rested s w h view rest).world
 
-pub record Ends (w : World) (M N : Type 0) (o : Order) (answer : Answer) (e : IdleDesk) (due : Option Readied) (m : KeptState) (vs : List ℕ)
-    (cells : List Cell) : Type 0 where
+-- a call of the writer, for which memory may run out: each clause of it, whatever it answers
+pub record Ends {A : Type 0} (w : World) (o : Order) (told : Result A Refusal → Answer) (r : Result A Refusal) (e : IdleDesk) (due : Option Readied)
+    (m : KeptState) (vs : List ℕ) (cells : List Cell) : Type 0 where
   pub world : IsWorld (state_of e due) m vs (aside e.dropped.items cells)
-  pub either : (M × (world_of (state_of e due) m vs (aside e.dropped.items cells) ≡ w))
-      ⊎ (N × IsCompleted w o answer (world_of (state_of e due) m vs (aside e.dropped.items cells)))
+  pub completed : r ≢ Err Memory → IsCompleted w o (told r) (world_of (state_of e due) m vs (aside e.dropped.items cells))
+  pub unchanged : r ≡ Err Memory → world_of (state_of e due) m vs (aside e.dropped.items cells) ≡ w
+  pub rests : StaysAtRest w (world_of (state_of e due) m vs (aside e.dropped.items cells))
 
-pub completes_then : {M N X Y : Type 0} → (M × X) ⊎ (N × Y) → (M → ⊥) → Y
-completes_then (inl a) other = absurd (other a.0)
-completes_then (inr b) other = b.1
+module _ {A : Type 0} (s : Inside) (w : World) (h : IsShown s) (view : shown s ≡ w) (rest : is_at_rest w.writer.desk ≡ true) (e : IdleDesk) (l : PureHand)
+    (together : AreParts e (generations_of l.kept) (length l.words)) (o : Order) (told : Result A Refusal → Answer) (r : Result A Refusal)
+    (fits : IsFitting (filled s.desk s.hand.kept s.hand.words) o)
+    (turn : r ≢ Err Memory → IsTurn (part_of s.desk (generations_of s.hand.kept)) o (λ xs. HasMade s.hand.kept s.hand.words xs l.kept l.words) (told r)
+    (part_of e (generations_of l.kept)))
+    (nothing : r ≡ Err Memory → (part_of e (generations_of l.kept) ≡ part_of s.desk (generations_of s.hand.kept)) × (l ≡ s.hand)) where
+  f : Rested s w
+  f = rested s w h view rest
 
-pub stays_then : {M X Y : Type 0} → (M × X) ⊎ ((M → ⊥) × Y) → M → X
-stays_then (inl a) memory = a.1
-stays_then (inr b) memory = absurd (b.0 memory)
-
--- either way nothing is due or unfilled
-pub stays : {M N : Type 0} (w v : World) (o : Order) (answer : Answer) → is_at_rest w.writer.desk ≡ true
-    → (M × (v ≡ w)) ⊎ (N × IsCompleted w o answer v) → StaysAtRest w v
-stays w v o answer rest (inl a) = record {
-  rests = ap (λ (x : World). is_at_rest x.writer.desk) a.1 ∙ rest;
-  passes = ap (λ (x : World). x.passes) a.1;
-}
-stays w v o answer rest (inr b) = record { rests = b.1.rests; passes = b.1.passes }
-
-module _ (desk : IdleDesk) (due : Option Readied) (k : KeptState) (ws : List ℕ) (cells : List Cell) (w : World) (f : Rested desk due k ws cells w)
-    (e : IdleDesk) (l : KeptState) (vs : List ℕ) (together : AreParts e (generations_of l) (length vs)) (M N : Type 0)
-    (nothing : M → (part_of e (generations_of l) ≡ part_of desk (generations_of k)) × (l ≡ k) × (vs ≡ ws))
-    (o : Order) (answer : Answer) (fits : IsFitting (filled_world (resting desk.listened) k ws desk.dropped.items) o)
-    (turn : N → IsTurn (part_of desk (generations_of k)) o (λ xs. HasMade k ws xs l vs) answer (part_of e (generations_of l))) where
-  memory_ends : (m : KeptState) → m ≡ l → M → Ends w M N o answer e due m vs cells
+  memory_ends : (m : KeptState) → m ≡ l.kept → r ≡ Err Memory → Ends w o told r e s.due m l.words s.unfilled.cells
   memory_ends m is memory =
       let u = nothing memory in
-      let same : part_of e (generations_of k) ≡ part_of desk (generations_of k) =
-      subst (λ (x : KeptState). part_of e (generations_of x) ≡ part_of desk (generations_of k)) u.1 u.0 in
-      let here : AreParts e (generations_of k) (length ws) =
-      subst (λ (z : KeptState × List ℕ). AreParts e (generations_of z.0) (length z.1)) (λ i. (u.1 i, u.2 i)) together in
-      subst (λ (z : (Option Readied × List Cell) × KeptState × List ℕ). Ends w M N o answer e z.0.0 z.1 z.2 z.0.1)
-      (λ i. ((sym f.none_due i, sym f.none_left i), sym (is ∙ u.1) i, sym u.2 i))
+      let same : part_of e (generations_of s.hand.kept) ≡ part_of s.desk (generations_of s.hand.kept) =
+      subst (λ (x : PureHand). part_of e (generations_of x.kept) ≡ part_of s.desk (generations_of s.hand.kept)) u.1 u.0 in
+      let here : AreParts e (generations_of s.hand.kept) (length s.hand.words) =
+      subst (λ (x : PureHand). AreParts e (generations_of x.kept) (length x.words)) u.1 together in
+      let still = is_unmoved s.desk s.hand.kept s.hand.words f.world e same here ∙ f.view in
+      subst (λ (z : (Option Readied × List Cell) × KeptState × List ℕ). Ends w o told r e z.0.0 z.1 z.2 z.0.1)
+      (λ i. ((sym f.none_due i, sym f.none_left i), sym (is ∙ ap (λ (x : PureHand). x.kept) u.1) i, sym (ap (λ (x : PureHand). x.words) u.1) i))
       (record {
-        world = unmoved desk k ws f.world e same here;
-        either = inl (memory, is_unmoved desk k ws f.world e same here ∙ f.view);
+        world = unmoved s.desk s.hand.kept s.hand.words f.world e same here;
+        completed = λ other. absurd (other memory);
+        unchanged = λ _. still;
+        rests = record { rests = ap (λ (x : World). is_at_rest x.writer.desk) still ∙ rest; passes = ap (λ (x : World). x.passes) still };
       })
 
+  done : (m : KeptState) → r ≢ Err Memory → Leaves (filled s.desk s.hand.kept s.hand.words) o (told r) e m l.words
+      → Ends w o told r e s.due m l.words s.unfilled.cells
+  done m other x = let all : LeavesIn w o (told r) s e m l.words = leaves_all s w f o (told r) e m l.words x in record {
+    world = all.world;
+    completed = λ _. all.is;
+    unchanged = λ memory. absurd (other memory);
+    rests = record { rests = all.is.rests; passes = all.is.passes };
+  }
+
   -- with a private event
-  pub private_ends : left_with o k.swept (part_of e (generations_of l)) ≡ part_of e (generations_of l) → length l.swept ≡ length l.tracks → (m : KeptState)
-      → (M × (m ≡ l)) ⊎ (N × (m ≡ unswept l)) → Ends w M N o answer e due m vs cells
-  private_ends whole long m either = ⊎_elim
-      (λ a. memory_ends m a.1 a.0)
-      (λ b. let all : LeavesAll w o answer e due m vs cells = leaves_all desk due k ws cells w f o answer e m vs
-      (private_leaves desk k ws f.world e l vs o answer fits (turn b.0) together whole long m b.1) in
-      record { world = all.world; either = inr (b.0, all.is) })
-      either
+  pub private_ends : left_with o s.hand.kept.swept (part_of e (generations_of l.kept)) ≡ part_of e (generations_of l.kept)
+      → length l.kept.swept ≡ length l.kept.tracks → (m : KeptState)
+      → ((r ≡ Err Memory) × (m ≡ l.kept)) ⊎ ((r ≢ Err Memory) × (m ≡ unswept l.kept)) → Ends w o told r e s.due m l.words s.unfilled.cells
+  private_ends whole long m either = ⊎_elim (λ a. memory_ends m a.1 a.0)
+      (λ b. done m b.0 (private_leaves s.desk s.hand.kept s.hand.words f.world e l.kept l.words o (told r) fits (turn b.0) together whole long m b.1)) either
 
   -- by steps on words alone
-  pub steady_ends : left_with o k.swept (part_of e (generations_of l)) ≡ flagged k.swept (part_of e (generations_of l)) → (N → l.swept ≡ k.swept)
-      → M ⊎ N → Ends w M N o answer e due l vs cells
-  steady_ends whole still either = ⊎_elim
-      (λ a. memory_ends l refl a)
-      (λ b. let all : LeavesAll w o answer e due l vs cells = leaves_all desk due k ws cells w f o answer e l vs
-      (steady_leaves desk k ws f.world e l vs o answer fits (turn b) together whole (still b)) in
-      record { world = all.world; either = inr (b, all.is) })
-      either
+  pub steady_ends : left_with o s.hand.kept.swept (part_of e (generations_of l.kept)) ≡ flagged s.hand.kept.swept (part_of e (generations_of l.kept))
+      → (r ≢ Err Memory → l.kept.swept ≡ s.hand.kept.swept) → Ends w o told r e s.due l.kept l.words s.unfilled.cells
+  steady_ends whole still = ⊎_elim (λ a. memory_ends l.kept refl a)
+      (λ b. done l.kept b (steady_leaves s.desk s.hand.kept s.hand.words f.world e l.kept l.words o (told r) fits (turn b) together whole (still b)))
+      (memory_or_not r)

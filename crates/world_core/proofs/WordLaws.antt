@@ -33,7 +33,7 @@ use Rattle.access_run.specs.Hands.{IsPlaceOf}
 use Rattle.kept_generations.specs.KeptState.{KeptState}
 use Rattle.mem_base.specs.access.PlaceCells.{blocks_at}
 use Rattle.place_words.proofs.CellLaws.{steps_on_cells}
-use Rattle.backed_desk.specs.Backed.{all_places}
+use Rattle.transact.specs.Backed.{all_places}
 use Rattle.writer_desk.specs.Writers.{WriterState}
 use Rattle.world_core.specs.Hands.{published_as, shown_to, IsInside}
 use Rattle.world_core.specs.Worlds.{Aside, world_of, IsWorld}

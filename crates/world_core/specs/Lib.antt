@@ -3,5 +3,4 @@ pub mod Events
 pub mod Hands
 pub mod Rests
 pub mod RunLaws
-pub mod Unfilled
 pub mod Worlds

@@ -13,7 +13,7 @@ use Rattle.kept_generations.specs.KeptState.{KeptState, generations_of, with_swe
 use Rattle.mem_base.specs.access.PlaceCells.{blocks_at}
 use Rattle.transact.specs.Preparing.{Readied}
 use Rattle.place_words.specs.Blocks.{cleared}
-use Rattle.backed_desk.specs.Backed.{all_places}
+use Rattle.transact.specs.Backed.{all_places}
 use Rattle.writer_desk.specs.declared.idle.IdleDesk.{IdleDesk}
 use Rattle.writer_desk.specs.Listened.{ListenedState}
 use Rattle.writer_desk.specs.Writers.{WriterState, writer_state, Beside, IsReady, desk_of}

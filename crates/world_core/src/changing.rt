@@ -8,17 +8,16 @@ ghost use Rattle.writer_desk.specs.Listened.{IsUnmoved};
 ghost use Rattle.writer_desk.specs.Writers.{IsAccepted, IsConfigured, IsReady, made_place};
 ghost use Rattle.world_core.specs.Worlds.{cleared_at, state_with};
 ghost use Rattle.world_core.specs.Events.{IsChanged, makes_region};
-ghost use Rattle.world_core.specs.Unfilled.{cells_at};
+ghost use Rattle.place_words.specs.Unfilled.{cells_at};
 
-use crate::unfilled::Unfilled;
 use crate::world::World;
-use backed_desk::BackedDesk;
 use mem_base::{Applied, Call, Config, Refusal, Reply};
-use place_words::Words;
+use place_words::{Unfilled, Words};
 use std::alloc::AllocError;
 use std::marker::Brand;
 use std::sync::ledger::{Blank, Ledger};
 use step_counter::Steps;
+use transact::BackedDesk;
 use writer_desk::{Due, ListenedDesk, Planned, note_drop};
 
 // The private event, with a counter of carves of its own. What it publishes is due then, unless `held` says that a pass holds it up.

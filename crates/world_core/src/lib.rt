@@ -5,21 +5,13 @@
 #![tactic(auto)]
 
 mod accesses;
+mod calls;
 mod cells;
 mod changing;
-mod configuring;
 mod events;
 mod hands;
-mod harvesting;
 mod numbers;
 mod possible;
-mod publishing;
-mod reaping;
-mod settling;
-mod shown;
-mod unfilled;
-mod words;
 mod world;
-mod writing;
 
 pub use world::World;

@@ -1,4 +1,4 @@
-// The events of passes on numbers, and what enters and leaves.
+// The events of passes on numbers, what enters and leaves, and the events of a publish.
 ghost use Rattle.std.specs.Prelude.{◌≡◌, true, Some};
 ghost use Rattle.mem_base.specs.declared.machine.events.Event.TheVariants as events;
 ghost use Rattle.mem_base.specs.machine.World.{possible, reply, number_in, world_after};
@@ -37,9 +37,7 @@ impl World {
         self.hand.kept.enter(pass)
     }
 
-    /// The pass leaves its generation.
-    ///
-    /// It is entered.
+    /// The pass, which is entered, leaves its generation.
     pub fn leave(&mut self, pass: PassId)
         requires { possible self.old (events.Leave pass) ≡ true }
         ensures world { self.new ≡ after_events self.old (leaves pass) }
@@ -62,5 +60,40 @@ impl World {
         self.look(pass);
         self.announce(pass);
         self.enter_current(pass)
+    }
+
+    /// The writer looks at what a pass announced: the number plus one, or 0, which is answered.
+    pub(crate) fn sweep(&mut self, pass: PassId) -> u64
+        requires { possible self.old (events.Sweep pass) ≡ true }
+        ensures number { result ≡ number_in (reply self.old (events.Sweep pass)) }
+        ensures world { self.new ≡ world_after self.old (events.Sweep pass) }
+    {
+        self.hand.kept.sweep(pass)
+    }
+
+    /// A pass has its copy of the next generation.
+    pub(crate) fn place(&mut self, pass: PassId)
+        requires { possible self.old (events.Place pass) ≡ true }
+        ensures { self.new ≡ world_after self.old (events.Place pass) }
+    {
+        self.hand.kept.place(pass);
+    }
+
+    /// The generation that is due is current then, and its number is answered.
+    pub(crate) fn publish(&mut self) -> u64
+        requires { possible self.old events.Publish ≡ true }
+        ensures number { result ≡ number_in (reply self.old events.Publish) }
+        ensures world { self.new ≡ world_after self.old events.Publish }
+    {
+        match self.due.take() {
+            Some(due) => {
+                let next = self.desk.listened.done(due);
+                // It tells that 64 bits hold the next number.
+                let _ = self.desk.listened.backed().desk().tree();
+                self.hand.kept.publish(next);
+                self.hand.kept.current()
+            }
+            None => unreachable!(),
+        }
     }
 }

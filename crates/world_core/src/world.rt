@@ -1,16 +1,18 @@
-// The world: its parts, and what it is seen as.
-ghost use Rattle.std.specs.Prelude.{◌≡◌, ◌≤◌, ◌<◌, ◌^◌, IfOk};
+// The world: its parts, what it is seen as, and what it shows of itself: the journal of its listeners, and its current generation.
+ghost use Rattle.std.specs.Prelude.{◌≡◌, ◌≤◌, ◌<◌, ◌^◌, [], drop, Some, IfOk};
+ghost use Rattle.std.specs.Arc.{arc_value};
 ghost use Rattle.mem_base.specs.map.Limits.{most_passes};
 ghost use Rattle.mem_base.specs.machine.World.{opening};
 ghost use Rattle.mem_base.specs.machine.Passes.{pass_of};
+ghost use Rattle.mem_base.specs.machine.Generations.{generation, generation_of};
 ghost use Rattle.world_core.specs.Hands.{IsInside, shown_to};
 ghost use Rattle.world_hand.specs.Reached.{IsReached};
+ghost use Rattle.world_hand.specs.Taken.{with_calls};
 
-use crate::unfilled::Unfilled;
 use generation::Generation;
 use kept_generations::Kept;
-use mem_base::{NOTIFIER_COUNT, PassId};
-use place_words::Words;
+use mem_base::{ListenerEvent, ListenerId, NOTIFIER_COUNT, PassId};
+use place_words::{Unfilled, Words};
 use std::alloc::{AllocError, Global};
 use std::marker::Model;
 use std::sync::Arc;
@@ -42,9 +44,8 @@ impl Model for World {
 }
 
 impl World {
-    /// The world at first: an empty map over a pool of this many words, at most 2^26, and 1 to 16 passes.
-    ///
-    /// It fails only where memory runs out.
+    /// The world at first: an empty map over a pool of this many words, at most 2^26, and 1 to 16 passes. It fails only where memory
+    /// runs out.
     pub fn new(alloc: Global, words: usize, passes: u32) -> Result<World, AllocError>
         requires words { words ≤ 2 ^ 26 }
         requires some { 0 < passes }
@@ -97,6 +98,42 @@ impl World {
                 Some(generation) => generation,
                 None => unreachable!(),
             },
+            None => unreachable!(),
+        }
+    }
+
+    /// The calls that listeners got and that are not forgotten, each with the listener that got it, from the first on.
+    pub fn journal(&self) -> &[(ListenerId, ListenerEvent)]
+        ensures { result.now ≡ self.now.writer.desk.listening.journal }
+    {
+        self.desk.listened.listeners().journal()
+    }
+
+    /// Hands over the calls that listeners got and that are not forgotten, each with the listener that got it, from the first on,
+    /// and forgets them: the journal has no calls then, and all else is as it was. It takes no memory and makes no event.
+    pub fn take_journal(&mut self) -> Vec<(ListenerId, ListenerEvent)>
+        ensures taken { result.items ≡ self.old.writer.desk.listening.journal }
+        ensures world { self.new ≡ with_calls [] self.old }
+    {
+        self.desk.listened.take_journal()
+    }
+
+    /// Forgets the first `count` of the calls that listeners got and that are not forgotten yet, all of them where there are
+    /// fewer; all else is as it was. It takes no memory and makes no event.
+    pub fn forget(&mut self, count: usize)
+        ensures { self.new ≡ with_calls (drop count self.old.writer.desk.listening.journal) self.old }
+    {
+        self.desk.listened.forget(count);
+    }
+
+    /// The current generation, with its number.
+    pub fn current(&self) -> &Arc<Generation, Global>
+        ensures number { (arc_value result.now).number ≡ self.now.writer.generations.current }
+        ensures generation { generation_of self.now.writer.generations self.now.writer.generations.current
+            ≡ Some (generation (arc_value result.now).forest (arc_value result.now).places) }
+    {
+        match self.hand.kept.shared(self.hand.kept.current()) {
+            Some(generation) => generation,
             None => unreachable!(),
         }
     }

@@ -16,7 +16,7 @@ use Rattle.mem_base.specs.machine.Desk.{Desk}
 use Rattle.mem_base.specs.machine.Publishing.{Settled, settled, readied, refused_desk, unless_refused, publishing, held_up, current_forest}
 use Rattle.mem_base.specs.machine.Configs.{configured, after_call, kept_back}
 use Rattle.transact.specs.Preparing.{Readied, heard_by}
-use Rattle.backed_desk.specs.Backed.{BackedState, backing_after, backing_at, forest_at}
+use Rattle.transact.specs.Backed.{BackedState, backing_after, backing_at, forest_at}
 use Rattle.writer_desk.specs.Writers.{writer_state, Beside, desk_of, beside_by, settled_as}
 use Rattle.writer_desk.proofs.HeardLaws.{delivered_heard}
 

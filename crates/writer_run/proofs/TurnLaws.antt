@@ -43,7 +43,7 @@ use Rattle.turn_laws.proofs.Rows.{swept_length, published_desk, filled_desk, fil
 use Rattle.turn_laws.proofs.Turning.{turn_facts}
 use Rattle.generation.specs.Published.{Published}
 use Rattle.transact.specs.Preparing.{Readied, when_done, AreDeskPlaces}
-use Rattle.backed_desk.specs.Backed.{BackedState, backed_state, all_places}
+use Rattle.transact.specs.Backed.{BackedState, backed_state, all_places}
 use Rattle.writer_desk.specs.Writers.{WriterState, writer_state, Beside, desk_of, settled_as, IsReady}
 use Rattle.writer_desk.specs.Listened.{ListenedState, resting, told, IsDone, IsReadied, IsRefused, IsUnmoved}
 use Rattle.writer_run.specs.Entries.{entries_with, edition_of}

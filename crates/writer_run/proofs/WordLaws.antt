@@ -35,7 +35,7 @@ use Rattle.mem_base.specs.map.Refusals.{or_refused}
 use Rattle.view_laws.proofs.Tests.{none_is_not_some, same_some}
 use Rattle.history_laws.specs.BackedForests.{BacksForest}
 use Rattle.transact.specs.Preparing.{AreDeskPlaces}
-use Rattle.backed_desk.specs.Backed.{all_places}
+use Rattle.transact.specs.Backed.{all_places}
 use Rattle.writer_run.specs.Entries.{entries_with, at}
 use Rattle.writer_run.specs.Hands.{word_entry}
 use Rattle.writer_desk.specs.declared.idle.IdleDesk.{IdleDesk}

@@ -1,7 +1,7 @@
 use Rattle.std.proofs.Common.{rules, ◌≡◌}
 use Rattle.mem_base.specs.lists.Every.{Every}
 use Rattle.mem_base.specs.machine.Desk.{shown_places}
-use Rattle.backed_desk.specs.Backed.{all_places}
+use Rattle.transact.specs.Backed.{all_places}
 use Rattle.vcpu_tests.specs.Fits.{IsFit}
 use Rattle.vcpu_tests.proofs.FitLaws.{next_fits}
 use Rattle.vcpu_tests.proofs.machines.publish.Goals as goal

@@ -4,7 +4,7 @@ use Rattle.mem_base.specs.declared.map.calls.Applied.{Applied}
 use Rattle.mem_base.specs.declared.map.refusals.Refusal.{Refusal}
 use Rattle.mem_base.specs.declared.map.refusals.Refusal.TheVariants.{Memory}
 use Rattle.mem_base.specs.views.Listening.{delivered}
-use Rattle.backed_desk.specs.Backed.{BackedState}
+use Rattle.transact.specs.Backed.{BackedState}
 use Rattle.writer_desk.specs.Writers.{writer_state, IsConfigured, IsReady}
 use Rattle.writer_desk.specs.Listened.{ListenedState, IsDone, IsReadied, IsRefused, IsUnmoved}
 use Rattle.writer_desk.proofs.ListenedLaws.{refused_as, done_as, told_as}

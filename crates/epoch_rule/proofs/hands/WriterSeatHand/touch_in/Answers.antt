@@ -2,38 +2,25 @@ use Rattle.std.proofs.Common.{arith, sym, refl, ap, ◌∙◌, subst, false, get
 use Rattle.mem_base.specs.declared.machine.events.Hand.TheVariants.{Writer}
 use Rattle.epoch_rule.specs.declared.views.Sizes.{Sizes}
 use Rattle.epoch_rule.specs.Shown.{WriterMay}
+use Rattle.epoch_rule.proofs.SizeLaws.{same_sizes}
 use Rattle.epoch_rule.proofs.TouchLaws.{ready_writer, kept, generations_kept, shown, writing_kept, home_kept}
 use Rattle.epoch_rule.proofs.hands.WriterSeatHand.touch_in.Goals as goal
 
 pub touch_word-requires-clause-ready : goal.touch_word-requires-clause-ready
 touch_word-requires-clause-ready g c =
-    let suits = c.cabinet.invariant.suits in
-    let inv = c.self.invariant in
     let t = ap (λ v. v.cabinet) c.self.view_is ∙ (c.requires.own ∙ sym (ap (λ w. w.id) c.cabinet.view_is)) in
-    let words = ap (λ y. y.words) t in
-    let slots = ap (λ y. y.slots) t in
-    let a = suits.0 in
-    let b = suits.1 in
-    let e = inv.suits.0 in
-    let f = inv.suits.1 in
+    let wide = (same_sizes _ _ _ _ t c.self.invariant.suits c.cabinet.invariant.suits).1 in
     let may = subst (λ (z : Sizes). WriterMay z c.args.place.now c.args.word) (ap (λ v. v.sizes) (sym c.self.view_is)) c.requires.may in
-    let near = may.0 in
     let fits = may.1 in
-    ready_writer c.cabinet.inside.table.shared.key c.self.inside.seat.me.0 c.args.place.now c.args.word c.args.touch inv.role c.requires.kind
-    (near, omega arith)
+    ready_writer c.cabinet.inside.table.shared.key c.self.inside.seat.me.0 c.args.place.now c.args.word c.args.touch c.self.invariant.role c.requires.kind
+    (may.0, omega arith)
 
 pub touch_word-requires-clause-room : goal.touch_word-requires-clause-room
 touch_word-requires-clause-room g c =
-    let suits = c.cabinet.invariant.suits in
-    let inv = c.self.invariant in
     let t = ap (λ v. v.cabinet) c.self.view_is ∙ (c.requires.own ∙ sym (ap (λ w. w.id) c.cabinet.view_is)) in
-    let words = ap (λ y. y.words) t in
-    let slots = ap (λ y. y.slots) t in
-    let a = suits.0 in
-    let b = suits.1 in
-    let e = inv.suits.0 in
-    let f = inv.suits.1 in
-    let may = subst (λ (z : Sizes). WriterMay z c.args.place.now c.args.word) (ap (λ v. v.sizes) (sym c.self.view_is)) c.requires.may in let near = may.0 in
+    let wide = (same_sizes _ _ _ _ t c.self.invariant.suits c.cabinet.invariant.suits).1 in
+    let may = subst (λ (z : Sizes). WriterMay z c.args.place.now c.args.word) (ap (λ v. v.sizes) (sym c.self.view_is)) c.requires.may in
+    let near = may.0 in
     let fits = may.1 in omega arith
 
 pub invariant_of-self : goal.invariant_of-self

@@ -1,29 +1,16 @@
 use Rattle.std.proofs.Common.{rules}
-use Rattle.mem_base.specs.machine.World.{World}
-use Rattle.world_core.specs.Hands.{IsInside}
 use Rattle.world_core.proofs.WordLaws.{MayReach, may_reach, reach_within}
+use Rattle.world_core.proofs.hands.EnteredPassReads.read_word.Goals.{After-is_reached}
 use Rattle.world_core.proofs.hands.EnteredPassReads.read_word.Goals as goal
 
+reach : (c : After-is_reached) → MayReach c.args.self.now.world.now c.args.self.now.pass c.args.place.now
+reach c = may_reach c.args.self.now.world.now c.args.self.now.pass c.args.place.now c.is_reached.ensures (search rules) c.requires.placed
+
 pub step_word-requires-clause-may : goal.step_word-requires-clause-may
-step_word-requires-clause-may c =
-    let w : World = c.args.self.now.world.now in
-    let inside : IsInside w c.args.self.now.pass = search rules in
-    let k : MayReach w c.args.self.now.pass c.args.place.now =
-    may_reach w c.args.self.now.pass c.args.place.now c.is_reached.ensures inside c.requires.placed in
-    (k.steps.words c.args.word c.args.step c.requires.inside).may
+step_word-requires-clause-may c = ((reach c).steps.words c.args.word c.args.step c.requires.inside).may
 
 pub step_word-requires-clause-placed : goal.step_word-requires-clause-placed
-step_word-requires-clause-placed c =
-    let w : World = c.args.self.now.world.now in
-    let inside : IsInside w c.args.self.now.pass = search rules in
-    let k : MayReach w c.args.self.now.pass c.args.place.now =
-    may_reach w c.args.self.now.pass c.args.place.now c.is_reached.ensures inside c.requires.placed in
-    k.stands.stands
+step_word-requires-clause-placed c = (reach c).stands.stands
 
 pub step_word-requires-clause-within : goal.step_word-requires-clause-within
-step_word-requires-clause-within c =
-    let w : World = c.args.self.now.world.now in
-    let inside : IsInside w c.args.self.now.pass = search rules in
-    let k : MayReach w c.args.self.now.pass c.args.place.now =
-    may_reach w c.args.self.now.pass c.args.place.now c.is_reached.ensures inside c.requires.placed in
-    reach_within w c.args.self.now.pass c.args.place.now c.args.word k c.requires.inside
+step_word-requires-clause-within c = reach_within c.args.self.now.world.now c.args.self.now.pass c.args.place.now c.args.word (reach c) c.requires.inside

@@ -1,29 +1,16 @@
 use Rattle.std.proofs.Common.{rules}
-use Rattle.mem_base.specs.machine.World.{World}
-use Rattle.world_core.specs.Hands.{IsInside}
 use Rattle.world_core.proofs.WordLaws.{MayReach, may_reach}
+use Rattle.world_core.proofs.hands.EnteredPassWrites.mark_page.Goals.{After-is_reached}
 use Rattle.world_core.proofs.hands.EnteredPassWrites.mark_page.Goals as goal
 
+reach : (c : After-is_reached) → MayReach c.args.self.now.world.now c.args.self.now.pass c.args.place.now
+reach c = may_reach c.args.self.now.world.now c.args.self.now.pass c.args.place.now c.is_reached.ensures (search rules) c.requires.placed
+
 pub mark_page-requires-clause-may : goal.mark_page-requires-clause-may
-mark_page-requires-clause-may c =
-    let w : World = c.args.self.now.world.now in
-    let inside : IsInside w c.args.self.now.pass = search rules in
-    let k : MayReach w c.args.self.now.pass c.args.place.now =
-    may_reach w c.args.self.now.pass c.args.place.now c.is_reached.ensures inside c.requires.placed in
-    (k.steps.marks c.args.client c.args.page c.requires.inside).may
+mark_page-requires-clause-may c = ((reach c).steps.marks c.args.client c.args.page c.requires.inside).may
 
 pub mark_page-requires-clause-placed : goal.mark_page-requires-clause-placed
-mark_page-requires-clause-placed c =
-    let w : World = c.args.self.now.world.now in
-    let inside : IsInside w c.args.self.now.pass = search rules in
-    let k : MayReach w c.args.self.now.pass c.args.place.now =
-    may_reach w c.args.self.now.pass c.args.place.now c.is_reached.ensures inside c.requires.placed in
-    k.stands.stands
+mark_page-requires-clause-placed c = (reach c).stands.stands
 
 pub mark_page-requires-clause-within : goal.mark_page-requires-clause-within
-mark_page-requires-clause-within c =
-    let w : World = c.args.self.now.world.now in
-    let inside : IsInside w c.args.self.now.pass = search rules in
-    let k : MayReach w c.args.self.now.pass c.args.place.now =
-    may_reach w c.args.self.now.pass c.args.place.now c.is_reached.ensures inside c.requires.placed in
-    k.stands.marks c.args.client c.args.page c.requires.inside
+mark_page-requires-clause-within c = (reach c).stands.marks c.args.client c.args.page c.requires.inside

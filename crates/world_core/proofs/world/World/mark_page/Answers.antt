@@ -7,7 +7,7 @@ use Rattle.mem_base.specs.access.Places.{word_of_page, bit_of_page}
 use Rattle.mem_base.specs.access.PlacesByRegion.{place_in}
 use Rattle.mem_base.specs.declared.access.cells.WordStep.TheVariants.{Or}
 use Rattle.mem_base.specs.machine.World.{World, possible, world_after}
-use Rattle.backed_desk.specs.Backed.{all_places}
+use Rattle.transact.specs.Backed.{all_places}
 use Rattle.writer_desk.specs.Writers.{WriterState}
 use Rattle.world_core.specs.Worlds.{Aside, aside, world_of, state_of}
 use Rattle.world_core.proofs.WordLaws.{far, mark_is, words_change}

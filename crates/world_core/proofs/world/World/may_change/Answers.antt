@@ -18,7 +18,7 @@ returns c =
     let swept : is_all_swept w.writer.desk ≡ false =
     ap (λ (v : World). is_all_swept v.writer.desk) (sym c.self.view_is) ∙ sym c.is_all_swept.ensures ∙ c.if-is_all_swept.false in
     let none : s.due ≡ None =
-    (rested s.desk s.due s.hand.kept s.hand.words s.unfilled.cells w c.self.invariant c.self.view_is rests).none_due in
+    (rested s w c.self.invariant c.self.view_is rests).none_due in
     let told : c.would_publish-publishes.result ≡ would_publish w.writer.desk c.args.config.now =
     c.would_publish-publishes.ensures (beside x s.hand.kept.swept)
     ∙ ap (λ (o : Option Readied). would_publish (desk_of (state_of s.desk o) (beside x s.hand.kept.swept)) c.args.config.now) (sym none)

@@ -5,7 +5,7 @@ use Rattle.mem_base.specs.declared.machine.events.Event.TheVariants as events
 use Rattle.mem_base.specs.access.Cells.{cell, words_after}
 use Rattle.mem_base.specs.access.PlacesByRegion.{place_in}
 use Rattle.mem_base.specs.machine.World.{World, possible, reply, number_in, world_after}
-use Rattle.backed_desk.specs.Backed.{all_places}
+use Rattle.transact.specs.Backed.{all_places}
 use Rattle.writer_desk.specs.Writers.{WriterState}
 use Rattle.world_core.specs.Worlds.{Aside, aside, world_of, state_of}
 use Rattle.world_core.proofs.WordLaws.{far, step_is, step_tells, words_change}

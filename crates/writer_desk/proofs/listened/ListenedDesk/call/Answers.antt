@@ -3,7 +3,7 @@ use Rattle.mem_base.specs.declared.map.calls.Config.TheVariants.{Call}
 use Rattle.mem_base.specs.map.Calls.{after, is_quiet}
 use Rattle.mem_base.specs.views.Listening.{ascending, changes_between}
 use Rattle.transact.specs.Preparing.{Readied, heard_by}
-use Rattle.backed_desk.specs.Backed.{forest_at}
+use Rattle.transact.specs.Backed.{forest_at}
 use Rattle.writer_desk.specs.Listened.{ListenedState, listened_state, IsReadied, Publishes}
 use Rattle.writer_desk.proofs.ReadyLaws.{call_published}
 use Rattle.writer_desk.proofs.listened.ListenedDesk.call.Goals as goal

@@ -2,7 +2,7 @@ use Rattle.std.proofs.Common.{rules, ◌≡◌, true, None, subst}
 use Rattle.mem_base.specs.declared.map.calls.Config.TheVariants.{Commit}
 use Rattle.mem_base.specs.views.Listening.{ascending, changes_between}
 use Rattle.transact.specs.Preparing.{Readied, heard_by}
-use Rattle.backed_desk.specs.Backed.{forest_at}
+use Rattle.transact.specs.Backed.{forest_at}
 use Rattle.writer_desk.specs.Listened.{ListenedState, listened_state, IsReadied, Publishes}
 use Rattle.writer_desk.proofs.ReadyLaws.{commit_published}
 use Rattle.writer_desk.proofs.listened.ListenedDesk.commit.Goals as goal
