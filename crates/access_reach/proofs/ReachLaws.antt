@@ -1,5 +1,5 @@
 -- Laws of what a machine was asked: of what comes after one another, and of what is underway.
-use Rattle.std.proofs.Common.{◌≡◌, ℕ, ◌+◌, ◌||◌, Bool, true, false, List, [], ◌∷◌, ◌++◌, length, map, Some}
+use Rattle.std.proofs.Common.{◌≡◌, ℕ, ◌+◌, ◌||◌, Bool, true, false, List, [], ◌∷◌, ◌++◌, length, map, Some, None}
 use Rattle.std.proofs.Common.{if◌then◌else◌, refl, sym, ap, subst, ◌∙◌, append_assoc, arith}
 use Rattle.std.specs.Prelude.{replicate}
 use Rattle.std.proofs.lemmas.List.{length-append, append-nil}
@@ -157,6 +157,15 @@ pub piece_notified : (region : RegionId) (ops : Ops) (events : List Ioevent) (p 
     → notifier_of events p.offset p.size (number_of_bytes bs ops.big) ≡ Some number
     → in_piece region ops events p (writing bs) ≡ notifier number ∷ []
 piece_notified region ops events p bs number valid is =
+    let inner : List Reached = map (in_callback region ops (writing bs)) (callbacks ops p) in
+    ap (λ (b : Bool). if b then unless_notified (notifier_of events p.offset p.size (number_of_bytes bs ops.big)) inner else nobody (writing bs)) valid
+    ∙ ap (λ o. unless_notified o inner) is
+
+-- and one that reaches its device
+pub piece_called : (region : RegionId) (ops : Ops) (events : List Ioevent) (p : Piece) (bs : List ℕ) → p.valid ≡ true
+    → notifier_of events p.offset p.size (number_of_bytes bs ops.big) ≡ None
+    → in_piece region ops events p (writing bs) ≡ map (in_callback region ops (writing bs)) (callbacks ops p)
+piece_called region ops events p bs valid is =
     let inner : List Reached = map (in_callback region ops (writing bs)) (callbacks ops p) in
     ap (λ (b : Bool). if b then unless_notified (notifier_of events p.offset p.size (number_of_bytes bs ops.big)) inner else nobody (writing bs)) valid
     ∙ ap (λ o. unless_notified o inner) is
