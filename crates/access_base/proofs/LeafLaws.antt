@@ -168,7 +168,7 @@ module _ (g : Published) (k : IsEdition g.forest g.places) where
         go Reserve e d = cc
         go Host e d = cc
 
-    good : (device : Device) → device_of n.kind ≡ Some device → IsGood device
+    pub good : (device : Device) → device_of n.kind ≡ Some device → IsGood device
     good device e =
         let none : bad_device (Some device) ≡ None = sym (ap bad_device e) ∙ region.device in
         go (is_good_device device) refl (refuse_if-none _ _ none)

@@ -1,5 +1,5 @@
 // Who answers at a leaf.
-ghost use Rattle.std.specs.Prelude.{◌≡◌, Some};
+ghost use Rattle.std.specs.Prelude.{◌≡◌, ◌&&◌, not, Some};
 ghost use Rattle.mem_base.specs.map.Region.{node_of};
 ghost use Rattle.access_plan.specs.HostPlans.{is_host_kind};
 ghost use Rattle.access_plan.specs.Answering.{IsAnswerer, IsAnswererBy, memory_unless, rom_device};
@@ -65,11 +65,11 @@ pub fn answerer_of(g: &Generation, spot: &Spot, write: bool) -> Answerer
     }
 }
 
-// A region is memory of the host.
-fn is_host(kind: &Kind) -> bool
-    ensures { result ≡ is_host_kind kind.now }
+// A region is memory of the host, whose bytes the machine has not.
+fn lacks_bytes(host: bool, kind: &Kind) -> bool
+    ensures { result ≡ (not host && is_host_kind kind.now) }
 {
-    matches!(kind, Kind::Host)
+    !host && matches!(kind, Kind::Host)
 }
 
 // Who answers, by the kind of the region.
@@ -79,10 +79,17 @@ fn by_kind(g: &Generation, host: bool, spot: &Spot, write: bool) -> Answerer
     let Some(node) = g.node(spot.leaf) else {
         return Answerer::Nobody;
     };
-    if !host && is_host(&node.kind) {
+    if lacks_bytes(host, &node.kind) {
         return Answerer::Nobody;
     }
     at_node(g, node, spot, write)
+}
+
+// A write meets memory that is read-only.
+fn is_shut(spot: &Spot, write: bool) -> bool
+    ensures { result ≡ (write && spot.now.attrs.readonly) }
+{
+    write && spot.attrs.readonly
 }
 
 /// Who answers a write, or a read, at a spot, in a machine that has the bytes of the host's memory, or has not.
@@ -93,7 +100,7 @@ pub fn answerer_by(g: &Generation, host: bool, spot: &Spot, write: bool) -> Answ
     ensures { IsAnswererBy host g.now.forest spot.now write result }
 {
     match g.place_of(spot.leaf) {
-        Some(place) if place.regs == 0 => memory_unless(write && spot.attrs.readonly),
+        Some(place) if place.regs == 0 => memory_unless(is_shut(spot, write)),
         _ => by_kind(g, host, spot, write),
     }
 }

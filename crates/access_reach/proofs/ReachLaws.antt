@@ -8,7 +8,8 @@ use Rattle.std.proofs.Math.Bool.{or_assoc}
 use Rattle.mem_base.specs.declared.access.accesses.TxResult.{TxResult}
 use Rattle.mem_base.specs.access.AccessSteps.{reading, writing, either, tx}
 use Rattle.generation.specs.Published.{Published}
-use Rattle.mem_base.specs.access.Plans.{answers, takes, Reached, memory, callback, notifier, mark, nothing, nobody, unless_notified, in_callback, in_piece}
+use Rattle.mem_base.specs.access.Plans.{Answerer, by_nobody, answers, takes, Reached, memory, callback, notifier, mark, nothing, nobody, unless_notified}
+use Rattle.mem_base.specs.access.Plans.{in_callback, in_piece, reached}
 use Rattle.mem_base.specs.declared.map.ids.RegionId.{RegionId}
 use Rattle.mem_base.specs.declared.map.kinds.Client.{Client}
 use Rattle.mem_base.specs.declared.map.kinds.Ops.{Ops}
@@ -90,6 +91,16 @@ module _ {S : Type 0} (asks : Asks S) (shows : S → Published) (laws : AreBusLa
     each = refl;
     told = (λ i. outcome (e i) result) ∙ (λ i. outcome (sym (append-nil (replicate n 0)) i) (alone result i));
   }
+
+  -- where nobody answers a read, or takes a write
+  pub nobody_reads : (x : S) (o : Answerer) (n : ℕ) (bs : List ℕ) → o ≡ by_nobody → bs ≡ replicate n 0
+      → HasReached asks x (reached o (reading n)) (outcome bs (tx false true)) x
+  nobody_reads x o n bs is e =
+      subst (λ o. HasReached asks x (reached o (reading n)) (outcome bs (tx false true)) x) (sym is) (reached_nothing x n (tx false true) bs e)
+
+  pub nobody_takes : (x : S) (o : Answerer) (bs : List ℕ) → o ≡ by_nobody → HasReached asks x (reached o (writing bs)) (outcome [] (tx false true)) x
+  nobody_takes x o bs is =
+      subst (λ o. HasReached asks x (reached o (writing bs)) (outcome [] (tx false true)) x) (sym is) (reached_nothing x 0 (tx false true) [] refl)
 
   -- what is asked, and what is asked after it
   pub reached_then : (x y z : S) (rs qs : List Reached) (o p : Outcome) → HasReached asks x rs o y → HasReached asks y qs p z
