@@ -99,8 +99,11 @@ fn is_shut(spot: &Spot, write: bool) -> bool
 pub fn answerer_by(g: &Generation, host: bool, spot: &Spot, write: bool) -> Answerer
     ensures { IsAnswererBy host g.now.forest spot.now write result }
 {
-    match g.place_of(spot.leaf) {
-        Some(place) if place.regs == 0 => memory_unless(is_shut(spot, write)),
-        _ => by_kind(g, host, spot, write),
+    let Some(place) = g.place_of(spot.leaf) else {
+        return by_kind(g, host, spot, write);
+    };
+    if place.regs == 0 {
+        return memory_unless(is_shut(spot, write));
     }
+    by_kind(g, host, spot, write)
 }

@@ -282,14 +282,14 @@ module _ {S : Type 0} (asks : Asks S) (shows : S → Published) (laws : AreBusLa
       (subst (λ rs. HasReached asks y rs (outcome [] q) z) list h)
 
   -- what the next chunk asks, and those after it, is taken
-  pub takes_more : (takes : S → Asked → Type 0) (x y : S) (s : SpaceId) (addr below done count k : ℕ) (target : Target) (bytes : List ℕ)
+  pub takes_more : (allowed : S → Asked → Type 0) (x y : S) (s : SpaceId) (addr below done count k : ℕ) (target : Target) (bytes : List ℕ)
       → shows y ≡ shows x → done < below → target ≡ (trail_of (shows y).forest true s (addr + done)).target
       → count ≡ first_length (chunks (shows y).forest true s (addr + done) (below - done)) → k ≡ done + count - done
-      → AllTaken takes y (flat_map (in_chunk host (shows x).forest s addr (writing bytes)) (chunks (shows x).forest true s (addr + done) (below - done)))
-      → AllTaken takes y (reached (answerer_by host (shows y).forest true target) (writing (take k (drop done bytes))))
-      × AllTaken takes y (flat_map (in_chunk host (shows x).forest s addr (writing bytes))
+      → AllTaken allowed y (flat_map (in_chunk host (shows x).forest s addr (writing bytes)) (chunks (shows x).forest true s (addr + done) (below - done)))
+      → AllTaken allowed y (reached (answerer_by host (shows y).forest true target) (writing (take k (drop done bytes))))
+      × AllTaken allowed y (flat_map (in_chunk host (shows x).forest s addr (writing bytes))
       (chunks (shows x).forest true s (addr + (done + count)) (below - (done + count))))
-  takes_more takes x y s addr below done count k target bytes g l t c e all =
+  takes_more allowed x y s addr below done count k target bytes g l t c e all =
       let f : Forest = (shows x).forest in
       let same : (shows y).forest ≡ f = ap (λ (g : Published). g.forest) g in
       let target' : target ≡ (trail_of f true s (addr + done)).target = t ∙ ap (λ (f : Forest). (trail_of f true s (addr + done)).target) same in
@@ -300,10 +300,10 @@ module _ {S : Type 0} (asks : Asks S) (shows : S → Published) (laws : AreBusLa
       ≡ in_chunk host f s addr (writing bytes) (run (addr + done) count) =
       (λ i. reached (answerer_by host (same i) true (target' i)) (writing (mine i))) in
       let rest = chunks_then (in_chunk host f s addr (writing bytes)) (shares_next f true s) addr done below count l count' in
-      let halves = taken_split takes y (in_chunk host f s addr (writing bytes) (run (addr + done) count))
+      let halves = taken_split allowed y (in_chunk host f s addr (writing bytes) (run (addr + done) count))
       (flat_map (in_chunk host f s addr (writing bytes)) (chunks f true s (addr + (done + count)) (below - (done + count))))
-      (subst (AllTaken takes y) rest all) in
-      (subst (AllTaken takes y) (sym list) halves.0, halves.1)
+      (subst (AllTaken allowed y) rest all) in
+      (subst (AllTaken allowed y) (sym list) halves.0, halves.1)
 
   -- the end of a write above 2^64 - 1
   pub write_past : (x y : S) (s : SpaceId) (addr below k : ℕ) (bytes : List ℕ) (r : TxResult) → IsMade (shows x).forest
@@ -323,16 +323,16 @@ module _ {S : Type 0} (asks : Asks S) (shows : S → Published) (laws : AreBusLa
       (reached_then asks shows laws x y y ds past (outcome [] r) (outcome [] (tx false true)) h z)
 
 -- what is taken of a whole access is taken of its first bytes, which may be all
-pub takes_first : {S : Type 0} (host : Bool) (f : Forest) (takes : S → Asked → Type 0) (x : S) (s : SpaceId) (addr below : ℕ) (bytes : List ℕ) → IsMade f
+pub takes_first : {S : Type 0} (host : Bool) (f : Forest) (allowed : S → Asked → Type 0) (x : S) (s : SpaceId) (addr below : ℕ) (bytes : List ℕ) → IsMade f
     → below ≤ length bytes → (addr + length bytes ≤ 2 ^ 64 → below ≡ length bytes) → (2 ^ 64 < addr + length bytes → addr + below ≡ 2 ^ 64)
-    → AllTaken takes x (plan_by host f s addr (writing bytes)) → AllTaken takes x (plan_below host f s addr (writing bytes) below)
-takes_first host f takes x s addr below bytes made most all past h = go (cases_lt below (length bytes))
+    → AllTaken allowed x (plan_by host f s addr (writing bytes)) → AllTaken allowed x (plan_below host f s addr (writing bytes) below)
+takes_first host f allowed x s addr below bytes made most all past h = go (cases_lt below (length bytes))
   where
     closed : IsClosedForest f
     closed = subst IsClosedForest made.made (IsClosedForest-made made.calls made.fitting)
 
-    go : (below < length bytes) ⊎ (length bytes ≤ below) → AllTaken takes x (plan_below host f s addr (writing bytes) below)
-    go (inr l) = let same : length bytes ≡ below = omega (arith, l, most) in subst (λ m. AllTaken takes x (plan_below host f s addr (writing bytes) m)) same h
+    go : (below < length bytes) ⊎ (length bytes ≤ below) → AllTaken allowed x (plan_below host f s addr (writing bytes) below)
+    go (inr l) = let same : length bytes ≡ below = omega (arith, l, most) in subst (λ m. AllTaken allowed x (plan_below host f s addr (writing bytes) m)) same h
     go (inl l) =
         let at : addr + below ≡ 2 ^ 64 = at_end addr below (length bytes) l all past in
         let k : ℕ = length bytes - below in
@@ -340,6 +340,6 @@ takes_first host f takes x s addr below bytes made most all past h = go (cases_l
         let ds : List Reached = plan_below host f s addr (writing bytes) below in
         let d : DoSame (plan_below host f s addr (writing bytes) (below + k)) (ds ++ nobody (writing [])) =
         clip host f closed s addr (writing bytes) below below addr k (omega arith) at (omega (arith, l)) in
-        let q : AllTaken takes x (plan_below host f s addr (writing bytes) (below + k)) =
-        subst (λ m. AllTaken takes x (plan_below host f s addr (writing bytes) m)) sum h in
-        (taken_split takes x ds (nobody (writing [])) (subst (Every (takes x)) d.asks q)).0
+        let q : AllTaken allowed x (plan_below host f s addr (writing bytes) (below + k)) =
+        subst (λ m. AllTaken allowed x (plan_below host f s addr (writing bytes) m)) sum h in
+        (taken_split allowed x ds (nobody (writing [])) (subst (Every (allowed x)) d.asks q)).0

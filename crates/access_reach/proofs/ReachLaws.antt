@@ -18,6 +18,9 @@ use Rattle.mem_base.specs.declared.access.accesses.Piece.{Piece}
 use Rattle.mem_base.specs.access.Pieces.{callbacks}
 use Rattle.mem_base.specs.access.Words.{number_of_bytes}
 use Rattle.mem_base.specs.access.DeviceAccess.{notifier_of}
+use Rattle.mem_base.specs.declared.map.spots.Spot.{Spot}
+use Rattle.access_plan.specs.declared.answerers.Answerer as who
+use Rattle.access_plan.specs.Answering.{IsAnswererBy}
 use Rattle.access_reach.specs.Asking.{reads, writes, sets, marks, taken, of_memory, Asked, asked_of, asked, Reply}
 use Rattle.access_reach.specs.Asking.{Outcome, outcome, followed_by, told, outcome_of}
 use Rattle.access_reach.specs.Reaching.{Asks, HasReached, IsUnderway}
@@ -141,6 +144,12 @@ module _ {S : Type 0} (asks : Asks S) (shows : S → Published) (laws : AreBusLa
 pub underway_as : {S : Type 0} (asks : Asks S) (x : S) (whole rest : List Reached) (bs cs : List ℕ) (r q : TxResult) (y : S)
     → IsUnderway asks x whole rest (outcome bs r) y → bs ≡ cs → q ≡ r → IsUnderway asks x whole rest (outcome cs q) y
 underway_as asks x whole rest bs cs r q y u e f = subst (λ o. IsUnderway asks x whole rest o y) (λ i. outcome (e i) (sym f i)) u
+
+-- who answers in the generation that a bus shows, by whether it has the bytes of the host's memory
+pub answers_so : (host b : Bool) (g h : Published) (spot : Spot) (write : Bool) (w : who.Answerer) → b ≡ host → h ≡ g → IsAnswererBy b h.forest spot write w
+    → IsAnswererBy host g.forest spot write w
+answers_so host b g h spot write w has same is =
+    subst (λ (z : Published). IsAnswererBy host z.forest spot write w) same (subst (λ b. IsAnswererBy b h.forest spot write w) has is)
 
 -- memory alone is read
 pub one_memory_read : {S : Type 0} (asks : Asks S) (x y : S) (region : RegionId) (offset n : ℕ) (bs : List ℕ)

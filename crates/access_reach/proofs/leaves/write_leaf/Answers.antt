@@ -10,7 +10,7 @@ use Rattle.access_reach.specs.Reaching.{AllTaken, HasReached, IsMemoryBy, marks_
 use Rattle.access_plan.specs.declared.answerers.Answerer.TheVariants as who
 use Rattle.access_plan.specs.HostPlans.{answerer_by}
 use Rattle.access_plan.specs.Answering.{IsAnswererBy}
-use Rattle.access_reach.proofs.ReachLaws.{AreBusLaws, reached_then, one_memory_written}
+use Rattle.access_reach.proofs.ReachLaws.{answers_so, AreBusLaws, reached_then, one_memory_written}
 use Rattle.access_reach.proofs.leaves.write_leaf.Goals as goal
 
 pub returns-in-Memory : goal.returns-in-Memory
@@ -21,7 +21,8 @@ returns-in-Memory g c =
     let f = (g.B.Bus.shows c.args.bus.now).forest in
     let bs : List ℕ = c.args.bytes.now in
     let h : IsAnswererBy g.B.Taking.host f spot true who.Memory =
-    subst (λ (z : Published). IsAnswererBy g.B.Taking.host z.forest spot true who.Memory) c.generation.ensures c.in-Memory.ensures in
+    answers_so g.B.Taking.host c.has_host.result (g.B.Bus.shows c.args.bus.now) c.generation.result.now spot true who.Memory
+    c.has_host.ensures c.generation.ensures c.in-Memory.ensures in
     let is : answerer_by g.B.Taking.host f true (Leaf spot) ≡ by_memory spot = h.is in
     subst (λ o. HasReached g.B.Bus.asks c.args.bus.now (reached o (writing bs)) (outcome [] (tx false false)) c.mark.new.bus) (sym is)
     (reached_then g.B.Bus.asks g.B.Bus.shows laws c.args.bus.now c.write_memory.new.self c.mark.new.bus (memory spot.leaf spot.offset (writing bs) ∷ [])
@@ -32,14 +33,16 @@ pub write_memory-requires-clause-inside : goal.write_memory-requires-clause-insi
 write_memory-requires-clause-inside g c =
     let spot : Spot = c.args.spot.now in
     let h : IsAnswererBy g.B.Taking.host (g.B.Bus.shows c.args.bus.now).forest spot true who.Memory =
-    subst (λ (z : Published). IsAnswererBy g.B.Taking.host z.forest spot true who.Memory) c.generation.ensures c.in-Memory.ensures in
+    answers_so g.B.Taking.host c.has_host.result (g.B.Bus.shows c.args.bus.now) c.generation.result.now spot true who.Memory
+    c.has_host.ensures c.generation.ensures c.in-Memory.ensures in
     record { named = c.requires.run.named; kind = h.bytes; within = c.requires.run.within }
 
 pub write-requires-clause-device : goal.write-requires-clause-device
 write-requires-clause-device g c =
     let spot : Spot = c.args.spot.now in
     let h : IsAnswererBy g.B.Taking.host (g.B.Bus.shows c.args.bus.now).forest spot true (who.Device c.in-Device.ops) =
-    subst (λ (z : Published). IsAnswererBy g.B.Taking.host z.forest spot true (who.Device c.in-Device.ops)) c.generation.ensures c.in-Device.ensures in
+    answers_so g.B.Taking.host c.has_host.result (g.B.Bus.shows c.args.bus.now) c.generation.result.now spot true (who.Device c.in-Device.ops)
+    c.has_host.ensures c.generation.ensures c.in-Device.ensures in
     record { named = c.requires.run.named; kind = h.sound.kind }
 
 pub write_memory-requires-clause-takes : goal.write_memory-requires-clause-takes
@@ -47,7 +50,8 @@ write_memory-requires-clause-takes g c =
     let spot : Spot = c.args.spot.now in
     let f = (g.B.Bus.shows c.args.bus.now).forest in
     let h : IsAnswererBy g.B.Taking.host f spot true who.Memory =
-    subst (λ (z : Published). IsAnswererBy g.B.Taking.host z.forest spot true who.Memory) c.generation.ensures c.in-Memory.ensures in
+    answers_so g.B.Taking.host c.has_host.result (g.B.Bus.shows c.args.bus.now) c.generation.result.now spot true who.Memory
+    c.has_host.ensures c.generation.ensures c.in-Memory.ensures in
     let is : answerer_by g.B.Taking.host f true (Leaf spot) ≡ by_memory spot = h.is in
     (subst (λ o. AllTaken g.B.Taking.takes c.args.bus.now (reached o (writing c.args.bytes.now))) is c.requires.takes).0
 
@@ -56,7 +60,8 @@ mark-requires-clause-memory g c =
     let spot : Spot = c.args.spot.now in
     let f = (g.B.Bus.shows c.args.bus.now).forest in
     let h : IsAnswererBy g.B.Taking.host f spot true who.Memory =
-    subst (λ (z : Published). IsAnswererBy g.B.Taking.host z.forest spot true who.Memory) c.generation.ensures c.in-Memory.ensures in
+    answers_so g.B.Taking.host c.has_host.result (g.B.Bus.shows c.args.bus.now) c.generation.result.now spot true who.Memory
+    c.has_host.ensures c.generation.ensures c.in-Memory.ensures in
     let kept = g.met.B.Bus.stays c.args.bus.now c.write_memory.new.self _ _ c.write_memory.ensures in
     subst (λ (z : Published). IsMemoryBy g.B.Taking.host z.forest spot.leaf) (sym kept) h.bytes
 
@@ -65,5 +70,6 @@ write-requires-clause-takes g c =
     let spot : Spot = c.args.spot.now in
     let f = (g.B.Bus.shows c.args.bus.now).forest in
     let h : IsAnswererBy g.B.Taking.host f spot true (who.Device c.in-Device.ops) =
-    subst (λ (z : Published). IsAnswererBy g.B.Taking.host z.forest spot true (who.Device c.in-Device.ops)) c.generation.ensures c.in-Device.ensures in
+    answers_so g.B.Taking.host c.has_host.result (g.B.Bus.shows c.args.bus.now) c.generation.result.now spot true (who.Device c.in-Device.ops)
+    c.has_host.ensures c.generation.ensures c.in-Device.ensures in
     subst (λ o. AllTaken g.B.Taking.takes c.args.bus.now (reached o (writing c.args.bytes.now))) h.is c.requires.takes
