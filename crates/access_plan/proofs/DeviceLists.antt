@@ -8,8 +8,8 @@ use Rattle.mem_base.specs.access.AccessSteps.{Transfer, part}
 use Rattle.mem_base.specs.access.Plans.{Reached, callback, request, in_callback, in_piece}
 use Rattle.mem_base.specs.access.Pieces.{pieces}
 use Rattle.access_cut.specs.Conditions.{AreGood}
-use Rattle.access_run.specs.Sizes.{callback_of}
-use Rattle.access_run.proofs.DeviceLaws.{NextPiece, next_given, no_more}
+use Rattle.access_base.specs.Sizes.{callback_of}
+use Rattle.access_base.proofs.DeviceLaws.{NextPiece, next_given, no_more}
 use Rattle.plan_laws.proofs.Parts.{part_of_part}
 
 -- a piece of the bytes of a device from an offset on

@@ -15,8 +15,8 @@ use Rattle.mem_base.specs.access.CorePlans.{in_page, in_pages}
 use Rattle.mem_base.specs.access.Pieces.{pieces, piece, piece_at, size_at, is_valid, aligned_size}
 use Rattle.access_cut.specs.Conditions.{AreGood, IsCut}
 use Rattle.access_cut.proofs.PieceLaws.{size_most}
-use Rattle.access_run.specs.Sizes.{IsSize}
-use Rattle.access_run.proofs.DeviceLaws.{next_given, no_more, power_is_size, size_few}
+use Rattle.access_base.specs.Sizes.{IsSize}
+use Rattle.access_base.proofs.DeviceLaws.{next_given, no_more, power_is_size, size_few}
 use Rattle.plan_laws.proofs.Sizes.{same_size}
 
 -- one translation of a trail

@@ -1,12 +1,12 @@
 -- Laws of who answers at a leaf.
-use Rattle.std.proofs.Common.{◌≡◌, ℕ, ◌+◌, ◌%◌, ◌^◌, ◌≤◌, ◌&&◌, not, ◌⊎◌, inl, inr, Bool, true, false, Some, None}
+use Rattle.std.proofs.Common.{◌≡◌, ℕ, ◌+◌, ◌%◌, ◌^◌, ◌≤◌, ◌&&◌, not, ◌⊎◌, inl, inr, Bool, true, false, Option, Some, None}
 use Rattle.std.proofs.Common.{if◌then◌else◌, refl, sym, ap, subst, ◌∙◌, arith, eqb-true}
 use Rattle.std.specs.Prelude.{IfSome, IsSome, IsSomeAnd, is_some, [], option_map, unwrap_or, ◌==◌, ◌||◌, nat_lt}
 use Rattle.mem_base.specs.declared.map.forests.Node.{Node}
 use Rattle.mem_base.specs.declared.map.forests.Forest.{Forest}
 use Rattle.mem_base.specs.declared.map.spots.Spot.{Spot}
 use Rattle.mem_base.specs.declared.map.kinds.Kind.{Kind}
-use Rattle.mem_base.specs.declared.map.kinds.Kind.TheVariants.{Ram, Rom, RomDevice, Io, Host}
+use Rattle.mem_base.specs.declared.map.kinds.Kind.TheVariants.{Container, Ram, Rom, RomDevice, Io, Iommu, Alias, Reserve, Host}
 use Rattle.mem_base.specs.declared.map.kinds.Device.{Device}
 use Rattle.mem_base.specs.declared.access.accesses.Target.TheVariants.{Leaf}
 use Rattle.mem_base.specs.map.Region.{node_of}
@@ -21,13 +21,18 @@ use Rattle.mem_base.proofs.ForestLaws.{every_node_of}
 use Rattle.map_laws.proofs.RefusalLaws.{refuse_if-none}
 use Rattle.map_laws.proofs.SoundCallLaws.{IsClosedForest-made}
 use Rattle.access_cut.specs.Conditions.{IsGood}
-use Rattle.access_run.specs.Leaves.{IsLeafRun}
-use Rattle.access_run.proofs.GoodLaws.{good_ops}
+use Rattle.access_base.specs.Leaves.{IsLeafRun}
+use Rattle.access_base.proofs.GoodLaws.{good_ops}
+use Rattle.access_base.proofs.LeafLaws.{memory_kind, region_there}
+use Rattle.generation.specs.Published.{Published}
+use Rattle.mem_base.specs.declared.access.cells.Place.{Place}
+use Rattle.mem_base.specs.access.PlacesByRegion.{place_in}
+use Rattle.mem_base.specs.access.EditionPlaces.{IsEdition}
 use Rattle.mem_base.specs.access.Plans as plans
 use Rattle.access_plan.specs.HostPlans.{is_host_kind, is_host, answerer_with_host}
 use Rattle.access_plan.specs.declared.answerers.Answerer.{Answerer}
 use Rattle.access_plan.specs.declared.answerers.Answerer.TheVariants as who
-use Rattle.access_plan.specs.Answering.{memory_unless, rom_device, meant, IsSoundDevice, IsSoundMemory, IsSound, IsAnswerer}
+use Rattle.access_plan.specs.Answering.{memory_unless, rom_device, meant, IsSoundDevice, IsSoundMemory, IsSound, IsAnswerer, HasMemory, IsAnswererBy}
 
 -- a device in a forest that calls made
 sound_device : (f : Forest) → IsMade f → (spot : Spot) (n : Node) → node_of f.nodes spot.leaf ≡ Some n → (device : Device) → device_of n.kind ≡ Some device
@@ -142,3 +147,85 @@ module _ (f : Forest) (spot : Spot) (write : Bool) (n : Node) (is : node_of f.no
 
   pub io_there : IsMade f → (device : Device) → n.kind ≡ Io device → IsAnswerer f spot write (who.Device device.ops)
   io_there made device k = record { is = found (Io device) k refl ∙ device_meant device; sound = sound_device f made spot n is device (ap device_of k) }
+
+  -- the same of a machine that has the bytes of the host's memory, or has not
+
+  has_all : (w : Answerer) → IsSound f spot w → HasMemory true f spot w
+  has_all who.Memory sound = sound.kind
+  has_all (who.Device ops) sound = tt
+  has_all who.Nobody sound = tt
+
+  own_bytes : (k : Kind) → is_host_kind k ≡ false → is_memory k ≡ true → has_bytes k ≡ true
+  own_bytes Ram h m = refl
+  own_bytes Rom h m = refl
+  own_bytes (RomDevice device) h m = refl
+  own_bytes Host h m = cc
+  own_bytes Container h m = cc
+  own_bytes (Io device) h m = cc
+  own_bytes Iommu h m = cc
+  own_bytes (Alias target offset) h m = cc
+  own_bytes Reserve h m = cc
+
+  has_own : is_host_kind n.kind ≡ false → (w : Answerer) → IsSound f spot w → HasMemory false f spot w
+  has_own h who.Memory sound =
+      let memory : is_memory n.kind ≡ true = subst (λ o. IsSomeAnd o (λ n. is_memory n.kind ≡ true)) is sound.kind in
+      subst (λ o. IsSomeAnd o (λ n. has_bytes n.kind ≡ true)) (sym is) (own_bytes n.kind h memory)
+  has_own h (who.Device ops) sound = tt
+  has_own h who.Nobody sound = tt
+
+  pub by_any : (host : Bool) (w : Answerer) → (not host && is_host_kind n.kind) ≡ false → IsAnswerer f spot write w → IsAnswererBy host f spot write w
+  by_any true w own h = record { is = h.is; sound = h.sound; bytes = has_all w h.sound }
+  by_any false w own h = record {
+    is = sym (host_so n.kind false refl own) ∙ h.is;
+    sound = h.sound;
+    bytes = has_own own w h.sound;
+  }
+
+  pub by_nobody_own : (host : Bool) → (not host && is_host_kind n.kind) ≡ true → IsAnswererBy host f spot write who.Nobody
+  by_nobody_own true own = cc
+  by_nobody_own false own = record { is = ap (λ o. plans.answerer_in o spot write) is ∙ none n.kind own; sound = tt; bytes = tt }
+    where
+      none : (k : Kind) → is_host_kind k ≡ true → plans.answerer_at k n spot write ≡ plans.by_nobody
+      none Host h = refl
+      none Ram h = cc
+      none Rom h = cc
+      none (RomDevice device) h = cc
+      none Container h = cc
+      none (Io device) h = cc
+      none Iommu h = cc
+      none (Alias target offset) h = cc
+      none Reserve h = cc
+
+-- no region is there
+pub by_nobody_there : (host : Bool) (f : Forest) (spot : Spot) (write : Bool) → node_of f.nodes spot.leaf ≡ None → IsAnswererBy host f spot write who.Nobody
+by_nobody_there true f spot write none = record {
+  is = ap (λ (b : Bool). if b then plans.by_memory_unless (write && spot.attrs.readonly) spot else plans.answerer f write (Leaf spot)) (ap is_host none)
+      ∙ ap (λ o. plans.answerer_in o spot write) none;
+  sound = tt;
+  bytes = tt;
+}
+by_nobody_there false f spot write none = record { is = ap (λ o. plans.answerer_in o spot write) none; sound = tt; bytes = tt }
+
+-- a place without registers is memory
+pub by_place : (g : Published) → IsEdition g.forest g.places → (host : Bool) (spot : Spot) (write : Bool) (p : Place) → place_in g.places spot.leaf ≡ Some p
+    → p.regs ≡ 0 → (w : Answerer) → w ≡ memory_unless (write && spot.attrs.readonly) → IsAnswererBy host g.forest spot write w
+by_place g k host spot write p found none w same = go (node_of g.forest.nodes spot.leaf) refl
+  where
+    go : (o : Option Node) → node_of g.forest.nodes spot.leaf ≡ o → IsAnswererBy host g.forest spot write w
+    go None e = absurd (region_there g k spot.leaf p found none e)
+    go (Some n) e = kind n e (memory_kind g k spot.leaf n e p found none)
+      where
+        no_host : (b : Bool) → (not b && false) ≡ false
+        no_host true = refl
+        no_host false = refl
+
+        own : (n : Node) → (n.kind ≡ Ram) ⊎ (n.kind ≡ Rom) → (not host && is_host_kind n.kind) ≡ false
+        own n (inl e) = ap (λ k. not host && is_host_kind k) e ∙ no_host host
+        own n (inr e) = ap (λ k. not host && is_host_kind k) e ∙ no_host host
+
+        any : (n : Node) → (n.kind ≡ Ram) ⊎ (n.kind ≡ Rom) → (n.kind ≡ Ram) ⊎ ((n.kind ≡ Rom) ⊎ (n.kind ≡ Host))
+        any n (inl e) = inl e
+        any n (inr e) = inr (inl e)
+
+        kind : (n : Node) → node_of g.forest.nodes spot.leaf ≡ Some n → (n.kind ≡ Ram) ⊎ (n.kind ≡ Rom) → IsAnswererBy host g.forest spot write w
+        kind n e m = by_any g.forest spot write n e host w (own n m) (memory_there g.forest spot write n e k.made w (any n m) same)

@@ -1,19 +1,20 @@
 -- Who answers at a leaf, as the code keeps it.
-use Rattle.std.specs.Prelude.{◌≡◌, ℕ, ◌+◌, ◌%◌, ◌^◌, ◌≤◌, Bool, true, if◌then◌else◌, IfSome, IsSome, IsSomeAnd}
+use Rattle.std.specs.Prelude.{◌≡◌, ℕ, ◌+◌, ◌%◌, ◌^◌, ◌≤◌, Bool, true, false, if◌then◌else◌, IfSome, IsSome, IsSomeAnd}
 use Rattle.mem_base.specs.declared.map.ids.RegionId.{RegionId}
 use Rattle.mem_base.specs.declared.map.forests.Forest.{Forest}
 use Rattle.mem_base.specs.declared.map.spots.Spot.{Spot}
 use Rattle.mem_base.specs.declared.map.kinds.Ops.{Ops}
+use Rattle.mem_base.specs.declared.map.kinds.Kind.{Kind}
 use Rattle.mem_base.specs.declared.access.accesses.Target.TheVariants.{Leaf}
 use Rattle.mem_base.specs.map.Limits.{page_size}
 use Rattle.mem_base.specs.map.Region.{node_of}
-use Rattle.mem_base.specs.map.Kinds.{device_of, is_memory}
+use Rattle.mem_base.specs.map.Kinds.{device_of, is_memory, has_bytes}
 use Rattle.mem_base.specs.views.Naming.{names}
 use Rattle.mem_base.specs.views.LiveEvents.{events_of}
 use Rattle.mem_base.specs.access.Plans as plans
 use Rattle.access_cut.specs.Conditions.{AreGood}
-use Rattle.access_run.specs.Leaves.{IsLeafRun}
-use Rattle.access_plan.specs.HostPlans.{answerer_with_host}
+use Rattle.access_base.specs.Leaves.{IsLeafRun}
+use Rattle.access_plan.specs.HostPlans.{answerer_by, answerer_with_host}
 use Rattle.access_plan.specs.declared.answerers.Answerer.{Answerer}
 use Rattle.access_plan.specs.declared.answerers.Answerer.TheVariants.{Memory, Device, Nobody}
 
@@ -54,3 +55,19 @@ IsSound f spot Nobody = Unit {0}
 pub record IsAnswerer (f : Forest) (spot : Spot) (write : Bool) (who : Answerer) : Type 0 where
   pub is : answerer_with_host f write (Leaf spot) ≡ meant f spot who
   pub sound : IsSound f spot who
+
+-- memory whose bytes a machine has: all memory, or all but the host's
+abbrev pub has_memory : Bool → Kind → Bool
+has_memory true = is_memory
+has_memory false = has_bytes
+
+-- where memory answers, the machine has its bytes
+abbrev pub HasMemory : Bool → Forest → Spot → Answerer → Type 0
+HasMemory host f spot Memory = IsSomeAnd (node_of f.nodes spot.leaf) (λ n. has_memory host n.kind ≡ true)
+HasMemory host f spot _ = Unit {0}
+
+-- the same of a machine that has the bytes of the host's memory, or has not
+pub record IsAnswererBy (host : Bool) (f : Forest) (spot : Spot) (write : Bool) (who : Answerer) : Type 0 where
+  pub is : answerer_by host f write (Leaf spot) ≡ meant f spot who
+  pub sound : IsSound f spot who
+  pub bytes : HasMemory host f spot who

@@ -30,6 +30,11 @@ answerer_with_host f write Unassigned = by_nobody
 answerer_with_host f write (Leaf spot) =
     if is_host (node_of f.nodes spot.leaf) then by_memory_unless (write && spot.attrs.readonly) spot else answerer f write (Leaf spot)
 
+-- who answers, by whether the machine has the bytes of the host's memory
+abbrev pub answerer_by : Bool → Forest → Bool → Target → Answerer
+answerer_by true = answerer_with_host
+answerer_by false = answerer
+
 -- the plan by who answers: one chunk, and all of the first `bytes` addresses
 abbrev pub chunk_by : (Target → Answerer) → Forest → Bool → SpaceId → ℕ → Transfer → Run → List Reached
 chunk_by who f write s a transfer r = reached (who (trail_of f write s r.start).target) (part (r.start - a) r.length transfer)
@@ -43,6 +48,10 @@ chunks_with_host f write s a bytes transfer = chunks_by (answerer_with_host f wr
 -- an access to a space at an address
 abbrev pub plan_with_host : Forest → SpaceId → ℕ → Transfer → List Reached
 plan_with_host f s a transfer = chunks_with_host f (is_write transfer) s a (length_of transfer) transfer
+
+-- the same by whether the machine has the bytes of the host's memory: where it has not, this is the defined plan
+abbrev pub plan_by : Bool → Forest → SpaceId → ℕ → Transfer → List Reached
+plan_by host f s a transfer = chunks_by (answerer_by host f (is_write transfer)) f (is_write transfer) s a (length_of transfer) transfer
 
 -- the plan of QEMU's core by who answers: how many bytes a round takes, what it reaches, and all rounds
 abbrev pub taken_at : (Target → Answerer) → Forest → Bool → SpaceId → ℕ → ℕ → ℕ

@@ -16,8 +16,8 @@ use Rattle.mem_base.specs.access.Trails.{Hop, trail_of}
 use Rattle.mem_base.specs.access.Plans.{Answerer, Reached, by_device, in_piece, reached}
 use Rattle.mem_base.specs.access.CorePlans.{taken_by, reached_at_once}
 use Rattle.access_cut.specs.Conditions.{AreGood, IsCut}
-use Rattle.access_run.specs.Leaves.{IsTargetRun}
-use Rattle.access_run.specs.Sizes.{IsSize}
+use Rattle.access_base.specs.Leaves.{IsTargetRun}
+use Rattle.access_base.specs.Sizes.{IsSize}
 use Rattle.access_plan.specs.Answering.{IsDeviceRegion}
 use Rattle.access_plan.specs.declared.lists.Reach.{Reach}
 use Rattle.access_plan.specs.declared.rounds.Round.{Round}

@@ -7,7 +7,7 @@ ghost use Rattle.access_plan.specs.Lists.{Adds, IsPlanned, moved};
 use crate::leaves::target;
 use crate::lists::Reach;
 use crate::rounds::rounds;
-use access_run::first_chunk;
+use access_base::first_chunk;
 use generation::Generation;
 use mem_base::SpaceId;
 use std::alloc::{AllocError, Global};

@@ -1,9 +1,11 @@
 // Who answers at a leaf.
-ghost use Rattle.std.specs.Prelude.{◌≡◌};
-ghost use Rattle.access_plan.specs.Answering.{IsAnswerer, memory_unless, rom_device};
+ghost use Rattle.std.specs.Prelude.{◌≡◌, ◌&&◌, not, Some};
+ghost use Rattle.mem_base.specs.map.Region.{node_of};
+ghost use Rattle.access_plan.specs.HostPlans.{is_host_kind};
+ghost use Rattle.access_plan.specs.Answering.{IsAnswerer, IsAnswererBy, memory_unless, rom_device};
 
 use generation::Generation;
-use mem_base::{Edition, Kind, Ops, Spot};
+use mem_base::{Edition, Kind, Node, Ops, Spot};
 
 /// Who answers at a leaf.
 #[derive(Clone, Copy, Debug, PartialEq, Eq)]
@@ -38,19 +40,70 @@ fn rom_device(direct: bool, ops: Ops) -> Answerer
     }
 }
 
-/// Who answers a write, or a read, at a spot.
-pub fn answerer_of(g: &Generation, spot: &Spot, write: bool) -> Answerer
+// Who answers at a spot whose region is at hand.
+fn at_node(g: &Generation, node: &Node, spot: &Spot, write: bool) -> Answerer
+    requires { node_of g.now.forest.nodes spot.now.leaf ≡ Some node.now }
     ensures { IsAnswerer g.now.forest spot.now write result }
 {
     // Its contract tells that accepted calls make the forest.
     g.forest();
-    let Some(node) = g.node(spot.leaf) else {
-        return Answerer::Nobody;
-    };
     match node.kind {
         Kind::Ram | Kind::Rom | Kind::Host => memory_unless(write && spot.attrs.readonly),
         Kind::RomDevice(device) => rom_device(spot.attrs.romd && !write, device.ops),
         Kind::Io(device) => Answerer::Device(device.ops),
         _ => Answerer::Nobody,
     }
+}
+
+/// Who answers a write, or a read, at a spot.
+pub fn answerer_of(g: &Generation, spot: &Spot, write: bool) -> Answerer
+    ensures { IsAnswerer g.now.forest spot.now write result }
+{
+    match g.node(spot.leaf) {
+        Some(node) => at_node(g, node, spot, write),
+        None => Answerer::Nobody,
+    }
+}
+
+// A region is memory of the host, whose bytes the machine has not.
+fn lacks_bytes(host: bool, kind: &Kind) -> bool
+    ensures { result ≡ (not host && is_host_kind kind.now) }
+{
+    !host && matches!(kind, Kind::Host)
+}
+
+// Who answers, by the kind of the region.
+fn by_kind(g: &Generation, host: bool, spot: &Spot, write: bool) -> Answerer
+    ensures { IsAnswererBy host g.now.forest spot.now write result }
+{
+    let Some(node) = g.node(spot.leaf) else {
+        return Answerer::Nobody;
+    };
+    if lacks_bytes(host, &node.kind) {
+        return Answerer::Nobody;
+    }
+    at_node(g, node, spot, write)
+}
+
+// A write meets memory that is read-only.
+fn is_shut(spot: &Spot, write: bool) -> bool
+    ensures { result ≡ (write && spot.now.attrs.readonly) }
+{
+    write && spot.attrs.readonly
+}
+
+/// Who answers a write, or a read, at a spot, in a machine that has the bytes of the host's memory, or has not.
+///
+/// What has bytes and no registers is RAM or ROM: there the region itself is not looked for.
+#[inline(always)]
+pub fn answerer_by(g: &Generation, host: bool, spot: &Spot, write: bool) -> Answerer
+    ensures { IsAnswererBy host g.now.forest spot.now write result }
+{
+    let Some(place) = g.place_of(spot.leaf) else {
+        return by_kind(g, host, spot, write);
+    };
+    if place.regs == 0 {
+        return memory_unless(is_shut(spot, write));
+    }
+    by_kind(g, host, spot, write)
 }

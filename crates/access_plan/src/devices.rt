@@ -5,7 +5,7 @@ ghost use Rattle.mem_base.specs.access.AccessSteps.{part};
 ghost use Rattle.mem_base.specs.access.Pieces.{callbacks};
 ghost use Rattle.mem_base.specs.access.Plans.{in_callback, in_device, in_piece, notifier_for};
 ghost use Rattle.access_cut.specs.Conditions.{AreGood, IsCut};
-ghost use Rattle.access_run.specs.Sizes.{IsSize};
+ghost use Rattle.access_base.specs.Sizes.{IsSize};
 ghost use Rattle.access_plan.specs.Lists.{Adds, moved};
 
 use crate::lists::Reach;

@@ -3,7 +3,7 @@ ghost use Rattle.std.specs.Prelude.{◌≡◌, ◌≤◌, ◌<◌, ◌+◌, ◌^
 ghost use Rattle.mem_base.specs.access.AccessSteps.{part};
 ghost use Rattle.mem_base.specs.access.Marks.{marks_of};
 ghost use Rattle.mem_base.specs.access.Plans.{in_memory, reached};
-ghost use Rattle.access_run.specs.Leaves.{IsTargetRun};
+ghost use Rattle.access_base.specs.Leaves.{IsTargetRun};
 ghost use Rattle.access_plan.specs.HostPlans.{answerer_with_host};
 ghost use Rattle.access_plan.specs.Lists.{Adds, marks_in, moved};
 

@@ -18,7 +18,7 @@ mod requests;
 mod rounds;
 
 pub use accesses::{core_plan_read, core_plan_write, plan_read, plan_write};
-pub use answerers::{Answerer, answerer_of};
+pub use answerers::{Answerer, answerer_by, answerer_of};
 pub use laws::{core_plan_is_defined, plan_is_defined};
 pub use lists::Reach;
 pub use notifiers::notifier;

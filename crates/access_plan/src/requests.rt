@@ -4,7 +4,7 @@ ghost use Rattle.mem_base.specs.access.AccessSteps.{part};
 ghost use Rattle.mem_base.specs.access.Plans.{request};
 ghost use Rattle.access_plan.specs.Lists.{moved, request_of};
 
-use access_run::padded;
+use access_base::padded;
 
 /// What a callback is to do.
 #[derive(Clone, Copy, Debug, PartialEq, Eq)]

@@ -3,7 +3,7 @@ ghost use Rattle.std.specs.Prelude.{◌≡◌, ◌≤◌, ◌<◌, ◌+◌, ◌^
 ghost use Rattle.mem_base.specs.access.AccessSteps.{part};
 ghost use Rattle.mem_base.specs.access.Pieces.{piece_at};
 ghost use Rattle.access_cut.specs.Conditions.{AreGood, IsCut};
-ghost use Rattle.access_run.specs.Sizes.{IsSize};
+ghost use Rattle.access_base.specs.Sizes.{IsSize};
 ghost use Rattle.access_plan.specs.HostPlans.{MeetsEnd, answerer_with_host};
 ghost use Rattle.access_plan.specs.Lists.{moved};
 ghost use Rattle.access_plan.specs.Rounds.{AddsRound, AddsRounds, IsDeviceAt, IsRoundAt, TakesRound};
@@ -13,8 +13,8 @@ use crate::devices::piece;
 use crate::leaves::target;
 use crate::lists::Reach;
 use crate::pages::in_pages;
+use access_base::first_chunk;
 use access_cut::cut;
-use access_run::first_chunk;
 use generation::Generation;
 use mem_base::{Ops, Piece, RegionId, SpaceId, Spot, Target};
 use std::alloc::AllocError;

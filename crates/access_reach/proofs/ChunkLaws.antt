@@ -13,27 +13,20 @@ use Rattle.mem_base.specs.lists.Runs.{Run, run, runs}
 use Rattle.mem_base.specs.map.Forest.{IsClosedForest}
 use Rattle.mem_base.specs.access.Trails.{Trail, trail_of, chunks, shares_next, first_length}
 use Rattle.mem_base.specs.access.AccessSteps.{Transfer, reading, writing, is_write, part, either, tx}
-use Rattle.mem_base.specs.access.Plans.{answers, takes, Reached, memory, callback, notifier, mark, nothing, nobody, reached}
+use Rattle.mem_base.specs.access.Plans.{Answerer, by_nobody, answers, takes, Reached, memory, callback, notifier, mark, nothing, nobody, reached}
 use Rattle.generation.specs.Published.{Published}
 use Rattle.mem_base.specs.map.Forest.{IsMade}
 use Rattle.map_laws.proofs.SoundCallLaws.{IsClosedForest-made}
 use Rattle.access_reach.specs.Asking as asks_of
-use Rattle.access_reach.specs.Asking.{Asked, asked_of, asked, Reply, Outcome, outcome, followed_by, told, outcome_of}
-use Rattle.access_plan.specs.HostPlans.{answerer_with_host, plan_with_host}
-use Rattle.access_reach.specs.Reaching.{Asks, HasReached, IsUnderway, in_chunk, plan_below}
+use Rattle.access_reach.specs.Asking.{Asked, asked, Reply, Outcome, outcome, followed_by, told, outcome_of}
+use Rattle.access_plan.specs.HostPlans.{answerer_by, plan_by}
+use Rattle.access_reach.specs.Reaching.{Asks, HasReached, IsUnderway, AllTaken, in_chunk, plan_below}
+use Rattle.access_reach.proofs.TakenLaws.{taken_split}
+use Rattle.mem_base.specs.lists.Every.{Every}
 use Rattle.access_reach.proofs.ReachLaws.{AreBusLaws, underway_then, underway_shows, reached_then, reached_nothing}
-use Rattle.access_run.proofs.RunLaws.{first_run}
-use Rattle.access_run.proofs.ChunkLaws.{nothing_past, shares_past, blank_from}
+use Rattle.access_base.proofs.RunLaws.{first_run}
+use Rattle.access_base.proofs.ChunkLaws.{at_end, chunks_then, nothing_past, shares_past, blank_from}
 use Rattle.plan_laws.proofs.FirstRuns.{IsFirst, first_is}
-
--- the first chunk of what is left of an access, and the chunks after it
-pub chunks_then : (F : Run → List Reached) (with_next : ℕ → Bool) (a done n c : ℕ) → done < n → c ≡ first_length (runs with_next (a + done) (n - done))
-    → flat_map F (runs with_next (a + done) (n - done)) ≡ F (run (a + done) c) ++ flat_map F (runs with_next (a + (done + c)) (n - (done + c)))
-chunks_then F with_next a done n c l is =
-    let t = subst (IsFirst with_next (a + done) (n - done)) (sym is) (first_is with_next (a + done) (n - done) (omega (arith, l))) in
-    let at : a + done + c ≡ a + (done + c) = omega arith in
-    let left : n - done - c ≡ n - (done + c) = omega arith in
-    ap (flat_map F) t.is ∙ (λ i. F (run (a + done) c) ++ flat_map F (runs with_next (at i) (left i)))
 
 -- plans of which the same is asked, and which have the same outcome
 pub record DoSame (xs ys : List Reached) : Type 0 where
@@ -98,18 +91,24 @@ many_and_many z m k n e =
 two_blanks : (m k n : ℕ) → m + k ≡ n → DoSame (nothing n (tx false true) ∷ []) ((nothing m (tx false true) ∷ []) ++ (nothing k (tx false true) ∷ []))
 two_blanks m k n e = record { asks = refl; ends = λ rs. (λ i. outcome (many_and_many 0 m k n e i) (tx false true)) }
 
-module _ (f : Forest) (closed : IsClosedForest f) (s : SpaceId) (first : ℕ) (t : Transfer) where
+-- where nothing is found nobody answers
+pub unassigned : (host : Bool) (f : Forest) (w : Bool) → answerer_by host f w Unassigned ≡ by_nobody
+unassigned true f w = refl
+unassigned false f w = refl
+
+module _ (host : Bool) (f : Forest) (closed : IsClosedForest f) (s : SpaceId) (first : ℕ) (t : Transfer) where
   abbrev share : ℕ → Bool
   share = shares_next f (is_write t) s
 
   abbrev F : Run → List Reached
-  F = in_chunk f s first t
+  F = in_chunk host f s first t
 
   abbrev U : ℕ → ℕ → List Reached
   U a c = nobody (part (a - first) c t)
 
   blank_chunk : (a c : ℕ) → (trail_of f (is_write t) s a).target ≡ Unassigned → flat_map F (run a c ∷ []) ≡ U a c
-  blank_chunk a c e = append-nil (F (run a c)) ∙ ap (λ x. reached (answerer_with_host f (is_write t) x) (part (a - first) c t)) e
+  blank_chunk a c e = append-nil (F (run a c)) ∙ ap (λ x. reached (answerer_by host f (is_write t) x) (part (a - first) c t)) e
+      ∙ ap (λ (o : Answerer). reached o (part (a - first) c t)) (unassigned host f (is_write t))
 
   -- some addresses that all share the route are one run
   one_run : (a n : ℕ) → 0 < n → ((i : ℕ) → i + 1 < n → share (a + i) ≡ true) → runs share a n ≡ run a n ∷ []
@@ -196,30 +195,30 @@ module _ (f : Forest) (closed : IsClosedForest f) (s : SpaceId) (first : ℕ) (t
           beyond i (inl l) = at_most i l (cases_lt (i + 1) c)
           beyond i (inr l) = shares_past f closed (is_write t) s (a + i) (omega (arith, l, e))
 
-module _ {S : Type 0} (asks : Asks S) (shows : S → Published) (laws : AreBusLaws asks shows) where
+module _ {S : Type 0} (asks : Asks S) (shows : S → Published) (laws : AreBusLaws asks shows) (host : Bool) where
   -- one chunk more is read
   pub read_more : (x y z : S) (s : SpaceId) (addr n below done count m : ℕ) (target : Target) (bs got : List ℕ) (r q : TxResult)
-      → IsUnderway asks x (plan_below (shows x).forest s addr (reading n) below)
-      (flat_map (in_chunk (shows x).forest s addr (reading n)) (chunks (shows x).forest false s (addr + done) (below - done))) (outcome bs r) y
+      → IsUnderway asks x (plan_below host (shows x).forest s addr (reading n) below)
+      (flat_map (in_chunk host (shows x).forest s addr (reading n)) (chunks (shows x).forest false s (addr + done) (below - done))) (outcome bs r) y
       → done < below → target ≡ (trail_of (shows y).forest false s (addr + done)).target
       → count ≡ first_length (chunks (shows y).forest false s (addr + done) (below - done)) → m ≡ count
-      → HasReached asks y (reached (answerer_with_host (shows y).forest false target) (reading m)) (outcome got q) z
-      → IsUnderway asks x (plan_below (shows x).forest s addr (reading n) below)
-      (flat_map (in_chunk (shows x).forest s addr (reading n)) (chunks (shows x).forest false s (addr + (done + count)) (below - (done + count))))
+      → HasReached asks y (reached (answerer_by host (shows y).forest false target) (reading m)) (outcome got q) z
+      → IsUnderway asks x (plan_below host (shows x).forest s addr (reading n) below)
+      (flat_map (in_chunk host (shows x).forest s addr (reading n)) (chunks (shows x).forest false s (addr + (done + count)) (below - (done + count))))
       (outcome (bs ++ got) (either r q)) z
   read_more x y z s addr n below done count m target bs got r q u l t c e h =
       let f : Forest = (shows x).forest in
-      let whole : List Reached = plan_below f s addr (reading n) below in
-      let rest : List Reached = flat_map (in_chunk f s addr (reading n)) (chunks f false s (addr + done) (below - done)) in
+      let whole : List Reached = plan_below host f s addr (reading n) below in
+      let rest : List Reached = flat_map (in_chunk host f s addr (reading n)) (chunks f false s (addr + done) (below - done)) in
       let same : (shows y).forest ≡ f = ap (λ (g : Published). g.forest) (underway_shows asks shows laws x y whole rest (outcome bs r) u) in
       let target' : target ≡ (trail_of f false s (addr + done)).target = t ∙ ap (λ (f : Forest). (trail_of f false s (addr + done)).target) same in
       let count' : count ≡ first_length (chunks f false s (addr + done) (below - done)) =
       c ∙ ap (λ (f : Forest). first_length (chunks f false s (addr + done) (below - done))) same in
-      let list : reached (answerer_with_host (shows y).forest false target) (reading m) ≡ in_chunk f s addr (reading n) (run (addr + done) count) =
-      (λ i. reached (answerer_with_host (same i) false (target' i)) (reading (e i))) in
-      underway_then asks shows laws x y z whole rest (in_chunk f s addr (reading n) (run (addr + done) count))
-      (flat_map (in_chunk f s addr (reading n)) (chunks f false s (addr + (done + count)) (below - (done + count)))) bs got r q u
-      (chunks_then (in_chunk f s addr (reading n)) (shares_next f false s) addr done below count l count')
+      let list : reached (answerer_by host (shows y).forest false target) (reading m) ≡ in_chunk host f s addr (reading n) (run (addr + done) count) =
+      (λ i. reached (answerer_by host (same i) false (target' i)) (reading (e i))) in
+      underway_then asks shows laws x y z whole rest (in_chunk host f s addr (reading n) (run (addr + done) count))
+      (flat_map (in_chunk host f s addr (reading n)) (chunks f false s (addr + (done + count)) (below - (done + count)))) bs got r q u
+      (chunks_then (in_chunk host f s addr (reading n)) (shares_next f false s) addr done below count l count')
       (subst (λ rs. HasReached asks y rs (outcome got q) z) list h)
 
   -- what is asked the same, and has the same outcome
@@ -234,18 +233,18 @@ module _ {S : Type 0} (asks : Asks S) (shows : S → Published) (laws : AreBusLa
   -- the end of a read above 2^64 - 1
   pub read_past : (x y : S) (s : SpaceId) (addr n below k : ℕ) (bs zeros : List ℕ) (r : TxResult) → IsMade (shows x).forest
       → addr + below ≡ 2 ^ 64 → below + k ≡ n → 0 < k
-      → HasReached asks x (plan_below (shows x).forest s addr (reading n) below) (outcome bs r) y
+      → HasReached asks x (plan_below host (shows x).forest s addr (reading n) below) (outcome bs r) y
       → zeros ≡ replicate k 0
-      → HasReached asks x (plan_with_host (shows x).forest s addr (reading n)) (outcome (bs ++ zeros) (either r (tx false true))) y
+      → HasReached asks x (plan_by host (shows x).forest s addr (reading n)) (outcome (bs ++ zeros) (either r (tx false true))) y
   read_past x y s addr n below k bs zeros r made at all some h e =
       let f : Forest = (shows x).forest in
       let closed : IsClosedForest f = subst IsClosedForest made.made (IsClosedForest-made made.calls made.fitting) in
-      let ds : List Reached = plan_below f s addr (reading n) below in
+      let ds : List Reached = plan_below host f s addr (reading n) below in
       let past : List Reached = nobody (reading k) in
-      let d : DoSame (plan_below f s addr (reading n) (below + k)) (ds ++ past) = clip f closed s addr (reading n) below below addr k (omega arith) at some in
-      let d' : DoSame (plan_with_host f s addr (reading n)) (ds ++ past) = subst (λ m. DoSame (plan_below f s addr (reading n) m) (ds ++ past)) all d in
+      let d : DoSame (plan_below host f s addr (reading n) (below + k)) (ds ++ past) = clip host f closed s addr (reading n) below below addr k (omega arith) at some in
+      let d' : DoSame (plan_by host f s addr (reading n)) (ds ++ past) = subst (λ m. DoSame (plan_below host f s addr (reading n) m) (ds ++ past)) all d in
       let z : HasReached asks y past (outcome zeros (tx false true)) y = reached_nothing asks shows laws y k (tx false true) zeros e in
-      same_reached x y (plan_with_host f s addr (reading n)) (ds ++ past) (outcome (bs ++ zeros) (either r (tx false true))) d'
+      same_reached x y (plan_by host f s addr (reading n)) (ds ++ past) (outcome (bs ++ zeros) (either r (tx false true))) d'
       (reached_then asks shows laws x y y ds past (outcome bs r) (outcome zeros (tx false true)) h z)
 
 -- the bytes of a chunk
@@ -254,55 +253,93 @@ chunk_bytes addr done count k bs is =
     let all : k ≡ count = omega (arith, is) in
     let at : done ≡ addr + done - addr = omega arith in (λ i. take (all i) (drop (at i) bs))
 
-module _ {S : Type 0} (asks : Asks S) (shows : S → Published) (laws : AreBusLaws asks shows) where
+module _ {S : Type 0} (asks : Asks S) (shows : S → Published) (laws : AreBusLaws asks shows) (host : Bool) where
   -- one chunk more is written
   pub write_more : (x y z : S) (s : SpaceId) (addr below done count k : ℕ) (target : Target) (bytes : List ℕ) (r q : TxResult)
-      → IsUnderway asks x (plan_below (shows x).forest s addr (writing bytes) below)
-      (flat_map (in_chunk (shows x).forest s addr (writing bytes)) (chunks (shows x).forest true s (addr + done) (below - done))) (outcome [] r) y
+      → IsUnderway asks x (plan_below host (shows x).forest s addr (writing bytes) below)
+      (flat_map (in_chunk host (shows x).forest s addr (writing bytes)) (chunks (shows x).forest true s (addr + done) (below - done))) (outcome [] r) y
       → done < below → target ≡ (trail_of (shows y).forest true s (addr + done)).target
       → count ≡ first_length (chunks (shows y).forest true s (addr + done) (below - done)) → k ≡ done + count - done
-      → HasReached asks y (reached (answerer_with_host (shows y).forest true target) (writing (take k (drop done bytes)))) (outcome [] q) z
-      → IsUnderway asks x (plan_below (shows x).forest s addr (writing bytes) below)
-      (flat_map (in_chunk (shows x).forest s addr (writing bytes)) (chunks (shows x).forest true s (addr + (done + count)) (below - (done + count))))
+      → HasReached asks y (reached (answerer_by host (shows y).forest true target) (writing (take k (drop done bytes)))) (outcome [] q) z
+      → IsUnderway asks x (plan_below host (shows x).forest s addr (writing bytes) below)
+      (flat_map (in_chunk host (shows x).forest s addr (writing bytes)) (chunks (shows x).forest true s (addr + (done + count)) (below - (done + count))))
       (outcome [] (either r q)) z
   write_more x y z s addr below done count k target bytes r q u l t c e h =
       let f : Forest = (shows x).forest in
-      let whole : List Reached = plan_below f s addr (writing bytes) below in
-      let rest : List Reached = flat_map (in_chunk f s addr (writing bytes)) (chunks f true s (addr + done) (below - done)) in
+      let whole : List Reached = plan_below host f s addr (writing bytes) below in
+      let rest : List Reached = flat_map (in_chunk host f s addr (writing bytes)) (chunks f true s (addr + done) (below - done)) in
       let same : (shows y).forest ≡ f = ap (λ (g : Published). g.forest) (underway_shows asks shows laws x y whole rest (outcome [] r) u) in
       let target' : target ≡ (trail_of f true s (addr + done)).target = t ∙ ap (λ (f : Forest). (trail_of f true s (addr + done)).target) same in
       let count' : count ≡ first_length (chunks f true s (addr + done) (below - done)) =
       c ∙ ap (λ (f : Forest). first_length (chunks f true s (addr + done) (below - done))) same in
       let mine : take k (drop done bytes) ≡ take count (drop (addr + done - addr) bytes) = chunk_bytes addr done count k bytes e in
-      let list : reached (answerer_with_host (shows y).forest true target) (writing (take k (drop done bytes)))
-      ≡ in_chunk f s addr (writing bytes) (run (addr + done) count) =
-      (λ i. reached (answerer_with_host (same i) true (target' i)) (writing (mine i))) in
-      underway_then asks shows laws x y z whole rest (in_chunk f s addr (writing bytes) (run (addr + done) count))
-      (flat_map (in_chunk f s addr (writing bytes)) (chunks f true s (addr + (done + count)) (below - (done + count)))) [] [] r q u
-      (chunks_then (in_chunk f s addr (writing bytes)) (shares_next f true s) addr done below count l count')
+      let list : reached (answerer_by host (shows y).forest true target) (writing (take k (drop done bytes)))
+      ≡ in_chunk host f s addr (writing bytes) (run (addr + done) count) =
+      (λ i. reached (answerer_by host (same i) true (target' i)) (writing (mine i))) in
+      underway_then asks shows laws x y z whole rest (in_chunk host f s addr (writing bytes) (run (addr + done) count))
+      (flat_map (in_chunk host f s addr (writing bytes)) (chunks f true s (addr + (done + count)) (below - (done + count)))) [] [] r q u
+      (chunks_then (in_chunk host f s addr (writing bytes)) (shares_next f true s) addr done below count l count')
       (subst (λ rs. HasReached asks y rs (outcome [] q) z) list h)
+
+  -- what the next chunk asks, and those after it, is taken
+  pub takes_more : (allowed : S → Asked → Type 0) (x y : S) (s : SpaceId) (addr below done count k : ℕ) (target : Target) (bytes : List ℕ)
+      → shows y ≡ shows x → done < below → target ≡ (trail_of (shows y).forest true s (addr + done)).target
+      → count ≡ first_length (chunks (shows y).forest true s (addr + done) (below - done)) → k ≡ done + count - done
+      → AllTaken allowed y (flat_map (in_chunk host (shows x).forest s addr (writing bytes)) (chunks (shows x).forest true s (addr + done) (below - done)))
+      → AllTaken allowed y (reached (answerer_by host (shows y).forest true target) (writing (take k (drop done bytes))))
+      × AllTaken allowed y (flat_map (in_chunk host (shows x).forest s addr (writing bytes))
+      (chunks (shows x).forest true s (addr + (done + count)) (below - (done + count))))
+  takes_more allowed x y s addr below done count k target bytes g l t c e all =
+      let f : Forest = (shows x).forest in
+      let same : (shows y).forest ≡ f = ap (λ (g : Published). g.forest) g in
+      let target' : target ≡ (trail_of f true s (addr + done)).target = t ∙ ap (λ (f : Forest). (trail_of f true s (addr + done)).target) same in
+      let count' : count ≡ first_length (chunks f true s (addr + done) (below - done)) =
+      c ∙ ap (λ (f : Forest). first_length (chunks f true s (addr + done) (below - done))) same in
+      let mine : take k (drop done bytes) ≡ take count (drop (addr + done - addr) bytes) = chunk_bytes addr done count k bytes e in
+      let list : reached (answerer_by host (shows y).forest true target) (writing (take k (drop done bytes)))
+      ≡ in_chunk host f s addr (writing bytes) (run (addr + done) count) =
+      (λ i. reached (answerer_by host (same i) true (target' i)) (writing (mine i))) in
+      let rest = chunks_then (in_chunk host f s addr (writing bytes)) (shares_next f true s) addr done below count l count' in
+      let halves = taken_split allowed y (in_chunk host f s addr (writing bytes) (run (addr + done) count))
+      (flat_map (in_chunk host f s addr (writing bytes)) (chunks f true s (addr + (done + count)) (below - (done + count))))
+      (subst (AllTaken allowed y) rest all) in
+      (subst (AllTaken allowed y) (sym list) halves.0, halves.1)
 
   -- the end of a write above 2^64 - 1
   pub write_past : (x y : S) (s : SpaceId) (addr below k : ℕ) (bytes : List ℕ) (r : TxResult) → IsMade (shows x).forest
       → addr + below ≡ 2 ^ 64 → below + k ≡ length bytes → 0 < k
-      → HasReached asks x (plan_below (shows x).forest s addr (writing bytes) below) (outcome [] r) y
-      → HasReached asks x (plan_with_host (shows x).forest s addr (writing bytes)) (outcome [] (either r (tx false true))) y
+      → HasReached asks x (plan_below host (shows x).forest s addr (writing bytes) below) (outcome [] r) y
+      → HasReached asks x (plan_by host (shows x).forest s addr (writing bytes)) (outcome [] (either r (tx false true))) y
   write_past x y s addr below k bytes r made at all some h =
       let f : Forest = (shows x).forest in
       let closed : IsClosedForest f = subst IsClosedForest made.made (IsClosedForest-made made.calls made.fitting) in
-      let ds : List Reached = plan_below f s addr (writing bytes) below in
+      let ds : List Reached = plan_below host f s addr (writing bytes) below in
       let past : List Reached = nobody (writing []) in
-      let d : DoSame (plan_below f s addr (writing bytes) (below + k)) (ds ++ past) =
-      clip f closed s addr (writing bytes) below below addr k (omega arith) at some in
-      let d' : DoSame (plan_with_host f s addr (writing bytes)) (ds ++ past) = subst (λ m. DoSame (plan_below f s addr (writing bytes) m) (ds ++ past)) all d in
+      let d : DoSame (plan_below host f s addr (writing bytes) (below + k)) (ds ++ past) =
+      clip host f closed s addr (writing bytes) below below addr k (omega arith) at some in
+      let d' : DoSame (plan_by host f s addr (writing bytes)) (ds ++ past) = subst (λ m. DoSame (plan_below host f s addr (writing bytes) m) (ds ++ past)) all d in
       let z : HasReached asks y past (outcome [] (tx false true)) y = reached_nothing asks shows laws y 0 (tx false true) [] refl in
-      same_reached asks shows laws x y (plan_with_host f s addr (writing bytes)) (ds ++ past) (outcome [] (either r (tx false true))) d'
+      same_reached asks shows laws host x y (plan_by host f s addr (writing bytes)) (ds ++ past) (outcome [] (either r (tx false true))) d'
       (reached_then asks shows laws x y y ds past (outcome [] r) (outcome [] (tx false true)) h z)
 
--- the first bytes end at 2^64 where they are not all
-pub at_end : (addr below n : ℕ) → below < n → (addr + n ≤ 2 ^ 64 → below ≡ n) → (2 ^ 64 < addr + n → addr + below ≡ 2 ^ 64) → addr + below ≡ 2 ^ 64
-at_end addr below n less all past = go (cases_lt (2 ^ 64) (addr + n))
+-- what is taken of a whole access is taken of its first bytes, which may be all
+pub takes_first : {S : Type 0} (host : Bool) (f : Forest) (allowed : S → Asked → Type 0) (x : S) (s : SpaceId) (addr below : ℕ) (bytes : List ℕ) → IsMade f
+    → below ≤ length bytes → (addr + length bytes ≤ 2 ^ 64 → below ≡ length bytes) → (2 ^ 64 < addr + length bytes → addr + below ≡ 2 ^ 64)
+    → AllTaken allowed x (plan_by host f s addr (writing bytes)) → AllTaken allowed x (plan_below host f s addr (writing bytes) below)
+takes_first host f allowed x s addr below bytes made most all past h = go (cases_lt below (length bytes))
   where
-    go : (2 ^ 64 < addr + n) ⊎ (addr + n ≤ 2 ^ 64) → addr + below ≡ 2 ^ 64
-    go (inl l) = past l
-    go (inr l) = let same : below ≡ n = all l in absurd (omega (arith, same, less))
+    closed : IsClosedForest f
+    closed = subst IsClosedForest made.made (IsClosedForest-made made.calls made.fitting)
+
+    go : (below < length bytes) ⊎ (length bytes ≤ below) → AllTaken allowed x (plan_below host f s addr (writing bytes) below)
+    go (inr l) = let same : length bytes ≡ below = omega (arith, l, most) in subst (λ m. AllTaken allowed x (plan_below host f s addr (writing bytes) m)) same h
+    go (inl l) =
+        let at : addr + below ≡ 2 ^ 64 = at_end addr below (length bytes) l all past in
+        let k : ℕ = length bytes - below in
+        let sum : length bytes ≡ below + k = omega (arith, l) in
+        let ds : List Reached = plan_below host f s addr (writing bytes) below in
+        let d : DoSame (plan_below host f s addr (writing bytes) (below + k)) (ds ++ nobody (writing [])) =
+        clip host f closed s addr (writing bytes) below below addr k (omega arith) at (omega (arith, l)) in
+        let q : AllTaken allowed x (plan_below host f s addr (writing bytes) (below + k)) =
+        subst (λ m. AllTaken allowed x (plan_below host f s addr (writing bytes) m)) sum h in
+        (taken_split allowed x ds (nobody (writing [])) (subst (Every (allowed x)) d.asks q)).0

@@ -1,3 +1,4 @@
 pub mod ReachLaws
+pub mod TakenLaws
 pub mod ChunkLaws
 pub mod CoreLaws

@@ -1,5 +1,5 @@
 -- Laws of what a machine was asked: of what comes after one another, and of what is underway.
-use Rattle.std.proofs.Common.{◌≡◌, ℕ, ◌+◌, ◌||◌, Bool, true, false, List, [], ◌∷◌, ◌++◌, length, map, Some}
+use Rattle.std.proofs.Common.{◌≡◌, ℕ, ◌+◌, ◌||◌, Bool, true, false, List, [], ◌∷◌, ◌++◌, length, map, Some, None}
 use Rattle.std.proofs.Common.{if◌then◌else◌, refl, sym, ap, subst, ◌∙◌, append_assoc, arith}
 use Rattle.std.specs.Prelude.{replicate}
 use Rattle.std.proofs.lemmas.List.{length-append, append-nil}
@@ -8,7 +8,8 @@ use Rattle.std.proofs.Math.Bool.{or_assoc}
 use Rattle.mem_base.specs.declared.access.accesses.TxResult.{TxResult}
 use Rattle.mem_base.specs.access.AccessSteps.{reading, writing, either, tx}
 use Rattle.generation.specs.Published.{Published}
-use Rattle.mem_base.specs.access.Plans.{answers, takes, Reached, memory, callback, notifier, mark, nothing, nobody, unless_notified, in_callback, in_piece}
+use Rattle.mem_base.specs.access.Plans.{Answerer, by_nobody, answers, takes, Reached, memory, callback, notifier, mark, nothing, nobody, unless_notified}
+use Rattle.mem_base.specs.access.Plans.{in_callback, in_piece, reached}
 use Rattle.mem_base.specs.declared.map.ids.RegionId.{RegionId}
 use Rattle.mem_base.specs.declared.map.kinds.Client.{Client}
 use Rattle.mem_base.specs.declared.map.kinds.Ops.{Ops}
@@ -17,6 +18,9 @@ use Rattle.mem_base.specs.declared.access.accesses.Piece.{Piece}
 use Rattle.mem_base.specs.access.Pieces.{callbacks}
 use Rattle.mem_base.specs.access.Words.{number_of_bytes}
 use Rattle.mem_base.specs.access.DeviceAccess.{notifier_of}
+use Rattle.mem_base.specs.declared.map.spots.Spot.{Spot}
+use Rattle.access_plan.specs.declared.answerers.Answerer as who
+use Rattle.access_plan.specs.Answering.{IsAnswererBy}
 use Rattle.access_reach.specs.Asking.{reads, writes, sets, marks, taken, of_memory, Asked, asked_of, asked, Reply}
 use Rattle.access_reach.specs.Asking.{Outcome, outcome, followed_by, told, outcome_of}
 use Rattle.access_reach.specs.Reaching.{Asks, HasReached, IsUnderway}
@@ -91,6 +95,16 @@ module _ {S : Type 0} (asks : Asks S) (shows : S → Published) (laws : AreBusLa
     told = (λ i. outcome (e i) result) ∙ (λ i. outcome (sym (append-nil (replicate n 0)) i) (alone result i));
   }
 
+  -- where nobody answers a read, or takes a write
+  pub nobody_reads : (x : S) (o : Answerer) (n : ℕ) (bs : List ℕ) → o ≡ by_nobody → bs ≡ replicate n 0
+      → HasReached asks x (reached o (reading n)) (outcome bs (tx false true)) x
+  nobody_reads x o n bs is e =
+      subst (λ o. HasReached asks x (reached o (reading n)) (outcome bs (tx false true)) x) (sym is) (reached_nothing x n (tx false true) bs e)
+
+  pub nobody_takes : (x : S) (o : Answerer) (bs : List ℕ) → o ≡ by_nobody → HasReached asks x (reached o (writing bs)) (outcome [] (tx false true)) x
+  nobody_takes x o bs is =
+      subst (λ o. HasReached asks x (reached o (writing bs)) (outcome [] (tx false true)) x) (sym is) (reached_nothing x 0 (tx false true) [] refl)
+
   -- what is asked, and what is asked after it
   pub reached_then : (x y z : S) (rs qs : List Reached) (o p : Outcome) → HasReached asks x rs o y → HasReached asks y qs p z
       → HasReached asks x (rs ++ qs) (followed_by o p) z
@@ -131,6 +145,12 @@ pub underway_as : {S : Type 0} (asks : Asks S) (x : S) (whole rest : List Reache
     → IsUnderway asks x whole rest (outcome bs r) y → bs ≡ cs → q ≡ r → IsUnderway asks x whole rest (outcome cs q) y
 underway_as asks x whole rest bs cs r q y u e f = subst (λ o. IsUnderway asks x whole rest o y) (λ i. outcome (e i) (sym f i)) u
 
+-- who answers in the generation that a bus shows, by whether it has the bytes of the host's memory
+pub answers_so : (host b : Bool) (g h : Published) (spot : Spot) (write : Bool) (w : who.Answerer) → b ≡ host → h ≡ g → IsAnswererBy b h.forest spot write w
+    → IsAnswererBy host g.forest spot write w
+answers_so host b g h spot write w has same is =
+    subst (λ (z : Published). IsAnswererBy host z.forest spot write w) same (subst (λ b. IsAnswererBy b h.forest spot write w) has is)
+
 -- memory alone is read
 pub one_memory_read : {S : Type 0} (asks : Asks S) (x y : S) (region : RegionId) (offset n : ℕ) (bs : List ℕ)
     → asks x (reads region offset n ∷ []) (of_memory bs ∷ []) y → HasReached asks x (memory region offset (reading n) ∷ []) (outcome bs (tx false false)) y
@@ -157,6 +177,15 @@ pub piece_notified : (region : RegionId) (ops : Ops) (events : List Ioevent) (p 
     → notifier_of events p.offset p.size (number_of_bytes bs ops.big) ≡ Some number
     → in_piece region ops events p (writing bs) ≡ notifier number ∷ []
 piece_notified region ops events p bs number valid is =
+    let inner : List Reached = map (in_callback region ops (writing bs)) (callbacks ops p) in
+    ap (λ (b : Bool). if b then unless_notified (notifier_of events p.offset p.size (number_of_bytes bs ops.big)) inner else nobody (writing bs)) valid
+    ∙ ap (λ o. unless_notified o inner) is
+
+-- and one that reaches its device
+pub piece_called : (region : RegionId) (ops : Ops) (events : List Ioevent) (p : Piece) (bs : List ℕ) → p.valid ≡ true
+    → notifier_of events p.offset p.size (number_of_bytes bs ops.big) ≡ None
+    → in_piece region ops events p (writing bs) ≡ map (in_callback region ops (writing bs)) (callbacks ops p)
+piece_called region ops events p bs valid is =
     let inner : List Reached = map (in_callback region ops (writing bs)) (callbacks ops p) in
     ap (λ (b : Bool). if b then unless_notified (notifier_of events p.offset p.size (number_of_bytes bs ops.big)) inner else nobody (writing bs)) valid
     ∙ ap (λ o. unless_notified o inner) is

@@ -1,17 +1,17 @@
 // Accesses, chunk by chunk.
 ghost use Rattle.std.specs.Prelude.{◌≡◌, ◌≤◌, ◌+◌, ◌^◌, [], length, take};
 ghost use Rattle.mem_base.specs.access.AccessSteps.{reading, writing};
-ghost use Rattle.access_plan.specs.HostPlans.{plan_with_host};
+ghost use Rattle.access_plan.specs.HostPlans.{plan_by, plan_with_host};
 ghost use Rattle.access_reach.specs.Asking.{outcome};
-ghost use Rattle.access_reach.specs.Reaching.{HasReached, plan_below};
+ghost use Rattle.access_reach.specs.Reaching.{AllTaken, HasReached, plan_below};
 
-use crate::buses::{Answers, Takes};
+use crate::buses::{Answering, Answers, Takes, Taking};
 use crate::leaves;
-use access_run::{DONE, UNANSWERED, first_chunk, joined, reach};
+use access_base::{DONE, UNANSWERED, first_chunk, joined, reach};
 use mem_base::{SpaceId, TxResult};
 
 // Reads the first bytes of an access, at addresses below 2^64.
-fn read_below<B: Answers>(
+fn read_below<B: Answering>(
     bus: &mut B,
     space: SpaceId,
     addr: u64,
@@ -20,7 +20,7 @@ fn read_below<B: Answers>(
 ) -> TxResult
     requires most { below ≤ length out.old }
     requires within { addr + below ≤ 2 ^ 64 }
-    ensures { HasReached B.asks bus.old (plan_below (B.shows bus.old).forest space addr (reading (length out.old)) below)
+    ensures { HasReached B.asks bus.old (plan_below B.host (B.shows bus.old).forest space addr (reading (length out.old)) below)
         (outcome (take below out.new) result) bus.new }
 {
     let mut result = DONE;
@@ -35,13 +35,10 @@ fn read_below<B: Answers>(
     result
 }
 
-/// Reads bytes of a space from an address on, as many as there is room for.
-///
-/// It asks the bus for what the plan reaches in its generation, in order and for nothing else. It answers how the access ended: an
-/// error where a device answered with one, a decode error where nothing answered some byte. All of `out` is overwritten: a byte that
-/// nothing answers reads as 0, and so do addresses above 2^64 - 1. QEMU's core, `address_space_read`. It takes no memory.
-pub fn read<B: Answers>(bus: &mut B, space: SpaceId, addr: u64, out: &mut [u8]) -> TxResult
-    ensures { HasReached B.asks bus.old (plan_with_host (B.shows bus.old).forest space addr (reading (length out.old))) (outcome out.new result) bus.new }
+/// Reads bytes of a space from an address on, as `read` does, of a machine that has the bytes of the host's memory, or has not. Where it
+/// has not, it is asked for what the defined plan reaches.
+pub fn read_by<B: Answering>(bus: &mut B, space: SpaceId, addr: u64, out: &mut [u8]) -> TxResult
+    ensures { HasReached B.asks bus.old (plan_by B.host (B.shows bus.old).forest space addr (reading (length out.old))) (outcome out.new result) bus.new }
 {
     // Its contract tells that accepted calls make the forest.
     bus.generation().forest();
@@ -55,8 +52,19 @@ pub fn read<B: Answers>(bus: &mut B, space: SpaceId, addr: u64, out: &mut [u8]) 
     }
 }
 
+/// Reads bytes of a space from an address on, as many as there is room for.
+///
+/// It asks the bus for what the plan reaches in its generation, in order and for nothing else. It answers how the access ended: an
+/// error where a device answered with one, a decode error where nothing answered some byte. All of `out` is overwritten: a byte that
+/// nothing answers reads as 0, and so do addresses above 2^64 - 1. QEMU's core, `address_space_read`. It takes no memory.
+pub fn read<B: Answers>(bus: &mut B, space: SpaceId, addr: u64, out: &mut [u8]) -> TxResult
+    ensures { HasReached B.asks bus.old (plan_with_host (B.shows bus.old).forest space addr (reading (length out.old))) (outcome out.new result) bus.new }
+{
+    read_by(bus, space, addr, out)
+}
+
 // Writes the first bytes of an access, at addresses below 2^64.
-fn write_below<B: Takes>(
+fn write_below<B: Taking>(
     bus: &mut B,
     space: SpaceId,
     addr: u64,
@@ -65,7 +73,8 @@ fn write_below<B: Takes>(
 ) -> TxResult
     requires most { below ≤ length bytes.now }
     requires within { addr + below ≤ 2 ^ 64 }
-    ensures { HasReached B.asks bus.old (plan_below (B.shows bus.old).forest space addr (writing bytes.now) below) (outcome [] result) bus.new }
+    requires takes { AllTaken B.takes bus.old (plan_below B.host (B.shows bus.old).forest space addr (writing bytes.now) below) }
+    ensures { HasReached B.asks bus.old (plan_below B.host (B.shows bus.old).forest space addr (writing bytes.now) below) (outcome [] result) bus.new }
 {
     let mut result = DONE;
     let mut done = 0;
@@ -79,13 +88,11 @@ fn write_below<B: Takes>(
     result
 }
 
-/// Writes bytes to a space from an address on.
-///
-/// It asks the bus for what the plan reaches in its generation, in order and for nothing else. It answers how the access ended: an
-/// error where a device answered with one, a decode error where nothing took some byte, as at a read-only leaf or above 2^64 - 1; the
-/// other chunks are written all the same. QEMU's core, `address_space_write`. It takes no memory.
-pub fn write<B: Takes>(bus: &mut B, space: SpaceId, addr: u64, bytes: &[u8]) -> TxResult
-    ensures { HasReached B.asks bus.old (plan_with_host (B.shows bus.old).forest space addr (writing bytes.now)) (outcome [] result) bus.new }
+/// Writes bytes to a space from an address on, as `write` does, of a machine that has the bytes of the host's memory, or has not. It asks
+/// for one that takes each of the writes that the plan reaches.
+pub fn write_by<B: Taking>(bus: &mut B, space: SpaceId, addr: u64, bytes: &[u8]) -> TxResult
+    requires { AllTaken B.takes bus.old (plan_by B.host (B.shows bus.old).forest space addr (writing bytes.now)) }
+    ensures { HasReached B.asks bus.old (plan_by B.host (B.shows bus.old).forest space addr (writing bytes.now)) (outcome [] result) bus.new }
 {
     // Its contract tells that accepted calls make the forest.
     bus.generation().forest();
@@ -96,4 +103,15 @@ pub fn write<B: Takes>(bus: &mut B, space: SpaceId, addr: u64, bytes: &[u8]) -> 
     } else {
         result
     }
+}
+
+/// Writes bytes to a space from an address on.
+///
+/// It asks the bus for what the plan reaches in its generation, in order and for nothing else. It answers how the access ended: an
+/// error where a device answered with one, a decode error where nothing took some byte, as at a read-only leaf or above 2^64 - 1; the
+/// other chunks are written all the same. QEMU's core, `address_space_write`. It takes no memory.
+pub fn write<B: Takes>(bus: &mut B, space: SpaceId, addr: u64, bytes: &[u8]) -> TxResult
+    ensures { HasReached B.asks bus.old (plan_with_host (B.shows bus.old).forest space addr (writing bytes.now)) (outcome [] result) bus.new }
+{
+    write_by(bus, space, addr, bytes)
 }

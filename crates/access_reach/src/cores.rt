@@ -8,8 +8,8 @@ ghost use Rattle.access_reach.specs.Rounds.{EndsRead, EndsWrite};
 
 use crate::buses::{Answers, Takes};
 use crate::{devices, leaves};
+use access_base::{DONE, joined};
 use access_plan::{Round, next_round};
-use access_run::{DONE, joined};
 use mem_base::{SpaceId, TxResult};
 
 // How many bytes a round takes.

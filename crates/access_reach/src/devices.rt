@@ -4,21 +4,21 @@ ghost use Rattle.mem_base.specs.views.LiveEvents.{events_of};
 ghost use Rattle.mem_base.specs.access.AccessSteps.{reading, writing};
 ghost use Rattle.mem_base.specs.access.Pieces.{callbacks};
 ghost use Rattle.access_cut.specs.Conditions.{AreGood, IsCut};
-ghost use Rattle.access_run.specs.Sizes.{IsSize};
+ghost use Rattle.access_base.specs.Sizes.{IsSize};
 ghost use Rattle.mem_base.specs.access.Plans.{answers, callback, in_callback, in_device, in_piece, request};
 ghost use Rattle.access_reach.specs.DevicePieces.{piece_read};
 ghost use Rattle.access_reach.specs.Asking.{outcome};
 ghost use Rattle.access_plan.specs.Answering.{IsDeviceRegion};
-ghost use Rattle.access_reach.specs.Reaching.{HasReached};
+ghost use Rattle.access_reach.specs.Reaching.{AllTaken, HasReached};
 
-use crate::buses::{Answers, Takes};
+use crate::buses::{Answering, Taking};
+use access_base::{DONE, UNANSWERED, joined, padded, put};
 use access_cut::{accesses, cut, number_of};
 use access_plan::notifier;
-use access_run::{DONE, UNANSWERED, joined, padded, put};
 use mem_base::{Ops, Piece, RegionId, TxResult};
 
 // A read by one callback; the first of its bytes are shown.
-fn read_callback<B: Answers>(
+fn read_callback<B: Answering>(
     bus: &mut B,
     region: RegionId,
     big: bool,
@@ -37,7 +37,7 @@ fn read_callback<B: Answers>(
 }
 
 // Reads a valid piece, by its callbacks.
-fn read_callbacks<B: Answers>(
+fn read_callbacks<B: Answering>(
     bus: &mut B,
     region: RegionId,
     ops: &Ops,
@@ -67,7 +67,7 @@ fn read_callbacks<B: Answers>(
 }
 
 /// Reads a piece of a region's device.
-pub(crate) fn read_piece<B: Answers>(
+pub(crate) fn read_piece<B: Answering>(
     bus: &mut B,
     region: RegionId,
     ops: &Ops,
@@ -90,7 +90,7 @@ pub(crate) fn read_piece<B: Answers>(
 }
 
 /// Reads bytes of a region's device, those from an offset on.
-pub(crate) fn read<B: Answers>(
+pub(crate) fn read<B: Answering>(
     bus: &mut B,
     region: RegionId,
     ops: &Ops,
@@ -115,7 +115,7 @@ pub(crate) fn read<B: Answers>(
 }
 
 // A write by one callback: these bytes, and zero bytes after them.
-fn write_callback<B: Takes>(
+fn write_callback<B: Taking>(
     bus: &mut B,
     region: RegionId,
     big: bool,
@@ -127,6 +127,7 @@ fn write_callback<B: Takes>(
     requires size { size ≤ 8 }
     requires some { 0 < length bytes.now }
     requires fits { length bytes.now ≤ size }
+    requires takes { AllTaken B.takes bus.old (callback region offset size (request big size (writing bytes.now)) ∷ []) }
     ensures { HasReached B.asks bus.old (callback region offset size (request big size (writing bytes.now)) ∷ []) (outcome [] result) bus.new }
 {
     let value = padded(bytes, size, big);
@@ -134,7 +135,7 @@ fn write_callback<B: Takes>(
 }
 
 // Writes a valid piece, by its callbacks.
-fn write_callbacks<B: Takes>(
+fn write_callbacks<B: Taking>(
     bus: &mut B,
     region: RegionId,
     ops: &Ops,
@@ -146,6 +147,7 @@ fn write_callbacks<B: Takes>(
     requires cut { IsCut ops.now piece.now }
     requires size { IsSize piece.now.size }
     requires all { length bytes.now ≡ piece.now.size }
+    requires takes { AllTaken B.takes bus.old (map (in_callback region ops.now (writing bytes.now)) (callbacks ops.now piece.now)) }
     ensures { HasReached B.asks bus.old (map (in_callback region ops.now (writing bytes.now)) (callbacks ops.now piece.now))
         (outcome [] result) bus.new }
 {
@@ -164,7 +166,7 @@ fn write_callbacks<B: Takes>(
 }
 
 /// Writes a piece of a region's device: a notifier that it sets takes it in place of the callbacks.
-pub(crate) fn write_piece<B: Takes>(
+pub(crate) fn write_piece<B: Taking>(
     bus: &mut B,
     region: RegionId,
     ops: &Ops,
@@ -176,6 +178,7 @@ pub(crate) fn write_piece<B: Takes>(
     requires cut { IsCut ops.now piece.now }
     requires size { IsSize piece.now.size }
     requires all { length bytes.now ≡ piece.now.size }
+    requires takes { AllTaken B.takes bus.old (in_piece region ops.now (events_of (B.shows bus.old).forest region) piece.now (writing bytes.now)) }
     ensures { HasReached B.asks bus.old
         (in_piece region ops.now (events_of (B.shows bus.old).forest region) piece.now (writing bytes.now)) (outcome [] result) bus.new }
 {
@@ -193,7 +196,7 @@ pub(crate) fn write_piece<B: Takes>(
 }
 
 /// Writes bytes of a region's device, from an offset on.
-pub(crate) fn write<B: Takes>(
+pub(crate) fn write<B: Taking>(
     bus: &mut B,
     region: RegionId,
     ops: &Ops,
@@ -203,6 +206,7 @@ pub(crate) fn write<B: Takes>(
     requires device { IsDeviceRegion (B.shows bus.old).forest region }
     requires good { AreGood ops.now }
     requires within { offset + length bytes.now ≤ 2 ^ 64 }
+    requires takes { AllTaken B.takes bus.old (in_device region offset ops.now (events_of (B.shows bus.old).forest region) (writing bytes.now)) }
     ensures { HasReached B.asks bus.old
         (in_device region offset ops.now (events_of (B.shows bus.old).forest region) (writing bytes.now)) (outcome [] result) bus.new }
 {

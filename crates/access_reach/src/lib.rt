@@ -15,8 +15,8 @@ mod leaves;
 mod marks;
 mod peeks;
 
-pub use accesses::{read, write};
+pub use accesses::{read, read_by, write, write_by};
 pub use boards::{Board, Parts};
-pub use buses::{Answers, Bus, Takes};
+pub use buses::{Answering, Answers, Bus, Takes, Taking};
 pub use cores::{core_read, core_write};
 pub use peeks::calls_device;

@@ -10,7 +10,7 @@ ghost use Rattle.access_reach.specs.Asking.{asked, is_call};
 
 use crate::accesses::write;
 use crate::buses::{Bus, Takes};
-use access_run::DONE;
+use access_base::DONE;
 use generation::Generation;
 use mem_base::{Client, RegionId, SpaceId, TxResult};
 

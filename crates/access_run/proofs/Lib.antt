@@ -1,15 +1,10 @@
 pub mod HandLaws
-pub mod RunLaws
-pub mod ByteLaws
 pub mod MemoryLaws
 pub mod CallbackLaws
 pub mod LeafLaws
-pub mod DeviceLaws
+pub mod PlaceLaws
 pub mod AnswerLaws
-pub mod DeviceRunLaws
-pub mod GoodLaws
-pub mod FoundLaws
-pub mod TrailLaws
+pub mod WordLaws
 pub mod ChunkLaws
 pub mod AccessLaws
 pub mod PartialLaws

@@ -1,22 +1,17 @@
--- Laws of the words and pages that an access to memory touches.
-use Rattle.std.proofs.Common.{◌≡◌, ℕ, zero, suc, ◌+◌, ◌-◌, ◌*◌, ◌/◌, ◌%◌, ◌<◌, ◌≤◌, min, Bool, true, false, List, [], ◌∷◌, ◌++◌, length, take}
-use Rattle.std.proofs.Common.{drop, map, ap, subst, refl, Some, ◌∙◌, arith}
-use Rattle.std.specs.Prelude.{flat_map}
-use Rattle.std.proofs.lemmas.List.{length-take-le, length-drop, map-append}
+-- Laws of the words that an access to memory touches.
+use Rattle.std.proofs.Common.{◌≡◌, ℕ, ◌+◌, ◌-◌, ◌*◌, ◌/◌, ◌%◌, ◌<◌, ◌≤◌, min, List, [], ◌∷◌, ◌++◌, length, take}
+use Rattle.std.proofs.Common.{drop, map, ap, ◌∙◌, arith}
+use Rattle.std.proofs.lemmas.List.{map-append}
 use Rattle.std.proofs.Math.Seq.{take-length}
 use Rattle.mem_base.specs.declared.map.ids.RegionId.{RegionId}
-use Rattle.mem_base.specs.declared.map.kinds.Client.{Client}
-use Rattle.mem_base.specs.lists.Every.{Every}
-use Rattle.mem_base.specs.lists.Runs.{Run, run, runs, put_before, is_in_unit, touched}
+use Rattle.mem_base.specs.lists.Runs.{Run, run, touched}
 use Rattle.mem_base.specs.declared.access.cells.WordStep.TheVariants.{Replace}
-use Rattle.mem_base.specs.map.Limits.{page_size, word_size}
+use Rattle.mem_base.specs.map.Limits.{word_size}
 use Rattle.mem_base.specs.access.Words.{little_endian}
 use Rattle.mem_base.specs.access.Cells.{cell}
-use Rattle.mem_base.specs.access.Marks.{clients_of, marks_of}
 use Rattle.mem_base.specs.access.AccessSteps.{AccessStep, reading, writing, steps, nothing_shown}
 use Rattle.mem_base.specs.access.MemoryAccess.{on_word}
-use Rattle.dirty_log.specs.MarksLeft.{first_of}
-use Rattle.access_run.proofs.RunLaws.{first_word, whole_words}
+use Rattle.access_base.proofs.RunLaws.{first_word, whole_words}
 
 -- the words of some bytes: the first of them, and those after it
 pub words_then : (f : Run → AccessStep) (offset done n c : ℕ) → done < n → c ≡ min (n - done) (8 - (offset + done) % 8)
@@ -39,14 +34,6 @@ whole_words_then f offset done n c begins whole most =
     ∙ map-append f (touched 8 (offset + done) c) (touched 8 (offset + done + c) (n - (done + c)))
     ∙ (λ i. map f (touched 8 (offset + done) c) ++ map f (touched 8 (at i) (n - (done + c))))
 
--- how many bytes a part of a list has
-pub part_length : (done c n k : ℕ) (bs : List ℕ) → length bs ≡ n → done + c ≤ n → k ≡ done + c - done → length (take k (drop done bs)) ≡ c
-part_length done c n k bs all most is =
-    let size : length (drop done bs) ≡ length bs - done = length-drop done bs in
-    let fits : k ≤ length (drop done bs) = omega (arith, all, most, is, size) in
-    let same : k ≡ c = omega (arith, is) in
-    length-take-le k (drop done bs) fits ∙ same
-
 -- a word that is read, whatever was read before it
 pub word_read : (region : RegionId) (offset at n m c : ℕ) → m ≡ c → on_word region at (reading m) (run at m) ≡ on_word region offset (reading n) (run at c)
 word_read region offset at n m c e = ap (λ k. on_word region at (reading n) (run at k)) e
@@ -62,53 +49,3 @@ word_written region offset done k m c bs is size e =
     let bytes : take m (drop (offset + done - (offset + done)) part) ≡ take c (drop (offset + done - offset) bs) =
     ap (λ d. take m (drop d part)) here ∙ ap (λ l. take l part) size ∙ take-length part ∙ (λ i. take (all i) (drop (there i) bs)) in
     (λ i. steps (cell region ((offset + done) / word_size)) (Replace ((offset + done) % word_size) (e i) (little_endian (bytes i))) nothing_shown)
-
--- pages
-
-every_append : {A : Type 0} (P : A → Type 0) (xs ys : List A) → Every P xs → Every P ys → Every P (xs ++ ys)
-every_append P [] ys h k = k
-every_append P (x ∷ xs) ys h k = (h.0, every_append P xs ys h.1 k)
-
-every_flat_map : {A B : Type 0} (P : B → Type 0) (f : A → List B) (xs : List A) → Every (λ x. Every P (f x)) xs → Every P (flat_map f xs)
-every_flat_map P f [] h = tt
-every_flat_map P f (x ∷ xs) h = every_append P (f x) (flat_map f xs) h.0 (every_flat_map P f xs h.1)
-
-starts_below : (with_next : ℕ → Bool) (a n : ℕ) → Every (λ r. r.start < a + n) (runs with_next a n)
-starts_below with_next a zero = tt
-starts_below with_next a (suc n) = put (with_next a) (runs with_next (a + 1) n) (starts_below with_next (a + 1) n)
-  where
-    more : a + 1 + n ≡ a + suc n
-    more = omega arith
-
-    wider : (rs : List Run) → Every (λ r. r.start < a + 1 + n) rs → Every (λ r. r.start < a + suc n) rs
-    wider rs h = subst (λ m. Every (λ r. r.start < m) rs) more h
-
-    put : (b : Bool) (rs : List Run) → Every (λ r. r.start < a + 1 + n) rs → Every (λ r. r.start < a + suc n) (put_before b a rs)
-    put true [] h = (omega arith, tt)
-    put true (r ∷ rs) h = (omega arith, wider rs h.1)
-    put false rs h = (omega arith, wider rs h)
-
--- each page that is marked lies in the region
-pub marks_inside : (log offset n bytes : ℕ) → offset + n ≤ bytes → bytes % 4096 ≡ 0 → Every {A = ℕ × Client} (λ m. m.0 < bytes / 4096) (marks_of log offset n)
-marks_inside log offset n bytes most whole =
-    every_flat_map {B = ℕ × Client} (λ m. m.0 < bytes / 4096) on_page (touched page_size offset n)
-    (each (touched page_size offset n) (starts_below (is_in_unit page_size) offset n))
-  where
-    on_page : Run → List (ℕ × Client)
-    on_page r = map (λ c. (r.start / page_size, c)) (clients_of log)
-
-    all : (page : ℕ) (cs : List Client) → page < bytes / 4096 → Every {A = ℕ × Client} (λ m. m.0 < bytes / 4096) (map (λ c. (page, c)) cs)
-    all page [] l = tt
-    all page (c ∷ cs) l = (l, all page cs l)
-
-    page_below : (start : ℕ) → start < offset + n → start / 4096 < bytes / 4096
-    page_below start l = omega (arith, l, most, whole)
-
-    each : (rs : List Run) → Every (λ r. r.start < offset + n) rs → Every (λ r. Every {A = ℕ × Client} (λ m. m.0 < bytes / 4096) (on_page r)) rs
-    each [] h = tt
-    each (r ∷ rs) h = (all (r.start / 4096) (clients_of log) (page_below r.start h.0), each rs h.1)
-
--- a list of which the first element is known
-pub first_and_rest : {A : Type 0} (xs ys : List A) (x : A) → Some x ≡ first_of xs → ys ≡ drop 1 xs → xs ≡ x ∷ ys
-first_and_rest [] ys x e f = cc
-first_and_rest (y ∷ xs) ys x e f = let is : x ≡ y = cc in rw (is, f) refl

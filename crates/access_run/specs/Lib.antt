@@ -1,7 +1,8 @@
 pub mod Hands
 pub mod Runs
-pub mod DeviceRuns
 pub mod Leaves
 pub mod Partial
-pub mod Sizes
 pub mod Chunks
+pub mod RegionPlaces
+pub mod WordReplies
+pub mod WordsGoOn

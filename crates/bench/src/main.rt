@@ -1,7 +1,7 @@
 //! How long the memory map takes: all calls that build a map, moves, look-ups of one address, a view, its atlas, and a
 //! walk to the next view; how long places in a pool take, routes of accesses, accesses to registers, and changes that are
 //! published; how long a cabinet takes, and what a pass does in it; how long reads and writes of virtual CPUs take, and those of the
-//! pure machine; and how long the text of a script takes to be read and printed (`scripts`).
+//! pure machine and of a bus of one's own; and how long the text of a script takes to be read and printed (`scripts`).
 //!
 //! Standard output has a line for each map, which is the same in every run: how many calls it takes, how many of them
 //! were refused, how many ranges its view has, and a sum over what the look-ups found; and one for each text: its bytes,
@@ -14,6 +14,7 @@ ghost use Rattle.std.specs.Prelude.{◌≡◌, ◌≤◌, ◌<◌, ◌+◌, ◌^
 
 mod accesses;
 mod boards;
+mod buses;
 mod cabinets;
 mod changes;
 mod listened;
@@ -27,6 +28,7 @@ mod vcpus;
 mod views;
 mod worlds;
 
+use crate::buses::run_buses;
 use crate::cabinets::run_cabinet;
 use crate::changes::{WORDS, publish, run_changes};
 use crate::listened::run_listened;
@@ -208,6 +210,7 @@ fn run_accesses<L: Ledger, R: Threads + Wait + Clock + Sync>(
     let addrs = of_memory(rt.alloc(), generation, map.size.saturating_mul(50), steps)?;
     run_routes(rt, map, generation, addrs.as_slice(), rounds, steps)?;
     run_worlds(rt, threads, map, addrs.as_slice(), rounds)?;
+    run_buses(rt, threads, map, generation, addrs.as_slice(), rounds)?;
     let addrs = of_memory(rt.alloc(), generation, map.size.saturating_mul(100), steps)?;
     run_vcpus(rt, threads, map, addrs.as_slice(), rounds)
 }

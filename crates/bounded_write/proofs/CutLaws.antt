@@ -12,9 +12,9 @@ use Rattle.mem_base.specs.access.Trails.{shares_next, first_length}
 use Rattle.mem_base.specs.access.AccessSteps.{writing, AccessStep}
 use Rattle.mem_base.specs.access.Access.{access}
 use Rattle.mem_base.specs.access.Windows.{window_start, is_direct, target_at, chunk_length, part_steps, mark_steps}
-use Rattle.access_run.proofs.RunLaws.{first_run}
-use Rattle.access_run.proofs.TrailLaws.{together}
-use Rattle.access_run.proofs.ChunkLaws.{FirstRun, first_given}
+use Rattle.access_base.proofs.RunLaws.{first_run}
+use Rattle.access_base.proofs.TrailLaws.{together}
+use Rattle.access_base.proofs.ChunkLaws.{FirstRun, first_given}
 use Rattle.io_window.proofs.ChunkLaws.{written_is}
 use Rattle.io_window.proofs.CutLaws.{write_cut}
 

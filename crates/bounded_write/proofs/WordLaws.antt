@@ -22,7 +22,7 @@ use Rattle.epoch_rule.specs.Values.{PassValue}
 use Rattle.epoch_rule.specs.declared.views.Sizes.{Sizes}
 use Rattle.epoch_rule.specs.Wrote.{WordWas, WroteStep}
 use Rattle.access_run.specs.Hands.{IsPlaceOf, word_event}
-use Rattle.access_run.proofs.RunLaws.{first_word, whole_words}
+use Rattle.access_base.proofs.RunLaws.{first_word, whole_words}
 use Rattle.vcpu_pass.specs.Steps.{HasMade, generation_in}
 use Rattle.bounded_write.proofs.HandLaws.{Stays, made_word}
 use Rattle.io_window.specs.Calls.{Does}

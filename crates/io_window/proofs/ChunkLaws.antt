@@ -19,8 +19,8 @@ use Rattle.mem_base.specs.access.AccessSteps.{Transfer, reading, writing, is_wri
 use Rattle.mem_base.specs.access.MemoryAccess.{in_memory, on_words, marked}
 use Rattle.mem_base.specs.access.DeviceAccess.{in_device}
 use Rattle.mem_base.specs.access.Access.{at_leaf, at_target, in_chunk, access}
-use Rattle.access_run.proofs.RunLaws.{first_run}
-use Rattle.access_run.proofs.TrailLaws.{together}
+use Rattle.access_base.proofs.RunLaws.{first_run}
+use Rattle.access_base.proofs.TrailLaws.{together}
 use Rattle.access_run.proofs.AnswerLaws.{words_read_fine, words_written_fine}
 use Rattle.mem_base.specs.access.Windows.{window_start, is_direct_kind, is_direct_node, is_direct_target, is_direct, target_at, chunk_length, part_steps, mark_steps}
 

@@ -11,7 +11,7 @@ use Rattle.mem_base.specs.lists.Runs.{Run, run, runs, put_before}
 use Rattle.mem_base.specs.access.Trails.{trail_of, shares_next}
 use Rattle.mem_base.specs.access.AccessSteps.{reading, writing, AccessStep}
 use Rattle.mem_base.specs.access.Access.{at_target, in_chunk, access}
-use Rattle.access_run.proofs.ChunkLaws.{FirstRun, first_given}
+use Rattle.access_base.proofs.ChunkLaws.{FirstRun, first_given}
 use Rattle.mem_base.specs.access.Windows.{window_start, chunk_length}
 use Rattle.io_window.proofs.ChunkLaws.{one_chunk}
 

@@ -14,7 +14,8 @@ use Rattle.mem_base.specs.access.PlacesByRegion.{place_in}
 use Rattle.mem_base.specs.access.EditionPlaces.{IsEdition}
 use Rattle.generation.specs.Published.{Published}
 use Rattle.access_run.specs.Leaves.{IsMemoryAt}
-use Rattle.access_run.proofs.LeafLaws.{bytes_words, leaf_has_place, memory_there, region}
+use Rattle.access_base.proofs.LeafLaws.{bytes_words, leaf_has_place, region}
+use Rattle.access_run.proofs.LeafLaws.{memory_there}
 use Rattle.mem_base.specs.access.Windows.{is_direct_kind}
 use Rattle.io_window.proofs.ChunkLaws.{direct_kind}
 
@@ -34,13 +35,13 @@ module _ (g : Published) (k : IsEdition g.forest g.places) (r : RegionId) (n : N
   -- it has a place
   pub direct_placed : place_in g.places r ≡ None → ⊥
   direct_placed none =
-      leaf_has_place g k r n named is none
-      (bytes_words g k r n named is n.kind n.size (region g k r n named is).sized (direct_bytes n.kind write attrs direct))
+      leaf_has_place g k r n is named none
+      (bytes_words g k r n is n.kind n.size (region g k r n is).sized (direct_bytes n.kind write attrs direct))
 
 -- which is that of its memory
 pub direct_memory : (g : Published) (k : IsEdition g.forest g.places) (spot : Spot) (n : Node) (named : names g.forest spot.leaf ≡ true)
     (is : node_of g.forest.nodes spot.leaf ≡ Some n) (write : Bool) → is_direct_kind n.kind write spot.attrs ≡ true
     → (p : Place) → place_in g.places spot.leaf ≡ Some p → IsMemoryAt g spot write p
 direct_memory g k spot n named is write direct p found =
-    memory_there g k spot.leaf n named is spot refl p found write (direct_bytes n.kind write spot.attrs direct)
+    memory_there g k spot.leaf n is spot refl p found write (direct_bytes n.kind write spot.attrs direct)
     (λ t w. direct_kind n.kind n spot t (subst (λ (b : Bool). is_direct_kind n.kind b spot.attrs ≡ true) (sym w) direct))

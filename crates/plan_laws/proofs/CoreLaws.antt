@@ -33,9 +33,9 @@ use Rattle.mem_base.specs.access.CorePlans.{in_page, in_pages, taken_by, taken, 
 use Rattle.iommu.specs.Ways.{further}
 use Rattle.iommu.proofs.FoundLaws.{both}
 use Rattle.access_cut.proofs.PieceLaws.{size_some}
-use Rattle.access_run.specs.Sizes.{IsSize}
-use Rattle.access_run.proofs.DeviceLaws.{size_so}
-use Rattle.access_run.proofs.RunLaws.{first_run}
+use Rattle.access_base.specs.Sizes.{IsSize}
+use Rattle.access_base.proofs.DeviceLaws.{size_so}
+use Rattle.access_base.proofs.RunLaws.{first_run}
 use Rattle.plan_laws.specs.CoreLaws.{StaysFrom, PlansAgree, OneChunkAgrees, EndsEven, RangesEndEven, EvenRangesAgree}
 use Rattle.plan_laws.proofs.FirstRuns.{IsFirst, first_is}
 use Rattle.plan_laws.proofs.Sizes.{size_less, same_size, size_even}

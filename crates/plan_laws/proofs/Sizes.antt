@@ -8,8 +8,8 @@ use Rattle.mem_base.specs.declared.access.accesses.Piece.{Piece}
 use Rattle.mem_base.specs.lists.Every.{Every}
 use Rattle.mem_base.specs.access.Pieces.{power_within, power_dividing, aligned_size, size_at, pieces_from}
 use Rattle.access_cut.proofs.PieceLaws.{power_fits, chosen_most, size_most}
-use Rattle.access_run.specs.Sizes.{IsSize}
-use Rattle.access_run.proofs.DeviceLaws.{power_is_size}
+use Rattle.access_base.specs.Sizes.{IsSize}
+use Rattle.access_base.proofs.DeviceLaws.{power_is_size}
 
 power_between : (x y : ℕ) → power_within y ≤ x → x ≤ y → power_within x ≡ power_within y
 power_between x y l u = grind (arith, nat_tests)

@@ -59,11 +59,11 @@ use Rattle.turn_laws.proofs.Replaced.{its_region}
 use Rattle.access_cut.specs.Conditions.{IsGood}
 use Rattle.access_cut.proofs.Good.{some_registers}
 use Rattle.generation.specs.Published.{Published, published}
-use Rattle.access_run.specs.Leaves.{IsTargetRun}
+use Rattle.access_base.specs.Leaves.{IsTargetRun}
 use Rattle.access_run.proofs.CallbackLaws.{register_reached as callback_register}
-use Rattle.access_run.proofs.LeafLaws as leaves
-use Rattle.access_run.proofs.MemoryLaws.{marks_inside}
-use Rattle.access_run.proofs.TrailLaws.{chunk_inside}
+use Rattle.access_base.proofs.LeafLaws as leaves
+use Rattle.access_base.proofs.MemoryLaws.{marks_inside}
+use Rattle.access_base.proofs.TrailLaws.{chunk_inside}
 use Rattle.world_laws.specs.Entered.{IsEnteredIn, MayDo, MayStep}
 use Rattle.world_laws.specs.Accessing.{AreLegalSteps}
 use Rattle.world_laws.proofs.Lists.{starts_below, found_has}
@@ -183,7 +183,7 @@ module _ (g : Published) (k : IsEdition g.forest g.places) where
   module _ (r : RegionId) (n : Node) (named : names g.forest r ≡ true) (is : node_of nodes r ≡ Some n) where
     good : (device : Device) → device_of n.kind ≡ Some device → IsGood device
     good device e =
-        let none : bad_device (Some device) ≡ None = sym (ap bad_device e) ∙ (leaves.region g k r n named is).device in
+        let none : bad_device (Some device) ≡ None = sym (ap bad_device e) ∙ (leaves.region g k r n is).device in
         go (is_good_device device) refl (refuse_if-none _ _ none)
       where
         go : (b : Bool) → is_good_device device ≡ b → not b ≡ false → IsGood device
@@ -239,7 +239,7 @@ module _ (g : Published) (k : IsEdition g.forest g.places) where
   module _ (spot : Spot) (n : Node) (named : names g.forest spot.leaf ≡ true) (is : node_of nodes spot.leaf ≡ Some n) (t : Transfer)
       (ends : spot.offset + length_of t ≤ n.size) (p : Place) (here : place_in g.places spot.leaf ≡ Some p) where
     fits : p ≡ place_from p.region p.start (extent_of n.kind n.size)
-    fits = (leaves.leaf_place g k spot.leaf n named is p here).1
+    fits = (leaves.leaf_place g k spot.leaf n is p here).1
 
     bytes_of_kind : p.bytes ≡ (extent_of n.kind n.size).bytes
     bytes_of_kind = ap (λ (q : Place). q.bytes) fits
@@ -249,7 +249,7 @@ module _ (g : Published) (k : IsEdition g.forest g.places) where
 
     in_bytes : has_bytes n.kind ≡ true → p.bytes ≡ n.size → AllReached (in_memory spot t)
     in_bytes memory same =
-        let whole = (size_whole n.kind n.size (leaves.region g k spot.leaf n named is).sized memory).1 in
+        let whole = (size_whole n.kind n.size (leaves.region g k spot.leaf n is).sized memory).1 in
         memory_reached spot p here (ap (λ m. m % 4096) same ∙ whole) t (subst (λ m. spot.offset + length_of t ≤ m) (sym same) ends)
 
     kind_reached : (kind : Kind) → n.kind ≡ kind → AllReached (at_leaf kind n spot t)
@@ -280,7 +280,7 @@ module _ (g : Published) (k : IsEdition g.forest g.places) where
     where
       at : (n : Node) → node_of nodes spot.leaf ≡ Some n → (o : Option Place) → place_in g.places spot.leaf ≡ o
           → AllReached (of_region nodes spot.leaf (unanswered t) (λ n. at_leaf n.kind n spot t))
-      at n is None here = subst AllReached (sym (leaves.unplaced g k spot.leaf n inside.named is spot t here)) (tt, tt)
+      at n is None here = subst AllReached (sym (leaves.unplaced g k spot.leaf n is inside.named spot t here)) (tt, tt)
       at n is (Some p) here =
           let ends : spot.offset + c ≤ n.size = subst (λ (o : Option Node). IfSome o (λ m. spot.offset + c ≤ m.size)) is inside.within in
           subst (λ (o : Option Node). AllReached (unwrap_or (option_map (λ (m : Node). at_leaf m.kind m spot t) o) (unanswered t))) (sym is)

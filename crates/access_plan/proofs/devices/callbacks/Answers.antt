@@ -4,8 +4,8 @@ use Rattle.mem_base.specs.access.Pieces.{Callback, callbacks}
 use Rattle.mem_base.specs.access.AccessSteps.{Transfer, part}
 use Rattle.mem_base.specs.access.Plans.{Reached, callback, request, in_callback}
 use Rattle.access_cut.specs.Offsets.{At, places}
-use Rattle.access_run.specs.Sizes.{Tiles, callback_of}
-use Rattle.access_run.proofs.DeviceLaws.{tiles_all, callbacks_at}
+use Rattle.access_base.specs.Sizes.{Tiles, callback_of}
+use Rattle.access_base.proofs.DeviceLaws.{tiles_all, callbacks_at}
 use Rattle.access_plan.specs.declared.lists.Reach.TheVariants as reach
 use Rattle.access_plan.specs.Lists.{IsUnderway, moved, request_of}
 use Rattle.access_plan.proofs.ListLaws.{underway_none, underway_then, adds_one, adds_as}

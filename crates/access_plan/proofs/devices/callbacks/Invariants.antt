@@ -2,7 +2,7 @@ use Rattle.std.proofs.Common.{ℕ, ◌+◌, length, map}
 use Rattle.mem_base.specs.access.Pieces.{callbacks}
 use Rattle.mem_base.specs.access.AccessSteps.{part}
 use Rattle.mem_base.specs.access.Plans.{in_callback}
-use Rattle.access_run.specs.Sizes.{Tiles, callback_of}
+use Rattle.access_base.specs.Sizes.{Tiles, callback_of}
 use Rattle.access_plan.specs.Lists.{IsUnderway, moved}
 use Rattle.access_plan.proofs.devices.callbacks.Given as goal
 

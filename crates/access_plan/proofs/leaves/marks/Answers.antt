@@ -2,7 +2,7 @@ use Rattle.std.proofs.Common.{◌≡◌, true, Some, ◌∷◌, [], sym, ap, sub
 use Rattle.mem_base.specs.access.Marks.{marks_of}
 use Rattle.mem_base.specs.access.Plans.{mark}
 use Rattle.dirty_log.specs.MarksLeft.{first_of}
-use Rattle.access_run.proofs.MemoryLaws.{first_and_rest}
+use Rattle.access_base.proofs.MemoryLaws.{first_and_rest}
 use Rattle.access_plan.specs.declared.lists.Reach.TheVariants as reach
 use Rattle.access_plan.specs.Lists.{IsUnderway, marks_in, moved}
 use Rattle.access_plan.proofs.ListLaws.{underway_none, underway_then, adds_one}

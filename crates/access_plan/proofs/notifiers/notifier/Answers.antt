@@ -1,7 +1,7 @@
 use Rattle.std.proofs.Common.{◌≡◌, Some, sym, ap, ◌∙◌}
 use Rattle.mem_base.specs.map.Region.{node_of}
 use Rattle.mem_base.specs.access.DeviceAccess.{notifier_of}
-use Rattle.access_run.proofs.LeafLaws.{notifier_known}
+use Rattle.access_base.proofs.LeafLaws.{notifier_known}
 use Rattle.access_plan.proofs.notifiers.notifier.Goals as goal
 
 pub returns-clause-number : goal.returns-clause-number

@@ -5,7 +5,7 @@ use Rattle.mem_base.specs.declared.map.forests.Forest.{Forest}
 use Rattle.mem_base.specs.access.Trails.{trail_of, chunks, first_length}
 use Rattle.mem_base.specs.access.AccessSteps.{reading, either}
 use Rattle.generation.specs.Published.{Published}
-use Rattle.access_run.proofs.MemoryLaws.{part_length}
+use Rattle.access_base.proofs.MemoryLaws.{part_length}
 use Rattle.mem_base.specs.access.Plans.{Reached}
 use Rattle.access_reach.specs.Reaching.{in_chunk, plan_below}
 use Rattle.access_reach.proofs.ReachLaws.{AreBusLaws, underway_as}
@@ -33,12 +33,12 @@ loop-done-preserved g c =
     let as_many : length got ≡ length (take k (drop done out)) = c.read.auto.out in
     let end : done + count ≡ done + length got = omega (arith, as_many, many) in
     let inside : done ≤ length out = omega (arith, fits, all) in
-    let whole : List Reached = plan_below f s addr (reading n) below in
-    let later : List Reached = flat_map (in_chunk f s addr (reading n)) (chunks f false s (addr + (done + count)) (below - (done + count))) in
+    let whole : List Reached = plan_below g.B.Answering.host f s addr (reading n) below in
+    let later : List Reached = flat_map (in_chunk g.B.Answering.host f s addr (reading n)) (chunks f false s (addr + (done + count)) (below - (done + count))) in
     let target = c.first_chunk-target.ensures.target ∙ ap (λ (z : Published). (trail_of z.forest false s (addr + done)).target) c.generation.ensures in
     let len = c.first_chunk-target.ensures.len
     ∙ ap (λ (z : Published). first_length (chunks z.forest false s (addr + done) (below - done))) c.generation.ensures in
-    let v = read_more g.B.Bus.asks g.B.Bus.shows laws c.args.bus.now c.loop-done.bus c.read.new.bus s addr n below done count
+    let v = read_more g.B.Bus.asks g.B.Bus.shows laws g.B.Answering.host c.args.bus.now c.loop-done.bus c.read.new.bus s addr n below done count
     (length (take k (drop done out))) c.first_chunk-target.result.0 (take done out) got c.loop-done.result c.read.result c.loop-done.invariant.1
     c.loop-done-test.true target len many c.read.ensures in (
       most,

@@ -10,8 +10,8 @@ abbrev pub invariant-loop-done : goal.invariant-loop-done
 invariant-loop-done g l =
     let f = (g.B.Bus.shows l.initial.bus).forest in
     let t = reading (length l.initial.out) in (l.done ≤ l.below)
-    × IsUnderway g.B.Bus.asks l.initial.bus (plan_below f l.space l.addr t l.below)
-    (flat_map (in_chunk f l.space l.addr t) (chunks f false l.space (l.addr + l.done) (l.below - l.done))) (outcome (take l.done l.out) l.result) l.bus
+    × IsUnderway g.B.Bus.asks l.initial.bus (plan_below g.B.Answering.host f l.space l.addr t l.below)
+    (flat_map (in_chunk g.B.Answering.host f l.space l.addr t) (chunks f false l.space (l.addr + l.done) (l.below - l.done))) (outcome (take l.done l.out) l.result) l.bus
 
 abbrev pub decreases-loop-done : goal.decreases-loop-done
 decreases-loop-done g l = l.below - l.done

@@ -5,7 +5,7 @@ use Rattle.mem_base.specs.access.AccessSteps.{reading, either}
 use Rattle.mem_base.specs.access.Plans.{Reached}
 use Rattle.mem_base.specs.access.Trails.{trail_of}
 use Rattle.generation.specs.Published.{Published}
-use Rattle.access_run.proofs.MemoryLaws.{part_length}
+use Rattle.access_base.proofs.MemoryLaws.{part_length}
 use Rattle.access_plan.specs.declared.rounds.Round.{Round}
 use Rattle.access_plan.specs.HostPlans.{IsNearEnd, rounds_with_host}
 use Rattle.access_plan.specs.Rounds.{IsRoundAt, bytes_in}

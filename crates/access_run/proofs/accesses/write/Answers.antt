@@ -1,40 +1,38 @@
-use Rattle.std.proofs.Common.{◌≡◌, ℕ, ◌+◌, ◌-◌, ◌^◌, List, length, subst, ◌∙◌, arith}
-use Rattle.mem_base.specs.map.Forest.{IsMade}
-use Rattle.generation.specs.Published.{Published}
-use Rattle.access_run.proofs.HandLaws.{AreHandLaws}
-use Rattle.access_run.proofs.AccessLaws.{write_past, at_end, takes_first}
+use Rattle.std.proofs.Common.{[], subst}
+use Rattle.plan_laws.proofs.PlanLaws.{access_is_planned}
+use Rattle.access_run.specs.Runs.{TakesAll}
+use Rattle.mem_base.specs.access.AccessSteps.{writing}
+use Rattle.mem_base.specs.access.Plans.{plan}
+use Rattle.access_reach.specs.Asking.{outcome}
+use Rattle.access_reach.specs.Reaching.{HasReached}
+use Rattle.access_run.specs.WordReplies.{AsksWords}
+use Rattle.access_run.proofs.WordLaws.{plan_taken, reached_by_words}
 use Rattle.access_run.proofs.accesses.write.Goals as goal
 
-pub write_below-result-requires-clause-takes : goal.write_below-result-requires-clause-takes
-write_below-result-requires-clause-takes g c =
-    let made : IsMade (g.H.Entered.shows c.args.hand.now).forest = subst (λ (z : Published). IsMade z.forest) c.generation.ensures c.forest.ensures.made in
-    takes_first (g.H.Entered.shows c.args.hand.now).forest (g.H.Writes.takes c.args.hand.now) c.args.space c.args.addr c.reach-below.result
-    c.args.bytes.now made
-    c.reach-below.ensures.most c.reach-below.ensures.all c.reach-below.ensures.past c.requires
+pub returns-clause-result : goal.returns-clause-result
+returns-clause-result g c =
+    let hand = c.args.hand.now in
+    let f = (g.H.Entered.shows hand).forest in
+    let e = c.write_by.ensures in
+    let h : HasReached (AsksWords g.H.Entered.makes (g.H.Entered.pass hand) f) hand (plan f c.args.space c.args.addr (writing c.args.bytes.now))
+    (outcome [] c.write_by.result) c.write_by.new.bus.hand.now =
+    record { replies = e.replies; made = e.made.1; each = e.each; told = e.told } in
+    (reached_by_words g.H.Entered.makes (g.H.Entered.pass hand) f c.args.space c.args.addr (writing c.args.bytes.now) hand c.write_by.new.bus.hand.now
+    (outcome [] c.write_by.result) h).1
 
-pub returns-then-below-bytes-clause-result : goal.returns-then-below-bytes-clause-result
-returns-then-below-bytes-clause-result g c =
-    let laws : AreHandLaws g.H.Entered.makes g.H.Entered.pass g.H.Entered.shows =
-    record { begins = g.met.H.Entered.begins; goes_on = g.met.H.Entered.goes_on; stays = g.met.H.Entered.stays } in
-    let bytes : List ℕ = c.args.bytes.now in
-    let below : ℕ = c.reach-below.result in
-    let made : IsMade (g.H.Entered.shows c.args.hand.now).forest = subst (λ (z : Published). IsMade z.forest) c.generation.ensures c.forest.ensures.made in
-    let at : c.args.addr + below ≡ 2 ^ 64 =
-    at_end c.args.addr below (length bytes) c.if-below-bytes.true c.reach-below.ensures.all c.reach-below.ensures.past in
-    c.joined.ensures
-    ∙ (write_past g.H.Entered.makes g.H.Entered.pass g.H.Entered.shows laws c.args.hand.now c.write_below-result.new.hand c.args.space c.args.addr below
-    (length bytes - below) bytes c.write_below-result.result made at (omega (arith, c.if-below-bytes.true)) (omega (arith, c.if-below-bytes.true))
-    c.write_below-result.ensures.done c.write_below-result.ensures.result).1
+pub returns-clause-done : goal.returns-clause-done
+returns-clause-done g c =
+    let hand = c.args.hand.now in
+    let f = (g.H.Entered.shows hand).forest in
+    let e = c.write_by.ensures in
+    let h : HasReached (AsksWords g.H.Entered.makes (g.H.Entered.pass hand) f) hand (plan f c.args.space c.args.addr (writing c.args.bytes.now))
+    (outcome [] c.write_by.result) c.write_by.new.bus.hand.now =
+    record { replies = e.replies; made = e.made.1; each = e.each; told = e.told } in
+    (reached_by_words g.H.Entered.makes (g.H.Entered.pass hand) f c.args.space c.args.addr (writing c.args.bytes.now) hand c.write_by.new.bus.hand.now
+    (outcome [] c.write_by.result) h).0
 
-pub returns-then-below-bytes-clause-done : goal.returns-then-below-bytes-clause-done
-returns-then-below-bytes-clause-done g c =
-    let laws : AreHandLaws g.H.Entered.makes g.H.Entered.pass g.H.Entered.shows =
-    record { begins = g.met.H.Entered.begins; goes_on = g.met.H.Entered.goes_on; stays = g.met.H.Entered.stays } in
-    let bytes : List ℕ = c.args.bytes.now in
-    let below : ℕ = c.reach-below.result in
-    let made : IsMade (g.H.Entered.shows c.args.hand.now).forest = subst (λ (z : Published). IsMade z.forest) c.generation.ensures c.forest.ensures.made in
-    let at : c.args.addr + below ≡ 2 ^ 64 =
-    at_end c.args.addr below (length bytes) c.if-below-bytes.true c.reach-below.ensures.all c.reach-below.ensures.past in
-    (write_past g.H.Entered.makes g.H.Entered.pass g.H.Entered.shows laws c.args.hand.now c.write_below-result.new.hand c.args.space c.args.addr below
-    (length bytes - below) bytes c.write_below-result.result made at (omega (arith, c.if-below-bytes.true)) (omega (arith, c.if-below-bytes.true))
-    c.write_below-result.ensures.done c.write_below-result.ensures.result).0
+pub write_by-requires : goal.write_by-requires
+write_by-requires g c =
+    let f = (g.H.Entered.shows c.args.hand.now).forest in
+    plan_taken (g.H.Writes.takes c.args.hand.now) f (plan f c.args.space c.args.addr (writing c.args.bytes.now))
+    (subst (TakesAll (g.H.Writes.takes c.args.hand.now)) (access_is_planned f c.args.space c.args.addr (writing c.args.bytes.now)) c.requires)

@@ -7,7 +7,7 @@ use Rattle.mem_base.specs.access.Places.{pages_in}
 use Rattle.dirty_log.specs.MarksLeft.{first_of}
 use Rattle.access_run.specs.Runs.{HasDone, IsUnderway}
 use Rattle.access_run.proofs.HandLaws.{AreHandLaws, underway_none, underway_then}
-use Rattle.access_run.proofs.MemoryLaws.{marks_inside, first_and_rest}
+use Rattle.access_base.proofs.MemoryLaws.{marks_inside, first_and_rest}
 use Rattle.access_run.proofs.memory.mark.Goals as goal
 
 pub loop-page-init : goal.loop-page-init

@@ -1,6 +1,6 @@
 use Rattle.std.proofs.Common.{ap, ◌∙◌}
 use Rattle.mem_base.specs.access.Words.{bytes_from}
-use Rattle.access_run.proofs.ByteLaws.{part_number}
+use Rattle.access_base.proofs.ByteLaws.{part_number}
 use Rattle.access_run.proofs.memory.part_of.Goals as goal
 
 pub returns-then-bytes-eq8 : goal.returns-then-bytes-eq8

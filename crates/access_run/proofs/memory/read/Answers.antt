@@ -6,7 +6,8 @@ use Rattle.mem_base.specs.access.MemoryAccess.{on_word, on_words}
 use Rattle.access_run.specs.Runs.{HasDone, IsUnderway}
 use Rattle.access_run.proofs.AnswerLaws.{words_read_fine}
 use Rattle.access_run.proofs.HandLaws.{AreHandLaws, underway_then}
-use Rattle.access_run.proofs.MemoryLaws.{words_then, whole_words_then, part_length, word_read}
+use Rattle.access_base.proofs.MemoryLaws.{part_length}
+use Rattle.access_run.proofs.MemoryLaws.{words_then, whole_words_then, word_read}
 use Rattle.access_run.proofs.memory.read.Goals as goal
 
 pub overflow_add-at : goal.overflow_add-at

@@ -5,7 +5,8 @@ use Rattle.mem_base.specs.access.MemoryAccess.{on_word, on_words}
 use Rattle.mem_base.specs.access.Words.{little_endian}
 use Rattle.access_run.specs.Runs.{HasDone, TakesStep, TakesAll}
 use Rattle.access_run.proofs.HandLaws.{AreHandLaws, underway_then, takes_lasts}
-use Rattle.access_run.proofs.MemoryLaws.{words_then, part_length, word_written}
+use Rattle.access_base.proofs.MemoryLaws.{part_length}
+use Rattle.access_run.proofs.MemoryLaws.{words_then, word_written}
 use Rattle.access_run.proofs.memory.write.Goals as goal
 
 pub overflow_add-at : goal.overflow_add-at

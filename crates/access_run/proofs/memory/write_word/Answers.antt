@@ -1,5 +1,5 @@
 use Rattle.std.proofs.Common.{◌<◌, ◌^◌, length, subst, sym}
-use Rattle.access_run.proofs.ByteLaws.{little_endian_below}
+use Rattle.access_base.proofs.ByteLaws.{little_endian_below}
 use Rattle.access_run.proofs.memory.write_word.Goals as goal
 
 pub write_word-requires-clause-kind : goal.write_word-requires-clause-kind

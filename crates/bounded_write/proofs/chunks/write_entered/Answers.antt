@@ -2,7 +2,7 @@ use Rattle.std.proofs.Common.{◌≡◌, ℕ, ◌+◌, ◌^◌, ◌≤◌, List,
 use Rattle.std.proofs.Math.Seq.{take-length}
 use Rattle.mem_base.specs.map.Forest.{IsMade}
 use Rattle.generation.specs.Published.{Published}
-use Rattle.access_run.proofs.AccessLaws.{at_end}
+use Rattle.access_base.proofs.ChunkLaws.{at_end}
 use Rattle.vcpu_pass.specs.Steps.{generation_in, generation_shown}
 use Rattle.bounded_write.proofs.PastLaws.{Ends, ends_past}
 use Rattle.bounded_write.proofs.chunks.write_entered.Goals as goal

@@ -1,0 +1,9 @@
+pub mod RunLaws
+pub mod ByteLaws
+pub mod MemoryLaws
+pub mod GoodLaws
+pub mod DeviceLaws
+pub mod FoundLaws
+pub mod TrailLaws
+pub mod LeafLaws
+pub mod ChunkLaws

@@ -1,4 +1,0 @@
-use Rattle.access_run.proofs.chunks.first_chunk.Given as goal
-
-abbrev pub ghosts-counted : goal.ghosts-counted
-ghosts-counted a = record { name = a.blank.name; parts = a.blank.parts }
