@@ -16,6 +16,11 @@ use Rattle.access_run.proofs.HandLaws.{AreHandLaws, done_then, results_append}
 use Rattle.access_run.proofs.ChunkLaws.{clip, DoSame}
 use Rattle.access_run.proofs.AnswerLaws.{nothing_done}
 
+-- the same with another name for the state after it
+pub done_at : {S : Type 0} (makes : Makes S) (p : PassId) (x y z : S) (ds : List AccessStep) (bs : List ℕ) → HasDone makes p x ds bs y → y ≡ z
+    → HasDone makes p x ds bs z
+done_at makes p x y z ds bs h e = subst (HasDone makes p x ds bs) e h
+
 module _ {S : Type 0} (makes : Makes S) (pass : S → PassId) (shows : S → Published) (laws : AreHandLaws makes pass shows) where
   -- what makes the same events, and reads the same bytes
   same_done : (x y : S) (ds es : List AccessStep) (bs : List ℕ) → DoSame ds es → HasDone makes (pass x) x es bs y → HasDone makes (pass x) x ds bs y
