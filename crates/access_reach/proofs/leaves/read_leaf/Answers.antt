@@ -2,7 +2,6 @@ use Rattle.std.proofs.Common.{◌≡◌, false, length, sym, subst}
 use Rattle.mem_base.specs.declared.map.spots.Spot.{Spot}
 use Rattle.mem_base.specs.declared.access.accesses.Target.TheVariants.{Leaf}
 use Rattle.mem_base.specs.access.AccessSteps.{reading, tx}
-use Rattle.generation.specs.Published.{Published}
 use Rattle.mem_base.specs.access.Plans.{by_memory, reached}
 use Rattle.access_reach.specs.Asking.{outcome}
 use Rattle.access_reach.specs.Reaching.{HasReached}

@@ -1,5 +1,4 @@
-use Rattle.std.proofs.Common.{◌≡◌, true, ap, ◌∙◌}
-use Rattle.mem_base.specs.access.Plans.{Answerer}
+use Rattle.std.proofs.Common.{true, ap, ◌∙◌}
 use Rattle.access_plan.specs.HostPlans.{answerer_by}
 use Rattle.access_reach.proofs.ReachLaws.{AreBusLaws, nobody_takes}
 use Rattle.access_reach.proofs.ChunkLaws.{unassigned}
