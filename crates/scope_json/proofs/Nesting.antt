@@ -19,6 +19,9 @@ use Rattle.view_diff.specs.declared.Difference.{Difference}
 use Rattle.view_slots.specs.Texts.{range_of}
 use Rattle.script_map.specs.Left.{Shown, first_of, published_in, refused_in}
 use Rattle.script_map.specs.Refusals.{Refused}
+use Rattle.script_lint.specs.Blocks.{idle_par}
+use Rattle.script_lint.specs.Refusals.{taken_along_by}
+use Rattle.script_lint.specs.Transactions.{unclosed}
 use Rattle.scope_words.specs.declared.requests.Request.{Request}
 use Rattle.scope_words.specs.declared.requests.Request.TheVariants.{Why, Lint, Diff, Slots, Draw, Explain, Import, Check}
 use Rattle.scope_run.specs.Diffs.{is_kept}
@@ -35,9 +38,9 @@ use Rattle.scope_json.specs.Answers.{AnswersWith, AnswersWord}
 use Rattle.scope_json.specs.Diffs.{TellsBetween, TellsDiff, TellsFirst, alone_data, changes_of, diff_data, diff_fields, difference_data, second_data}
 use Rattle.scope_json.specs.Diffs.{space_data, space_fields}
 use Rattle.scope_json.specs.Draws.{draw_data, draw_fields}
-use Rattle.scope_json.specs.Explains.{explain_fields, explained_data, fault_data, fault_fields, topic_answer}
+use Rattle.scope_json.specs.Explains.{explain_fields, explained_data, fault_data, fault_fields, refused_data, topic_answer}
 use Rattle.scope_json.specs.Monitors.{check_data, import_data, text_fields}
-use Rattle.scope_json.specs.Lints.{findings_in, lint_by, lint_fields, refused_data, refused_fields}
+use Rattle.scope_json.specs.Lints.{findings_in, line_data, lint_by, lint_data, lint_fields, number_data, refused_fields, taken_data, taken_fields}
 use Rattle.scope_json.specs.Tables.{TellsSlotsIn, TellsSlotsOf, TellsTables, slots_data, slots_fields, step_data, table_data, table_fields}
 use Rattle.scope_json.specs.Texts.{answer_of}
 use Rattle.scope_json.specs.Whys.{why_data, why_fields}
@@ -54,10 +57,24 @@ refused_depth r = depth_of_record 0 (refused_fields r) (leaf 0, (leaf 0, tt))
 refusals_depth : (rs : List Refused) → depth (list_of (map refused_data rs)) ≤ 2
 refusals_depth rs = depth_of_map 1 refused_data rs refused_depth
 
-lint_depth : (rs : List Refused) (s : State) → depth (lint_by rs s) ≤ 3
-lint_depth rs s =
-    answer_depth 2 (codes "lint") (lint_fields rs s)
-    (refusals_depth rs, (depth_of_map 1 (finding_data s.names) (findings_in s) (finding_depth s.names), tt))
+line_depth : (n : ℕ) (line : Option ℕ) → depth (line_data line) ≤ n
+line_depth n None = leaf n
+line_depth n (Some line) = leaf n
+
+taken_depth : (lines : List Line) (rs : List Refused) (r : Refused) → depth (taken_data lines rs r) ≤ 1
+taken_depth lines rs r = depth_of_record 0 (taken_fields lines rs r) (leaf 0, (leaf 0, (line_depth 0 (taken_along_by lines rs r), tt)))
+
+lint_depth : (lines : List Line) (rs : List Refused) (s : State) → depth (lint_by lines rs s) ≤ 3
+lint_depth lines rs s =
+    let begun = unclosed lines rs in
+    let idle = idle_par lines in
+    answer_depth 2 (codes "lint") (lint_fields lines rs begun idle s.names (findings_in s)) (
+      depth_of_map 1 (taken_data lines rs) rs (taken_depth lines rs),
+      (
+        depth_of_map 1 number_data begun (λ line. leaf 1),
+        (line_depth 2 idle, (depth_of_map 1 (finding_data s.names) (findings_in s) (finding_depth s.names), tt)),
+      ),
+    )
 
 -- a part for each element of a list
 parts_shallow : {X : Type 0} (n : ℕ) (tells : X → List Data → Type 0) (xs : List X) (items : List Data)
@@ -143,10 +160,10 @@ word_depth held what (Some code) d something h =
     (answer_depth 1 (codes "explain") (topic_answer h.0.0) (topic_depth h.0.0, tt)) (omega arith)
 word_depth held what None d something h = same_depth d (explained_data (script_of h.0)) 3 h.2.0 (explained_depth (script_of h.0)) (omega arith)
 
-lint_within : (lines : List Line) (d : Data) → d ≡ lint_by (refused_in (first_of lines) lines) (left_by lines) → depth d ≤ max_depth
+lint_within : (lines : List Line) (d : Data) → d ≡ lint_data lines → depth d ≤ max_depth
 lint_within lines d is =
     let rs = refused_in (first_of lines) lines in
-    same_depth d (lint_by rs (left_by lines)) 3 is (lint_depth rs (left_by lines)) (omega arith)
+    same_depth d (lint_by lines rs (left_by lines)) 3 is (lint_depth lines rs (left_by lines)) (omega arith)
 
 -- every answer nests at most so deep as a text may that is read
 pub answers_depth : (request : Request) (held : Holding) (d : Data) (something : Bool) → AnswersWith request held d something → depth d ≤ max_depth

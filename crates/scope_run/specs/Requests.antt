@@ -42,7 +42,7 @@ IsAddress word a = address (tokens_of word) ≡ Ok (a, [])
 abbrev pub AnswersWord : Holding → Text → Option Text → Text → Bool → Type 0
 AnswersWord held what (Some code) text something = TellsTopic what text × (something ≡ false)
 AnswersWord held what None text something =
-    OfFile held what (λ bytes. Explains (script_of bytes) text) × (something ≡ tells_something text)
+    OfFile held what (λ bytes. Explains bytes (script_of bytes) text) × (something ≡ tells_something text)
 
 -- the answer to a request: its text, and whether there is something to mend
 abbrev pub AnswersTo : Request → Holding → Text → Bool → Type 0

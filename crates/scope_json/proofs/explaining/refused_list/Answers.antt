@@ -1,9 +1,9 @@
 use Rattle.std.proofs.Common.{◌∷◌, ◌++◌, ◌∙◌, [], ap}
 use Rattle.serde_json.specs.Data.{Data}
 use Rattle.json_build.specs.Held.{values}
-use Rattle.scope_json.specs.Lints.{refused_data}
+use Rattle.scope_json.specs.Explains.{refused_data}
 use Rattle.scope_json.proofs.Lists.{map_next}
-use Rattle.scope_json.proofs.linting.refused_list.Goals as goal
+use Rattle.scope_json.proofs.explaining.refused_list.Goals as goal
 
 pub loop-one-preserved : goal.loop-one-preserved
 loop-one-preserved c =
