@@ -27,7 +27,7 @@ use Rattle.scope_words.specs.declared.requests.Request.TheVariants.{Why, Lint, D
 use Rattle.scope_run.specs.Diffs.{is_kept}
 use Rattle.scope_run.specs.Explains.{topic_code}
 use Rattle.scope_run.specs.Requests.{Holding}
-use Rattle.scope_run.specs.Scripts.{TellsAll, left_by}
+use Rattle.scope_run.specs.Scripts.{TellsAll, left_by, told_by}
 use Rattle.scope_run.specs.Tables.{slot_number}
 use Rattle.scope_values.specs.Findings.{finding_data}
 use Rattle.scope_values.specs.Rows.{row_data}
@@ -169,20 +169,20 @@ lint_within lines d is =
 pub answers_depth : (request : Request) (held : Holding) (d : Data) (something : Bool) → AnswersWith request held d something → depth d ≤ max_depth
 answers_depth (Why script space addr region) held d something h =
     let told = h.0.2.2.2 in
-    let names = (left_by h.0.2.2.0).names in
+    let names = (told_by h.0.0 h.0.2.2.0).names in
     same_depth d (why_data names told.one told.hops) 7 told.data_is
     (answer_depth 6 (codes "why") (why_fields names told.one told.hops) (searches_depth names told.one told.hops, tt)) (omega arith)
 answers_depth (Lint script) held d something h = lint_within h.2.0 d h.2.2.0
 answers_depth (Diff first second) held d something h =
     let told = h.2.2.2.2 in
-    same_depth d (diff_data told.0) 6 told.2 (diff_depth (left_by h.2.2.0) (left_by h.2.2.2.0) told.0 told.1) (omega arith)
+    same_depth d (diff_data told.0) 6 told.2 (diff_depth (told_by h.0 h.2.2.0) (told_by h.2.0 h.2.2.2.0) told.0 told.1) (omega arith)
 answers_depth (Slots script) held d something h =
     let told = h.0.2.2 in
     let lines = h.0.2.0 in
-    same_depth d (slots_data told.0) 6 told.2 (slots_depth (left_by lines) (published_in (first_of lines) lines) told.0 told.1) (omega arith)
+    same_depth d (slots_data told.0) 6 told.2 (slots_depth (told_by h.0.0 lines) (published_in (first_of lines) lines) told.0 told.1) (omega arith)
 answers_depth (Draw script space style) held d something h =
     let told = h.0.2.2 in
-    let names = (left_by h.0.2.0).names in
+    let names = (told_by h.0.0 h.0.2.0).names in
     same_depth d (draw_data space.now names told.rows) 4 told.data_is
     (answer_depth 3 (codes "draw") (draw_fields space.now names told.rows) (leaf 3, (depth_of_map 2 (row_data names) told.rows (row_depth names), tt)))
     (omega arith)
