@@ -1,6 +1,7 @@
 -- Names that are told, region after region and space after space.
 use Rattle.std.proofs.Common.{◌≡◌, ◌<◌, ◌≤◌, ◌+◌, ℕ, suc, List, [], ◌∷◌, ◌++◌, length, drop, add-one, sym, ap, ◌∙◌, append_assoc}
-use Rattle.std.proofs.Common.{Some, None, zero, refl, arith}
+use Rattle.std.proofs.Common.{Result, Ok, Err, is_ok, Some, None, true, true≢false, zero, refl, arith}
+use Rattle.std.specs.Prelude.{OnOk}
 use Rattle.std.specs.List.{slice_get}
 use Rattle.std.proofs.lemmas.List.{append-nil, drop_all, length-append}
 use Rattle.std.proofs.lemmas.Option.{get_or_from_slice_get, none-some, slice_get_within}
@@ -9,8 +10,8 @@ use Rattle.mem_base.specs.declared.map.ids.RegionId.{RegionId}
 use Rattle.mem_base.specs.declared.map.kinds.Kind.{Kind}
 use Rattle.mem_base.specs.script.Named.{Names, name_at}
 use Rattle.mem_base.specs.script.Spelling.{Text}
-use Rattle.script_names.specs.Tables.{AllNames, printed_names, table}
-use Rattle.script_memory.specs.Told.{told_kind, told_kinds, told_names}
+use Rattle.script_names.specs.Tables.{AllNames, printed_names}
+use Rattle.script_memory.specs.Told.{told_kind, told_kinds, told_names, without_names}
 
 -- one name more
 pub name_next : (names : List Text) (i : ℕ) (old new whole : List Text) → i < length names → new ≡ old ++ name_at names i ∷ []
@@ -58,8 +59,7 @@ kinds_all memory kinds i now whole past h =
     sym (append-nil now) ∙ ap (λ ks. now ++ told_kinds memory i ks) (sym (drop_all i kinds past)) ∙ h
 
 -- the names that are told, of those of regions, then of spaces, and no others
-pub all_told : (memory : List RegionId) (names none regions all : AllNames)
-    → none ≡ record { regions = table [] []; kinds = []; spaces = table [] []; listeners = table [] []; notifiers = table [] [] }
+pub all_told : (memory : List RegionId) (names none regions all : AllNames) → none ≡ without_names
     → regions.regions.made ≡ names.regions.made → regions.kinds ≡ told_kinds memory 0 names.kinds
     → regions ≡ record none { regions = regions.regions; kinds = regions.kinds }
     → all.spaces.made ≡ names.spaces.made → all ≡ record regions { spaces = all.spaces }
@@ -72,3 +72,8 @@ all_told memory names none regions all n r k o s p =
     let notifiers : all.notifiers.made ≡ [] =
     ap (λ (x : AllNames). x.notifiers.made) p ∙ ap (λ (x : AllNames). x.notifiers.made) o ∙ ap (λ (x : AllNames). x.notifiers.made) n in
     λ i. record { regions = named i; kinds = kinds i; spaces = s i; listeners = listeners i; notifiers = notifiers i }
+
+-- what holds of a call that was done
+pub done_gives : {T E : Type 0} (r : Result T E) (X : Type 0) → is_ok r ≡ true → OnOk r X → X
+done_gives (Ok x) X e h = h
+done_gives (Err x) X e h = absurd (true≢false (sym e))

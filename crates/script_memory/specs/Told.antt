@@ -10,7 +10,7 @@ use Rattle.mem_base.specs.script.Scripts.{Line, script_of}
 use Rattle.mem_base.specs.script.Spelling.{Text}
 use Rattle.mem_base.specs.script.States.{State}
 use Rattle.script_map.specs.Left.{first_of, refused_in, state_after}
-use Rattle.script_names.specs.Tables.{AllNames}
+use Rattle.script_names.specs.Tables.{AllNames, table}
 use Rattle.script_memory.specs.Regions.{memory_of}
 
 -- the kind as which the region with a number is told
@@ -47,6 +47,10 @@ told_of text lines = told_in (memory_of text (refused_in (first_of lines) lines)
 -- this is told of the script of a text
 abbrev pub IsToldByText : Text → Told → Type 0
 IsToldByText text told = (lines : List Line) × (script_of text ≡ Ok lines) × (told ≡ told_of text lines)
+
+-- before a name is added
+abbrev pub without_names : AllNames
+without_names = record { regions = table [] []; kinds = []; spaces = table [] []; listeners = table [] []; notifiers = table [] [] }
 
 -- one region more was added to names that are told, with the name and the kind that the region with this number has
 pub record AddsRegion (memory : List RegionId) (names old new : AllNames) (number : ℕ) : Type 0 where

@@ -1,9 +1,9 @@
 // The names by which lines are told.
-ghost use Rattle.std.specs.Prelude.{◌≡◌, ◌==◌, ◌++◌, ◌∷◌, ◌<◌, ◌^◌, [], IfOk, OnOk, length};
+ghost use Rattle.std.specs.Prelude.{◌≡◌, ◌==◌, ◌++◌, ◌∷◌, ◌<◌, ◌^◌, [], true, is_ok, IfOk, OnOk, length};
 ghost use Rattle.std.specs.List.{list_any};
 ghost use Rattle.mem_base.specs.script.Named.{name_at};
 ghost use Rattle.script_names.specs.Tables.{printed_names};
-ghost use Rattle.script_memory.specs.Told.{AddsRegion, told_kind, told_kinds, told_names};
+ghost use Rattle.script_memory.specs.Told.{AddsRegion, told_kind, told_kinds, told_names, without_names};
 
 use mem_base::{Kind, RegionId};
 use script_names::{NameTable, Names};
@@ -108,6 +108,31 @@ fn add_spaces(alloc: Global, told: &mut Names, names: &Names) -> Result<(), Allo
     Ok(())
 }
 
+// Adds all regions and spaces.
+fn add_names(
+    alloc: Global,
+    told: &mut Names,
+    names: &Names,
+    memory: &[RegionId],
+) -> Result<(), AllocError>
+    requires none { told.old ≡ without_names }
+    ensures { OnOk result (printed_names told.new ≡ told_names memory.now (printed_names names.now)) }
+{
+    add_regions(alloc, told, names, memory)?;
+    add_spaces(alloc, told, names)?;
+    Ok(())
+}
+
+// The names, once all were added.
+fn finished(told: Names, done: Result<(), AllocError>) -> Result<Names, AllocError>
+    ensures { IfOk result (λ t. (t ≡ told) × (is_ok done ≡ true)) }
+{
+    match done {
+        Ok(()) => Ok(told),
+        Err(fault) => Err(fault),
+    }
+}
+
 /// The names by which lines are told where these regions are read as memory.
 pub(crate) fn told_names(
     alloc: Global,
@@ -117,7 +142,6 @@ pub(crate) fn told_names(
     ensures { IfOk result (λ told. printed_names told ≡ told_names memory.now (printed_names names.now)) }
 {
     let mut told = Names::new(alloc);
-    add_regions(alloc, &mut told, names, memory)?;
-    add_spaces(alloc, &mut told, names)?;
-    Ok(told)
+    let done = add_names(alloc, &mut told, names, memory);
+    finished(told, done)
 }
