@@ -7,6 +7,7 @@ use crate::orders::tried;
 use crate::plans::{Plan, Plans};
 use crate::trees::{Node, Trees};
 use mem_base::Name;
+use monitor_text::RowKind;
 use script_lines::Line;
 use std::alloc::{AllocError, Global};
 
@@ -181,6 +182,11 @@ fn add_children(
     Ok(())
 }
 
+// Whether a region is read-only that is no ROM in the script: a window, or a device that stands for ROM.
+fn is_readonly(node: &Node<'_>, plan: &Plan) -> bool {
+    plan.readonly || (plan.made == Made::Memory && node.row.kind == RowKind::Rom)
+}
+
 // Switches a region off, and its flags on.
 fn add_flags(text: &mut Line, node: &Node<'_>, plan: &Plan) -> Result<(), AllocError> {
     let name = plan.name.as_bytes();
@@ -188,7 +194,7 @@ fn add_flags(text: &mut Line, node: &Node<'_>, plan: &Plan) -> Result<(), AllocE
         text.named("disable ", name)?;
         text.end()?;
     }
-    if plan.readonly {
+    if is_readonly(node, plan) {
         text.named("readonly ", name)?;
         text.text(" on\n")?;
     }

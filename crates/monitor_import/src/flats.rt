@@ -112,24 +112,27 @@ pub(crate) fn may_be_shown(node: &Node<'_>, row: &FlatRow, addr: u64) -> bool {
     }
 }
 
-// Whether a range shows a window read-only.
-fn is_rom_in(node: &Node<'_>, row: &FlatRow) -> bool {
-    row.kind == RowKind::Rom
-        && row.last >= node.row.start
-        && may_be_shown(node, row, row.start.max(node.row.start))
+// Whether a range may show a window.
+fn is_shown_in(node: &Node<'_>, row: &FlatRow) -> bool {
+    row.last >= node.row.start && may_be_shown(node, row, row.start.max(node.row.start))
 }
 
-/// Whether a view shows a window read-only where its target is RAM.
+/// Whether a view shows a window read-only where its target is RAM: all of its ranges that may show the window are read-only. Where
+/// another window on the same RAM covers a part, that part's range may be either's.
 pub(crate) fn is_readonly(view: &View<'_>, node: &Node<'_>) -> bool {
     if node.row.window.is_none() || node.row.kind != RowKind::Ram || node.row.disabled {
         return false;
     }
+    let mut is_rom = false;
     for row in view.rows.iter() {
-        if is_rom_in(node, row) {
-            return true;
+        if is_shown_in(node, row) {
+            if row.kind != RowKind::Rom {
+                return false;
+            }
+            is_rom = true;
         }
     }
-    false
+    is_rom
 }
 
 /// Which regions are shown, by name: of all ranges that show a region of that name, the least size that the region has by them.

@@ -18,7 +18,7 @@ use Rattle.scope_run.specs.Explains.{Explains, TellsTopic, topic_code}
 use Rattle.scope_run.specs.Files.{Tells}
 use Rattle.scope_run.specs.Imports.{TellsImport, most_monitor}
 use Rattle.scope_run.specs.Lints.{lint_text, tells_something}
-use Rattle.scope_run.specs.Scripts.{FailsOn, OfScript, left_by}
+use Rattle.scope_run.specs.Scripts.{FailsOn, OfScript, told_by}
 use Rattle.scope_run.specs.Tables.{TellsSlots}
 use Rattle.scope_run.specs.declared.importing.MonitorStop.TheVariants.{BadLine, Long, Made}
 use Rattle.monitor_text.specs.Rows.{flat_line, tree_line}
@@ -42,22 +42,22 @@ IsAddress word a = address (tokens_of word) ≡ Ok (a, [])
 abbrev pub AnswersWord : Holding → Text → Option Text → Text → Bool → Type 0
 AnswersWord held what (Some code) text something = TellsTopic what text × (something ≡ false)
 AnswersWord held what None text something =
-    OfFile held what (λ bytes. Explains (script_of bytes) text) × (something ≡ tells_something text)
+    OfFile held what (λ bytes. Explains bytes (script_of bytes) text) × (something ≡ tells_something text)
 
 -- the answer to a request: its text, and whether there is something to mend
 abbrev pub AnswersTo : Request → Holding → Text → Bool → Type 0
 AnswersTo (Why script space addr region) held text something =
     OfFile held script.now (λ bytes. (a : ℕ) × IsAddress addr.now a
-    × OfScript bytes (λ lines. TellsWhy (left_by lines) space.now a (option_map (λ r. r.now) region) text)) × (something ≡ false)
+    × OfScript bytes (λ lines. TellsWhy (told_by bytes lines) space.now a (option_map (λ r. r.now) region) text)) × (something ≡ false)
 AnswersTo (Lint script) held text something =
     OfFile held script.now (λ bytes. OfScript bytes (λ lines. text ≡ lint_text lines)) × (something ≡ tells_something text)
 AnswersTo (Diff first second) held text something =
     OfFile held first.now (λ old. OfFile held second.now (λ new.
-    OfScript old (λ a. OfScript new (λ b. TellsDiff (left_by a) (left_by b) text)))) × (something ≡ tells_something text)
+    OfScript old (λ a. OfScript new (λ b. TellsDiff (told_by old a) (told_by new b) text)))) × (something ≡ tells_something text)
 AnswersTo (Slots script) held text something =
-    OfFile held script.now (λ bytes. OfScript bytes (λ lines. TellsSlots lines text)) × (something ≡ false)
+    OfFile held script.now (λ bytes. OfScript bytes (λ lines. TellsSlots bytes lines text)) × (something ≡ false)
 AnswersTo (Draw script space style) held text something =
-    OfFile held script.now (λ bytes. OfScript bytes (λ lines. is_some (space_named (left_by lines) space.now) ≡ true)) × (something ≡ false)
+    OfFile held script.now (λ bytes. OfScript bytes (λ lines. is_some (space_named (told_by bytes lines) space.now) ≡ true)) × (something ≡ false)
 AnswersTo (Explain what) held text something = AnswersWord held what.now (topic_code what.now) text something
 AnswersTo (Import tree flat spaces) held text something = TellsImport text something
 AnswersTo (Check script flat) held text something =
