@@ -1,9 +1,9 @@
 use Rattle.std.proofs.Common.{rules}
 use Rattle.world_core.proofs.WordLaws.{MayReach, may_reach}
-use Rattle.world_core.proofs.hands.EnteredPassWrites.mark_page.Goals.{After-is_reached}
+use Rattle.world_core.proofs.hands.EnteredPassWrites.mark_page.Goals.{After-mark_page-arg-2-1}
 use Rattle.world_core.proofs.hands.EnteredPassWrites.mark_page.Goals as goal
 
-reach : (c : After-is_reached) → MayReach c.args.self.now.world.now c.args.self.now.pass c.args.place.now
+reach : (c : After-mark_page-arg-2-1) → MayReach c.args.self.now.world.now c.args.self.now.pass c.args.place.now
 reach c = may_reach c.args.self.now.world.now c.args.self.now.pass c.args.place.now c.is_reached.ensures (search rules) c.requires.placed
 
 pub mark_page-requires-clause-may : goal.mark_page-requires-clause-may

@@ -34,12 +34,13 @@ near c = let s = c.self.inside in
 
 pub overflow_add-place : goal.overflow_add-place
 overflow_add-place c =
-    let l : c.in-Some.place.start + c.mark_of-word.result.0 < length c.self.inside.hand.words = near c in
+    let l : c.in-Some.place.start + c.mark_of-word.result.0 < length c.self.inside.hand.words =
+    near (goal.at.overflow_add-place c).After-mark_of-word in
     let few : length c.self.inside.hand.words < 2 ^ 64 = search rules in
     omega (arith, l, few)
 
 pub step-requires : goal.step-requires
-step-requires c = near c
+step-requires c = near (goal.at.step-requires c).After-mark_of-word
 
 pub invariant_of-self : goal.invariant_of-self
 invariant_of-self c =
