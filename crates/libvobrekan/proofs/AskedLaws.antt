@@ -64,7 +64,8 @@ pub asked : {R : Type 0} (tell : R → Answer) (wrap : R → machine.Answer) (me
     → (r ≢ memory → IsCompleted w k (wrap r) v) → IsLegalFrom w (completed w k).entries → (r ≡ memory → v ≡ w) → v.passes ≡ w.passes
     → Asked w k (tell r) (Some v)
 asked tell wrap memory r w v k same is_memory only is_completed legal unchanged passes =
-    let ran : ((tell r).code ≡ code_memory → ⊥) → IsCompleted w k (wrap r) v = λ some. is_completed (λ e. some (ap (λ x. (tell x).code) e ∙ is_memory)) in record {
+    let ran : ((tell r).code ≡ code_memory → ⊥) → IsCompleted w k (wrap r) v = λ some. is_completed (λ e. some (ap (λ x. (tell x).code) e ∙ is_memory)) in
+    record {
       answer_is = λ some. same ∙ ap answer_told (ran some).answer_is;
       world = λ some. ap Some (ran some).world;
       legal = legal;

@@ -59,11 +59,13 @@ module _ {M : Type 1} {𝓤 : Ura M} {𝓛 : Logic 𝓤} {K : Type 0} {Γ : List
       let told : at d.at = subst (λ (ps : List Val). vs ≡ vstruct (of_list (ps ++ [])) ∷ []) ep ev in
       either t d.heap d.at d.desk
       (λ is_none is_null. none is_none (subst at is_null told))
-      (λ x is test. in_a_block t d.at (λ p. box_owns (ghosts.dealloc_token d.heap) Inner p x) (fst∗ 𝓤 (never 𝓤) (sem 𝓛 (ghosts.dealloc_token d.heap (bare (lone Inner.mir)) null_ptr)))
+      (λ x is test. in_a_block t d.at (λ p. box_owns (ghosts.dealloc_token d.heap) Inner p x)
+      (fst∗ 𝓤 (never 𝓤) (sem 𝓛 (ghosts.dealloc_token d.heap (bare (lone Inner.mir)) null_ptr)))
       (λ b o e. some b o x is (subst at e told) (subst Testable e test))))))
 
   pub handle_in : K → (b o : ℕ) (a : Global) (x : Inner.Denot) → Testable (block_ptr b o)
-      → Step K 𝓛 (‵ (Row.own_val (record { at = block_ptr b o; heap = a; desk = Some x }) (alone (vptr b o) ∷ [])) ∷ Γ) G (‵ (box_owns (ghosts.dealloc_token a) Inner (block_ptr b o) x) ∷ Γ) G
+      → Step K 𝓛 (‵ (Row.own_val (record { at = block_ptr b o; heap = a; desk = Some x }) (alone (vptr b o) ∷ [])) ∷ Γ) G
+      (‵ (box_owns (ghosts.dealloc_token a) Inner (block_ptr b o) x) ∷ Γ) G
   handle_in t b o a x test = step (λ s. let v : Val = alone (vptr b o) in
       nothing t $ fpack t (Testable (block_ptr b o)) (λ _. ftrue) test $ fjoin t $
       nothing t $ feq_i t (List Val) (vptr b o ∷ []) (vptr b o ∷ []) refl $ fjoin t $ feq_i t (List Val) (v ∷ []) (v ∷ []) refl $ fjoin t $

@@ -11,7 +11,8 @@ use Rattle.libvobrekan.specs.declared.answers.Answer.{Answer}
 use Rattle.libvobrekan.specs.declared.plans.ReachedNumbers.{ReachedNumbers}
 use Rattle.libvobrekan.specs.Plans.{HasPlan, IsListOf, IsTold, items_of, lists_of}
 
-pub has_plan : (f : Forest) (number : ℕ) (core : Bool) (s : SpaceId) (a : ℕ) (t : Transfer) (before : List ReachedNumbers) (answer : Answer) (out : List ReachedNumbers)
+pub has_plan : (f : Forest) (number : ℕ) (core : Bool) (s : SpaceId) (a : ℕ) (t : Transfer) (before : List ReachedNumbers) (answer : Answer)
+    (out : List ReachedNumbers)
     (r : Result (Option (Vec Reach Global)) AllocError) → IfOk r (λ o. IsListOf core f s a t (items_of o)) → IsTold (lists_of r) number before answer out
     → HasPlan f number core s a t before answer out
 has_plan f number core s a t before answer out (Ok o) h k = record { list = Ok (items_of o); is = h; told = k }

@@ -14,4 +14,5 @@ returns c =
     let r = c.call-answer.result in
     on_handle c.args.handle.now.machine w v k (call_told r) c.of_call.result c.put.new.self.machine c.in-Some.ensures.taken c.of_call.ensures c.put.ensures
     (subst (λ u. Asked u k (call_told r) (Some v)) c.deref_mut.ensures.value
-    (asked_call c.deref_mut.result.now v k r c.call-answer.ensures.completed c.call-answer.ensures.legal c.call-answer.ensures.unchanged c.call-answer.ensures.passes))
+    (asked_call c.deref_mut.result.now v k r c.call-answer.ensures.completed c.call-answer.ensures.legal c.call-answer.ensures.unchanged
+    c.call-answer.ensures.passes))

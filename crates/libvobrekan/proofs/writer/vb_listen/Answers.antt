@@ -16,4 +16,6 @@ returns c =
     let r = c.listen-answer.result in
     on_handle c.args.handle.now.machine w v k (plain_told r) c.of_plain.result c.put.new.self.machine c.in-Some.ensures.taken c.of_plain.ensures c.put.ensures
     (subst (λ u. Asked u k (plain_told r) (Some v)) c.deref_mut.ensures.value
-    (asked_plain c.deref_mut.result.now v k r (rw (to_z-of_z w32 c.args.priority c.ranges.priority) at c.listen-answer.ensures.completed) (rw (to_z-of_z w32 c.args.priority c.ranges.priority) at c.listen-answer.ensures.legal) c.listen-answer.ensures.unchanged c.listen-answer.ensures.passes))
+    (asked_plain c.deref_mut.result.now v k r (rw (to_z-of_z w32 c.args.priority c.ranges.priority) at c.listen-answer.ensures.completed)
+    (rw (to_z-of_z w32 c.args.priority c.ranges.priority) at c.listen-answer.ensures.legal) c.listen-answer.ensures.unchanged
+    c.listen-answer.ensures.passes))

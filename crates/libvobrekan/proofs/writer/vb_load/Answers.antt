@@ -15,4 +15,5 @@ returns c =
     let told = plain_told c.load_bytes-answer.result in
     done_on_handle c.args.handle.now.machine w v k told c.of_plain.result c.put.new.self.machine c.in-Some.ensures.taken c.of_plain.ensures c.put.ensures
     (subst (λ u. Did u k told (Some v)) c.deref_mut.ensures.value
-    (did c.deref_mut.result.now v k (machine.plain_answer c.load_bytes-answer.result) told refl c.load_bytes-answer.ensures.completed c.load_bytes-answer.ensures.legal))
+    (did c.deref_mut.result.now v k
+    (machine.plain_answer c.load_bytes-answer.result) told refl c.load_bytes-answer.ensures.completed c.load_bytes-answer.ensures.legal))

@@ -14,4 +14,5 @@ returns-clause-taken c less =
     let told = done c.notified-value.result 0 in
     done_on_handle c.args.handle.now.machine w v k told c.done.result c.put.new.self.machine c.in-Some.ensures.taken c.done.ensures c.put.ensures
     (subst (λ u. Did u k told (Some v)) c.deref_mut.ensures.value
-    (did c.deref_mut.result.now v k (machine.notifier_answer c.notified-value.result) told refl c.notified-value.ensures.completed c.notified-value.ensures.legal))
+    (did c.deref_mut.result.now v k
+    (machine.notifier_answer c.notified-value.result) told refl c.notified-value.ensures.completed c.notified-value.ensures.legal))

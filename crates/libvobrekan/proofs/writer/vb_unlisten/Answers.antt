@@ -15,4 +15,5 @@ returns c =
     let r = c.unlisten-answer.result in
     on_handle c.args.handle.now.machine w v k (plain_told r) c.of_plain.result c.put.new.self.machine c.in-Some.ensures.taken c.of_plain.ensures c.put.ensures
     (subst (λ u. Asked u k (plain_told r) (Some v)) c.deref_mut.ensures.value
-    (asked_plain c.deref_mut.result.now v k r c.unlisten-answer.ensures.completed c.unlisten-answer.ensures.legal c.unlisten-answer.ensures.unchanged c.unlisten-answer.ensures.passes))
+    (asked_plain c.deref_mut.result.now v k r c.unlisten-answer.ensures.completed c.unlisten-answer.ensures.legal c.unlisten-answer.ensures.unchanged
+    c.unlisten-answer.ensures.passes))
