@@ -9,7 +9,19 @@ use Rattle.mem_base.specs.script.Spelling.{Text}
 use Rattle.mem_base.specs.views.Flattened.{view_of}
 use Rattle.script_map.specs.Left.{shown_in}
 use Rattle.script_check.specs.Blocks.{Printed}
-use Rattle.script_check.specs.Checks.{Compared, IsSpacePrinted, Explains, IsToldOf, IsToldOfText, compared, compared_with, is_other, some_differs, space_verdict, spaces_text}
+use Rattle.script_check.specs.Checks.{
+  Compared,
+  IsSpacePrinted,
+  Explains,
+  IsToldOf,
+  IsToldOfText,
+  compared,
+  compared_with,
+  is_other,
+  some_differs,
+  space_verdict,
+  spaces_text,
+}
 use Rattle.script_check.specs.declared.faults.CheckFault.{CheckFault}
 use Rattle.script_check.specs.declared.faults.CheckFault.TheVariants.{Memory}
 use Rattle.script_memory.specs.Told.{IsToldByText, Told}

@@ -11,7 +11,8 @@ use Rattle.scope_json.proofs.differing.diff.Goals as goal
 pub returns-in-Ok-clause-told : goal.returns-in-Ok-clause-told
 returns-in-Ok-clause-told c = IfOk-weaker c.diff_with.result _ _
     (λ a t. of_state c.args.first.now c.in-Ok.map (λ s. OfScript c.args.second.now (λ new. (items : List Data)
-    × TellsDiff s (told_by c.args.second.now new) items × (view a.value ≡ diff_data items) × (a.something ≡ has_any items))) c.in-Ok.ensures.map t) c.diff_with.ensures.told
+    × TellsDiff s (told_by c.args.second.now new) items × (view a.value ≡ diff_data items) ×
+    (a.something ≡ has_any items))) c.in-Ok.ensures.map t) c.diff_with.ensures.told
 
 pub returns-in-Ok-clause-fails : goal.returns-in-Ok-clause-fails
 returns-in-Ok-clause-fails c =
