@@ -70,7 +70,7 @@ fn names_of(alloc: Global, words: &[&str]) -> Result<Vec<Name>, AllocError>
 
 // The names between commas; none where no word is given.
 fn names_in(alloc: Global, words: Option<&str>) -> Result<Vec<Name>, AllocError>
-    ensures { IfOk result (λ names. names.items ≡ wanted_in (option_map (λ w. w.now) words)) }
+    ensures { IfOk result (λ names. names.items ≡ wanted_in (option_map (λ w. w.now) words.entry)) }
 {
     match words {
         Some(words) => names_of(alloc, words_of(alloc, words)?.as_slice()),
