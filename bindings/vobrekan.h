@@ -381,7 +381,7 @@ vb_answer vb_cpu_write8(vb_cpu *handle, uint32_t space, uint64_t addr, uint64_t 
  * where a device, whose access takes several callbacks, has taken the first of those that come next. */
 vb_answer vb_cpu_write(vb_cpu *handle, uint32_t space, uint64_t addr, const uint8_t *bytes, size_t bytes_len, uint32_t tries);
 
-/* Leaves where the virtual CPU is entered, and frees it, if the handle has one. The handle has none then. */
+/* Leaves where the virtual CPU is entered, and gives it back to its desk, if the handle has one. The handle has none then. */
 void vb_cpu_free(vb_cpu *handle);
 
 /* What listeners were told: the call at an index, counted from the first that is not forgotten, where there is one. `value` of the
@@ -402,8 +402,8 @@ void vb_desk_free(vb_desk *handle);
  * generation that a publish would overwrite, seven before the current one, it is refused with the code 19. */
 vb_answer vb_desk_ask(vb_desk *handle, const vb_order *order);
 
-/* Hands out a virtual CPU, for a handle that has none. There are 16, numbered from 0 in the order in which they are handed out, and after
- * these it is refused with the code 27. It has seen all that the desk has done. */
+/* Hands out a virtual CPU, for a handle that has none. There are 16, numbered from 0 in the order in which they are handed out. Once all are
+ * out, one that was freed is handed out again, and where none was it is refused with the code 27. It has seen all that the desk has done. */
 vb_answer vb_desk_cpu(vb_desk *handle, vb_cpu *cpu);
 
 /* Takes a notifier, as `vb_notified` does. */

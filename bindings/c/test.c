@@ -488,10 +488,15 @@ static void test_desks(void)
     check(held != 0, "a virtual CPU that stays holds the seventh publish after it up");
     vb_cpu_free(&cpu);
     done(vb_desk_ask(&d, &order), "once it was freed it does not");
-    for (int i = 0; i < 15; i++) {
+    for (int i = 0; i < 16; i++) {
         done(vb_desk_cpu(&d, &cpus[i]), "a virtual CPU");
     }
-    refused(vb_desk_cpu(&d, &cpus[15]), VB_NO_CPU, 0, 0, "there are 16");
+    refused(vb_desk_cpu(&d, &cpu), VB_NO_CPU, 0, 0, "there are 16");
+    done(vb_cpu_enter(&cpus[7]), "one of them enters");
+    vb_cpu_free(&cpus[7]);
+    done(vb_desk_cpu(&d, &cpus[7]), "once it is freed it is handed out again");
+    vb_cpu_read(&cpus[7], 1, order.offset, out, 1);
+    check(vb_cpu_write(&cpus[7], 1, order.offset, out, 1, 1).code == VB_DONE, "and works");
     vb_desk_free(&d);
     ended = vb_cpu_write8(&cpus[3], 1, order.offset, 5);
     check(ended.code == VB_DONE && ended.what == 0, "virtual CPUs outlive their desk");

@@ -115,12 +115,13 @@ static void *run_byte(void *given)
     return NULL;
 }
 
-/* How many of the virtual CPUs found each byte that they wrote. */
+/* How many of the virtual CPUs found each byte that they wrote. They are freed on their threads, and handed out again here. */
 static int run_bytes(void)
 {
     vb_desk desk = VB_DESK_INIT;
     pthread_t threads[CPUS];
-    int good = 0;
+    vb_cpu again[16] = { VB_CPU_INIT };
+    int good = 0, out = 0;
     vb_desk_new(&desk, 1 << 10);
     uint32_t ram = (uint32_t)ask(&desk, (vb_order){ .what = VB_DO_REGION, .kind = VB_KIND_RAM, .size = 0x1000 }).value;
     ask(&desk, (vb_order){ .what = VB_DO_SPACE, .space = 0, .other = ram });
@@ -129,12 +130,19 @@ static int run_bytes(void)
         vb_desk_cpu(&desk, &cpus[i].cpu);
         pthread_create(&threads[i], NULL, run_byte, &cpus[i]);
     }
+    for (int i = 0; i < 16 - CPUS; i++) {
+        out += vb_desk_cpu(&desk, &again[i]).code == VB_DONE;
+    }
     for (int i = 0; i < CPUS; i++) {
         pthread_join(threads[i], NULL);
         good += cpus[i].failed == 0;
+        out += vb_desk_cpu(&desk, &again[16 - CPUS + i]).code == VB_DONE;
+    }
+    for (int i = 0; i < 16; i++) {
+        vb_cpu_free(&again[i]);
     }
     vb_desk_free(&desk);
-    return good;
+    return out == 16 ? good : 0;
 }
 
 int main(void)

@@ -254,6 +254,18 @@ class Tests(unittest.TestCase):
         self.assertEqual(desk.harvest(ram, c.VB_CLIENT_MIGRATION), [0])
         self.assertEqual(cpu.write(SPACE, 0x1FFE, b"xyz"), (3, c.VB_ACCESS_DECODE))
 
+    def test_virtual_cpus_are_handed_out_again(self):
+        desk = Desk(64)
+        cpus = [desk.cpu() for _ in range(16)]
+        with self.assertRaises(Refused) as it:
+            desk.cpu()
+        self.assertEqual(it.exception.code, c.VB_NO_CPU)
+        for _ in range(40):
+            cpus[5].enter()
+            del cpus[5]
+            cpus.append(desk.cpu())
+        self.assertEqual(len(cpus), 16)
+
 
 if __name__ == "__main__":
     ran = unittest.main(argv=sys.argv[:1], exit=False, verbosity=0).result

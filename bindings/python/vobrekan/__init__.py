@@ -315,7 +315,7 @@ class Desk:
         return self.ask(c.VB_DO_REGION, kind=kind, size=size, **numbers).value
 
     def cpu(self):
-        """A virtual CPU, which has seen all that the desk has done. There are 16."""
+        """A virtual CPU, which has seen all that the desk has done. There are 16; one that is freed is handed out again once all are out."""
         return Cpu(self)
 
     def reap(self):

@@ -13,7 +13,7 @@ use Rattle.mem_base.specs.machine.Orders.{Order, harvest}
 use Rattle.mem_base.specs.machine.Publishing.{current_forest}
 use Rattle.mem_base.specs.machine.Reaps.{first_writer}
 use Rattle.config_desk.specs.Configs.{ConfigState, IsTurnOf}
-use Rattle.shared_machine.specs.Desks.{HandsOut}
+use Rattle.shared_machine.specs.Desks.{HandsOutAgain}
 use Rattle.libvobrekan.specs.declared.answers.Answer.{Answer}
 use Rattle.libvobrekan.specs.declared.deliveries.DeliveryNumbers.{DeliveryNumbers}
 use Rattle.libvobrekan.specs.declared.shown.FoundNumbers.{FoundNumbers}
@@ -105,4 +105,4 @@ abbrev pub HandsCpu : Option ConfigState → Option Pass → Answer → Option C
 HandsCpu c (Some there) answer d cpu = (answer ≡ has_machine) × (d ≡ c) × (cpu ≡ Some there)
 HandsCpu None None answer d cpu = (answer ≡ no_machine) × (d ≡ None) × (cpu ≡ None)
 HandsCpu (Some c) None answer d cpu =
-    (e : ConfigState) × (made : Result (Option Pass) AllocError) × (d ≡ Some e) × (answer ≡ handed_told made) × (cpu ≡ cpu_in made) × HandsOut c made e
+    (e : ConfigState) × (made : Result (Option Pass) AllocError) × (d ≡ Some e) × (answer ≡ handed_told made) × (cpu ≡ cpu_in made) × HandsOutAgain c made e

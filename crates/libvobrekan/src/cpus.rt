@@ -130,12 +130,12 @@ pub extern "C" fn vb_cpu_write(
     wrote_first(bytes.len(), written)
 }
 
-/// Leaves where the virtual CPU is entered, and frees it, if the handle has one. The handle has none then.
+/// Leaves where the virtual CPU is entered, and gives it back to its desk, if the handle has one. The handle has none then.
 #[unsafe(no_mangle)]
 pub extern "C" fn vb_cpu_free(alloc: Global, handle: &mut CpuHandle)
     ensures { handle.new.cpu ≡ None }
 {
-    if let Some(mut cpu) = handle.take(alloc) {
-        cpu.leave();
+    if let Some(cpu) = handle.take(alloc) {
+        Box::into_inner(cpu).close();
     }
 }

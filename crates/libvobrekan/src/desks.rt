@@ -111,8 +111,8 @@ pub extern "C" fn vb_desk_ask(
     told(&event, answer)
 }
 
-/// Hands out a virtual CPU, for a handle that has none. There are 16, numbered from 0 in the order in which they are handed out, and after
-/// these it is refused with the code 27. It has seen all that the desk has done.
+/// Hands out a virtual CPU, for a handle that has none. There are 16, numbered from 0 in the order in which they are handed out. Once all are
+/// out, one that was freed is handed out again, and where none was it is refused with the code 27. It has seen all that the desk has done.
 #[unsafe(no_mangle)]
 pub extern "C" fn vb_desk_cpu(alloc: Global, handle: &mut DeskHandle, cpu: &mut CpuHandle) -> Answer
     ensures { HandsCpu handle.old.desk cpu.old.cpu result handle.new.desk cpu.new.cpu }

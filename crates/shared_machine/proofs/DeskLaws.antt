@@ -1,6 +1,9 @@
 -- A desk that took a pass in again is as it was before it handed the pass out; what a call answers.
-use Rattle.std.proofs.Common.{◌≡◌, ◌∙◌, ℕ, Bool, true, false, cond, List, [], ◌∷◌, Option, Ok, Err, length, slice_set, refl, ap}
+use Rattle.std.proofs.Common.{◌≡◌, ◌∙◌, ℕ, Bool, true, false, cond, List, [], ◌∷◌, Option, Ok, Err, length, slice_set, refl, sym, ap, subst, inl}
 use Rattle.std.specs.Prelude.{Result, nat_lt}
+use Rattle.std.specs.Global.{Box}
+use Rattle.std.specs.declared.alloc.AllocError.{AllocError}
+use Rattle.mem_base.specs.lists.Every.{Every}
 use Rattle.mem_base.specs.declared.map.calls.Applied.{Applied}
 use Rattle.mem_base.specs.declared.map.calls.Call.{Call}
 use Rattle.mem_base.specs.declared.map.calls.Config.TheVariants as configs
@@ -12,6 +15,7 @@ use Rattle.epoch_rule.specs.Values.{PassValue, first_free}
 use Rattle.epoch_rule.specs.Wrote.{IsNewPass, longer}
 use Rattle.writer_run.specs.Turns.{answer_by}
 use Rattle.config_desk.specs.Configs.{ConfigState}
+use Rattle.shared_machine.specs.Desks.{HandsOut, HandsOutAgain, handed}
 
 either : {A : Type 0} (b : Bool) (x : A) → cond b x x ≡ x
 either true x = refl
@@ -54,3 +58,16 @@ taken_again c m d p q new same seen part is now_seen now_out now_same now_part =
     λ i. slice_set (out i) (number i) false in
     same_desk c d (now_same.0 ∙ same.0) (now_same.1 ∙ same.1) (now_seen ∙ longest ∙ longer_itself c.seat.seen) (now_out ∙ again ∙ out_again c.seat.out)
     (now_part ∙ part)
+
+-- where memory ran out the desk is as it was
+pub failed : (c d : ConfigState) (r : Result (Option (Box (PassValue Published))) AllocError) (e : AllocError) → r ≡ Err e → d ≡ c
+    → HandsOutAgain c (handed r) d
+failed c d r e is same = (c, inl refl, subst (λ (x : Result (Option (Box (PassValue Published))) AllocError). HandsOut c (handed x) d) (sym is) same)
+
+-- whatever was answered, it is a desk of the same cabinet
+pub same_cabinet : (c d : ConfigState) (made : Result (Option (PassValue Published)) AllocError) → HandsOut c made d → d.seat.cabinet ≡ c.seat.cabinet
+same_cabinet c d (Ok cpu) h = h.1.cabinet
+same_cabinet c d (Err e) h = ap (λ (x : ConfigState). x.seat.cabinet) h
+
+pub keeps_every : {A : Type 0} (xs ys : List A) (P : A → Type 0) → ys ≡ xs → Every P xs → Every P ys
+keeps_every {A = A} xs ys P same all = subst (λ (zs : List A). Every P zs) (sym same) all

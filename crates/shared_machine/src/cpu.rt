@@ -5,6 +5,7 @@ ghost use Rattle.mem_base.specs.access.AccessSteps.{reading};
 ghost use Rattle.vcpu_pass.specs.Calls.{HasAccessed, HasEntered, HasLeft, HasRefused, HasWritten8};
 ghost use Rattle.bounded_write.specs.Writes.{HasWritten};
 
+use crate::berths::{Berth, rest};
 use bounded_write::{Written, write_bounded};
 use epoch_rule::{Cabinet, Pass};
 use generation::Generation;
@@ -19,11 +20,13 @@ use vcpu_pass::{NotWhole, Vcpu};
 #[derive(Drop)]
 pub struct Cpu {
     cabinet: Arc<Cabinet<Generation>, Global>,
+    berth: Arc<Berth, Global>,
     // It is there but while a call works with it.
     pass: Option<Pass<Generation>>,
 }
 
 impl Model for Cpu {
+    ghost use Rattle.std.specs.Prelude.{◌≡◌};
     ghost use Rattle.std.specs.Arc.{arc_value};
     ghost use Rattle.generation.specs.Published.{Published};
     ghost use Rattle.epoch_rule.specs.Values.{PassValue};
@@ -33,17 +36,23 @@ impl Model for Cpu {
 
     ghost view = { λ c. pass_of (arc_value c.cabinet) c.pass };
 
-    ghost invariant = { λ c. IsPassOf (arc_value c.cabinet) c.pass };
+    ghost invariant = { λ c. IsPassOf (arc_value c.cabinet) c.pass × (arc_value c.berth ≡ arc_value c.cabinet) };
 }
 
 impl Cpu {
-    /// A virtual CPU with a pass of the cabinet. It is entered where the pass is.
-    pub(crate) fn new(cabinet: Arc<Cabinet<Generation>, Global>, pass: Pass<Generation>) -> Cpu
+    /// A virtual CPU with a pass of the cabinet, and where it is to leave its pass. It is entered where the pass is.
+    pub(crate) fn new(
+        cabinet: Arc<Cabinet<Generation>, Global>,
+        berth: Arc<Berth, Global>,
+        pass: Pass<Generation>,
+    ) -> Cpu
         requires own { pass.cabinet ≡ (arc_value cabinet).id }
+        requires berth { arc_value berth ≡ arc_value cabinet }
         ensures { result ≡ pass }
     {
         Cpu {
             cabinet,
+            berth,
             pass: Some(pass),
         }
     }
@@ -54,11 +63,25 @@ impl Cpu {
     {
         let Cpu {
             cabinet: _cabinet,
+            berth: _berth,
             pass,
         } = self;
         match pass {
             Some(pass) => pass,
             None => unreachable!(),
+        }
+    }
+
+    /// Leaves where it is entered, and leaves its pass where its desk finds it, which hands it out again once all others are out.
+    pub fn close(mut self) {
+        self.leave();
+        let Cpu {
+            cabinet: _cabinet,
+            berth,
+            pass,
+        } = self;
+        if let Some(pass) = pass {
+            rest(&berth, pass);
         }
     }
 

@@ -1,6 +1,7 @@
 // The writer's desk with its share of the cabinet.
-ghost use Rattle.std.specs.Prelude.{◌≡◌, ◌≢◌, ◌<◌, ◌≤◌, ◌^◌, Err, IfOk, None, []};
+ghost use Rattle.std.specs.Prelude.{◌≡◌, ◌≢◌, ◌<◌, ◌≤◌, ◌^◌, Err, IfOk, IfSome, None, []};
 ghost use Rattle.std.specs.Arc.{arc_value};
+ghost use Rattle.mem_base.specs.lists.Every.{Every};
 ghost use Rattle.mem_base.specs.map.Limits.{most_passes, notifier_count};
 ghost use Rattle.mem_base.specs.machine.Answers.{answer_with, harvest_answer, notifier_answer, reap_answer};
 ghost use Rattle.mem_base.specs.machine.Orders.{configure, harvest, notified, reap};
@@ -8,11 +9,12 @@ ghost use Rattle.mem_base.specs.machine.Publishing.{current_forest};
 ghost use Rattle.mem_base.specs.machine.Reaps.{first_writer};
 ghost use Rattle.writer_run.specs.Turns.{answer_by};
 ghost use Rattle.config_desk.specs.Configs.{IsTurnOf};
-ghost use Rattle.shared_machine.specs.Desks.{HandsOut, handed};
+ghost use Rattle.shared_machine.specs.Desks.{HandsOut, HandsOutAgain, handed};
 
+use crate::berths::{Berth, empty, roused};
 use crate::cpu::Cpu;
 use config_desk::Config;
-use epoch_rule::Cabinet;
+use epoch_rule::{Cabinet, Pass};
 use generation::Generation;
 use mem_base::{
     Applied, Client, Config as Event, ListenerEvent, ListenerId, MOST_PASSES, Refusal, RegionId,
@@ -26,18 +28,21 @@ use std::sync::Arc;
 pub struct Desk {
     cabinet: Arc<Cabinet<Generation>, Global>,
     config: Config,
+    // Where the virtual CPUs that were handed out leave their passes.
+    berths: Vec<Arc<Berth, Global>>,
 }
 
 impl Model for Desk {
     ghost use Rattle.std.specs.Prelude.{◌≡◌};
     ghost use Rattle.std.specs.Arc.{arc_value};
+    ghost use Rattle.mem_base.specs.lists.Every.{Every};
     ghost use Rattle.config_desk.specs.Configs.{ConfigState};
 
     ghost Value = { ConfigState };
 
     ghost view = { λ d. d.config };
 
-    ghost invariant = { λ d. d.config.seat.cabinet ≡ (arc_value d.cabinet).id };
+    ghost invariant = { λ d. (d.config.seat.cabinet ≡ (arc_value d.cabinet).id) × Every (λ b. arc_value b ≡ arc_value d.cabinet) d.berths.items };
 }
 
 impl Desk {
@@ -50,26 +55,34 @@ impl Desk {
         ensures fresh { IfOk result (λ desk. desk.seat.seen ≡ []) }
     {
         let (cabinet, config) = Config::new(alloc, words, MOST_PASSES)?;
-        Ok(Desk { cabinet, config })
+        let berths = Vec::new(alloc);
+        Ok(Desk {
+            cabinet,
+            config,
+            berths,
+        })
     }
 
-    /// A virtual CPU with the least pass that is not out; `None` where all 16 are. It has seen all that the desk has.
+    /// A virtual CPU, with the least pass that is not out. Where all 16 are, one that was closed is taken in and handed out anew; `None`
+    /// where none was. It has seen all that the desk has, and a desk that takes one in sees all that it had seen.
     ///
-    /// It fails only where memory runs out, and then nothing has changed.
+    /// It fails only where memory runs out, and then none is handed out.
     pub fn cpu(&mut self, alloc: Global) -> Result<Option<Box<Cpu, Global>>, AllocError>
-        ensures { HandsOut self.old (handed result) self.new }
+        ensures { HandsOutAgain self.old (handed result) self.new }
     {
-        let cabinet = Arc::try_clone(&self.cabinet)?;
-        match self.config.pass() {
-            Some(pass) => match Box::new(alloc, Cpu::new(cabinet, pass)) {
-                Ok(cpu) => Ok(Some(cpu)),
-                Err(failed) => {
-                    self.config.take_in(failed.value.into_pass());
-                    Err(AllocError)
-                }
-            },
-            None => Ok(None),
+        let berth = empty(alloc, &self.cabinet)?;
+        let kept = Arc::try_clone(&berth)?;
+        self.berths.reserve(1)?;
+        if let Some(cpu) = hand_out(&self.cabinet, &mut self.config, alloc, berth)? {
+            let _ = self.berths.push(kept);
+            return Ok(Some(cpu));
         }
+        let Some((pass, berth)) = roused_in(&self.cabinet, self.berths.as_slice()) else {
+            return Ok(None);
+        };
+        self.config.take_in(pass);
+        let cpu = hand_out(&self.cabinet, &mut self.config, alloc, berth)?;
+        Ok(cpu)
     }
 
     /// A private event of the writer: a call that changes the map, a transaction that is opened or closed, a listener that joins or
@@ -122,6 +135,52 @@ impl Desk {
     {
         let _ = &self.cabinet;
         self.config.current()
+    }
+}
+
+// A virtual CPU with the least pass that is not out; `None` where all are.
+fn hand_out(
+    cabinet: &Arc<Cabinet<Generation>, Global>,
+    config: &mut Config,
+    alloc: Global,
+    berth: Arc<Berth, Global>,
+) -> Result<Option<Box<Cpu, Global>>, AllocError>
+    requires own { config.old.seat.cabinet ≡ (arc_value cabinet.now).id }
+    requires berth { arc_value berth ≡ arc_value cabinet.now }
+    ensures { HandsOut config.old (handed result) config.new }
+{
+    let cabinet = Arc::try_clone(cabinet)?;
+    match config.pass() {
+        Some(pass) => match Box::new(alloc, Cpu::new(cabinet, berth, pass)) {
+            Ok(cpu) => Ok(Some(cpu)),
+            Err(failed) => {
+                config.take_in(failed.value.into_pass());
+                Err(AllocError)
+            }
+        },
+        None => Ok(None),
+    }
+}
+
+// A pass that rests in one of some berths of a cabinet, and its berth.
+fn roused_in(
+    cabinet: &Arc<Cabinet<Generation>, Global>,
+    berths: &[Arc<Berth, Global>],
+) -> Option<(Pass<Generation>, Arc<Berth, Global>)>
+    requires { Every (λ b. arc_value b ≡ arc_value cabinet.now) berths.now }
+    ensures { IfSome result (λ r. (r.0.cabinet ≡ (arc_value cabinet.now).id) × (r.0.edition ≡ None) × (arc_value r.1 ≡ arc_value cabinet.now)) }
+{
+    match berths {
+        [] => None,
+        [first, rest @ ..] => {
+            let Ok(berth) = Arc::try_clone(first) else {
+                return None;
+            };
+            match roused(&berth) {
+                Some(pass) => Some((pass, berth)),
+                None => roused_in(cabinet, rest),
+            }
+        }
     }
 }
 

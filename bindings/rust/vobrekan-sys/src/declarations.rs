@@ -445,7 +445,7 @@ unsafe extern "C" {
     /// where a device, whose access takes several callbacks, has taken the first of those that come next.
     pub fn vb_cpu_write(handle: *mut vb_cpu, space: u32, addr: u64, bytes: *const u8, bytes_len: usize, tries: u32) -> vb_answer;
 
-    /// Leaves where the virtual CPU is entered, and frees it, if the handle has one. The handle has none then.
+    /// Leaves where the virtual CPU is entered, and gives it back to its desk, if the handle has one. The handle has none then.
     pub fn vb_cpu_free(handle: *mut vb_cpu);
 
     /// What listeners were told: the call at an index, counted from the first that is not forgotten, where there is one. `value` of the
@@ -466,8 +466,8 @@ unsafe extern "C" {
     /// generation that a publish would overwrite, seven before the current one, it is refused with the code 19.
     pub fn vb_desk_ask(handle: *mut vb_desk, order: *const vb_order) -> vb_answer;
 
-    /// Hands out a virtual CPU, for a handle that has none. There are 16, numbered from 0 in the order in which they are handed out, and after
-    /// these it is refused with the code 27. It has seen all that the desk has done.
+    /// Hands out a virtual CPU, for a handle that has none. There are 16, numbered from 0 in the order in which they are handed out. Once all are
+    /// out, one that was freed is handed out again, and where none was it is refused with the code 27. It has seen all that the desk has done.
     pub fn vb_desk_cpu(handle: *mut vb_desk, cpu: *mut vb_cpu) -> vb_answer;
 
     /// Takes a notifier, as `vb_notified` does.

@@ -112,7 +112,7 @@ impl Desk {
         Ok(desk)
     }
 
-    /// A virtual CPU, which has seen all that the desk has done. There are 16.
+    /// A virtual CPU, which has seen all that the desk has done. There are 16; one that is dropped is handed out again once all are out.
     pub fn cpu(&mut self) -> Result<Cpu, Refusal> {
         let mut cpu = Cpu(sys::vb_cpu { at: null_mut() });
         accepted(unsafe { sys::vb_desk_cpu(&mut self.handle, &mut cpu.0) })?;
@@ -199,7 +199,7 @@ pub struct Written {
     pub begun: bool,
 }
 
-/// A virtual CPU. It never waits, and may outlive its desk.
+/// A virtual CPU. It never waits, and may outlive its desk. One that is dropped goes back to its desk.
 #[derive(Debug)]
 pub struct Cpu(sys::vb_cpu);
 

@@ -68,6 +68,9 @@ fn a_generation_that_is_in_use_stays() {
     assert!(desk.harvest(ram, vobrekan::Client::Display).unwrap().is_empty());
     let mut rest: Vec<_> = (0..15).map(|_| desk.cpu().unwrap()).collect();
     assert_eq!(desk.cpu().err(), Some(Refusal::NoCpu));
+    drop(rest.pop());
+    rest.push(desk.cpu().unwrap());
+    assert_eq!(desk.cpu().err(), Some(Refusal::NoCpu));
     drop(desk);
     assert_eq!(rest[3].enter(), Ok(2));
 }
