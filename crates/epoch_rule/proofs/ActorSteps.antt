@@ -1,126 +1,77 @@
 -- The kinds of step on the current number, the passes' words and the slots.
-use Rattle.std.proofs.Common.{◌≡◌, ◌≢◌, ℕ, zero, suc, ◌+◌, ◌*◌, ◌%◌, ◌<◌, ◌≤◌, true, false, List, [], ◌∷◌, ◌++◌, length, get_or, set, sym, refl, ap, ◌∙◌, subst}
-use Rattle.std.proofs.Common.{⊎_elim, arith, length-set, length-append, get_or-set_other, get_or-set_same, Option, Some, None}
-use Rattle.std.specs.Prelude.{is_some, is_none, not}
-use Rattle.std.proofs.lemmas.Bool.{lt-ltb, le-leb}
-use mathlib.Core.Logic.{dite}
-use native.Mathlib.Decide.{ℕ_discrete}
-use base.Growing.{prefix_refl, prefix_trans}
-use mathlib.Core.Option.{some, none}
+use Rattle.epoch_rule.proofs.Common.{◌≡◌, ◌≢◌, ℕ, ◌+◌, ◌*◌, ◌%◌, ◌<◌, ◌≤◌, true, false, List, [], ◌∷◌, ◌++◌, length, get_or, set, sym, refl, ap, ◌∙◌, subst}
+use Rattle.epoch_rule.proofs.Common.{arith, length-set, get_or-set_other, get_or-set_same, Option, Some, None, lt-ltb, le-leb, some, none, IsPrefix, get_elem?}
+use Rattle.epoch_rule.proofs.Common.{set-get_or, Me, keeps, Allows, set_else, one_turn, Carried, Nothing, HistoryEntry, PassState, idle, pass_of, pass_id}
+use Rattle.epoch_rule.proofs.Common.{Generation, Generations, PassTrack, known_of, known_after_sweep, with_placed, all_placed, pin_word, Shared, shared}
+use Rattle.epoch_rule.proofs.Common.{shared_possible, shared_reply, after_shared_entry, Sizes, Picked, View, history_entry, generations_published}
+use Rattle.epoch_rule.proofs.Common.{generation_published, first_generation, state_of, IsLegal, generation_of_pick, carried_pick, pass_seen, generations_seen}
+use Rattle.epoch_rule.proofs.Common.{WordsShow, PlacesFit, PassSlots, SlotsOfPass, AllSlots, SeatKnows, IsRuled, ComesNext, arc_value, Arc, Forest, Place}
+use Rattle.epoch_rule.proofs.Common.{IsCopy, picked, none_is_no_number, same_number, both, published_append, none_placed, append-nil, with_known}
+use Rattle.epoch_rule.proofs.Common.{published_with, actor_of, Event, State, is_some, is_none, not, step, takes, gives, looks, announces, enters, leaves}
+use Rattle.epoch_rule.proofs.Common.{sweeps, reaches, places, publishes, placed_as, all_of, every_at, every_push, same_some, sound, nothing_known}
 use mathlib.Core.Option as maybe
-use mathlib.Core.List.{IsPrefix}
-use lib.ListN.{get_elem?, get_or-append}
-use lib.Seq.{set-get_or}
-use Rattle.atomic_table.specs.Table.{Me, step, keeps, takes, gives, Allows}
-use Rattle.atomic_table.proofs.Lists.{set_else, at_set, one_turn}
-use Rattle.mem_base.specs.declared.machine.events.Event.{Event}
 use Rattle.mem_base.specs.declared.machine.events.Event.TheVariants as events
-use Rattle.mem_base.specs.declared.machine.events.Carried.{Carried}
-use Rattle.mem_base.specs.declared.machine.events.Carried.TheVariants.{Nothing, Edition}
-use Rattle.mem_base.specs.declared.machine.events.HistoryEntry.{HistoryEntry}
-use Rattle.mem_base.specs.lists.Every.{Every}
-use Rattle.mem_base.specs.machine.Passes.{PassState, idle, pass_of, pass_id}
-use Rattle.mem_base.specs.machine.Generations.{Generation, generation, Generations, PassTrack, known_of, known_after_sweep, with_placed, all_placed, pin_word}
-use Rattle.mem_base.specs.machine.SharedHistory.{Shared, shared, shared_possible, shared_reply, after_shared_entry}
-use Rattle.epoch_rule.specs.declared.views.Sizes.{Sizes}
-use Rattle.epoch_rule.specs.declared.views.Picked.{Picked}
-use Rattle.epoch_rule.specs.declared.views.View.{View}
-use Rattle.mem_base.specs.machine.Turns.{history_entry}
-use Rattle.mem_base.specs.machine.Actors.{generations_published, published_from, published_with, generation_published, first_generation}
-use Rattle.epoch_rule.specs.Rule.{state_of, IsLegal, generation_of_pick, carried_pick, pass_seen, generations_seen, WordsShow, PlacesFit}
-use Rattle.epoch_rule.specs.Rule.{PassSlots, SlotsOfPass, AllSlots, SeatKnows, IsRuled, ComesNext}
-use Rattle.epoch_rule.specs.Plays.{looks, announces, enters, leaves, sweeps, reaches, places, publishes}
-use Rattle.std.specs.Arc.{arc_value}
-use Rattle.std.specs.Option.{unwrap_or}
-use Rattle.std.specs.declared.sync.Arc.{Arc}
-use Rattle.mem_base.specs.declared.map.forests.Forest.{Forest}
-use Rattle.mem_base.specs.declared.access.cells.Place.{Place}
-use Rattle.epoch_rule.specs.Copies.{IsCopy, picked, placed_as}
-use Rattle.view_laws.proofs.Tests.{none_is_no_number, same_number, both}
-use Rattle.history_laws.proofs.AppendLaws.{published_append}
-use Rattle.history_laws.proofs.NumberLaws.{all_of, none_placed}
-use Rattle.epoch_rule.proofs.EntrySteps.{grown, good, extends, adds, knows_pass, knows_generations, inside, shows_moved, slots_moved, slots_known}
-use Rattle.epoch_rule.proofs.SlotSteps as of_slots
-
--- each of them fits, so does the one at a place
-every_at : {A : Type 0} (P : A → Type 0) (xs : List A) (i : ℕ) (d : A) → Every P xs → i < length xs → P (get_or xs i d)
-every_at P [] i d h l = absurd (omega arith)
-every_at P (x ∷ xs) zero d h l = h.0
-every_at P (x ∷ xs) (suc i) d h l = every_at P xs i d h.1 (omega arith)
-
-pub every_snoc : {A : Type 0} (P : A → Type 0) (xs : List A) (x : A) → Every P xs → P x → Every P (xs ++ x ∷ [])
-every_snoc P [] x h p = (p, tt)
-every_snoc P (y ∷ ys) x h p = (h.0, every_snoc P ys x h.1 p)
+use Rattle.epoch_rule.proofs.EntrySteps.{grown, knows_generations, inside, shows_moved, slots_moved, slots_known, makes, loaded, seats_set, knows_still}
+use Rattle.epoch_rule.proofs.EntrySteps as of_slots
+use Rattle.mem_base.specs.declared.map.ids.PassId.{PassId}
+use Rattle.epoch_rule.proofs.PassLaws.{pass_known}
 
 module _ {S : Type 0} (Copy : ℕ → Generation → S → Type 0) (z : Sizes) where
+  -- a step of the pass p, which leaves its part of the history, its word and its slots so
+  moves : (s : State S View) (k : IsRuled Copy z s) (id : ℕ) (v : View) → get_elem? s.views id ≡ some v → (p : ℕ) → p < z.passes → v.role ≡ Some (p + 1)
+      → (event : PassId → Event) (r : ℕ) (now : PassState) (x : ℕ) (homes' : List (maybe.Option S)) → actor_of (event (pass_id p)) ≡ p + 1
+      → shared_possible (state_of z k.log) (event (pass_id p)) Nothing ≡ true → r ≡ shared_reply (state_of z k.log) (event (pass_id p)) Nothing
+      → after_shared_entry (state_of z k.log) (history_entry (event (pass_id p)) Nothing r) ≡ (let st = state_of z k.log in
+      shared st.generations (set st.passes p now) st.words)
+      → published_with (generations_published k.log) (event (pass_id p)) Nothing ≡ generations_published k.log
+      → x ≡ pin_word now.announced → length homes' ≡ length s.homes
+      → ((u j : ℕ) → u ≢ p → j < 8 → get_elem? homes' (16 * u + j) ≡ get_elem? s.homes (16 * u + j))
+      → PassSlots Copy (state_of z k.log).generations.current (generations_published k.log) (known_of (state_of z k.log).generations (pass_id p))
+      now.entered k.held (generation_of_pick k.next) homes' p
+      → let w = grown v (k.log ++ history_entry (event (pass_id p)) Nothing r ∷ []) v.held v.next in
+      IsRuled Copy z record { words = set s.words (8 * (p + 1)) x; homes = homes'; views = set s.views id w }
+      × ((b : ℕ) → v.role ≡ Some (b + 1) → ComesNext (b + 1) v (event (pass_id b)) Nothing r w)
+  moves s k id v at p near role event r now x homes' mine may is after quiet pin deep away here =
+      let st : Shared = state_of z k.log in
+      let gs : List Generation = generations_published k.log in
+      let did = makes Copy z s k id v at (p + 1) (event (pass_id p)) Nothing r (shared st.generations (set st.passes p now) st.words) gs
+      (set s.words (8 * (p + 1)) x) homes' k.held k.next v.held v.next role mine may is after quiet
+      (shows_moved z st s.words k.shown p now x (sound z.words z.passes k.log k.lawful).many near pin) k.roomy
+      (slots_moved Copy z.passes st gs k.held (generation_of_pick k.next) s.homes homes' p now (inside Copy z s k id v at p near) k.slots deep away here)
+      (λ y. absurd (omega arith)) (λ y. (refl, refl)) in (
+        did.0,
+        λ b role'. let same : p ≡ b = (let e = same_number (p + 1) (b + 1) (sym role ∙ role') in omega arith) in
+            subst (λ (y : ℕ). ComesNext (y + 1) v (event (pass_id y)) Nothing r
+            (grown v (k.log ++ history_entry (event (pass_id p)) Nothing r ∷ []) v.held v.next)) same did.1,
+      )
+
   pub look : (slots id : ℕ) (me : Me S View) (p : ℕ) → p < z.passes → me.0.role ≡ Some (p + 1) → (pass_seen p me.0).announced ≡ None
       → Allows (IsRuled Copy z) slots id me 0 (λ r. r) (looks Copy (step slots 0 0 0 none) me)
   look slots id me p near role out s k deep at small =
       let st : Shared = state_of z k.log in
       let r : ℕ = get_or s.words 0 0 in
-      let ok = good Copy z s k in
-      let in_passes = inside Copy z s k id me.0 at p near in
-      let knows = knows_pass Copy z s k id me.0 at p near role in
+      let knows = pass_known z k.log p me.0 near ((k.seats id me.0 at).all (p + 1) role) in
       let may : shared_possible st (events.Look (pass_id p)) Nothing ≡ true =
-      both _ _ (lt-ltb p (length st.passes) in_passes) (ap (λ (h : PassState). is_none h.announced) knows ∙ ap is_none out) in
-      let is : r ≡ shared_reply st (events.Look (pass_id p)) Nothing = k.shown.current in
-      let now : PassState = record (pass_of st.passes (pass_id p)) { looked = Some r } in
-      let shown : WordsShow z (shared st.generations (set st.passes p now) st.words) s.words =
-      subst (WordsShow z (shared st.generations (set st.passes p now) st.words)) (set-get_or s.words (8 * (p + 1)) 0)
-      (shows_moved z st s.words k.shown p now (get_or s.words (8 * (p + 1)) 0) ok.many near (k.shown.pins p near)) in
-      let slots' : AllSlots Copy z.passes (shared st.generations (set st.passes p now) st.words) (generations_published k.log) k.held
-      (generation_of_pick k.next) s.homes =
-      slots_moved Copy z.passes st (generations_published k.log) k.held (generation_of_pick k.next) s.homes s.homes p now in_passes k.slots refl
-      (λ v j other l. refl) (k.slots.each p near) in
-      let v' : View = grown me.0 (k.log ++ history_entry (events.Look (pass_id p)) Nothing r ∷ []) me.0.held me.0.next in (
-        v',
-        keeps,
-        tt,
-        subst (λ (ws : List ℕ). IsRuled Copy z record { words = ws; homes = s.homes; views = set s.views id v' }) (sym (set-get_or s.words 0 0))
-            (extends Copy z s k id me.0 at (p + 1) (events.Look
-            (pass_id p)) Nothing r s.words s.homes k.held k.next me.0.held me.0.next role refl may is shown k.roomy slots' (λ y. absurd (omega arith))
-            (λ y. (refl, refl))),
-        (
-          refl,
-          subst (λ (c : ℕ). c + 1 < 18446744073709551616) (sym is) k.shown.small,
-          λ b role'. let same : p ≡ b = (let e = same_number (p + 1) (b + 1) (sym role ∙ role') in omega arith) in
-              subst (λ (y : ℕ). ComesNext (y + 1) me.0 (events.Look (pass_id y)) Nothing r v') same
-              (adds Copy z s k id me.0 at (p + 1) (events.Look (pass_id p)) Nothing r me.0.held me.0.next role may is refl),
-        ),
-      )
+      both _ _ (lt-ltb p (length st.passes) (inside Copy z s k id me.0 at p near)) (ap (λ (h : PassState). is_none h.announced) knows ∙ ap is_none out) in
+      let did = moves s k id me.0 at p near role events.Look r (record (pass_of st.passes (pass_id p)) { looked = Some r }) (get_or s.words (8 * (p + 1)) 0)
+      s.homes refl may k.shown.current refl refl (k.shown.pins p near) refl (λ v j other l. refl) (k.slots.each p near) in
+      let ruled = loaded Copy z _ s.words s.homes _ 0 (set-get_or s.words (8 * (p + 1)) 0) did.0 in
+      let fits = subst (λ (c : ℕ). c + 1 < 18446744073709551616) (sym k.shown.current) k.shown.small in
+      (_, keeps, tt, ruled, (refl, fits, did.1))
 
   pub announce : (slots id : ℕ) (me : Me S View) (p q : ℕ) → p < z.passes → me.0.role ≡ Some (p + 1) → (pass_seen p me.0).looked ≡ Some q
       → (pass_seen p me.0).announced ≡ None
       → Allows (IsRuled Copy z) slots id me (8 * (p + 1)) (λ _. q + 1) (λ _. announces Copy (step slots (8 * (p + 1)) (q + 1) 0 none) me (q + 1))
   announce slots id me p q near role there out s k deep at small =
       let st : Shared = state_of z k.log in
-      let ok = good Copy z s k in
-      let in_passes = inside Copy z s k id me.0 at p near in
-      let knows = knows_pass Copy z s k id me.0 at p near role in
+      let was : PassState = pass_of st.passes (pass_id p) in
+      let knows = pass_known z k.log p me.0 near ((k.seats id me.0 at).all (p + 1) role) in
       let may : shared_possible st (events.Announce (pass_id p)) Nothing ≡ true =
-      both _ _ (both _ _ (lt-ltb p (length st.passes) in_passes) (ap (λ (h : PassState). is_some h.looked) knows ∙ ap is_some there))
-      (ap (λ (h : PassState). is_none h.announced) knows ∙ ap is_none out) in
-      let now : PassState = record (pass_of st.passes (pass_id p)) { announced = (pass_of st.passes (pass_id p)).looked } in
-      let shown : WordsShow z (shared st.generations (set st.passes p now) st.words) (set s.words (8 * (p + 1)) (q + 1)) =
-      shows_moved z st s.words k.shown p now (q + 1) ok.many near (ap pin_word (sym (ap (λ (h : PassState). h.looked) knows ∙ there))) in
-      let slots' : AllSlots Copy z.passes (shared st.generations (set st.passes p now) st.words) (generations_published k.log) k.held
-      (generation_of_pick k.next) s.homes =
-      slots_moved Copy z.passes st (generations_published k.log) k.held (generation_of_pick k.next) s.homes s.homes p now in_passes k.slots refl
-      (λ v j other l. refl) (k.slots.each p near) in
-      let v' : View = grown me.0 (k.log ++ history_entry (events.Announce (pass_id p)) Nothing 0 ∷ []) me.0.held me.0.next in (
-        v',
-        keeps,
-        tt,
-        extends Copy z s k id me.0 at (p + 1) (events.Announce (pass_id p)) Nothing 0
-            (set s.words (8 * (p + 1)) (q + 1)) s.homes k.held k.next me.0.held me.0.next role refl may refl shown k.roomy slots' (λ y. absurd (omega arith))
-            (λ y. (refl, refl)),
-        (
-          refl,
-          λ b role'. let same : p ≡ b = (let e = same_number (p + 1) (b + 1) (sym role ∙ role') in omega arith) in
-              subst (λ (y : ℕ). ComesNext (y + 1) me.0 (events.Announce (pass_id y)) Nothing 0 v') same
-              (adds Copy z s k id me.0 at (p + 1) (events.Announce (pass_id p)) Nothing 0 me.0.held me.0.next role may refl refl),
-        ),
-      )
+      both _ _ (both _ _ (lt-ltb p (length st.passes) (inside Copy z s k id me.0 at p near))
+      (ap (λ (h : PassState). is_some h.looked) knows ∙ ap is_some there)) (ap (λ (h : PassState). is_none h.announced) knows ∙ ap is_none out) in
+      let did = moves s k id me.0 at p near role events.Announce 0 (record was { announced = was.looked }) (q + 1) s.homes refl may refl refl refl
+      (ap pin_word (sym (ap (λ (h : PassState). h.looked) knows ∙ there))) refl (λ v j other l. refl) (k.slots.each p near) in
+      (_, keeps, tt, did.0, (refl, did.1))
 
   pub enter : (slots id : ℕ) (me : Me S View) (p q : ℕ) → p < z.passes → me.0.role ≡ Some (p + 1) → (pass_seen p me.0).announced ≡ Some q
       → (pass_seen p me.0).entered ≡ None
@@ -130,48 +81,30 @@ module _ {S : Type 0} (Copy : ℕ → Generation → S → Type 0) (z : Sizes) w
       let gs : List Generation = generations_published k.log in
       let c : ℕ = st.generations.current in
       let r : ℕ = get_or s.words 0 0 in
-      let ok = good Copy z s k in
-      let in_passes = inside Copy z s k id me.0 at p near in
-      let knows = knows_pass Copy z s k id me.0 at p near role in
+      let ok = sound z.words z.passes k.log k.lawful in
+      let knows = pass_known z k.log p me.0 near ((k.seats id me.0 at).all (p + 1) role) in
       let may : shared_possible st (events.Enter (pass_id p)) Nothing ≡ true =
-      both _ _ (both _ _ (lt-ltb p (length st.passes) in_passes) (ap (λ (h : PassState). is_some h.announced) knows ∙ ap is_some there))
-      (ap (λ (h : PassState). is_none h.entered) knows ∙ ap is_none out) in
+      both _ _ (both _ _ (lt-ltb p (length st.passes) (inside Copy z s k id me.0 at p near))
+      (ap (λ (h : PassState). is_some h.announced) knows ∙ ap is_some there)) (ap (λ (h : PassState). is_none h.entered) knows ∙ ap is_none out) in
       let is : r ≡ shared_reply st (events.Enter (pass_id p)) Nothing = k.shown.current in
-      let free : (pass_of st.passes (pass_id p)).entered ≡ None = ap (λ (h : PassState). h.entered) knows ∙ out in
-      let numbers = ok.each p near in
-      let low = numbers.low in
-      let close = numbers.near in
-      let next : Generation = generation_of_pick k.next in
-      let mine_slots : PassSlots Copy c gs (known_of st.generations (pass_id p)) None k.held next s.homes p =
-      subst (λ (e : Option ℕ). PassSlots Copy c gs (known_of st.generations (pass_id p)) e k.held next s.homes p) free (k.slots.each p near) in
+      let low = (ok.each p near).low in
+      let mine_slots = subst (λ (e : Option ℕ). PassSlots Copy c gs (known_of st.generations (pass_id p)) e k.held (generation_of_pick k.next) s.homes p)
+      (ap (λ (h : PassState). h.entered) knows ∙ out) (k.slots.each p near) in
       let copy = mine_slots.kept c low (omega arith) (λ e. none_is_no_number c e) in
       let i : ℕ = 16 * p + r % 8 in
-      let same_place : 16 * p + c % 8 ≡ i = ap (λ (n : ℕ). 16 * p + n % 8) (sym is) in
-      let homes' : List (maybe.Option S) = set s.homes i none in
       let log' : List HistoryEntry = k.log ++ history_entry (events.Enter (pass_id p)) Nothing r ∷ [] in
-      let now : PassState = record (pass_of st.passes (pass_id p)) { entered = Some r } in
-      let shown : WordsShow z (shared st.generations (set st.passes p now) st.words) s.words =
-      subst (WordsShow z (shared st.generations (set st.passes p now) st.words)) (set-get_or s.words (8 * (p + 1)) 0)
-      (shows_moved z st s.words k.shown p now (get_or s.words (8 * (p + 1)) 0) ok.many near (k.shown.pins p near)) in
-      let here : PassSlots Copy c gs (known_of st.generations (pass_id p)) (Some r) k.held next homes' p =
-      subst (λ (n : ℕ). PassSlots Copy c gs (known_of st.generations (pass_id p)) (Some n) k.held next (set s.homes (16 * p + n % 8) none) p) (sym is)
-      (of_slots.entered Copy c gs (known_of st.generations (pass_id p)) k.held next s.homes p low close mine_slots) in
-      let slots' : AllSlots Copy z.passes (shared st.generations (set st.passes p now) st.words) gs k.held next homes' =
-      slots_moved Copy z.passes st gs k.held next s.homes homes' p now in_passes k.slots (length-set s.homes i none)
-      (λ v j other l. set_else s.homes i (16 * v + j) none (λ y. other (omega arith))) here in
-      let same_gs : gs ≡ generations_published log' =
-      sym (published_append k.log (history_entry (events.Enter (pass_id p)) Nothing r ∷ []) (first_generation ∷ [])) in
-      let v' : View = grown me.0 log' me.0.held me.0.next in (
-        v',
+      let did = moves s k id me.0 at p near role events.Enter r (record (pass_of st.passes (pass_id p)) { entered = Some r }) (get_or s.words (8 * (p + 1)) 0)
+      (set s.homes i none) refl may is refl refl (k.shown.pins p near) (length-set s.homes i none)
+      (λ v j other l. set_else s.homes i (16 * v + j) none (λ y. other (omega arith)))
+      (subst (λ (n : ℕ). PassSlots Copy c gs (known_of st.generations (pass_id p)) (Some n) k.held (generation_of_pick k.next)
+      (set s.homes (16 * p + n % 8) none) p) (sym is) (of_slots.entered Copy c gs _ k.held _ s.homes p low (ok.each p near).near mine_slots)) in
+      let same_gs : gs ≡ generations_published log' = sym (published_append k.log _ (first_generation ∷ [])) in (
+        _,
         takes i copy.0,
-        subst (λ (x : ℕ). get_elem? s.homes x ≡ some (some copy.0)) same_place copy.1,
-        subst (λ (ws : List ℕ). IsRuled Copy z record { words = ws; homes = homes'; views = set s.views id v' }) (sym (set-get_or s.words 0 0))
-            (extends Copy z s k id me.0 at (p + 1) (events.Enter
-            (pass_id p)) Nothing r s.words homes' k.held k.next me.0.held me.0.next role refl may is shown k.roomy slots' (λ y. absurd (omega arith))
-            (λ y. (refl, refl))),
+        subst (λ (n : ℕ). get_elem? s.homes (16 * p + n % 8) ≡ some (some copy.0)) (sym is) copy.1,
+        loaded Copy z _ s.words _ _ 0 (set-get_or s.words (8 * (p + 1)) 0) did.0,
         (λ b role'. let same : p ≡ b = (let e = same_number (p + 1) (b + 1) (sym role ∙ role') in omega arith) in (
-          subst (λ (y : ℕ). ComesNext (y + 1) me.0 (events.Enter (pass_id y)) Nothing r v') same
-              (adds Copy z s k id me.0 at (p + 1) (events.Enter (pass_id p)) Nothing r me.0.held me.0.next role may is refl),
+          did.1 b role',
           (
             copy.0,
             ap (λ (y : ℕ). (16 * y + r % 8, copy.0) ∷ me.1) same,
@@ -180,7 +113,7 @@ module _ {S : Type 0} (Copy : ℕ → Generation → S → Type 0) (z : Sizes) w
           ),
           subst (λ (l : List Generation). PlacesFit me.0.sizes.words (get_or l r first_generation)) same_gs
               (subst (λ (y : Sizes). PlacesFit y.words (get_or gs r first_generation)) (sym ((k.seats id me.0 at).knows (p + 1) role))
-              (every_at (PlacesFit z.words) gs r first_generation k.roomy (let n = ok.counted in omega arith))),
+              (every_at (PlacesFit z.words) gs r first_generation (let n = ok.counted in omega arith) k.roomy)),
         )),
       )
 
@@ -192,82 +125,70 @@ module _ {S : Type 0} (Copy : ℕ → Generation → S → Type 0) (z : Sizes) w
       let st : Shared = state_of z k.log in
       let gs : List Generation = generations_published k.log in
       let c : ℕ = st.generations.current in
-      let ok = good Copy z s k in
-      let in_passes = inside Copy z s k id me.0 at p near in
-      let knows = knows_pass Copy z s k id me.0 at p near role in
-      let may : shared_possible st (events.Leave (pass_id p)) Nothing ≡ true =
-      both _ _ (lt-ltb p (length st.passes) in_passes) (ap (λ (h : PassState). is_some h.entered) knows ∙ ap is_some there) in
+      let knows = pass_known z k.log p me.0 near ((k.seats id me.0 at).all (p + 1) role) in
+      let may : shared_possible st (events.Leave (pass_id p)) Nothing ≡ true = both _ _ (lt-ltb p (length st.passes) (inside Copy z s k id me.0 at p near))
+      (ap (λ (h : PassState). is_some h.entered) knows ∙ ap is_some there) in
       let busy : (pass_of st.passes (pass_id p)).entered ≡ Some g = ap (λ (h : PassState). h.entered) knows ∙ there in
-      let numbers = ok.each p near in
+      let numbers = (sound z.words z.passes k.log k.lawful).each p near in
       let t = numbers.entered g busy in
       let next : Generation = generation_of_pick k.next in
       let i : ℕ = 16 * p + g % 8 in
-      let homes' : List (maybe.Option S) = set s.homes i (some y) in
-      let log' : List HistoryEntry = k.log ++ history_entry (events.Leave (pass_id p)) Nothing 0 ∷ [] in
-      let shown : WordsShow z (shared st.generations (set st.passes p idle) st.words) (set s.words (8 * (p + 1)) 0) =
-      shows_moved z st s.words k.shown p idle 0 ok.many near refl in
       let room : 16 * p + 8 ≤ length s.homes = omega arith in
       let seat = k.seats id me.0 at in
-      let here : PassSlots Copy c gs (known_of st.generations (pass_id p)) None k.held next homes' p =
-      of_slots.left Copy c gs (known_of st.generations (pass_id p)) g k.held next s.homes p y t.3 t.4 numbers.near numbers.placed room
+      let did = moves s k id me.0 at p near role events.Leave 0 idle 0 (set s.homes i (some y)) refl may refl refl refl refl (length-set s.homes i (some y))
+      (λ v j other l. set_else s.homes i (16 * v + j) (some y) (λ q. other (omega arith)))
+      (of_slots.left Copy c gs (known_of st.generations (pass_id p)) g k.held next s.homes p y t.3 t.4 numbers.near numbers.placed room
       (copies k.log (seat.knows (p + 1) role) k.lawful seat.begins)
-      (subst (λ (e : Option ℕ). PassSlots Copy c gs (known_of st.generations (pass_id p)) e k.held next s.homes p) busy (k.slots.each p near)) in
-      let slots' : AllSlots Copy z.passes (shared st.generations (set st.passes p idle) st.words) gs k.held next homes' =
-      slots_moved Copy z.passes st gs k.held next s.homes homes' p idle in_passes k.slots (length-set s.homes i (some y))
-      (λ v j other l. set_else s.homes i (16 * v + j) (some y) (λ q. other (omega arith))) here in
-      let v' : View = grown me.0 log' me.0.held me.0.next in rw carries (
-        v',
-        gives,
-        tt,
-        extends Copy z s k id me.0 at (p + 1) (events.Leave (pass_id p)) Nothing 0
-            (set s.words (8 * (p + 1)) 0) homes' k.held k.next me.0.held me.0.next role refl may refl shown k.roomy slots' (λ q. absurd (omega arith))
-            (λ q. (refl, refl)),
-        (
-          refl,
-          λ b role'. let same : p ≡ b = (let e = same_number (p + 1) (b + 1) (sym role ∙ role') in omega arith) in
-              subst (λ (q : ℕ). ComesNext (q + 1) me.0 (events.Leave (pass_id q)) Nothing 0 v') same
-              (adds Copy z s k id me.0 at (p + 1) (events.Leave (pass_id p)) Nothing 0 me.0.held me.0.next role may refl refl),
-        ),
+      (subst (λ (e : Option ℕ). PassSlots Copy c gs (known_of st.generations (pass_id p)) e k.held next s.homes p) busy (k.slots.each p near))) in
+      rw carries (_, gives, tt, did.0, (refl, did.1))
+
+  -- a step of the writer about the pass p, which leaves what is known of the pass, its slots and what the writer holds so
+  tracks : (s : State S View) (k : IsRuled Copy z s) (id : ℕ) (v : View) → get_elem? s.views id ≡ some v → (p : ℕ) → p < z.passes → v.role ≡ Some 0
+      → (event : PassId → Event) (r : ℕ) (f : PassTrack) (homes' : List (maybe.Option S)) (held' : ℕ) (next' : Picked) (h : ℕ) (q : Picked)
+      → actor_of (event (pass_id p)) ≡ 0
+      → shared_possible (state_of z k.log) (event (pass_id p)) Nothing ≡ true → r ≡ shared_reply (state_of z k.log) (event (pass_id p)) Nothing
+      → after_shared_entry (state_of z k.log) (history_entry (event (pass_id p)) Nothing r) ≡ (let st = state_of z k.log in
+      shared (with_known st.generations (pass_id p) f) st.passes st.words)
+      → published_with (generations_published k.log) (event (pass_id p)) Nothing ≡ generations_published k.log → length homes' ≡ length s.homes
+      → ((u j : ℕ) → u ≢ p → j < 8 → get_elem? homes' (16 * u + j) ≡ get_elem? s.homes (16 * u + j))
+      → ((u : ℕ) → u ≢ p → u < z.passes → (held' ≡ u + 1 → k.held ≡ u + 1) × (k.held ≡ u + 1 → held' ≡ u + 1)
+      × ((known_of (state_of z k.log).generations (pass_id u)).placed ≡ true → generation_of_pick next' ≡ generation_of_pick k.next))
+      → PassSlots Copy (state_of z k.log).generations.current (generations_published k.log) f (pass_of (state_of z k.log).passes (pass_id p)).entered
+      held' (generation_of_pick next') homes' p
+      → (h ≡ held') × (q ≡ next')
+      → let w = grown v (k.log ++ history_entry (event (pass_id p)) Nothing r ∷ []) h q in
+      IsRuled Copy z record { words = set s.words (8 * (p + 1)) (get_or s.words (8 * (p + 1)) 0); homes = homes'; views = set s.views id w }
+      × ((b : ℕ) → 8 * (p + 1) ≡ 8 * (b + 1) → ComesNext 0 v (event (pass_id b)) Nothing r w)
+  tracks s k id v at p near role event r f homes' held' next' h q mine may is after quiet deep away told here hold =
+      let st : Shared = state_of z k.log in
+      let gs : List Generation = generations_published k.log in
+      let known = (sound z.words z.passes k.log k.lawful).known in
+      let shown : WordsShow z (shared (with_known st.generations (pass_id p) f) st.passes st.words) s.words =
+      record { wide = k.shown.wide; current = k.shown.current; small = k.shown.small; pins = k.shown.pins; pool = k.shown.pool } in
+      let did = makes Copy z s k id v at 0 (event (pass_id p)) Nothing r (shared (with_known st.generations (pass_id p) f) st.passes st.words) gs
+      s.words homes' held' next' h q role mine may is after quiet shown k.roomy
+      (slots_known Copy z.passes st gs k.held held' (generation_of_pick k.next) (generation_of_pick next') s.homes homes' p f (omega arith) k.slots
+      deep away told here) (λ _. hold) (λ y. absurd (y refl)) in (
+        loaded Copy z s.words s.words _ _ (8 * (p + 1)) refl did.0,
+        λ b word. let same : p ≡ b = omega arith in subst (λ (y : ℕ). ComesNext 0 v (event (pass_id y)) Nothing r
+            (grown v (k.log ++ history_entry (event (pass_id p)) Nothing r ∷ []) h q)) same did.1,
       )
 
   pub sweep : (slots id : ℕ) (me : Me S View) (p : ℕ) → p < z.passes → me.0.role ≡ Some 0
       → Allows (IsRuled Copy z) slots id me (8 * (p + 1)) (λ r. r) (sweeps Copy (step slots (8 * (p + 1)) 0 0 none) me)
   sweep slots id me p near role s k deep at small =
       let st : Shared = state_of z k.log in
-      let gs : List Generation = generations_published k.log in
       let c : ℕ = st.generations.current in
       let r : ℕ = get_or s.words (8 * (p + 1)) 0 in
-      let ok = good Copy z s k in
-      let in_passes = inside Copy z s k id me.0 at p near in
-      let next : Generation = generation_of_pick k.next in
-      let may : shared_possible st (events.Sweep (pass_id p)) Nothing ≡ true = lt-ltb p (length st.passes) in_passes in
-      let is : r ≡ shared_reply st (events.Sweep (pass_id p)) Nothing = k.shown.pins p near in
       let was : PassTrack = known_of st.generations (pass_id p) in
       let now : PassTrack = known_after_sweep c was r in
-      let low = (ok.each p near).low in
-      let up : was.lowest ≤ now.lowest = of_slots.raises c was r low in
-      let slots' : AllSlots Copy z.passes (after_shared_entry st (history_entry (events.Sweep (pass_id p)) Nothing r)) gs k.held next s.homes =
-      slots_known Copy z.passes st gs k.held k.held next next s.homes s.homes p now (let n = ok.known in
-      omega arith) k.slots refl (λ v j other l. refl) (λ v other l. ((λ q. q), (λ q. q), (λ _. refl)))
-      (of_slots.swept Copy c gs was now (pass_of st.passes (pass_id p)).entered k.held next s.homes p up refl (k.slots.each p near)) in
-      let shown : WordsShow z (after_shared_entry st (history_entry (events.Sweep (pass_id p)) Nothing r)) s.words =
-      record { wide = k.shown.wide; current = k.shown.current; small = k.shown.small; pins = k.shown.pins; pool = k.shown.pool } in
-      let v' : View = grown me.0 (k.log ++ history_entry (events.Sweep (pass_id p)) Nothing r ∷ []) me.0.held me.0.next in (
-        v',
-        keeps,
-        tt,
-        subst (λ (ws : List ℕ). IsRuled Copy z record { words = ws; homes = s.homes; views = set s.views id v' }) (sym (set-get_or s.words (8 * (p + 1)) 0))
-            (extends Copy z s k id me.0 at 0 (events.Sweep
-            (pass_id p)) Nothing r s.words s.homes k.held k.next me.0.held me.0.next role refl may is shown k.roomy slots'
-            (λ _. let n = (k.seats id me.0 at).counts role in (n.1, n.2)) (λ q. absurd (q refl))),
-        (
-          refl,
-          (refl, refl),
-          λ b word. let same : p ≡ b = omega arith in
-              subst (λ (q : ℕ). ComesNext 0 me.0 (events.Sweep (pass_id q)) Nothing r v') same
-              (adds Copy z s k id me.0 at 0 (events.Sweep (pass_id p)) Nothing r me.0.held me.0.next role may is refl),
-        ),
-      )
+      let n = (k.seats id me.0 at).counts role in
+      let did = tracks s k id me.0 at p near role events.Sweep r now s.homes k.held k.next me.0.held me.0.next refl
+      (lt-ltb p (length st.passes) (inside Copy z s k id me.0 at p near)) (k.shown.pins p near) refl refl refl (λ v j other l. refl)
+      (λ v other l. ((λ q. q), (λ q. q), (λ _. refl)))
+      (of_slots.swept Copy c (generations_published k.log) was now _ k.held _ s.homes p
+      (of_slots.raises c was r ((sound z.words z.passes k.log k.lawful).each p near).low) refl (k.slots.each p near)) (n.1, n.2) in
+      (_, keeps, tt, did.0, (refl, (refl, refl), did.1))
 
   -- with a load of the pass's word the writer takes the slot for the next generation: no event
   pub reach : (slots id : ℕ) (me : Me S View) (p : ℕ) → p < z.passes → me.0.role ≡ Some 0 → me.0.held ≡ 0 → me.1 ≡ []
@@ -285,7 +206,7 @@ module _ {S : Type 0} (Copy : ℕ → Generation → S → Type 0) (z : Sizes) w
       let next : Generation = generation_of_pick k.next in
       let close' : c ≤ was.lowest + 6 = subst (λ (d : Generations). d.current ≤ (known_of d (pass_id p)).lowest + 6) (sym knows) close in
       let free' : was.placed ≡ false = ap (λ (d : Generations). (known_of d (pass_id p)).placed) knows ∙ free in
-      let ok = (good Copy z s k).each p near in
+      let ok = (sound z.words z.passes k.log k.lawful).each p near in
       let mine_slots : PassSlots Copy c gs was (pass_of st.passes (pass_id p)).entered 0 next s.homes p =
       subst (λ (h : ℕ). SlotsOfPass Copy st gs h next s.homes p) none_held (k.slots.each p near) in
       let i : ℕ = 16 * p + (c + 1) % 8 in
@@ -293,22 +214,20 @@ module _ {S : Type 0} (Copy : ℕ → Generation → S → Type 0) (z : Sizes) w
       let y = one_turn g (c + 1) 8 (omega arith) (omega arith) (sym q) in absurd (omega arith)) (λ y. absurd (omega arith)) in
       let homes' : List (maybe.Option S) = set s.homes i none in
       let v' : View = record me.0 { held = p + 1 } in
-      let slots' : AllSlots Copy z.passes st gs (p + 1) next homes' = record {
-        deep = length-set s.homes i none ∙ k.slots.deep;
-        each = λ v l. dite (ℕ_discrete v p)
-            (λ same. subst (λ (y : ℕ). SlotsOfPass Copy st gs (p + 1) next homes' y) (sym same)
-            (of_slots.reached Copy c gs was (pass_of st.passes (pass_id p)).entered next s.homes p close' free' mine_slots))
-            (λ other. of_slots.stays Copy c gs (known_of st.generations (pass_id v)) (pass_of st.passes (pass_id v)).entered k.held
-            (p + 1) next next s.homes homes' v (λ j l'. set_else s.homes i (16 * v + j) none (λ y. other (omega arith)))
-            (λ y. absurd (other (omega arith))) (λ y. absurd (omega arith)) (λ _. refl) (k.slots.each v l));
-      } in rw empty (
+      let known = (sound z.words z.passes k.log k.lawful).known in
+      let slots' : AllSlots Copy z.passes st gs (p + 1) next homes' =
+      subst (λ (ps : List PassTrack). AllSlots Copy z.passes (shared (record st.generations { passes = ps }) st.passes st.words) gs (p + 1) next homes')
+      (set-get_or st.generations.passes p nothing_known) (slots_known Copy z.passes st gs k.held (p + 1) next next s.homes homes' p was (omega arith) k.slots
+      (length-set s.homes i none) (λ v j other l. set_else s.homes i (16 * v + j) none (λ y. other (omega arith)))
+      (λ v other l. ((λ y. absurd (other (omega arith))), (λ y. absurd (omega arith)), (λ _. refl)))
+      (of_slots.reached Copy c gs was (pass_of st.passes (pass_id p)).entered next s.homes p close' free' mine_slots)) in rw empty (
         v',
         takes i home.0,
         home.1,
-        record {
+        loaded Copy z s.words s.words homes' (set s.views id v') (8 * (p + 1)) refl record {
           log = k.log;
           lawful = k.lawful;
-          shown = subst (WordsShow z st) (sym (set-get_or s.words (8 * (p + 1)) 0)) k.shown;
+          shown = k.shown;
           roomy = k.roomy;
           owner = k.owner;
           out = k.out;
@@ -316,38 +235,12 @@ module _ {S : Type 0} (Copy : ℕ → Generation → S → Type 0) (z : Sizes) w
           held = p + 1;
           next = k.next;
           slots = slots';
-          seats = λ j w there. ⊎_elim
-              (λ (t : (j ≡ id) × (v' ≡ w)). subst (λ (y : ℕ × View). SeatKnows z k.log k.owner k.out (p + 1) k.next y.0 y.1) (λ i. (sym t.0 i, t.1 i)) record {
-                knows = seat.knows;
-                begins = seat.begins;
-                was = seat.was;
-                told = seat.told;
-                quiet = seat.quiet;
-                fresh = seat.fresh;
-                sits = seat.sits;
-                all = seat.all;
-                goes = seat.goes;
-                counts = λ is. let n = seat.counts is in (n.0, refl, n.2);
-                stay = seat.stay;
-                brought = seat.brought;
-                home = seat.home;
-              })
-              (λ (t : (j ≢ id) × (get_elem? s.views j ≡ some w)). let f = k.seats j w t.1 in record {
-                knows = f.knows;
-                begins = f.begins;
-                was = f.was;
-                told = f.told;
-                quiet = f.quiet;
-                fresh = f.fresh;
-                sits = f.sits;
-                all = f.all;
-                goes = f.goes;
-                counts = λ is. absurd (t.0 (sym (f.sits 0 is) ∙ seat.sits 0 role));
-                stay = f.stay;
-                brought = f.brought;
-                home = f.home;
-              })
-              (at_set s.views id j v' w there);
+          seats = seats_set (λ j w. SeatKnows z k.log k.owner k.out (p + 1) k.next j w) s.views id v'
+              (knows_still me.0 me.0.out (p + 1) me.0.next seat ([], append-nil k.log) (λ a is. refl) (λ a is. refl) (λ q is. refl)
+              (λ is. let n = seat.counts is in ((n.0, refl, n.2), λ q l. (l, refl))))
+              (λ j w other there. let f = k.seats j w there in
+              knows_still w w.out w.held w.next f ([], append-nil k.log) (λ a is. refl) (λ a is. refl) (λ q is. refl)
+              (λ is. absurd (other (sym (f.sits 0 is) ∙ seat.sits 0 role))));
         },
         (λ b word. let same : p ≡ b = omega arith in (
           ap (λ (y : ℕ). record me.0 { held = y + 1 }) same,
@@ -367,53 +260,29 @@ module _ {S : Type 0} (Copy : ℕ → Generation → S → Type 0) (z : Sizes) w
       let st : Shared = state_of z k.log in
       let gs : List Generation = generations_published k.log in
       let c : ℕ = st.generations.current in
-      let seat = k.seats id me.0 at in
-      let ok = good Copy z s k in
+      let counts = (k.seats id me.0 at).counts role in
       let knows = knows_generations Copy z s k id me.0 at role in
-      let in_passes = inside Copy z s k id me.0 at p near in
-      let here_held : k.held ≡ p + 1 = sym (seat.counts role).1 ∙ holding in
-      let next_is : k.next ≡ me.0.next = sym (seat.counts role).2 in
+      let here_held : k.held ≡ p + 1 = sym counts.1 ∙ holding in
       let was : PassTrack = known_of st.generations (pass_id p) in
       let next : Generation = generation_of_pick k.next in
       let mine_slots : PassSlots Copy c gs was (pass_of st.passes (pass_id p)).entered (p + 1) next s.homes p =
       subst (λ (h : ℕ). SlotsOfPass Copy st gs h next s.homes p) here_held (k.slots.each p near) in
       let clear = mine_slots.clear refl in
       let may : shared_possible st (events.Place (pass_id p)) Nothing ≡ true =
-      both _ _ (le-leb _ _ clear.0) (both _ _ (lt-ltb p (length st.passes) in_passes) (ap not clear.1)) in
+      both _ _ (le-leb _ _ clear.0) (both _ _ (lt-ltb p (length st.passes) (inside Copy z s k id me.0 at p near)) (ap not clear.1)) in
       let i : ℕ = 16 * p + (c + 1) % 8 in
-      let homes' : List (maybe.Option S) = set s.homes i (some y) in
       let room : 16 * p + 8 ≤ length s.homes = omega arith in
-      let copy' : Copy (c + 1) (generation_of_pick m) y = subst (λ (d : Generations). Copy (d.current + 1) (generation_of_pick m) y) (sym knows) copy in
-      let slots' : AllSlots Copy z.passes (after_shared_entry st (history_entry (events.Place (pass_id p)) Nothing 0)) gs 0 (generation_of_pick m) homes' =
-      slots_known Copy z.passes st gs k.held 0 next (generation_of_pick m) s.homes homes' p (with_placed true was) (let n = ok.known in
-      omega arith) k.slots (length-set s.homes i (some y))
-      (λ v j other l. set_else s.homes i (16 * v + j) (some y) (λ q. other (omega arith)))
+      let did = tracks s k id me.0 at p near role events.Place 0 (with_placed true was) (set s.homes i (some y)) 0 m 0 m refl may refl refl refl
+      (length-set s.homes i (some y)) (λ v j other l. set_else s.homes i (16 * v + j) (some y) (λ q. other (omega arith)))
       (λ v other l. (
         (λ q. absurd (omega arith)),
         (λ q. absurd (other (omega arith))),
-        λ b. ap generation_of_pick (sym (next_is ∙ alike v (sym (ap (λ (d : Generations). (known_of d (pass_id v)).placed) knows) ∙ b))),
+        λ b. ap generation_of_pick (sym (sym counts.2 ∙ alike v (sym (ap (λ (d : Generations). (known_of d (pass_id v)).placed) knows) ∙ b))),
       ))
-      (of_slots.placed Copy c gs was (pass_of st.passes (pass_id p)).entered next (generation_of_pick m) s.homes p y room copy' mine_slots) in
-      let v' : View = grown me.0 (k.log ++ history_entry (events.Place (pass_id p)) Nothing 0 ∷ []) 0 m in
-      let shown : WordsShow z (after_shared_entry st (history_entry (events.Place (pass_id p)) Nothing 0)) s.words =
-      record { wide = k.shown.wide; current = k.shown.current; small = k.shown.small; pins = k.shown.pins; pool = k.shown.pool } in
+      (of_slots.placed Copy c gs was (pass_of st.passes (pass_id p)).entered next (generation_of_pick m) s.homes p y room
+      (subst (λ (d : Generations). Copy (d.current + 1) (generation_of_pick m) y) (sym knows) copy) mine_slots) (refl, refl) in
       let same_slot : 16 * p + ((generations_seen me.0).current + 1) % 8 ≡ i = ap (λ (d : Generations). 16 * p + (d.current + 1) % 8) (sym knows) in
-      rw (carries, same_slot) (
-        v',
-        gives,
-        tt,
-        subst (λ (ws : List ℕ). IsRuled Copy z record { words = ws; homes = homes'; views = set s.views id v' }) (sym (set-get_or s.words (8 * (p + 1)) 0))
-            (extends Copy z s k id me.0 at 0 (events.Place (pass_id p)) Nothing 0 s.words homes' 0 m 0 m role refl may refl shown k.roomy slots'
-            (λ _. (refl, refl)) (λ q. absurd (q refl))),
-        (
-          refl,
-          refl,
-          refl,
-          λ b word. let same : p ≡ b = omega arith in
-              subst (λ (q : ℕ). ComesNext 0 me.0 (events.Place (pass_id q)) Nothing 0 v') same
-              (adds Copy z s k id me.0 at 0 (events.Place (pass_id p)) Nothing 0 0 m role may refl refl),
-        ),
-      )
+      rw (carries, same_slot) (_, gives, tt, did.0, (refl, refl, refl, did.1))
 
   pub publish : (slots id : ℕ) (me : Me S View) (new : ℕ) → me.0.role ≡ Some 0 → new ≡ (generations_seen me.0).current + 1
       → all_placed (generations_seen me.0).passes ≡ true → new + 1 < 18446744073709551616 → PlacesFit z.words (generation_of_pick me.0.next)
@@ -429,7 +298,7 @@ module _ {S : Type 0} (Copy : ℕ → Generation → S → Type 0) (z : Sizes) w
       let next_is : k.next ≡ me.0.next = sym (seat.counts role).2 in
       let may : shared_possible st events.Publish x ≡ true = ap (λ (d : Generations). all_placed d.passes) knows ∙ full in
       let is : new ≡ c + 1 = next ∙ ap (λ (d : Generations). d.current + 1) (sym knows) in
-      let ok = good Copy z s k in
+      let ok = sound z.words z.passes k.log k.lawful in
       let shown : WordsShow z (after_shared_entry st (history_entry events.Publish x new)) (set s.words 0 new) = record {
         wide = length-set s.words 0 new ∙ k.shown.wide;
         current = get_or-set_same s.words 0 new 0 (let w = k.shown.wide in omega arith) ∙ is;
@@ -449,14 +318,9 @@ module _ {S : Type 0} (Copy : ℕ → Generation → S → Type 0) (z : Sizes) w
             (all_of st.generations.passes v may near)
             (subst (λ (q : Picked). SlotsOfPass Copy st gs k.held (generation_of_pick q) s.homes v) next_is (k.slots.each v l))));
       } in
-      let v' : View = grown me.0 (k.log ++ history_entry events.Publish x new ∷ []) me.0.held me.0.next in (
-        v',
-        keeps,
-        tt,
-        extends Copy z s k id me.0 at 0 events.Publish x new (set s.words 0 new) s.homes k.held k.next me.0.held me.0.next role refl may is shown
-            (every_snoc (PlacesFit z.words) gs m k.roomy roomy) slots' (λ _. let n = seat.counts role in (n.1, n.2)) (λ q. absurd (q refl)),
-        (refl, (refl, refl), adds Copy z s k id me.0 at 0 events.Publish x new me.0.held me.0.next role may is refl),
-      )
+      let did = makes Copy z s k id me.0 at 0 events.Publish x new _ _ (set s.words 0 new) s.homes k.held k.next me.0.held me.0.next role refl may is refl refl
+      shown (every_push (PlacesFit z.words) gs m k.roomy roomy) slots' (λ _. let n = seat.counts role in (n.1, n.2)) (λ q. absurd (q refl)) in
+      (_, keeps, tt, did.0, (refl, (refl, refl), did.1))
 
 -- for a play that names what was picked by the value in hand
 pub place_as : {E Y : Type 0} (number : E → ℕ) (forest : E → Forest) (places : E → List Place) (z : Sizes) (slots id : ℕ) (me : Me (Option (Arc E Y)) View)
@@ -466,23 +330,8 @@ pub place_as : {E Y : Type 0} (number : E → ℕ) (forest : E → Forest) (plac
     → Allows (IsRuled (IsCopy number forest places) z) slots id me (8 * (p + 1)) (λ r. r) (placed_as forest places (step slots (8 * (p + 1)) 0 0 none) me)
 place_as {E} {Y} number forest places z slots id me p a near wide role holding carries num alike s k deep at small =
     let did = place (IsCopy number forest places) z slots id me p (picked forest places (arc_value a)) (Some a) near wide role holding carries
-    (a, refl, num, refl) alike s k deep at small in (
-      did.0,
-      did.1,
-      did.2,
-      did.3,
-      λ i b is. (
-        did.4.0,
-        did.4.1,
-        did.4.2
-            ∙ ap (λ x. picked forest places (arc_value x)) (in_hand a b (ap (λ l. one a l) (sym carries ∙ is))),
-        did.4.3,
-      ),
-    )
-  where
-    one : Arc E Y → List (ℕ × Option (Arc E Y)) → Arc E Y
-    one d [] = d
-    one d (x ∷ xs) = unwrap_or x.1 d
-
-    in_hand : (x y : Arc E Y) → x ≡ y → x ≡ y
-    in_hand x y e = e
+    (a, refl, num, refl) alike s k deep at small in
+    let same : (i : ℕ) (b : Arc E Y) → me.1 ≡ (i, Some b) ∷ [] → picked forest places (arc_value a) ≡ picked forest places (arc_value b) =
+    λ i b is. ap (λ x. picked forest places (arc_value x))
+    (same_some a b (ap (λ (l : List (ℕ × Option (Arc E Y))). (get_or l 0 (0, Some a)).1) (sym carries ∙ is))) in
+    (did.0, did.1, did.2, did.3, λ i b is. (did.4.0, did.4.1, did.4.2 ∙ same i b is, did.4.3))

@@ -1,26 +1,19 @@
 -- What an actor adds to its own entries, call after call.
-use Rattle.std.proofs.Common.{◌≡◌, ℕ, List, [], ◌∷◌, ◌++◌, length, refl, sym, ap, ◌∙◌, append_assoc, append-nil, arith}
-use base.Growing.{prefix_refl, prefix_trans}
-use Rattle.mem_base.specs.declared.machine.events.HistoryEntry.{HistoryEntry}
-use Rattle.mem_base.specs.declared.machine.events.Hand.{Hand}
-use Rattle.mem_base.specs.machine.Histories.{last_of}
-use Rattle.mem_base.specs.machine.Actors.{actor_of_hand, own_entries}
-use Rattle.view_laws.proofs.Tests.{none_is_not_some}
-use Rattle.epoch_rule.specs.declared.views.Sizes.{Sizes}
-use Rattle.epoch_rule.specs.Wrote.{Adds, EndsWith, Wrote}
+use Rattle.epoch_rule.proofs.Common.{◌≡◌, ℕ, List, [], ◌∷◌, ◌++◌, length, refl, sym, ap, ◌∙◌, append_assoc, append-nil, arith, prefix_refl, prefix_trans}
+use Rattle.epoch_rule.proofs.Common.{HistoryEntry, Hand, last_of, actor_of_hand, own_entries, none_is_not_some, Sizes, Adds, EndsWith, Wrote}
 
-last_append : (xs : List HistoryEntry) (y : HistoryEntry) (ys : List HistoryEntry) → last_of (xs ++ y ∷ ys) ≡ last_of (y ∷ ys)
+pub last_append : (xs : List HistoryEntry) (y : HistoryEntry) (ys : List HistoryEntry) → last_of (xs ++ y ∷ ys) ≡ last_of (y ∷ ys)
 last_append [] y ys = refl
 last_append (x ∷ []) y ys = refl
 last_append (x ∷ u ∷ xs) y ys = last_append (u ∷ xs) y ys
 
 first_nil : (xs ys : List HistoryEntry) → xs ++ ys ≡ [] → xs ≡ []
 first_nil [] ys e = refl
-first_nil (x ∷ xs) ys e = let n : length (x ∷ (xs ++ ys)) ≡ 0 = ap (λ l. length l) e in absurd (omega (arith, n))
+first_nil (x ∷ xs) ys e = absurd (omega (arith, ap length e))
 
-second_nil : (xs ys : List HistoryEntry) → xs ++ ys ≡ [] → ys ≡ []
-second_nil [] ys e = e
-second_nil (x ∷ xs) ys e = let n : length (x ∷ (xs ++ ys)) ≡ 0 = ap (λ l. length l) e in absurd (omega (arith, n))
+pub nothing_after : {A : Type 0} (xs ys : List A) → xs ++ ys ≡ [] → ys ≡ []
+nothing_after [] ys e = e
+nothing_after (x ∷ xs) ys e = absurd (omega (arith, ap length e))
 
 pub adds_none : (z : Sizes) (a : ℕ) (xs : List HistoryEntry) → Adds z a xs [] xs
 adds_none z a xs = record {
@@ -43,7 +36,7 @@ adds_then z a xs new ys more zs h k = record {
   lawful = λ l. k.lawful (h.lawful l);
   events = k.events ∙ ap (λ l. l ++ more) h.events ∙ append_assoc (own_entries a xs) new more;
   ends = ends_then z a ys new more zs h.ends k;
-  still = λ e. k.still (second_nil new more e) ∙ h.still (first_nil new more e);
+  still = λ e. k.still (nothing_after new more e) ∙ h.still (first_nil new more e);
 }
 
 -- what a call wrote, where it has seen no more if it wrote nothing

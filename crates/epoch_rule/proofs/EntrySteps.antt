@@ -1,130 +1,247 @@
--- What a step that makes an entry owes, and what a seat knows before it.
-use Rattle.std.proofs.Common.{◌≡◌, ◌≢◌, ℕ, ◌+◌, ◌*◌, ◌<◌, Bool, true, false, List, [], ◌∷◌, ◌++◌, length, get_or, set, sym, refl, ap, ◌∙◌}
-use Rattle.std.proofs.Common.{subst, ⊎_elim, arith, length-set, get_or-set_other, get_or-set_same, append-nil, Some}
-use Rattle.std.proofs.lemmas.List.{append_cancel_left}
-use Rattle.std.proofs.lemmas.Bool.{both_ways}
-use mathlib.Core.Logic.{dite}
-use mathlib.Core.Option.{some, none}
+-- What each kind of step does to the slots of a pass, what a step that makes an entry owes, and what a seat knows before it.
+use Rattle.epoch_rule.proofs.Common.{◌≡◌, ◌≢◌, ℕ, ◌+◌, ◌*◌, ◌<◌, Bool, true, false, List, [], ◌∷◌, ◌++◌, length, get_or, set, sym, refl, ap, ◌∙◌, subst}
+use Rattle.epoch_rule.proofs.Common.{⊎_elim, arith, length-set, get_or-set_other, get_or-set_same, append-nil, Some, append_cancel_left, both_ways, dite, some}
+use Rattle.epoch_rule.proofs.Common.{ℕ_discrete, get_elem?, prefix_refl, prefix_trans, State, at_set, Event, Carried, HistoryEntry, Every, PassState, idle}
+use Rattle.epoch_rule.proofs.Common.{pass_of, pass_id, Generation, PassTrack, nothing_known, known_of, pin_word, first_generations, with_known, Shared, shared}
+use Rattle.epoch_rule.proofs.Common.{shared_possible, shared_reply, after_shared_entry, shared_opening, Sizes, Picked, View, history_entry, actor_of}
+use Rattle.epoch_rule.proofs.Common.{own_entries, pass_after_all, generations_after_all, generations_published, published_with, first_generation, state_of}
+use Rattle.epoch_rule.proofs.Common.{IsLegal, generation_of_pick, generations_seen, WordsShow, PlacesFit, PassSlots, SlotsOfPass, AllSlots, SeatKnows, IsRuled}
+use Rattle.epoch_rule.proofs.Common.{ComesNext, same_number, published_append, own_append, generations_own, sound, set-get_or, IsPrefix, after_append}
+use Rattle.epoch_rule.proofs.Common.{legal_snoc, own_other, zero, suc, ◌%◌, ◌≤◌, max, ne_eqb, Option, None, none, dec_le, set_else, one_turn}
+use Rattle.epoch_rule.proofs.Common.{known_after_sweep, with_placed, HasAt, none_is_no_number, get_or-append, set_here, slice_index_or, get_or_push}
 use mathlib.Core.Option as maybe
-use native.Mathlib.Decide.{ℕ_discrete}
-use lib.ListN.{get_elem?, length-replicate, get_or-replicate}
-use base.Growing.{prefix_refl, prefix_trans}
-use Rattle.atomic_table.specs.Table.{State}
-use Rattle.atomic_table.proofs.Lists.{at_set}
-use Rattle.mem_base.specs.declared.machine.events.Event.{Event}
-use Rattle.mem_base.specs.declared.machine.events.Carried.{Carried}
-use Rattle.mem_base.specs.declared.machine.events.HistoryEntry.{HistoryEntry}
-use Rattle.mem_base.specs.lists.Every.{Every}
-use Rattle.mem_base.specs.machine.Passes.{PassState, idle, pass_of, pass_id}
-use Rattle.mem_base.specs.machine.Generations.{Generation, PassTrack, nothing_known, known_of, pin_word, first_generations, with_known}
-use Rattle.mem_base.specs.machine.SharedHistory.{Shared, shared, shared_possible, shared_reply, after_shared_entry, shared_opening}
-use Rattle.epoch_rule.specs.declared.views.Sizes.{Sizes}
-use Rattle.epoch_rule.specs.declared.views.Picked.{Picked}
-use Rattle.epoch_rule.specs.declared.views.View.{View}
-use Rattle.mem_base.specs.machine.Turns.{history_entry}
-use Rattle.mem_base.specs.machine.Actors.{actor_of, own_entries, pass_after_all, generations_after_all, generations_published, published_with, first_generation}
-use Rattle.history_laws.specs.Numbers.{HasSoundNumbers}
-use Rattle.epoch_rule.specs.Rule.{state_of, IsLegal, generation_of_pick, pass_seen, generations_seen, WordsShow, PlacesFit, PassSlots}
-use Rattle.epoch_rule.specs.Rule.{SlotsOfPass, AllSlots, SeatKnows, IsRuled, ComesNext}
-use Rattle.view_laws.proofs.Tests.{same_number}
-use Rattle.history_laws.proofs.AppendLaws.{after_append, published_append, legal_snoc, own_append, own_other, pass_owns, generations_own}
-use Rattle.history_laws.proofs.NumberLaws.{sound}
-use Rattle.epoch_rule.proofs.SlotSteps as of_slots
+
+-- a sweep lowers no lowest number
+pub raises : (c : ℕ) (k : PassTrack) (word : ℕ) → k.lowest ≤ c → k.lowest ≤ (known_after_sweep c k word).lowest
+raises c k zero l = l
+raises c k (suc n) l = let e : (known_after_sweep c k (n + 1)).lowest ≡ max k.lowest n =
+    rw (ne_eqb (n + 1) 0 (λ z. omega arith)) (ap (max k.lowest) (omega arith)) in
+    subst (λ (w : ℕ). k.lowest ≤ (known_after_sweep c k w).lowest) {x = n + 1} (omega arith) (rw e (omega arith))
+
+module _ {S : Type 0} (Copy : ℕ → Generation → S → Type 0) where
+  -- a place that is kept
+  has_else : (homes homes' : List (maybe.Option S)) (i : ℕ) (P : S → Type 0) → get_elem? homes' i ≡ get_elem? homes i → HasAt homes i P → HasAt homes' i P
+  has_else homes homes' i P e h = (h.0, e ∙ h.1, h.2)
+
+  -- a place beside the one that changed
+  beside : (homes : List (maybe.Option S)) (v i : ℕ) (x : maybe.Option S) (k : ℕ) (P : S → Type 0) → k ≢ i → HasAt homes (16 * v + k) P
+      → HasAt (set homes (16 * v + i) x) (16 * v + k) P
+  beside homes v i x k P ne h = (h.0, set_else homes (16 * v + i) (16 * v + k) x (λ q. ne (omega arith)) ∙ h.1, h.2)
+
+  -- the slots of this pass stay, and so does what the writer does here
+  pub stays : (c : ℕ) (gs : List Generation) (f : PassTrack) (e : Option ℕ) (held held' : ℕ) (next next' : Generation) (homes homes' : List (maybe.Option S))
+      (v : ℕ) → ((k : ℕ) → k < 8 → get_elem? homes' (16 * v + k) ≡ get_elem? homes (16 * v + k))
+      → (held' ≡ v + 1 → held ≡ v + 1) → (held ≡ v + 1 → held' ≡ v + 1) → (f.placed ≡ true → next' ≡ next) → PassSlots Copy c gs f e held next homes v
+      → PassSlots Copy c gs f e held' next' homes' v
+  stays c gs f e held held' next next' homes homes' v same back on told s = record {
+    kept = λ g a b d. has_else homes homes' (16 * v + g % 8) (Copy g (slice_index_or gs g first_generation)) (same (g % 8) (omega arith)) (s.kept g a b d);
+    placed = λ a. has_else homes homes' (16 * v + (c + 1) % 8) (Copy (c + 1) next') (same ((c + 1) % 8) (omega arith))
+        (subst (λ (m : Generation). HasAt homes (16 * v + (c + 1) % 8) (Copy (c + 1) m)) (sym (told a)) (s.placed a));
+    home = λ k l a b. has_else homes homes' (16 * v + k) (λ y. Unit {0}) (same k l) (s.home k l a (λ x. b (on x)));
+    clear = λ x. s.clear (back x);
+  }
+
+  -- the pass takes its copy of the current edition
+  pub entered : (c : ℕ) (gs : List Generation) (f : PassTrack) (held : ℕ) (next : Generation) (homes : List (maybe.Option S)) (v : ℕ) → f.lowest ≤ c
+      → c ≤ f.lowest + 7 → PassSlots Copy c gs f None held next homes v
+      → PassSlots Copy c gs f (Some c) held next (set homes (16 * v + c % 8) none) v
+  entered c gs f held next homes v low near s = record {
+    kept = λ g a b d. beside homes v (c % 8) none (g % 8) (Copy g (slice_index_or gs g first_generation))
+        (λ q. d (ap (λ (z : ℕ). Some z) (sym (one_turn g c 8 b (omega arith) q)))) (s.kept g a b (λ q. none_is_no_number g q));
+    placed = λ a. beside homes v (c % 8) none ((c + 1) % 8) (Copy (c + 1) next) (λ q. omega arith) (s.placed a);
+    home = λ k l a b. beside homes v (c % 8) none k (λ y. Unit {0}) (a c refl) (s.home k l (λ g q. absurd (none_is_no_number g q)) b);
+    clear = s.clear;
+  }
+
+  -- the pass gives its copy back
+  pub left : (c : ℕ) (gs : List Generation) (f : PassTrack) (g held : ℕ) (next : Generation) (homes : List (maybe.Option S)) (v : ℕ) (y : S) → f.lowest ≤ g
+      → g ≤ c → c ≤ f.lowest + 7 → (f.placed ≡ true → c ≤ f.lowest + 6) → 16 * v + 8 ≤ length homes
+      → Copy g (slice_index_or gs g first_generation) y → PassSlots Copy c gs f (Some g) held next homes v
+      → PassSlots Copy c gs f None held next (set homes (16 * v + g % 8) (some y)) v
+  left c gs f g held next homes v y low high near ahead room copy s =
+      let homes' : List (maybe.Option S) = set homes (16 * v + g % 8) (some y) in
+      let here : get_elem? homes' (16 * v + g % 8) ≡ some (some y) = set_here homes (16 * v + g % 8) (some y) (omega arith) in
+      let one : (x : ℕ) → f.lowest ≤ x → x ≤ c → x % 8 ≡ g % 8 → x ≡ g = λ x a b q. dite (dec_le x g) (λ l. one_turn x g 8 l (omega arith) q)
+      (λ l. sym (one_turn g x 8 (omega arith) (omega arith) (sym q))) in record {
+        kept = λ x a b d. dite (ℕ_discrete x g) (λ e. subst (λ (z : ℕ). HasAt homes' (16 * v + z % 8) (Copy z (slice_index_or gs z first_generation))) (sym e)
+            (y, here, copy))
+            (λ ne. beside homes v (g % 8) (some y) (x % 8) (Copy x (slice_index_or gs x first_generation)) (λ q. ne (one x a b q))
+            (s.kept x a b (λ q. ne (sym (same_number g x q)))));
+        placed = λ a. let z = ahead a in beside homes v (g % 8) (some y) ((c + 1) % 8) (Copy (c + 1) next)
+            (λ q. let e = one_turn g (c + 1) 8 (omega arith) (omega arith) (sym q) in omega arith) (s.placed a);
+        home = λ k l a b. dite (ℕ_discrete k (g % 8)) (λ e. (y, ap (λ (z : ℕ). get_elem? homes' (16 * v + z)) e ∙ here, tt))
+            (λ ne. beside homes v (g % 8) (some y) k (λ y. Unit {0}) ne
+            (s.home k l (λ x q e. ne (e ∙ ap (λ (z : ℕ). z % 8) (sym (same_number g x q)))) b));
+        clear = s.clear;
+      }
+
+  -- a sweep may raise the lowest number
+  pub swept : (c : ℕ) (gs : List Generation) (f : PassTrack) (f' : PassTrack) (e : Option ℕ) (held : ℕ) (next : Generation) (homes : List (maybe.Option S))
+      (v : ℕ) → f.lowest ≤ f'.lowest → f'.placed ≡ f.placed → PassSlots Copy c gs f e held next homes v
+      → PassSlots Copy c gs f' e held next homes v
+  swept c gs f f' e held next homes v up same s = record {
+    kept = λ g a b d. s.kept g (omega arith) b d;
+    placed = λ a. s.placed (sym same ∙ a);
+    home = s.home;
+    clear = λ x. let z = s.clear x in let a = z.0 in (omega arith, same ∙ z.1);
+  }
+
+  -- the writer takes the slot for the next edition
+  pub reached : (c : ℕ) (gs : List Generation) (f : PassTrack) (e : Option ℕ) (next : Generation) (homes : List (maybe.Option S)) (v : ℕ) → c ≤ f.lowest + 6
+      → f.placed ≡ false → PassSlots Copy c gs f e 0 next homes v
+      → PassSlots Copy c gs f e (v + 1) next (set homes (16 * v + (c + 1) % 8) none) v
+  reached c gs f e next homes v near free s = record {
+    kept = λ g a b d. beside homes v ((c + 1) % 8) none (g % 8) (Copy g (slice_index_or gs g first_generation))
+        (λ q. let z = one_turn g (c + 1) 8 (omega arith) (omega arith) q in omega arith) (s.kept g a b d);
+    placed = λ a. absurd (both_ways _ free a);
+    home = λ k l a b. beside homes v ((c + 1) % 8) none k (λ y. Unit {0}) (b refl) (s.home k l a (λ x. absurd (omega arith)));
+    clear = λ x. (near, free);
+  }
+
+  -- and gives it back with a copy of that edition
+  pub placed : (c : ℕ) (gs : List Generation) (f : PassTrack) (e : Option ℕ) (next m : Generation) (homes : List (maybe.Option S)) (v : ℕ) (y : S)
+      → 16 * v + 8 ≤ length homes → Copy (c + 1) m y → PassSlots Copy c gs f e (v + 1) next homes v
+      → PassSlots Copy c gs (with_placed true f) e 0 m (set homes (16 * v + (c + 1) % 8) (some y)) v
+  placed c gs f e next m homes v y room copy s =
+      let i : ℕ = (c + 1) % 8 in
+      let homes' : List (maybe.Option S) = set homes (16 * v + i) (some y) in
+      let here : get_elem? homes' (16 * v + i) ≡ some (some y) = set_here homes (16 * v + i) (some y) (omega arith) in
+      let near = (s.clear refl).0 in record {
+        kept = λ g a b d. beside homes v i (some y) (g % 8) (Copy g (slice_index_or gs g first_generation))
+            (λ q. let z = one_turn g (c + 1) 8 (omega arith) (omega arith) q in omega arith) (s.kept g a b d);
+        placed = λ a. (y, here, copy);
+        home = λ k l a b. dite (ℕ_discrete k i) (λ z. (y, ap (λ (x : ℕ). get_elem? homes' (16 * v + x)) z ∙ here, tt))
+            (λ ne. beside homes v i (some y) k (λ y. Unit {0}) ne (s.home k l a (λ _. ne)));
+        clear = λ x. absurd (omega arith);
+      }
+
+  -- the next edition is the current one
+  pub published : (c : ℕ) (gs : List Generation) (f : PassTrack) (e : Option ℕ) (held : ℕ) (m : Generation) (homes : List (maybe.Option S)) (v : ℕ)
+      → length gs ≡ c + 1 → f.placed ≡ true → PassSlots Copy c gs f e held m homes v
+      → PassSlots Copy (c + 1) (gs ++ m ∷ []) (with_placed false f) e held m homes v
+  published c gs f e held m homes v long all s = record {
+    kept = λ g a b d. dite (ℕ_discrete g (c + 1))
+        (λ z. subst (λ (x : ℕ). HasAt homes (16 * v + x % 8) (Copy x (slice_index_or (gs ++ m ∷ []) x first_generation))) (sym z)
+        (subst (λ (x : Generation). HasAt homes (16 * v + (c + 1) % 8) (Copy (c + 1) x)) (sym (get_or_push gs m first_generation (c + 1) long)) (s.placed all)))
+        (λ ne. subst (λ (x : Generation). HasAt homes (16 * v + g % 8) (Copy g x)) (sym (get_or-append gs (m ∷ []) first_generation g (omega arith)))
+        (s.kept g a (omega arith) d));
+    placed = λ z. absurd (grind arith);
+    home = λ k l a b. s.home k l a (λ x. absurd (both_ways _ (s.clear x).1 all));
+    clear = λ x. absurd (both_ways _ (s.clear x).1 all);
+  }
 
 -- the view after an entry, with what the writer holds
 abbrev pub grown : View → List HistoryEntry → ℕ → Picked → View
 grown v xs h x = record v { seen = xs; was = xs; told = xs; fresh = false; held = h; next = x }
 
--- the laws of a history that a rule keeps
-pub good : {S : Type 0} (Copy : ℕ → Generation → S → Type 0) (z : Sizes) (s : State S View) (k : IsRuled Copy z s)
-    → HasSoundNumbers z.words z.passes (generations_published k.log) (state_of z k.log)
-good Copy z s k = sound z.words z.passes k.log k.lawful
+-- what holds of a seat's new view, and of the views of the others
+pub seats_set : (P : ℕ → View → Type 0) (views : List View) (id : ℕ) (new : View) → P id new
+    → ((j : ℕ) (w : View) → j ≢ id → get_elem? views j ≡ some w → P j w) → (j : ℕ) (w : View) → get_elem? (set views id new) j ≡ some w → P j w
+seats_set P views id new here others j w there = ⊎_elim
+    (λ (t : (j ≡ id) × (new ≡ w)). subst (λ (y : ℕ × View). P y.0 y.1) (λ i. (sym t.0 i, t.1 i)) here)
+    (λ (t : (j ≢ id) × (get_elem? views j ≡ some w)). others j w t.0 t.1) (at_set views id j new w there)
+
+-- a load leaves the words as they are
+pub loaded : {S : Type 0} (Copy : ℕ → Generation → S → Type 0) (z : Sizes) (ws words : List ℕ) (homes : List (maybe.Option S)) (views : List View) (i : ℕ)
+    → ws ≡ words → IsRuled Copy z record { words = ws; homes = homes; views = views }
+    → IsRuled Copy z record { words = set words i (get_or words i 0); homes = homes; views = views }
+loaded Copy z ws words homes views i same = subst (λ (y : List ℕ). IsRuled Copy z record { words = y; homes = homes; views = views })
+    (same ∙ sym (set-get_or words i 0))
+
+-- a seat that has seen no more, where the history, the actors' seats, the passes out and the writer's slot are others
+pub knows_still : {z : Sizes} {log log' : List HistoryEntry} {owner owner' : ℕ → ℕ} {out out' : List Bool} {held held' : ℕ} {next next' : Picked} {j : ℕ}
+    (v : View) (bs : List Bool) (h : ℕ) (x : Picked) → SeatKnows z log owner out held next j v → IsPrefix log log'
+    → ((a : ℕ) → v.role ≡ Some a → owner' a ≡ owner a) → ((a : ℕ) → v.role ≡ Some a → own_entries a log ≡ own_entries a log')
+    → ((p : ℕ) → v.role ≡ Some (p + 1) → get_or out' p false ≡ get_or out p false)
+    → (v.role ≡ Some 0 → ((bs ≡ out') × (h ≡ held') × (x ≡ next')) × ((p : ℕ) → get_or out' p false ≡ false
+    → (get_or out p false ≡ false) × (own_entries (p + 1) log ≡ own_entries (p + 1) log')))
+    → SeatKnows z log' owner' out' held' next' j (record v { out = bs; held = h; next = x })
+knows_still v bs h x f more same own goes writer = record {
+  knows = f.knows;
+  begins = prefix_trans _ _ _ f.begins more;
+  was = f.was;
+  told = f.told;
+  quiet = f.quiet;
+  fresh = f.fresh;
+  sits = λ a is. same a is ∙ f.sits a is;
+  all = λ a is. f.all a is ∙ own a is;
+  goes = λ p is. goes p is ∙ f.goes p is;
+  counts = λ is. (writer is).0;
+  stay = λ is p l ne. f.stay is p ((writer is).1 p l).0 ne;
+  brought = λ is p l e. f.brought is p ((writer is).1 p l).0 e;
+  home = λ is p l. let t = (writer is).1 p l in f.home is p t.0 ∙ t.1;
+}
 
 module _ {S : Type 0} (Copy : ℕ → Generation → S → Type 0) (z : Sizes) (s : State S View) (k : IsRuled Copy z s) (id : ℕ) (v : View)
     (at : get_elem? s.views id ≡ some v) where
-  pub extends : (a : ℕ) (e : Event) (x : Carried) (r : ℕ) (words' : List ℕ) (homes' : List (maybe.Option S)) (held' : ℕ) (next' : Picked) (h : ℕ) (q : Picked)
+  -- the passes that are not out do nothing where another actor does
+  others_rest : (a : ℕ) (e : Event) (x : Carried) (r : ℕ) → v.role ≡ Some a → actor_of e ≡ a → (p : ℕ) → get_or k.out p false ≡ false
+      → own_entries (p + 1) (k.log ++ history_entry e x r ∷ []) ≡ own_entries (p + 1) k.log
+  others_rest a e x r role mine p l = own_other (p + 1) k.log e x r
+      (λ q. both_ways _ l ((k.seats id v at).goes p (role ∙ ap (λ (y : ℕ). Some y) (sym mine ∙ q))))
+
+  -- an entry of the actor a, which leaves this state and these generations: the rule holds after it, and its seat has seen it
+  pub makes : (a : ℕ) (e : Event) (x : Carried) (r : ℕ) (s' : Shared) (gs' : List Generation) (words' : List ℕ) (homes' : List (maybe.Option S))
+      (held' : ℕ) (next' : Picked) (h : ℕ) (q : Picked)
       → v.role ≡ Some a → actor_of e ≡ a → shared_possible (state_of z k.log) e x ≡ true → r ≡ shared_reply (state_of z k.log) e x
-      → WordsShow z (after_shared_entry (state_of z k.log) (history_entry e x r)) words'
-      → Every (PlacesFit z.words) (published_with (generations_published k.log) e x)
-      → AllSlots Copy z.passes (after_shared_entry (state_of z k.log) (history_entry e x r)) (published_with (generations_published k.log) e x) held'
-      (generation_of_pick next') homes'
+      → after_shared_entry (state_of z k.log) (history_entry e x r) ≡ s' → published_with (generations_published k.log) e x ≡ gs'
+      → WordsShow z s' words' → Every (PlacesFit z.words) gs' → AllSlots Copy z.passes s' gs' held' (generation_of_pick next') homes'
       → (a ≡ 0 → (h ≡ held') × (q ≡ next')) → (a ≢ 0 → (held' ≡ k.held) × (next' ≡ k.next))
-      → IsRuled Copy z record { words = words'; homes = homes'; views = set s.views id (grown v (k.log ++ history_entry e x r ∷ []) h q) }
-  extends a e x r words' homes' held' next' h q role mine may is shown roomy slots writes keeps' = record {
-    log = k.log ++ history_entry e x r ∷ [];
-    lawful = legal_snoc k.log (shared_opening z.words z.passes) e x r k.lawful may is;
-    shown = subst (λ (t : Shared). WordsShow z t words') (sym (after_append k.log (history_entry e x r ∷ []) (shared_opening z.words z.passes))) shown;
-    roomy = subst (λ (t : List Generation). Every (PlacesFit z.words) t)
-        (sym (published_append k.log (history_entry e x r ∷ []) (first_generation ∷ []))) roomy;
-    owner = k.owner;
-    out = k.out;
-    rest = λ p l. ap (pass_after_all idle) (own_other (p + 1) k.log e x r
-        (λ q. both_ways _ l ((k.seats id v at).goes p (role ∙ ap (λ (y : ℕ). Some y) (sym mine ∙ q))))) ∙ k.rest p l;
-    held = held';
-    next = next';
-    slots = subst (λ (t : Shared × List Generation). AllSlots Copy z.passes t.0 t.1 held' (generation_of_pick next') homes')
-        (λ i. (
-          sym (after_append k.log (history_entry e x r ∷ []) (shared_opening z.words z.passes)) i,
-          sym (published_append k.log (history_entry e x r ∷ []) (first_generation ∷ [])) i,
-        )) slots;
-    seats = λ j w there. let new : View = grown v (k.log ++ history_entry e x r ∷ []) h q in ⊎_elim
-        (λ (t : (j ≡ id) × (new ≡ w)). subst (λ (y : ℕ × View). SeatKnows z (k.log ++ history_entry e x r ∷ []) k.owner k.out held' next' y.0 y.1)
-        (λ i. (sym t.0 i, t.1 i)) (let f = k.seats id v at in record {
-          knows = f.knows;
-          begins = prefix_refl (k.log ++ history_entry e x r ∷ []);
-          was = prefix_refl (k.log ++ history_entry e x r ∷ []);
-          told = prefix_refl (k.log ++ history_entry e x r ∷ []);
-          quiet = λ b is'. refl;
-          fresh = λ new p is'. absurd (grind arith);
-          sits = f.sits;
-          all = λ b is'. refl;
-          goes = f.goes;
-          counts = λ is'. let w = writes (same_number a 0 (sym role ∙ is')) in ((f.counts is').0, w.0, w.1);
-          stay = λ is' q l ne. refl;
-          brought = λ is' q l e. refl;
-          home = λ is' p l. refl;
-        }))
-        (λ (t : (j ≢ id) × (get_elem? s.views j ≡ some w)). let f = k.seats j w t.1 in let mate = k.seats id v at in
-        let apart : (b : ℕ) → w.role ≡ Some b → a ≢ b = λ b is' q. t.0 (sym (f.sits b is') ∙ (ap k.owner (sym q) ∙ mate.sits a role)) in record {
-          knows = f.knows;
-          begins = prefix_trans w.seen k.log (k.log ++ history_entry e x r ∷ []) f.begins (history_entry e x r ∷ [], refl);
-          was = f.was;
-          told = f.told;
-          quiet = f.quiet;
-          fresh = f.fresh;
-          sits = f.sits;
-          all = λ b is'. f.all b is' ∙ sym (own_other b k.log e x r (λ q. apart b is' (sym mine ∙ q)));
-          goes = f.goes;
-          counts = λ is'. let c = f.counts is' in let d = keeps' (apart 0 is') in (c.0, c.1 ∙ sym d.0, c.2 ∙ sym d.1);
-          stay = f.stay;
-          brought = f.brought;
-          home = λ is' p l. f.home is' p l ∙ sym (own_other (p + 1) k.log e x r
-              (λ q. let there = mate.goes p (role ∙ ap (λ (y : ℕ). Some y) (sym mine ∙ q)) in both_ways _ l there));
-        })
-        (at_set s.views id j new w there);
-  }
-
-  pub adds : (a : ℕ) (e : Event) (x : Carried) (r h : ℕ) (q : Picked) → v.role ≡ Some a → shared_possible (state_of z k.log) e x ≡ true
-      → r ≡ shared_reply (state_of z k.log) e x → actor_of e ≡ a → ComesNext a v e x r (grown v (k.log ++ history_entry e x r ∷ []) h q)
-  adds a e x r h q role may is mine = let f = k.seats id v at in record {
-    role = refl;
-    out = refl;
-    sizes = refl;
-    lawful = subst (λ (y : Sizes). IsLegal y (k.log ++ history_entry e x r ∷ [])) (sym (f.knows a role))
-        (legal_snoc k.log (shared_opening z.words z.passes) e x r k.lawful may is);
-    between = f.begins.0;
-    others = append_cancel_left (own_entries a v.seen) (own_entries a f.begins.0) []
-        (sym (own_append a v.seen f.begins.0) ∙ (ap (own_entries a) f.begins.1 ∙ (sym (f.all a role) ∙ sym (append-nil (own_entries a v.seen)))));
-    seen = ap (λ l. l ++ history_entry e x r ∷ []) (sym f.begins.1);
-    home = λ first p l. let writer : v.role ≡ Some 0 = role ∙ ap (λ (y : ℕ). Some y) first in
-        own_other (p + 1) k.log e x r (λ y. omega arith)
-        ∙ sym (f.home writer p (ap (λ (o : List Bool). get_or o p false) (sym (f.counts writer).0) ∙ l));
-  }
-
-  pub knows_pass : (p : ℕ) → p < z.passes → v.role ≡ Some (p + 1) → pass_of (state_of z k.log).passes (pass_id p) ≡ pass_seen p v
-  knows_pass p near role = pass_owns k.log (shared_opening z.words z.passes) p (subst (λ (m : ℕ). p < m) (sym (length-replicate z.passes idle)) near)
-      ∙ (ap (λ h. pass_after_all h (own_entries (p + 1) k.log)) (get_or-replicate z.passes p idle idle near)
-      ∙ ap (λ l. pass_after_all idle l) (sym ((k.seats id v at).all (p + 1) role)))
+      → let w = grown v (k.log ++ history_entry e x r ∷ []) h q in
+      IsRuled Copy z record { words = words'; homes = homes'; views = set s.views id w } × ComesNext a v e x r w
+  makes a e x r s' gs' words' homes' held' next' h q role mine may is is_state are shown roomy slots writes keeps' =
+      let log : List HistoryEntry = k.log ++ history_entry e x r ∷ [] in
+      let after = sym (after_append k.log (history_entry e x r ∷ []) (shared_opening z.words z.passes) ∙ is_state) in
+      let published = sym (published_append k.log (history_entry e x r ∷ []) (first_generation ∷ []) ∙ are) in
+      let rests = others_rest a e x r role mine in
+      let lawful = legal_snoc k.log (shared_opening z.words z.passes) e x r k.lawful may is in
+      let f = k.seats id v at in (
+        record {
+          log = log;
+          lawful = lawful;
+          shown = subst (λ (t : Shared). WordsShow z t words') after shown;
+          roomy = subst (λ (t : List Generation). Every (PlacesFit z.words) t) published roomy;
+          owner = k.owner;
+          out = k.out;
+          rest = λ p l. ap (pass_after_all idle) (rests p l) ∙ k.rest p l;
+          held = held';
+          next = next';
+          slots = subst (λ (t : Shared × List Generation). AllSlots Copy z.passes t.0 t.1 held' (generation_of_pick next') homes')
+              (λ i. (after i, published i)) slots;
+          seats = seats_set (λ j w. SeatKnows z log k.owner k.out held' next' j w) s.views id (grown v log h q) record {
+            knows = f.knows;
+            begins = prefix_refl log;
+            was = prefix_refl log;
+            told = prefix_refl log;
+            quiet = λ b is'. refl;
+            fresh = λ new p is'. absurd (grind arith);
+            sits = f.sits;
+            all = λ b is'. refl;
+            goes = f.goes;
+            counts = λ is'. let w = writes (same_number a 0 (sym role ∙ is')) in ((f.counts is').0, w.0, w.1);
+            stay = λ is' q l ne. refl;
+            brought = λ is' q l e. refl;
+            home = λ is' p l. refl;
+          } (λ j w other there. let g = k.seats j w there in
+              let apart : (b : ℕ) → w.role ≡ Some b → a ≢ b = λ b is' y. other (sym (g.sits b is') ∙ (ap k.owner (sym y) ∙ f.sits a role)) in
+              knows_still w w.out w.held w.next g (history_entry e x r ∷ [], refl) (λ b is'. refl)
+              (λ b is'. sym (own_other b k.log e x r (λ y. apart b is' (sym mine ∙ y)))) (λ p is'. refl)
+              (λ is'. let c = g.counts is' in let d = keeps' (apart 0 is') in ((c.0, c.1 ∙ sym d.0, c.2 ∙ sym d.1), λ p l. (l, sym (rests p l)))));
+        },
+        record {
+          role = refl;
+          out = refl;
+          sizes = refl;
+          lawful = subst (λ (y : Sizes). IsLegal y log) (sym (f.knows a role)) lawful;
+          between = f.begins.0;
+          others = append_cancel_left (own_entries a v.seen) (own_entries a f.begins.0) []
+              (sym (own_append a v.seen f.begins.0) ∙ (ap (own_entries a) f.begins.1 ∙ (sym (f.all a role) ∙ sym (append-nil (own_entries a v.seen)))));
+          seen = ap (λ l. l ++ history_entry e x r ∷ []) (sym f.begins.1);
+          home = λ first p l. let writer : v.role ≡ Some 0 = role ∙ ap (λ (y : ℕ). Some y) first in
+              own_other (p + 1) k.log e x r (λ y. omega arith)
+              ∙ sym (f.home writer p (ap (λ (o : List Bool). get_or o p false) (sym (f.counts writer).0) ∙ l));
+        },
+      )
 
   pub knows_generations : v.role ≡ Some 0 → (state_of z k.log).generations ≡ generations_seen v
   knows_generations role = generations_own k.log (shared_opening z.words z.passes)
@@ -132,7 +249,7 @@ module _ {S : Type 0} (Copy : ℕ → Generation → S → Type 0) (z : Sizes) (
       ∙ ap (λ (y : Sizes). generations_after_all (first_generations y.passes) (own_entries 0 v.seen)) (sym ((k.seats id v at).knows 0 role)))
 
   pub inside : (p : ℕ) → p < z.passes → p < length (state_of z k.log).passes
-  inside p near = let m = (good Copy z s k).many in omega arith
+  inside p near = let m = (sound z.words z.passes k.log k.lawful).many in omega arith
 
 -- the words after a step of the pass u
 pub shows_moved : (z : Sizes) (s : Shared) (words : List ℕ) (h : WordsShow z s words) (u : ℕ) (p : PassState) (x : ℕ) → length s.passes ≡ z.passes
@@ -181,7 +298,7 @@ module _ {S : Type 0} (Copy : ℕ → Generation → S → Type 0) where
         (sym (get_or-set_same s.passes u p idle near)) here))
         (λ other. subst (λ (h : PassState). PassSlots Copy s.generations.current gs (known_of s.generations (pass_id v)) h.entered held next homes' v)
         (sym (get_or-set_other s.passes u v p idle other))
-        (of_slots.stays Copy s.generations.current gs (known_of s.generations (pass_id v))
+        (stays Copy s.generations.current gs (known_of s.generations (pass_id v))
         (pass_of s.passes (pass_id v)).entered held held next next homes homes' v (λ j l'. away v j other l') (λ q. q) (λ q. q) (λ _. refl) (k.each v l)));
   }
 
@@ -202,6 +319,6 @@ module _ {S : Type 0} (Copy : ℕ → Generation → S → Type 0) where
         (sym (get_or-set_same s.generations.passes u f nothing_known near)) here))
         (λ other. let t = told v other l in subst (λ (g : PassTrack). PassSlots Copy s.generations.current gs g
         (pass_of s.passes (pass_id v)).entered held' next' homes' v) (sym (get_or-set_other s.generations.passes u v f nothing_known other))
-        (of_slots.stays Copy s.generations.current gs (known_of s.generations (pass_id v))
+        (stays Copy s.generations.current gs (known_of s.generations (pass_id v))
         (pass_of s.passes (pass_id v)).entered held held' next next' homes homes' v (λ j l'. away v j other l') t.0 t.1 t.2 (k.each v l)));
   }

@@ -1,21 +1,8 @@
 -- The least pass that has the least lowest number, and the current number.
-use Rattle.std.proofs.Common.{◌≡◌, ◌≢◌, ◌⊎◌, ℕ, zero, suc, ◌<◌, ◌≤◌, min, ne_eqb, List, [], ◌∷◌, length, map, get_or, refl, sym, ap, ◌∙◌}
-use Rattle.std.proofs.Common.{subst, inl, inr, ⊎_elim, arith}
-use Rattle.std.proofs.lemmas.Bool.{eq-eqb}
-use mathlib.Core.Logic.{dite}
-use native.Mathlib.Decide.{ℕ_discrete}
-use Rattle.mem_base.specs.declared.machine.events.HistoryEntry.{HistoryEntry}
-use Rattle.mem_base.specs.machine.Passes.{pass_id}
-use Rattle.mem_base.specs.machine.Generations.{Generations, PassTrack, nothing_known, known_of, least_lowest}
-use Rattle.mem_base.specs.machine.SharedHistory.{shared_opening}
-use Rattle.mem_base.specs.machine.Actors.{number_seen}
-use Rattle.history_laws.proofs.NumberLaws.{sound}
-use Rattle.epoch_rule.specs.declared.views.Sizes.{Sizes}
-use Rattle.epoch_rule.specs.declared.writers.Found.{Found}
-use Rattle.epoch_rule.specs.Rule.{IsLegal}
-use Rattle.epoch_rule.specs.Writing.{stored}
-use Rattle.epoch_rule.specs.Calls.{first_at, IsLeastPassAt, generations_in_seen}
-use Rattle.history_laws.proofs.AppendLaws.{generations_own}
+use Rattle.epoch_rule.proofs.Common.{◌≡◌, ◌≢◌, ◌⊎◌, ℕ, zero, suc, ◌<◌, ◌≤◌, ne_eqb, List, [], ◌∷◌, length, map, get_or, refl, sym, ap, ◌∙◌, subst, inl, inr}
+use Rattle.epoch_rule.proofs.Common.{⊎_elim, arith, eq-eqb, dite, ℕ_discrete, HistoryEntry, pass_id, Generations, PassTrack, nothing_known, known_of}
+use Rattle.epoch_rule.proofs.Common.{least_lowest, shared_opening, number_seen, sound, Sizes, Found, IsLegal, stored, first_at, IsLeastPassAt}
+use Rattle.epoch_rule.proofs.Common.{generations_in_seen, generations_own, dec_le, min}
 
 -- the current number is that of the last Publish
 pub current_seen : (z : Sizes) (xs : List HistoryEntry) → IsLegal z xs → (generations_in_seen z xs).current ≡ number_seen xs
@@ -46,13 +33,8 @@ at_first low (k ∷ ks) l = dite (ℕ_discrete k.lowest low)
     (λ other. subst (λ (n : ℕ). (get_or (k ∷ ks) n nothing_known).lowest ≡ low) (sym (first_after low k ks other))
     (at_first low ks (let e = first_after low k ks other in omega arith)))
 
-either : (a b : ℕ) → (a ≤ b) ⊎ (b ≤ a)
-either zero b = inl (omega arith)
-either (suc a) zero = inr (omega arith)
-either (suc a) (suc b) = ⊎_elim (λ (h : a ≤ b). inl (omega arith)) (λ (h : b ≤ a). inr (omega arith)) (either a b)
-
 other_is_least : (a b : ℕ) → a ≢ min a b → min a b ≡ b
-other_is_least a b other = ⊎_elim (λ (h : a ≤ b). absurd (other (omega arith))) (λ (h : b ≤ a). omega arith) (either a b)
+other_is_least a b other = dite (dec_le a b) (λ h. absurd (other (omega arith))) (λ h. omega arith)
 
 -- the least number is one that a pass has, or the current one
 some_has : (c : ℕ) (ks : List PassTrack) → (least_lowest c ks ≡ c) ⊎ (first_at (least_lowest c ks) (map stored ks) < length ks)
@@ -74,33 +56,21 @@ inside_where c (k ∷ ks) some low = ⊎_elim
     (λ l. l)
     (some_has c (k ∷ ks))
 
--- after a legal history
-pub least_pass : (z : Sizes) (xs : List HistoryEntry) → IsLegal z xs → 0 < z.passes →
-    let g = generations_in_seen z xs in let low = least_lowest g.current g.passes in IsLeastPassAt g low (pass_id (first_at low (map stored g.passes)))
-least_pass z xs legal some =
-    let g : Generations = generations_in_seen z xs in
-    let own = generations_own xs (shared_opening z.words z.passes) in
-    let k = sound z.words z.passes xs legal in
-    let many : length g.passes ≡ z.passes = ap (λ (h : Generations). length h.passes) (sym own) ∙ k.known in
-    let low : (known_of g (pass_id 0)).lowest ≤ g.current = subst (λ (h : Generations). (known_of h (pass_id 0)).lowest ≤ h.current) own (k.each 0 some).low in
-    let inside = inside_where g.current g.passes (omega arith) low in record {
-      inside = inside;
-      has = at_first (least_lowest g.current g.passes) g.passes inside;
-      least = λ v before. before_first (least_lowest g.current g.passes) g.passes v before;
-    }
-
--- of what is stored of the passes
+-- after a legal history, of what is stored of the passes
 pub swept_pass : (z : Sizes) (xs : List HistoryEntry) → IsLegal z xs → 0 < z.passes → (known : List Found)
     → known ≡ map stored (generations_in_seen z xs).passes → (low n : ℕ)
     → low ≡ least_lowest (generations_in_seen z xs).current (generations_in_seen z xs).passes → n ≡ first_at low known
     → IsLeastPassAt (generations_in_seen z xs) low (pass_id n) × (n < z.passes)
 swept_pass z xs legal some known is low n low_is n_is =
     let g : Generations = generations_in_seen z xs in
-    let k = least_pass z xs legal some in
-    let many : length g.passes ≡ z.passes = ap (λ (h : Generations). length h.passes) (sym (generations_own xs (shared_opening z.words z.passes)))
-    ∙ (sound z.words z.passes xs legal).known in
-    let inside = k.inside in
-    let at : n ≡ first_at (least_lowest g.current g.passes) (map stored g.passes) = n_is ∙ (λ i. first_at (low_is i) (is i)) in (
-      subst (λ (y : ℕ × ℕ). IsLeastPassAt g y.0 (pass_id y.1)) (λ i. (sym low_is i, sym at i)) k,
+    let own = generations_own xs (shared_opening z.words z.passes) in
+    let k = sound z.words z.passes xs legal in
+    let many : length g.passes ≡ z.passes = ap (λ (h : Generations). length h.passes) (sym own) ∙ k.known in
+    let first_low = subst (λ (h : Generations). (known_of h (pass_id 0)).lowest ≤ h.current) own (k.each 0 some).low in
+    let least : ℕ = least_lowest g.current g.passes in
+    let inside = inside_where g.current g.passes (omega arith) first_low in
+    let at : n ≡ first_at least (map stored g.passes) = n_is ∙ (λ i. first_at (low_is i) (is i)) in (
+      subst (λ (y : ℕ × ℕ). IsLeastPassAt g y.0 (pass_id y.1)) (λ i. (sym low_is i, sym at i))
+          record { inside = inside; has = at_first least g.passes inside; least = λ v before. before_first least g.passes v before },
       omega arith,
     )

@@ -1,3 +1,4 @@
+mod Common
 pub mod ActorSteps
 pub mod AddsLaws
 pub mod EntrySteps
@@ -5,11 +6,7 @@ pub mod LeastLaws
 pub mod LoadLaws
 pub mod OpeningLaws
 pub mod PassLaws
-pub mod PublishLaws
 pub mod SeatSteps
-pub mod SizeLaws
-pub mod SlotLaws
-pub mod SlotSteps
 pub mod SweepLaws
 pub mod TouchLaws
 pub mod WordSteps

@@ -1,26 +1,12 @@
 -- The rule holds of a new table.
-use Rattle.std.proofs.Common.{◌≡◌, ◌≢◌, ℕ, zero, suc, ◌+◌, ◌*◌, ◌%◌, ◌<◌, false, List, [], ◌∷◌, length, map, replicate, get_or, sym, refl}
-use Rattle.std.proofs.Common.{ap, ◌∙◌, subst, ⊎_elim, arith, Option, Some, None}
-use mathlib.Core.Option.{some, none, some-ne-none}
+use Rattle.epoch_rule.proofs.Common.{◌≡◌, ◌≢◌, ℕ, zero, suc, ◌+◌, ◌*◌, ◌%◌, ◌<◌, false, List, [], ◌∷◌, length, map, replicate, get_or, sym, refl, ap, ◌∙◌}
+use Rattle.epoch_rule.proofs.Common.{subst, arith, Option, Some, None, some, none, some-ne-none, get_elem?, get_or-replicate, length-map, opening, arc_value}
+use Rattle.epoch_rule.proofs.Common.{Arc, ◌++◌, length-append, dite, ℕ_discrete, AreFirstSlots, PassState, idle, Generation, PassTrack, nothing_known}
+use Rattle.epoch_rule.proofs.Common.{pin_word, Sizes, View, first_generation, HasAt, PassSlots, SeatKnows, IsRuled, first_view, same_number, AddsSlots, at_map}
+use Rattle.epoch_rule.proofs.Common.{at_last, at_longer, some_there}
 use mathlib.Core.Option as maybe
-use lib.ListN.{get_elem?, get_or-replicate, length-map}
-use Rattle.atomic_table.specs.Table.{opening}
-use Rattle.std.specs.Arc.{arc_value}
-use Rattle.std.specs.declared.sync.Arc.{Arc}
-use Rattle.std.proofs.Common.{◌++◌, length-append}
-use mathlib.Core.Logic.{dite}
-use native.Mathlib.Decide.{ℕ_discrete}
-use Rattle.epoch_rule.specs.Opening.{AddsSlots, AreFirstSlots}
-use Rattle.atomic_table.proofs.Lists.{at_set, at_map, at_last, at_longer, some_there}
 use Rattle.mem_base.specs.map.Calls.{empty}
-use Rattle.mem_base.specs.machine.Passes.{PassState, idle}
-use Rattle.mem_base.specs.machine.Generations.{Generation, PassTrack, nothing_known, pin_word}
-use Rattle.epoch_rule.specs.declared.views.Sizes.{Sizes}
-use Rattle.epoch_rule.specs.declared.views.View.{View}
-use Rattle.mem_base.specs.machine.Actors.{first_generation}
-use Rattle.epoch_rule.specs.Rule.{HasAt, PassSlots, SeatKnows, IsRuled}
-use Rattle.epoch_rule.specs.Plays.{first_view}
-use Rattle.view_laws.proofs.Tests.{same_number}
+use Rattle.epoch_rule.proofs.EntrySteps.{seats_set}
 
 module _ {S : Type 0} (Copy : ℕ → Generation → S → Type 0) (z : Sizes) where
   first_pass_slots : (homes : List (maybe.Option S)) (v : ℕ) → HasAt homes (16 * v) (Copy 0 first_generation)
@@ -65,9 +51,8 @@ module _ {S : Type 0} (Copy : ℕ → Generation → S → Type 0) (z : Sizes) w
           (first_pass_slots (map some slots) v (let c = copies v l in
           (c.0, at_map some slots (16 * v) c.0 c.1, c.2)) (λ j s. let h = some_there slots (16 * v + j) (omega arith) in (h.0, h.1, tt)));
     };
-    seats = λ j v e. ⊎_elim (λ (t : (j ≡ 0) × (first_view z ≡ v)). subst
-        (λ (y : ℕ × View). SeatKnows z [] (λ _. 0) (replicate z.passes false) 0 (record { forest = empty; places = [] }) y.0 y.1)
-        (λ i. (sym t.0 i, t.1 i)) record {
+    seats = seats_set (SeatKnows z [] (λ _. 0) (replicate z.passes false) 0 (record { forest = empty; places = [] })) (first_view z ∷ [])
+        0 (first_view z) record {
           knows = λ a is. refl;
           begins = ([], refl);
           was = ([], refl);
@@ -81,9 +66,7 @@ module _ {S : Type 0} (Copy : ℕ → Generation → S → Type 0) (z : Sizes) w
           stay = λ is q l ne. refl;
           brought = λ is q l e. refl;
           home = λ is p l. refl;
-        })
-        (λ (t : (j ≢ 0) × (get_elem? (first_view z ∷ []) j ≡ some v)). absurd (alone j v t.0 t.1))
-        (at_set (first_view z ∷ []) 0 j (first_view z) v e);
+        } (λ j v other e. absurd (alone j v other e));
   }
 
 -- the slots as they are made
@@ -106,16 +89,11 @@ module _ {E Z : Type 0} (e : E) where
         ));
   }
 
-pub zero_at : (n i : ℕ) → get_or (replicate {A = ℕ} n 0) i 0 ≡ 0
-zero_at zero i = refl
-zero_at (suc n) zero = refl
-zero_at (suc n) (suc i) = zero_at n i
+pub replicate_at : {A : Type 0} (n i : ℕ) (x : A) → get_or (replicate n x) i x ≡ x
+replicate_at zero i x = refl
+replicate_at (suc n) zero x = refl
+replicate_at (suc n) (suc i) x = replicate_at n i x
 
 pub map_replicate : {A B : Type 0} (f : A → B) (n : ℕ) (x : A) → map f (replicate n x) ≡ replicate n (f x)
 map_replicate f zero x = refl
 map_replicate f (suc n) x = ap (λ l. f x ∷ l) (map_replicate f n x)
-
-pub unplaced_first : (n v : ℕ) → (get_or (replicate n nothing_known) v nothing_known).placed ≡ false
-unplaced_first zero v = refl
-unplaced_first (suc n) zero = refl
-unplaced_first (suc n) (suc v) = unplaced_first n v

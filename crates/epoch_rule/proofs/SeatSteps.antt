@@ -1,49 +1,21 @@
 -- Opening a table, splitting a seat, joining two, and looks that show no event.
-use Rattle.std.proofs.Common.{◌≡◌, ◌≢◌, ◌⊎◌, ℕ, zero, suc, ◌+◌, ◌-◌, ◌<◌, ◌≤◌, eqb, Bool, true, false, List, [], ◌∷◌, ◌++◌, length, get_or}
-use Rattle.std.proofs.Common.{set, sym, refl, ap, ◌∙◌, subst, ⊎_elim, inl, inr, arith, get_or-set_other, get_or-set_same, eq-eqb, ne_eqb}
-use Rattle.std.proofs.Common.{if◌then◌else◌, append_assoc, append-nil, Option, Some, None}
-use Rattle.std.proofs.lemmas.List.{append_cancel_left}
-use Rattle.std.proofs.lemmas.Bool.{both_ways, ltb-true, ltb-false}
-use Rattle.std.specs.Option.{unwrap_or}
-use mathlib.Core.Logic.{dite}
-use mathlib.Core.Option.{some, some-injective, some-ne-none}
-use mathlib.Core.List.{IsPrefix}
-use native.Mathlib.Decide.{ℕ_discrete}
-use lib.ListN.{get_elem?}
-use lib.Seq.{set-get_or}
-use base.Growing.{prefix_refl}
-use Rattle.std.specs.Prelude.{nat_lt}
-use Rattle.atomic_table.specs.Table.{State, Me, keeps, Allows, Splits, Joins}
-use Rattle.atomic_table.proofs.Lists.{at_set, at_snoc, set_again}
-use Rattle.mem_base.specs.declared.machine.events.HistoryEntry.{HistoryEntry}
-use Rattle.mem_base.specs.machine.Generations.{Generation}
-use Rattle.mem_base.specs.machine.SharedHistory.{IsSharedLegal, shared_opening}
-use Rattle.epoch_rule.specs.declared.views.Sizes.{Sizes}
-use Rattle.epoch_rule.specs.declared.views.Picked.{Picked}
-use Rattle.epoch_rule.specs.declared.views.View.{View}
-use Rattle.mem_base.specs.machine.Passes.{idle}
-use Rattle.mem_base.specs.machine.Actors.{own_entries, actor_of, pass_after_all}
-use Rattle.epoch_rule.specs.Rule.{IsLegal, pass_seen, SeatKnows, IsRuled}
-use Rattle.epoch_rule.specs.Wrote.{longer}
-use Rattle.epoch_rule.specs.Values.{first_free}
-use Rattle.epoch_rule.specs.Plays.{note_view, spent_view, met_view, with_least_out, next_pass, taken_in, settles}
-use Rattle.view_laws.proofs.Tests.{none_is_no_number, same_number}
-use Rattle.history_laws.proofs.AppendLaws.{own_append, legal_start}
+use Rattle.epoch_rule.proofs.Common.{◌≡◌, ◌≢◌, ◌⊎◌, ℕ, zero, suc, ◌+◌, ◌-◌, ◌<◌, ◌≤◌, eqb, Bool, true, false, List, [], ◌∷◌, ◌++◌, length, get_or, set, sym}
+use Rattle.epoch_rule.proofs.Common.{refl, ap, ◌∙◌, subst, ⊎_elim, inl, inr, arith, get_or-set_other, get_or-set_same, ne_eqb, if◌then◌else◌, append-nil}
+use Rattle.epoch_rule.proofs.Common.{Option, Some, None, append_cancel_left, both_ways, ltb-true, unwrap_or, dite, some, some-ne-none, IsPrefix, ℕ_discrete}
+use Rattle.epoch_rule.proofs.Common.{get_elem?, set-get_or, prefix_refl, nat_lt, State, Me, keeps, Allows, set_again, HistoryEntry, Generation, shared_opening}
+use Rattle.epoch_rule.proofs.Common.{Sizes, Picked, View, idle, own_entries, actor_of, pass_after_all, IsLegal, pass_seen, SeatKnows, IsRuled, first_free}
+use Rattle.epoch_rule.proofs.Common.{met_view, taken_in, none_is_no_number, same_number, own_append, legal_start, ltb-false, some-injective, Splits, Joins}
+use Rattle.epoch_rule.proofs.Common.{at_snoc, IsSharedLegal, longer, note_view, spent_view, with_least_out, next_pass, settles, drop, set_else, prefix_anti}
+use Rattle.epoch_rule.proofs.Common.{IsSettled}
+use Rattle.std.proofs.Common.{eq-eqb}
+use Rattle.epoch_rule.proofs.EntrySteps.{seats_set, knows_still}
 
 module _ {A : Type 0} where
-  abbrev tail : List A → List A
-  tail [] = []
-  tail (x ∷ xs) = xs
-
-  abbrev head : A → List A → A
-  head d [] = d
-  head d (x ∷ xs) = x
-
   pub shorter_begins : (p q l : List A) → IsPrefix p l → IsPrefix q l → length p ≤ length q → IsPrefix p q
   shorter_begins [] q l h k le = (q, refl)
   shorter_begins (x ∷ p) [] l h k le = absurd (omega arith)
-  shorter_begins (x ∷ p) (y ∷ q) l h k le = let t = shorter_begins p q (tail l) (h.0, ap tail h.1) (k.0, ap tail k.1) (omega arith) in
-      let e : x ≡ y = ap (head x) (h.1 ∙ sym k.1) in (t.0, λ i. e i ∷ t.1 i)
+  shorter_begins (x ∷ p) (y ∷ q) l h k le = let t = shorter_begins p q (drop 1 l) (h.0, ap (drop 1) h.1) (k.0, ap (drop 1) k.1) (omega arith) in
+      let e : x ≡ y = ap (λ z. get_or z 0 x) (h.1 ∙ sym k.1) in (t.0, λ i. e i ∷ t.1 i)
 
   pub at_end : (l : List A) (a b : A) (j : ℕ) → get_elem? (l ++ a ∷ []) j ≡ some b → (get_elem? l j ≡ some b) ⊎ ((j ≡ length l) × (a ≡ b))
   at_end [] a b zero e = inr (refl, some-injective a b e)
@@ -51,21 +23,12 @@ module _ {A : Type 0} where
   at_end (x ∷ xs) a b zero e = inl e
   at_end (x ∷ xs) a b (suc j) e = ⊎_elim (λ t. inl t) (λ t. inr (ap suc t.0, t.1)) (at_end xs a b j e)
 
-  pub nothing_after : (xs ys : List A) → xs ++ ys ≡ [] → ys ≡ []
-  nothing_after [] ys e = e
-  nothing_after (x ∷ xs) ys e = absurd (omega (arith, ap length e))
-
 -- a longer beginning of the history has as many events of the actor
 pub squeezed : (a : ℕ) (xs ys log : List HistoryEntry) → IsPrefix xs ys → IsPrefix ys log → own_entries a xs ≡ own_entries a log
     → own_entries a ys ≡ own_entries a log
-squeezed a xs ys log h k e =
-    let inner : own_entries a xs ++ own_entries a h.0 ≡ own_entries a ys = sym (own_append a xs h.0) ∙ ap (own_entries a) h.1 in
-    let outer : own_entries a ys ++ own_entries a k.0 ≡ own_entries a log = sym (own_append a ys k.0) ∙ ap (own_entries a) k.1 in
-    let none_left : own_entries a k.0 ≡ [] = nothing_after (own_entries a h.0) (own_entries a k.0)
-    (append_cancel_left (own_entries a xs) (own_entries a h.0 ++ own_entries a k.0) []
-    (sym (append_assoc (own_entries a xs) (own_entries a h.0) (own_entries a k.0))
-    ∙ (ap (λ z. z ++ own_entries a k.0) inner ∙ (outer ∙ (sym e ∙ sym (append-nil (own_entries a xs))))))) in
-    sym (append-nil (own_entries a ys)) ∙ (ap (λ z. own_entries a ys ++ z) (sym none_left) ∙ outer)
+squeezed a xs ys log h k e = prefix_anti (own_entries a ys) (own_entries a log)
+    (own_entries a k.0, sym (own_append a ys k.0) ∙ ap (own_entries a) k.1)
+    (subst (λ l. IsPrefix l (own_entries a ys)) e (own_entries a h.0, sym (own_append a xs h.0) ∙ ap (own_entries a) h.1))
 
 pub longer_cases : (P : List HistoryEntry → Type 0) (xs ys : List HistoryEntry) → (length xs < length ys → P ys) → (length ys ≤ length xs → P xs)
     → P (longer xs ys)
@@ -75,19 +38,10 @@ longer_cases P xs ys one two = go (nat_lt (length xs) (length ys)) refl
     go true e = one (ltb-true _ _ e)
     go false e = two (ltb-false _ _ e)
 
-pub longer_first : (xs ys log : List HistoryEntry) → IsPrefix xs log → IsPrefix ys log → IsPrefix xs (longer xs ys)
-longer_first xs ys log h k = longer_cases (λ z. IsPrefix xs z) xs ys (λ l. shorter_begins xs ys log h k (omega arith)) (λ l. prefix_refl xs)
-
-pub longer_second : (xs ys log : List HistoryEntry) → IsPrefix xs log → IsPrefix ys log → IsPrefix ys (longer xs ys)
-longer_second xs ys log h k = longer_cases (λ z. IsPrefix ys z) xs ys (λ l. prefix_refl ys) (λ l. shorter_begins ys xs log k h l)
-
-pub longer_begins : (xs ys log : List HistoryEntry) → IsPrefix xs log → IsPrefix ys log → IsPrefix (longer xs ys) log
-longer_begins xs ys log h k = longer_cases (λ z. IsPrefix z log) xs ys (λ l. k) (λ l. h)
-
--- where the rest of the views stays
-there : (views : List View) (id other : ℕ) (both w : View) → ¬ (other ≡ id) → get_elem? (set views id both) other ≡ some w → get_elem? views other ≡ some w
-there views id other both w apart e = ⊎_elim (λ (t : (other ≡ id) × (both ≡ w)). absurd (apart t.0))
-    (λ (t : (other ≢ id) × (get_elem? views other ≡ some w)). t.1) (at_set views id other both w e)
+longer_of : (xs ys log : List HistoryEntry) → IsPrefix xs log → IsPrefix ys log
+    → IsPrefix xs (longer xs ys) × IsPrefix ys (longer xs ys) × IsPrefix (longer xs ys) log
+longer_of xs ys log h k = longer_cases (λ z. IsPrefix xs z × IsPrefix ys z × IsPrefix z log) xs ys
+    (λ l. (shorter_begins xs ys log h k (omega arith), prefix_refl ys, k)) (λ l. (prefix_refl xs, shorter_begins ys xs log k h l, h))
 
 abbrev put : (ℕ → ℕ) → ℕ → ℕ → ℕ → ℕ
 put f a x b = if eqb b a then x else f b
@@ -107,9 +61,6 @@ pub set_false : (out : List Bool) (i : ℕ) → get_or (set out i false) i false
 set_false [] i = refl
 set_false (b ∷ bs) zero = refl
 set_false (b ∷ bs) (suc i) = set_false bs i
-
-pub set_free : (out : List Bool) (f p : ℕ) (b : Bool) → p ≢ f → get_or (set out f b) p false ≡ get_or out p false
-set_free out f p b other = get_or-set_other out f p b false other
 
 module _ {S : Type 0} (Copy : ℕ → Generation → S → Type 0) (z : Sizes) where
   -- the rule where the views alone change
@@ -159,36 +110,39 @@ module _ {S : Type 0} (Copy : ℕ → Generation → S → Type 0) (z : Sizes) w
   merged : (log : List HistoryEntry) (owner : ℕ → ℕ) (out : List Bool) (h : ℕ) (x : Picked) (j : ℕ) (v w : View) → SeatKnows z log owner out h x j v
       → IsPrefix w.seen log → SeatKnows z log owner out h x j (met_view v w)
   merged log owner out h x j v w f g =
-      let first = longer_first v.seen w.seen log f.begins g in
-      let second = longer_second v.seen w.seen log f.begins g in
-      let whole = longer_begins v.seen w.seen log f.begins g in record {
+      let t = longer_of v.seen w.seen log f.begins g in record {
         knows = f.knows;
-        begins = whole;
-        was = first;
-        told = second;
-        quiet = λ a is. f.all a is ∙ sym (squeezed a v.seen (longer v.seen w.seen) log first whole (f.all a is));
+        begins = t.2;
+        was = t.0;
+        told = t.1;
+        quiet = λ a is. f.all a is ∙ sym (squeezed a v.seen (longer v.seen w.seen) log t.0 t.2 (f.all a is));
         fresh = λ new p is. absurd (grind arith);
         sits = f.sits;
-        all = λ a is. squeezed a v.seen (longer v.seen w.seen) log first whole (f.all a is);
+        all = λ a is. squeezed a v.seen (longer v.seen w.seen) log t.0 t.2 (f.all a is);
         goes = f.goes;
         counts = f.counts;
-        stay = λ is q l ne. f.home is q l ∙ sym (squeezed (q + 1) v.seen (longer v.seen w.seen) log first whole (f.home is q l));
+        stay = λ is q l ne. f.home is q l ∙ sym (squeezed (q + 1) v.seen (longer v.seen w.seen) log t.0 t.2 (f.home is q l));
         brought = λ is q l e. absurd (omega arith);
-        home = λ is p l. squeezed (p + 1) v.seen (longer v.seen w.seen) log first whole (f.home is p l);
+        home = λ is p l. squeezed (p + 1) v.seen (longer v.seen w.seen) log t.0 t.2 (f.home is p l);
       }
+
+  -- where one seat met another, which is spent
+  joined : (s : State S View) (k : IsRuled Copy z s) (id other : ℕ) (new : View) (out : List Bool)
+      → ((p : ℕ) → get_or out p false ≡ false → pass_after_all idle (own_entries (p + 1) k.log) ≡ idle)
+      → SeatKnows z k.log k.owner out k.held k.next id new
+      → ((j : ℕ) (u : View) → j ≢ other → j ≢ id → get_elem? s.views j ≡ some u → SeatKnows z k.log k.owner out k.held k.next j u)
+      → IsRuled Copy z record { words = s.words; homes = s.homes; views = set (set s.views id new) other spent_view }
+  joined s k id other new out rest here others = reseat s k (set (set s.views id new) other spent_view) k.owner out rest
+      (seats_set (SeatKnows z k.log k.owner out k.held k.next) (set s.views id new) other spent_view
+      (idles k.log k.owner out k.held k.next other spent_view refl (k.log, refl) ([], refl) ([], refl))
+      (λ j u apart at. seats_set (λ i w. i ≢ other → SeatKnows z k.log k.owner out k.held k.next i w) s.views id new (λ _. here)
+      (λ i w ne at apart. others i w apart ne at) j u at apart))
 
   pub learns : (id : ℕ) (v : View) (other : ℕ) (w : View) → Joins (IsRuled Copy z) id v other w (met_view v w) spent_view
   learns id v other w s k at apart e =
-      let f = k.seats id v at in
-      let g = k.seats other w (there s.views id other (met_view v w) w apart e) in
-      let both = merged k.log k.owner k.out k.held k.next id v w f g.begins in
-      reseat s k (set (set s.views id (met_view v w)) other spent_view) k.owner k.out k.rest
-      (λ j u e'. ⊎_elim (λ (t : (j ≡ other) × (spent_view ≡ u)). subst (λ (y : View). SeatKnows z k.log k.owner k.out k.held k.next j y) t.1
-      (idles k.log k.owner k.out k.held k.next j spent_view refl (k.log, refl) ([], refl) ([], refl)))
-      (λ (t : (j ≢ other) × (get_elem? (set s.views id (met_view v w)) j ≡ some u)). ⊎_elim
-      (λ (q : (j ≡ id) × (met_view v w ≡ u)). subst (λ (y : ℕ × View). SeatKnows z k.log k.owner k.out k.held k.next y.0 y.1) (λ i. (sym q.0 i, q.1 i)) both)
-      (λ (q : (j ≢ id) × (get_elem? s.views j ≡ some u)). k.seats j u q.1) (at_set s.views id j (met_view v w) u t.1))
-      (at_set (set s.views id (met_view v w)) other j spent_view u e'))
+      joined s k id other (met_view v w) k.out k.rest
+      (merged k.log k.owner k.out k.held k.next id v w (k.seats id v at) (k.seats other w (sym (set_else s.views id other (met_view v w) apart) ∙ e)).begins)
+      (λ j u _ _ at. k.seats j u at)
 
   pub hands_out : (id : ℕ) (v : View) → v.role ≡ Some 0 → first_free v.out < length v.out → Splits (IsRuled Copy z) id v (with_least_out v) (next_pass v)
   hands_out id v role room s k at =
@@ -202,31 +156,18 @@ module _ {S : Type 0} (Copy : ℕ → Generation → S → Type 0) (z : Sizes) w
       let owner' : ℕ → ℕ = put k.owner (f + 1) (length vs) in
       let rest : (p : ℕ) → get_or out' p false ≡ false
       → get_or k.out p false ≡ false = λ p l. dite (ℕ_discrete p f)
-      (λ e. absurd (both_ways _ l (subst (λ (y : ℕ). get_or out' y false ≡ true) (sym e) now))) (λ ne. sym (set_free k.out f p true ne) ∙ l) in
+      (λ e. absurd (both_ways _ l (subst (λ (y : ℕ). get_or out' y false ≡ true) (sym e) now))) (λ ne. sym (get_or-set_other k.out f p true false ne) ∙ l) in
       let kept : (j : ℕ) (w : View) → SeatKnows z k.log k.owner k.out k.held k.next j w → (o : List Bool) → (w.role ≡ Some 0 → o ≡ out')
-      → SeatKnows z k.log owner' out' k.held k.next j (record w { out = o }) = λ j w g o new. record {
-        knows = g.knows;
-        begins = g.begins;
-        was = g.was;
-        told = g.told;
-        quiet = g.quiet;
-        fresh = g.fresh;
-        sits = λ a is. put_else k.owner (f + 1) (length vs) a (λ q. both_ways _ was (g.goes f (is ∙ ap (λ (y : ℕ). Some y) q))) ∙ g.sits a is;
-        all = g.all;
-        goes = λ p is. set_free k.out f p true (λ q. both_ways _ was (subst (λ (y : ℕ). get_or k.out y false ≡ true) q (g.goes p is))) ∙ g.goes p is;
-        counts = λ is. let c = g.counts is in (new is, c.1, c.2);
-        stay = λ is q l ne. g.stay is q (rest q l) ne;
-        brought = λ is q l e. g.brought is q (rest q l) e;
-        home = λ is p l. g.home is p (rest p l);
-      } in
+      → SeatKnows z k.log owner' out' k.held k.next j (record w { out = o }) = λ j w g o new.
+      knows_still w o w.held w.next g (prefix_refl k.log)
+      (λ a is. put_else k.owner (f + 1) (length vs) a (λ q. both_ways _ was (g.goes f (is ∙ ap (λ (y : ℕ). Some y) q)))) (λ a is. refl)
+      (λ p is. get_or-set_other k.out f p true false (λ q. both_ways _ was (subst (λ (y : ℕ). get_or k.out y false ≡ true) q (g.goes p is))))
+      (λ is. let c = g.counts is in ((new is, c.1, c.2), λ q l. (rest q l, refl))) in
       reseat s k (vs ++ next_pass v ∷ []) owner' out' (λ p l. k.rest p (rest p l))
       (λ j w e. ⊎_elim
-      (λ t. ⊎_elim
-      (λ (q : (j ≡ id) × (with_least_out v ≡ w)). subst (λ (y : ℕ × View). SeatKnows z k.log owner' out' k.held k.next y.0 y.1) (λ i. (sym q.0 i, q.1 i))
-      (kept id v mine (set v.out f true) (λ _. ap (λ (o : List Bool). set o f true) same)))
-      (λ (q : (j ≢ id) × (get_elem? s.views j ≡ some w)). let g = k.seats j w q.1 in
-      kept j w g w.out (λ is. absurd (q.0 (sym (g.sits 0 is) ∙ mine.sits 0 role))))
-      (at_set s.views id j (with_least_out v) w t))
+      (seats_set (SeatKnows z k.log owner' out' k.held k.next) s.views id (with_least_out v)
+      (kept id v mine (set v.out f true) (λ _. ap (λ (o : List Bool). set o f true) same))
+      (λ i u other at. let g = k.seats i u at in kept i u g u.out (λ is. absurd (other (sym (g.sits 0 is) ∙ mine.sits 0 role)))) j w)
       (λ (t : (j ≡ length vs) × (next_pass v ≡ w)). subst (λ (y : ℕ × View). SeatKnows z k.log owner' out' k.held k.next y.0 y.1)
       (λ i. (sym t.0 i, t.1 i)) record {
         knows = λ a is. mine.knows 0 role;
@@ -250,23 +191,18 @@ module _ {S : Type 0} (Copy : ℕ → Generation → S → Type 0) (z : Sizes) w
       → Joins (IsRuled Copy z) id v other w (taken_in v w) spent_view
   takes_in id v other w p role pass still s k at apart e =
       let mine = k.seats id v at in
-      let theirs = k.seats other w (there s.views id other (taken_in v w) w apart e) in
+      let theirs = k.seats other w (sym (set_else s.views id other (taken_in v w) apart) ∙ e) in
       let m : ℕ = unwrap_or w.role 0 - 1 in
       let is_p : m ≡ p = (let q : unwrap_or w.role 0 ≡ p + 1 = ap (λ (r : Option ℕ). unwrap_or r 0) pass in omega arith) in
       let out' : List Bool = set k.out m false in
       let all : List HistoryEntry = longer v.seen w.seen in
-      let first = longer_first v.seen w.seen k.log mine.begins theirs.begins in
-      let second = longer_second v.seen w.seen k.log mine.begins theirs.begins in
-      let whole = longer_begins v.seen w.seen k.log mine.begins theirs.begins in
+      let t = longer_of v.seen w.seen k.log mine.begins theirs.begins in
       let met = merged k.log k.owner k.out k.held k.next id v w mine theirs.begins in
-      reseat s k (set (set s.views id (taken_in v w)) other spent_view) k.owner out'
+      joined s k id other (taken_in v w) out'
       (λ b l. dite (ℕ_discrete b p)
       (λ same. ap (λ (y : ℕ). pass_after_all idle (own_entries (y + 1) k.log)) same ∙ (ap (pass_after_all idle) (sym (theirs.all (p + 1) pass)) ∙ still))
-      (λ ne. k.rest b (sym (set_free k.out m b false (λ x. ne (x ∙ is_p))) ∙ l)))
-      (λ j u e'. ⊎_elim (λ (t : (j ≡ other) × (spent_view ≡ u)). subst (λ (y : View). SeatKnows z k.log k.owner out' k.held k.next j y) t.1
-      (idles k.log k.owner out' k.held k.next j spent_view refl (k.log, refl) ([], refl) ([], refl)))
-      (λ (t : (j ≢ other) × (get_elem? (set s.views id (taken_in v w)) j ≡ some u)). ⊎_elim
-      (λ (q : (j ≡ id) × (taken_in v w ≡ u)). subst (λ (y : ℕ × View). SeatKnows z k.log k.owner out' k.held k.next y.0 y.1) (λ i. (sym q.0 i, q.1 i)) record {
+      (λ ne. k.rest b (sym (get_or-set_other k.out m b false false (λ x. ne (x ∙ is_p))) ∙ l)))
+      record {
         knows = met.knows;
         begins = met.begins;
         was = met.was;
@@ -278,33 +214,20 @@ module _ {S : Type 0} (Copy : ℕ → Generation → S → Type 0) (z : Sizes) w
         goes = λ b is. absurd (let x = same_number 0 (b + 1) (sym role ∙ is) in omega arith);
         counts = λ is. let c = mine.counts role in (ap (λ (o : List Bool). set o m false) c.0, c.1, c.2);
         stay = λ is b l ne. let apart : b ≢ p = λ same. ne (let q : unwrap_or w.role 0 ≡ p + 1 = ap (λ (r : Option ℕ). unwrap_or r 0) pass in omega arith) in
-            let there = mine.home role b (sym (set_free k.out m b false (λ x. apart (x ∙ is_p))) ∙ l) in
-            there ∙ sym (squeezed (b + 1) v.seen all k.log first whole there);
+            let there = mine.home role b (sym (get_or-set_other k.out m b false false (λ x. apart (x ∙ is_p))) ∙ l) in
+            there ∙ sym (squeezed (b + 1) v.seen all k.log t.0 t.2 there);
         brought = λ is b l e. let same : b ≡ p = (let q : unwrap_or w.role 0 ≡ p + 1 = ap (λ (r : Option ℕ). unwrap_or r 0) pass in omega arith) in
             let there = theirs.all (b + 1) (pass ∙ ap (λ (y : ℕ). Some (y + 1)) (sym same)) in
-            there ∙ sym (squeezed (b + 1) w.seen all k.log second whole there);
+            there ∙ sym (squeezed (b + 1) w.seen all k.log t.1 t.2 there);
         home = λ is b l. dite (ℕ_discrete b p)
-            (λ same. squeezed (b + 1) w.seen all k.log second whole (theirs.all (b + 1) (pass ∙ ap (λ (y : ℕ). Some (y + 1)) (sym same))))
-            (λ ne. squeezed (b + 1) v.seen all k.log first whole (mine.home role b (sym (set_free k.out m b false (λ x. ne (x ∙ is_p))) ∙ l)));
-      })
-      (λ (q : (j ≢ id) × (get_elem? s.views j ≡ some u)). let g = k.seats j u q.1 in record {
-        knows = g.knows;
-        begins = g.begins;
-        was = g.was;
-        told = g.told;
-        quiet = g.quiet;
-        fresh = g.fresh;
-        sits = g.sits;
-        all = g.all;
-        goes = λ b is. set_free k.out m b false (λ x. t.0 (sym (g.sits (b + 1) is) ∙ (ap (λ (y : ℕ). k.owner (y + 1)) (x ∙ is_p) ∙ theirs.sits (p + 1) pass)))
-            ∙ g.goes b is;
-        counts = λ is. absurd (q.0 (sym (g.sits 0 is) ∙ mine.sits 0 role));
-        stay = λ is. absurd (q.0 (sym (g.sits 0 is) ∙ mine.sits 0 role));
-        brought = λ is. absurd (q.0 (sym (g.sits 0 is) ∙ mine.sits 0 role));
-        home = λ is. absurd (q.0 (sym (g.sits 0 is) ∙ mine.sits 0 role));
-      })
-      (at_set s.views id j (taken_in v w) u t.1))
-      (at_set (set s.views id (taken_in v w)) other j spent_view u e'))
+            (λ same. squeezed (b + 1) w.seen all k.log t.1 t.2 (theirs.all (b + 1) (pass ∙ ap (λ (y : ℕ). Some (y + 1)) (sym same))))
+            (λ ne. squeezed (b + 1) v.seen all k.log t.0 t.2 (mine.home role b (sym (get_or-set_other k.out m b false false (λ x. ne (x ∙ is_p))) ∙ l)));
+      }
+      (λ j u apart ne at. let g = k.seats j u at in
+      knows_still u u.out u.held u.next g (prefix_refl k.log) (λ a is. refl) (λ a is. refl)
+      (λ b is. get_or-set_other k.out m b false false
+      (λ x. apart (sym (g.sits (b + 1) is) ∙ (ap (λ (y : ℕ). k.owner (y + 1)) (x ∙ is_p) ∙ theirs.sits (p + 1) pass))))
+      (λ is. absurd (ne (sym (g.sits 0 is) ∙ mine.sits 0 role))))
 
   -- where no pass is out, the writer has seen the whole history
   pub sees_whole : (s : State S View) (k : IsRuled Copy z s) (id : ℕ) (v : View) → get_elem? s.views id ≡ some v → v.role ≡ Some 0
@@ -328,31 +251,6 @@ module _ {S : Type 0} (Copy : ℕ → Generation → S → Type 0) (z : Sizes) w
           first x xs = rw (eq-eqb (actor_of x.event) (actor_of x.event) refl) refl
 
   -- looks that show no event
-
-  pub settle : (slots id : ℕ) (me : Me S View) (i : ℕ) → Allows (IsRuled Copy z) slots id me i (λ r. r) (λ r w. settles me w)
-  settle slots id me i s k deep at small =
-      let f = k.seats id me.0 at in (
-        me.0,
-        keeps,
-        tt,
-        subst (λ (y : List ℕ × List View). IsRuled Copy z record { words = y.0; homes = s.homes; views = y.1 })
-            (λ j. (sym (set-get_or s.words i 0) j, sym (set_again s.views id me.0 at) j)) k,
-        (
-          refl,
-          λ a is. record {
-            same = refl;
-            was = f.was;
-            told = f.told;
-            quiet = f.quiet a is;
-            stay = λ r q l ne. f.stay r q (ap (λ (o : List Bool). get_or o q false) (sym (f.counts r).0) ∙ l) ne;
-            brought = λ r q l e. f.brought r q (ap (λ (o : List Bool). get_or o q false) (sym (f.counts r).0) ∙ l) e;
-            fresh = f.fresh;
-            lawful = subst (λ (y : Sizes). IsLegal y me.0.seen) (sym (f.knows a is))
-                (legal_start me.0.seen f.begins.0 (shared_opening z.words z.passes) (subst (IsSharedLegal z.words z.passes) (sym f.begins.1) k.lawful));
-          },
-        ),
-      )
-
   pub peek : (slots id : ℕ) (me : Me S View) (i : ℕ) → Allows (IsRuled Copy z) slots id me i (λ r. r) (λ r w. w ≡ me)
   peek slots id me i s k deep at small = (
     me.0,
@@ -363,10 +261,24 @@ module _ {S : Type 0} (Copy : ℕ → Generation → S → Type 0) (z : Sizes) w
     refl,
   )
 
+  pub settle : (slots id : ℕ) (me : Me S View) (i : ℕ) → Allows (IsRuled Copy z) slots id me i (λ r. r) (λ r w. settles me w)
+  settle slots id me i s k deep at small =
+      let f = k.seats id me.0 at in
+      let did = peek slots id me i s k deep at small in
+      let settled : (w : View) → w ≡ me.0 → (a : ℕ) → me.0.role ≡ Some a → IsSettled a me.0 w = λ w same a is. record {
+        same = same;
+        was = f.was;
+        told = f.told;
+        quiet = f.quiet a is;
+        stay = λ r q l ne. f.stay r q (ap (λ (o : List Bool). get_or o q false) (sym (f.counts r).0) ∙ l) ne;
+        brought = λ r q l e. f.brought r q (ap (λ (o : List Bool). get_or o q false) (sym (f.counts r).0) ∙ l) e;
+        fresh = f.fresh;
+        lawful = subst (λ (y : Sizes). IsLegal y me.0.seen) (sym (f.knows a is))
+            (legal_start me.0.seen f.begins.0 (shared_opening z.words z.passes) (subst (IsSharedLegal z.words z.passes) (sym f.begins.1) k.lawful));
+      } in
+      (did.0, did.1, did.2, did.3, (ap (λ m. m.1) did.4, settled _ (ap (λ m. m.0) did.4)))
+
 pub first_most : (bs : List Bool) → first_free bs ≤ length bs
 first_most [] = omega arith
 first_most (true ∷ bs) = let h = first_most bs in omega arith
 first_most (false ∷ bs) = omega arith
-
-pub less_one_more : (n : ℕ) → n + 1 - 1 ≡ n
-less_one_more n = omega arith

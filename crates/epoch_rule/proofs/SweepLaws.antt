@@ -1,53 +1,26 @@
--- A call that makes an event for each pass, step by step.
-use Rattle.std.proofs.Common.{◌≡◌, ℕ, zero, suc, ◌+◌, ◌-◌, ◌<◌, ◌≤◌, max, ne_eqb, Bool, true, false, List, [], ◌∷◌, ◌++◌, length, map, get_or, set, sym, refl}
-use Rattle.std.proofs.Common.{ap, ◌∙◌, subst, arith, length-set, length-append, append_assoc, append-nil, Option, Some, None, if◌then◌else◌, get_or-set_other}
-use Rattle.std.proofs.Common.{get_or-set_same}
-use Rattle.std.proofs.lemmas.Bool.{leb-false, both_ways}
-use Rattle.std.specs.Option.{option_to_list}
-use Rattle.std.specs.Arc.{arc_value}
-use Rattle.std.specs.declared.sync.Arc.{Arc}
-use Rattle.mem_base.specs.declared.map.forests.Forest.{Forest}
-use Rattle.mem_base.specs.declared.access.cells.Place.{Place}
-use Rattle.epoch_rule.specs.Copies.{picked}
-use mathlib.Core.Logic.{dite}
-use native.Mathlib.Decide.{ℕ_discrete, dec_le}
-use base.Growing.{prefix_refl, prefix_trans}
-use Rattle.mem_base.specs.declared.machine.events.Event.{Event}
+-- A call that makes an event for each pass, step by step, and the writer's seat after its calls.
+use Rattle.epoch_rule.proofs.Common.{◌≡◌, ℕ, zero, suc, ◌+◌, ◌-◌, ◌<◌, ◌≤◌, max, ne_eqb, Bool, true, false, List, [], ◌∷◌, ◌++◌, length, map, get_or, set, sym}
+use Rattle.epoch_rule.proofs.Common.{refl, ap, ◌∙◌, subst, arith, length-set, length-append, append_assoc, Option, Some, None, if◌then◌else◌, get_or-set_other}
+use Rattle.epoch_rule.proofs.Common.{get_or-set_same, both_ways, arc_value, Arc, Forest, Place, picked, dite, ℕ_discrete, prefix_trans, Event, Carried}
+use Rattle.epoch_rule.proofs.Common.{Nothing, HistoryEntry, Generations, PassTrack, nothing_known, known_of, known_after_sweep, pin_word, number_pinned}
+use Rattle.epoch_rule.proofs.Common.{first_generations, with_known, with_placed, all_placed, Sizes, View, Found, pass_id, history_entry, actor_of, own_entries}
+use Rattle.epoch_rule.proofs.Common.{generations_after_all, IsLegal, generations_seen, KeepsSlot, ComesNext, stored, Every, holds_up, Picked, sweeps_of}
+use Rattle.epoch_rule.proofs.Common.{places_of, HasWritten, HasSwept, AreCopies, held_in, none_is_no_number, same_number, none_is_not_some, both}
+use Rattle.epoch_rule.proofs.Common.{generations_by_append, EndsWith, leb-false, option_to_list, map-set, every_first, every_rest, length-map, TableId, Me}
+use Rattle.epoch_rule.proofs.Common.{least_lowest, held_up, carried_pick, Wrote, IsWriting, HasPlaced, least_in, refusal_of, none_placed, number_seen, min}
+use Rattle.epoch_rule.proofs.Common.{option_map, nat_le, held_at, held_from}
+use lib.ListN.{get_or-map}
 use Rattle.mem_base.specs.declared.machine.events.Event.TheVariants as events
-use Rattle.mem_base.specs.declared.machine.events.Carried.{Carried}
-use Rattle.mem_base.specs.declared.machine.events.Carried.TheVariants.{Nothing}
-use Rattle.mem_base.specs.declared.machine.events.HistoryEntry.{HistoryEntry}
-use Rattle.mem_base.specs.machine.Generations.{Generations, PassTrack, nothing_known, known_of, known_after_sweep, pin_word, number_pinned}
-use Rattle.mem_base.specs.machine.Generations.{first_generations, with_known, with_placed, all_placed}
-use Rattle.epoch_rule.specs.declared.views.Sizes.{Sizes}
-use Rattle.epoch_rule.specs.declared.views.View.{View}
-use Rattle.epoch_rule.specs.declared.writers.Found.{Found}
-use Rattle.mem_base.specs.machine.Passes.{pass_id}
-use Rattle.mem_base.specs.machine.Turns.{history_entry}
-use Rattle.mem_base.specs.machine.Actors.{actor_of, own_entries, generations_after_all}
-use Rattle.epoch_rule.specs.Rule.{IsLegal, generations_seen, KeepsSlot, ComesNext}
-use Rattle.epoch_rule.specs.Writing.{stored}
-use Rattle.mem_base.specs.lists.Every.{Every}
-use Rattle.mem_base.specs.machine.Publishing.{holds_up}
-use Rattle.epoch_rule.specs.declared.views.Picked.{Picked}
-use Rattle.epoch_rule.specs.Calls.{sweeps_of, places_of, HasWritten, HasSwept, HasPlaced, AreCopies, held_in}
-use Rattle.view_laws.proofs.Tests.{none_is_no_number, same_number, none_is_not_some, both}
-use Rattle.history_laws.proofs.AppendLaws.{generations_by_append}
-use Rattle.epoch_rule.specs.Wrote.{EndsWith}
-use Rattle.epoch_rule.proofs.PassLaws.{own_added, begins_added, ends_added, generations_added}
+use Rattle.epoch_rule.proofs.PassLaws.{own_added, begins_added, ends_added, generations_added, suits_on}
+use Rattle.mem_base.specs.declared.map.refusals.Refusal.TheVariants as refusals
+use Rattle.mem_base.specs.declared.machine.events.Hand.TheVariants as hands
+use Rattle.epoch_rule.proofs.LeastLaws.{current_seen}
 
-pub no_sweep : Found
-no_sweep = record { word = 0; lowest = 0 }
-
-pub map_set : {A B : Type 0} (f : A → B) (xs : List A) (i : ℕ) (x : A) → map f (set xs i x) ≡ set (map f xs) i (f x)
-map_set f [] i x = refl
-map_set f (y ∷ ys) zero x = refl
-map_set f (y ∷ ys) (suc i) x = ap (λ l. f y ∷ l) (map_set f ys i x)
-
-pub map_get : {A B : Type 0} (f : A → B) (xs : List A) (i : ℕ) (d : A) (e : B) → i < length xs → get_or (map f xs) i e ≡ f (get_or xs i d)
-map_get f [] i d e l = absurd (omega arith)
-map_get f (x ∷ xs) zero d e l = refl
-map_get f (x ∷ xs) (suc i) d e l = map_get f xs i d e (omega arith)
+-- what is taken of each element stays where one changes that has the same
+map_kept : {A B : Type 0} (f : A → B) (xs : List A) (i : ℕ) (x d : A) → f x ≡ f (get_or xs i d) → map f (set xs i x) ≡ map f xs
+map_kept f [] i x d same = refl
+map_kept f (y ∷ ys) zero x d same = ap (λ z. z ∷ map f ys) same
+map_kept f (y ∷ ys) (suc i) x d same = ap (λ l. f y ∷ l) (map_kept f ys i x d same)
 
 pub sweeps_snoc : (rs : List ℕ) (first r : ℕ) → sweeps_of first (rs ++ r ∷ []) ≡ sweeps_of first rs
     ++ history_entry (events.Sweep (pass_id (first + length rs))) Nothing r ∷ []
@@ -68,17 +41,6 @@ pub writes_generations : (v : View) (es : List HistoryEntry) (w : View) → HasW
 writes_generations v es w h = (λ i. generations_after_all (first_generations (h.sizes i).passes) (h.events i))
     ∙ generations_by_append (own_entries 0 v.seen) es (first_generations v.sizes.passes)
 
-pub writes_nothing : (v : View) → IsLegal v.sizes v.seen → HasWritten v [] v
-writes_nothing v l = record {
-  role = refl;
-  out = refl;
-  sizes = refl;
-  begins = prefix_refl v.seen;
-  lawful = l;
-  events = sym (append-nil (own_entries 0 v.seen));
-  home = λ q l. refl;
-}
-
 pub writes_more : (v : View) (es : List HistoryEntry) (w : View) (e : Event) (x : Carried) (r : ℕ) (u : View) → actor_of e ≡ 0 → HasWritten v es w
     → ComesNext 0 w e x r u → HasWritten v (es ++ history_entry e x r ∷ []) u
 writes_more v es w e x r u mine h a = record {
@@ -90,16 +52,6 @@ writes_more v es w e x r u mine h a = record {
   events = own_added 0 w e x r u mine a ∙ (ap (λ l. l ++ history_entry e x r ∷ []) h.events
       ∙ append_assoc (own_entries 0 v.seen) es (history_entry e x r ∷ []));
   home = λ q l. a.home refl q (ap (λ (o : List Bool). get_or o q false) h.out ∙ l) ∙ h.home q l;
-}
-
-pub sweeping_first : (v : View) (known : List Found) → IsLegal v.sizes v.seen → known ≡ map stored (generations_seen v).passes → HasSwept v v known 0
-sweeping_first v known l is = record {
-  rs = [];
-  many = refl;
-  writes = writes_nothing v l;
-  ends = λ x none. none_is_not_some x none;
-  holds = (refl, refl);
-  is_known = is;
 }
 
 pub sweeping_current : (v w : View) (known : List Found) (n : ℕ) → HasSwept v w known n → ((generations_seen w).current ≡ (generations_seen v).current)
@@ -115,32 +67,17 @@ sweeping_next v w u known known' n r f s a holds is set_is =
     let g : Generations = generations_seen w in
     let now = (sweeping_current v w known n s).0 in
     let k : PassTrack = known_after_sweep g.current (known_of g (pass_id n)) r in
+    let more : sweeps_of 0 s.rs ++ history_entry (events.Sweep (pass_id n)) Nothing r ∷ [] ≡ sweeps_of 0 (s.rs ++ r ∷ []) =
+    ap (λ (m : ℕ). sweeps_of 0 s.rs ++ history_entry (events.Sweep (pass_id m)) Nothing r ∷ []) (sym s.many ∙ omega arith) ∙ sym (sweeps_snoc s.rs 0 r) in
     let after : generations_seen u ≡ with_known g (pass_id n) k = generations_added w (events.Sweep (pass_id n)) Nothing r u refl a in record {
       rs = s.rs ++ r ∷ [];
       many = length-append s.rs (r ∷ []) ∙ ap (λ (m : ℕ). m + 1) s.many;
-      writes = subst (λ l. HasWritten v l u) (ap (λ (m : ℕ). sweeps_of 0 s.rs ++ history_entry (events.Sweep (pass_id m)) Nothing r ∷ [])
-          (sym s.many ∙ omega arith) ∙ sym (sweeps_snoc s.rs 0 r))
-          (writes_more v (sweeps_of 0 s.rs) w (events.Sweep (pass_id n)) Nothing r u refl s.writes a);
-      ends = subst (λ l. EndsWith l u.seen) (ap (λ (m : ℕ). sweeps_of 0 s.rs ++ history_entry (events.Sweep (pass_id m)) Nothing r ∷ [])
-          (sym s.many ∙ omega arith) ∙ sym (sweeps_snoc s.rs 0 r))
-          (ends_added 0 w (events.Sweep (pass_id n)) Nothing r u a (sweeps_of 0 s.rs));
+      writes = subst (λ l. HasWritten v l u) more (writes_more v (sweeps_of 0 s.rs) w (events.Sweep (pass_id n)) Nothing r u refl s.writes a);
+      ends = subst (λ l. EndsWith l u.seen) more (ends_added 0 w (events.Sweep (pass_id n)) Nothing r u a (sweeps_of 0 s.rs));
       holds = (holds.0 ∙ s.holds.0, holds.1 ∙ s.holds.1);
       is_known = set_is ∙ ((λ i. set (s.is_known i) n ((is ∙ ap (λ (c : ℕ). stored (known_after_sweep c (known_of g (pass_id n)) r)) (sym now)) i))
-          ∙ (sym (map_set stored g.passes n k) ∙ ap (λ (h : Generations). map stored h.passes) (sym after)));
+          ∙ (sym (map-set stored g.passes n k) ∙ ap (λ (h : Generations). map stored h.passes) (sym after)));
     }
-
--- what a sweep stores
-pub pin_found : (word : ℕ) → pin_word (number_pinned word) ≡ word
-pin_found zero = refl
-pin_found (suc n) = go n
-  where
-    go : (n : ℕ) → pin_word (number_pinned (suc n)) ≡ suc n
-    go n = subst (λ (w : ℕ). pin_word (number_pinned w) ≡ w) {x = n + 1} (omega arith) (rw (ne_eqb (n + 1) 0 (λ q. omega arith)) (omega arith))
-
-set_past : (ks : List PassTrack) (i : ℕ) (k : PassTrack) → length ks ≤ i → set ks i k ≡ ks
-set_past [] i k l = refl
-set_past (x ∷ xs) zero k l = absurd (omega arith)
-set_past (x ∷ xs) (suc i) k l = ap (λ l. x ∷ l) (set_past xs i k (omega arith))
 
 -- what a pass is known by, once it was swept
 abbrev pub IsSwept : ℕ → PassTrack → Type 0
@@ -169,25 +106,13 @@ sweeps_swept (r ∷ rs) first g u low high l = let k : PassTrack = known_after_s
     ∙ get_or-set_same g.passes first k nothing_known (omega arith))) (swept_after g.current (known_of g (pass_id first)) r)))
     (λ other. sweeps_swept rs (suc first) (with_known g (pass_id first) k) u (omega arith) (omega arith) (let e = length-set g.passes first k in omega arith))
 
-sweeps_placed : (rs : List ℕ) (first : ℕ) (g : Generations) (u : ℕ)
-    → (known_of (generations_after_all g (sweeps_of first rs)) (pass_id u)).placed ≡ (known_of g (pass_id u)).placed
-sweeps_placed [] first g u = refl
-sweeps_placed (r ∷ rs) first g u = let k : PassTrack = known_after_sweep g.current (known_of g (pass_id first)) r in
-    sweeps_placed rs (suc first) (with_known g (pass_id first) k) u ∙ one k refl (ℕ_discrete u first)
-  where
-    one : (k : PassTrack) → k.placed ≡ (known_of g (pass_id first)).placed → Dec (u ≡ first)
-        → (get_or (set g.passes first k) u nothing_known).placed ≡ (get_or g.passes u nothing_known).placed
-    one k is (yes same) = subst (λ (z : ℕ). (get_or (set g.passes first k) z nothing_known).placed ≡ (get_or g.passes z nothing_known).placed) (sym same)
-        (inside k is (dec_le (suc first) (length g.passes)))
-      where
-        inside : (k : PassTrack) → k.placed ≡ (known_of g (pass_id first)).placed → Dec (suc first ≤ length g.passes)
-            → (get_or (set g.passes first k) first nothing_known).placed ≡ (get_or g.passes first nothing_known).placed
-        inside k is (yes l) = ap (λ (h : PassTrack). h.placed) (get_or-set_same g.passes first k nothing_known (omega arith)) ∙ is
-        inside k is (no l) = ap (λ (ks : List PassTrack). (get_or ks first nothing_known).placed) (set_past g.passes first k (omega arith))
-    one k is (no other) = ap (λ (h : PassTrack). h.placed) (get_or-set_other g.passes first u k nothing_known other)
+sweeps_placed : (rs : List ℕ) (first : ℕ) (g : Generations)
+    → map (λ k. k.placed) (generations_after_all g (sweeps_of first rs)).passes ≡ map (λ k. k.placed) g.passes
+sweeps_placed [] first g = refl
+sweeps_placed (r ∷ rs) first g = let k : PassTrack = known_after_sweep g.current (known_of g (pass_id first)) r in
+    sweeps_placed rs (suc first) (with_known g (pass_id first) k) ∙ map_kept (λ k. k.placed) g.passes first k nothing_known refl
 
 -- no pass holds a publish up
-
 pub found_pin : (o : Option ℕ) → number_pinned (pin_word o) ≡ o
 found_pin None = refl
 found_pin (Some n) = rw (ne_eqb (n + 1) 0 (λ q. omega arith)) (ap Some (omega arith))
@@ -232,10 +157,10 @@ all_near v w known c s is none u l =
 pub all_free : (v w : View) (known : List Found) (n : ℕ) → HasSwept v w known n → ((u : ℕ) → (known_of (generations_seen v) (pass_id u)).placed ≡ false)
     → (u : ℕ) → (known_of (generations_seen w) (pass_id u)).placed ≡ false
 all_free v w known n s free u = ap (λ (g : Generations). (known_of g (pass_id u)).placed) (writes_generations v (sweeps_of 0 s.rs) w s.writes)
-    ∙ (sweeps_placed s.rs 0 (generations_seen v) u ∙ free u)
+    ∙ (sym (get_or-map (λ k. k.placed) _ u nothing_known) ∙ (ap (λ l. get_or l u false) (sweeps_placed s.rs 0 (generations_seen v))
+    ∙ (get_or-map (λ k. k.placed) (generations_seen v).passes u nothing_known ∙ free u)))
 
 -- copies
-
 place_after : (g : Generations) (n : ℕ) → generations_after_all g (places_of (suc n))
     ≡ with_known (generations_after_all g (places_of n)) (pass_id n) (with_placed true (known_of (generations_after_all g (places_of n)) (pass_id n)))
 place_after g n = generations_by_append (places_of n) (history_entry (events.Place (pass_id n)) Nothing 0 ∷ []) g
@@ -257,24 +182,19 @@ places_later g (suc n) u l = ap (λ (x : Generations). known_of x (pass_id u)) (
 
 pub places_done : (g : Generations) (n u : ℕ) → u < n → n ≤ length g.passes → (known_of (generations_after_all g (places_of n)) (pass_id u)).placed ≡ true
 places_done g zero u l m = absurd (omega arith)
-places_done g (suc n) u l m = ap (λ (x : Generations). (known_of x (pass_id u)).placed) (place_after g n)
-    ∙ (let long = (places_current g n).1 in dite (ℕ_discrete u n)
-    (λ same. subst (λ (z : ℕ). (get_or (set (generations_after_all g (places_of n)).passes n
-    (with_placed true (known_of (generations_after_all g (places_of n)) (pass_id n)))) z nothing_known).placed ≡ true) (sym same)
-    (ap (λ (k : PassTrack). k.placed) (get_or-set_same (generations_after_all g (places_of n)).passes n
-    (with_placed true (known_of (generations_after_all g (places_of n)) (pass_id n))) nothing_known (omega arith))))
-    (λ other. ap (λ (k : PassTrack). k.placed) (get_or-set_other (generations_after_all g (places_of n)).passes n u
-    (with_placed true (known_of (generations_after_all g (places_of n)) (pass_id n))) nothing_known other) ∙ places_done g n u (omega arith) (omega arith)))
-
-stored_set : (ks : List PassTrack) (n : ℕ) → map stored (set ks n (with_placed true (get_or ks n nothing_known))) ≡ map stored ks
-stored_set [] n = refl
-stored_set (k ∷ ks) zero = refl
-stored_set (k ∷ ks) (suc n) = ap (λ l. stored k ∷ l) (stored_set ks n)
+places_done g (suc n) u l m =
+    let h : Generations = generations_after_all g (places_of n) in
+    let k : PassTrack = with_placed true (known_of h (pass_id n)) in
+    let long = (places_current g n).1 in
+    ap (λ (x : Generations). (known_of x (pass_id u)).placed) (place_after g n) ∙ dite (ℕ_discrete u n)
+    (λ same. subst (λ (z : ℕ). (get_or (set h.passes n k) z nothing_known).placed ≡ true) (sym same)
+    (ap (λ (k : PassTrack). k.placed) (get_or-set_same h.passes n k nothing_known (omega arith))))
+    (λ other. ap (λ (k : PassTrack). k.placed) (get_or-set_other h.passes n u k nothing_known other) ∙ places_done g n u (omega arith) (omega arith))
 
 pub places_stored : (g : Generations) (n : ℕ) → map stored (generations_after_all g (places_of n)).passes ≡ map stored g.passes
 places_stored g zero = refl
 places_stored g (suc n) = ap (λ (x : Generations). map stored x.passes) (place_after g n)
-    ∙ (stored_set (generations_after_all g (places_of n)).passes n ∙ places_stored g n)
+    ∙ (map_kept stored (generations_after_all g (places_of n)).passes n _ nothing_known refl ∙ places_stored g n)
 
 pub unplaced_stored : (ks : List PassTrack) → map stored (map (with_placed false) ks) ≡ map stored ks
 unplaced_stored [] = refl
@@ -283,26 +203,6 @@ unplaced_stored (k ∷ ks) = ap (λ l. stored k ∷ l) (unplaced_stored ks)
 pub all_from : (ks : List PassTrack) → ((u : ℕ) → u < length ks → (get_or ks u nothing_known).placed ≡ true) → all_placed ks ≡ true
 all_from [] h = refl
 all_from (k ∷ ks) h = both _ _ (h 0 (omega arith)) (all_from ks (λ u l. h (suc u) (omega arith)))
-
-pub every_last : {A : Type 0} (P : A → Type 0) (xs : List A) (x : A) → Every P (xs ++ x ∷ []) → Every P xs × P x
-every_last P [] x h = (tt, h.0)
-every_last P (y ∷ ys) x h = let r = every_last P ys x h.1 in ((h.0, r.0), r.1)
-
-pub placing_first : (v : View) (next : Picked) → v.held ≡ 0 → IsLegal v.sizes v.seen → HasPlaced v v next 0
-placing_first v next free l = record { writes = writes_nothing v l; free = free; is_next = λ z. absurd (omega arith) }
-
-pub placing_next : (v w u : View) (next : Picked) (n : ℕ) → HasPlaced v w next n → ComesNext 0 w (events.Place (pass_id n)) Nothing 0 u → u.held ≡ 0
-    → u.next ≡ next → HasPlaced v u next (n + 1)
-placing_next v w u next n p a free is = record {
-  writes = let one : suc n ≡ n + 1 = omega arith in
-      subst (λ (m : ℕ). HasWritten v (places_of m) u) one (writes_more v (places_of n) w (events.Place (pass_id n)) Nothing 0 u refl p.writes a);
-  free = free;
-  is_next = λ _. is;
-}
-
-pub placing_generations : (v w : View) (next : Picked) (n : ℕ) → HasPlaced v w next n
-    → generations_seen w ≡ generations_after_all (generations_seen v) (places_of n)
-placing_generations v w next n p = writes_generations v (places_of n) w p.writes
 
 -- a pass that has its copy had it, or got it by now
 pub places_placed : (g : Generations) (n u : ℕ) → (known_of (generations_after_all g (places_of n)) (pass_id u)).placed ≡ true
@@ -313,8 +213,133 @@ places_placed g (suc n) u placed free = omega arith
 pub last_copy : {E Z : Type 0} (number : E → ℕ) (forest : E → Forest) (places : E → List Place) (g : ℕ) (x : Picked) (old new : List (Arc E Z))
     (o : Option (Arc E Z)) (a : Arc E Z) → old ≡ new ++ option_to_list o → o ≡ Some a
     → AreCopies number forest places g x old → AreCopies number forest places g x new × ((number (arc_value a) ≡ g) × (picked forest places (arc_value a) ≡ x))
-last_copy number forest places g x old new o a is some all = every_last (λ a. (number (arc_value a) ≡ g) × (picked forest places (arc_value a) ≡ x)) new a
-    (subst (λ l. Every (λ a. (number (arc_value a) ≡ g) × (picked forest places (arc_value a) ≡ x)) l) (is ∙ ap (λ o. new ++ option_to_list o) some) all)
+last_copy {E} {Z} number forest places g x old new o a is some all =
+    let P : Arc E Z → Type 0 = λ a. (number (arc_value a) ≡ g) × (picked forest places (arc_value a) ≡ x) in
+    let whole = subst (λ l. Every P l) (is ∙ ap (λ o. new ++ option_to_list o) some) all in
+    (every_first P new (a ∷ []) whole, (every_rest P new (a ∷ []) whole).0)
 
-pub last_length : {A : Type 0} (old new : List A) (o : Option A) (a : A) → old ≡ new ++ option_to_list o → o ≡ Some a → length old ≡ length new + 1
-last_length old new o a is some = ap length (is ∙ ap (λ o. new ++ option_to_list o) some) ∙ length-append new (a ∷ [])
+pub wrote_of : (v : View) (es : List HistoryEntry) (w : View) → HasWritten v es w → EndsWith es w.seen → Wrote hands.Writer v.sizes v.seen es w.seen
+wrote_of v es w h ends = record { begins = h.begins; lawful = h.lawful; events = h.events; ends = ends }
+
+-- what is stored as the current number is that of the last Publish
+pub writing_number : {S : Type 0} {t : TableId} {me : Me S View} {current : ℕ} {known : List Found} {out : List Bool} → IsWriting t me current known out
+    → current ≡ number_seen me.0.seen
+writing_number w = w.is_current ∙ current_seen _ _ w.lawful
+
+pub writes_both : (v : View) (es : List HistoryEntry) (w : View) (fs : List HistoryEntry) (u : View) → HasWritten v es w → HasWritten w fs u
+    → HasWritten v (es ++ fs) u
+writes_both v es w fs u h k = record {
+  role = k.role ∙ h.role;
+  out = k.out ∙ h.out;
+  sizes = k.sizes ∙ h.sizes;
+  begins = prefix_trans v.seen w.seen u.seen h.begins k.begins;
+  lawful = subst (λ (z : Sizes). IsLegal z u.seen) h.sizes k.lawful;
+  events = k.events ∙ (ap (λ l. l ++ fs) h.events ∙ append_assoc (own_entries 0 v.seen) es fs);
+  home = λ q l. k.home q (ap (λ (o : List Bool). get_or o q false) h.out ∙ l) ∙ h.home q l;
+}
+
+-- after a sweep of each pass
+pub swept_writing : {S : Type 0} (t t' : TableId) (me new : Me S View) (current : ℕ) (known known' : List Found) (out : List Bool) (n : ℕ) → t' ≡ t
+    → new.1 ≡ me.1 → HasSwept me.0 new.0 known' n
+    → IsWriting t me current known out → IsWriting t' new current known' out
+swept_writing t t' me new current known known' out n table bare s w = let now = sweeping_current me.0 new.0 known' n s in record {
+  role = s.writes.role ∙ w.role;
+  free = s.holds.0 ∙ w.free;
+  bare = bare ∙ w.bare;
+  suits = suits_on t t' me.0.sizes new.0.sizes (sym table) (sym s.writes.sizes) w.suits;
+  is_current = w.is_current ∙ sym now.0;
+  is_known = s.is_known;
+  many = now.1 ∙ (w.many ∙ ap (λ (z : Sizes). z.passes) (sym s.writes.sizes));
+  unplaced = all_free me.0 new.0 known' n s w.unplaced;
+  is_out = w.is_out ∙ sym s.writes.out;
+  outs = w.outs ∙ ap (λ (z : Sizes). z.passes) (sym s.writes.sizes);
+  lawful = subst (λ (z : Sizes). IsLegal z new.0.seen) (sym s.writes.sizes) s.writes.lawful;
+}
+
+-- all have their copies
+pub placed_all : (w u : View) (x : Picked) (n : ℕ) → HasPlaced w u x n → n ≡ length (generations_seen w).passes → all_placed (generations_seen u).passes ≡ true
+placed_all w u x n p is =
+    let e = writes_generations w (places_of n) u p.writes in
+    let long = (places_current (generations_seen w) n).1 in
+    subst (λ (g : Generations). all_placed g.passes ≡ true) (sym e) (all_from _ (λ v l. places_done (generations_seen w) n v (omega arith) (omega arith)))
+
+pub placed_current : (w u : View) (x : Picked) (n : ℕ) → HasPlaced w u x n → (generations_seen u).current ≡ (generations_seen w).current
+placed_current w u x n p = ap (λ (g : Generations). g.current) (writes_generations w (places_of n) u p.writes) ∙ (places_current (generations_seen w) n).0
+
+-- after a publish
+pub published_writing : {S : Type 0} (t t' : TableId) (me : Me S View) (u : View) (new : Me S View) (current : ℕ) (known : List Found) (out : List Bool)
+    (x : Picked) (n : ℕ) → t' ≡ t → new.1 ≡ [] → HasPlaced me.0 u x n → KeepsSlot u new.0
+    → ComesNext 0 u events.Publish (carried_pick u.next) (current + 1) new.0 → IsWriting t me current known out → IsWriting t' new (current + 1) known out
+published_writing t t' me u new current known out x n table bare p holds a w =
+    let g : Generations = generations_seen me.0 in
+    let h : Generations = generations_seen u in
+    let e = writes_generations me.0 (places_of n) u p.writes in
+    let after = generations_added u events.Publish (carried_pick u.next) (current + 1) new.0 refl a in
+    let sizes : new.0.sizes ≡ me.0.sizes = a.sizes ∙ p.writes.sizes in record {
+      role = a.role ∙ (p.writes.role ∙ w.role);
+      free = holds.0 ∙ p.free;
+      bare = bare;
+      suits = suits_on t t' me.0.sizes new.0.sizes (sym table) (sym sizes) w.suits;
+      is_current = ap (λ (c : ℕ). c + 1) (w.is_current ∙ sym (placed_current me.0 u x n p)) ∙ ap (λ (y : Generations). y.current) (sym after);
+      is_known = w.is_known ∙ (sym (places_stored g n)
+          ∙ (ap (λ (y : Generations). map stored y.passes) (sym e)
+          ∙ (sym (unplaced_stored h.passes) ∙ ap (λ (y : Generations). map stored y.passes) (sym after))));
+      many = ap (λ (y : Generations). length y.passes) after
+          ∙ (length-map h.passes (with_placed false)
+          ∙ (ap (λ (y : Generations). length y.passes) e ∙ ((places_current g n).1 ∙ (w.many ∙ ap (λ (z : Sizes). z.passes) (sym sizes)))));
+      unplaced = λ v. ap (λ (y : Generations). (known_of y (pass_id v)).placed) after ∙ ap (λ (k : PassTrack). k.placed) (none_placed h.passes v);
+      is_out = w.is_out ∙ sym (a.out ∙ p.writes.out);
+      outs = w.outs ∙ ap (λ (z : Sizes). z.passes) (sym sizes);
+      lawful = subst (λ (z : Sizes). IsLegal z new.0.seen) (sym a.sizes) a.lawful;
+    }
+
+-- what holds a publish up, as the pure machine says it
+pub held_both : (c first : ℕ) (ks : List PassTrack) → held_from c first ks ≡ option_map refusal_of (held_in c first (map stored ks))
+held_both c first [] = refl
+held_both c first (k ∷ ks) = one k.found (held_both c (first + 1) ks)
+  where
+    one : (o : Option ℕ) → held_from c (first + 1) ks ≡ option_map refusal_of (held_in c (first + 1) (map stored ks))
+        → (if holds_up c o then held_at (pass_id first) o else held_from c (first + 1) ks)
+        ≡ option_map refusal_of (if holds_up c (number_pinned (pin_word o)) then Some
+        (record { pass = pass_id first; number = pin_word o - 1 }) else held_in c (first + 1) (map stored ks))
+    one None h = h
+    one (Some q) h = subst (λ (x : Option ℕ). (if holds_up c (Some q) then held_at (pass_id first) (Some q) else held_from c (first + 1) ks)
+        ≡ option_map refusal_of (if holds_up c x then Some (record { pass = pass_id first; number = q + 1 - 1 }) else held_in c (first + 1) (map stored ks)))
+        (sym (found_pin (Some q))) (go (nat_le (q + 7) c))
+      where
+        go : (b : Bool) → (if b then held_at (pass_id first) (Some q) else held_from c (first + 1) ks)
+            ≡ option_map refusal_of (if b then Some (record { pass = pass_id first; number = q + 1 - 1 }) else held_in c (first + 1) (map stored ks))
+        go true = ap (λ (n : ℕ). Some (refusals.Held (pass_id first) n)) (omega arith)
+        go false = h
+
+pub held_found : (v w : View) (known : List Found) (n c : ℕ) → HasSwept v w known n → c ≡ (generations_seen v).current
+    → held_up (generations_seen w) ≡ option_map refusal_of (held_in c 0 known)
+held_found v w known n c s is = held_both (generations_seen w).current 0 (generations_seen w).passes
+    ∙ ap (option_map refusal_of) (λ i. held_in (((sweeping_current v w known n s).0 ∙ sym is) i) 0 (sym s.is_known i))
+
+pub least_is : (c : ℕ) (ks : List PassTrack) → least_in c (map stored ks) ≡ least_lowest c ks
+least_is c [] = refl
+least_is c (k ∷ ks) = ap (min k.lowest) (least_is c ks)
+
+pub least_below : (c : ℕ) (fs : List Found) → least_in c fs ≤ c
+least_below c [] = omega arith
+least_below c (f ∷ fs) = let h = least_below c fs in omega arith
+
+-- after a step that changes which passes are out
+pub writing_seat : {S : Type 0} (t t' : TableId) (me new : Me S View) (current : ℕ) (known : List Found) (out out' : List Bool) → t' ≡ t → new.1 ≡ me.1
+    → new.0.role ≡ me.0.role → KeepsSlot me.0 new.0 → new.0.sizes ≡ me.0.sizes
+    → generations_seen new.0 ≡ generations_seen me.0 → IsLegal new.0.sizes new.0.seen → out' ≡ new.0.out → length out' ≡ length out
+    → IsWriting t me current known out → IsWriting t' new current known out'
+writing_seat t t' me new current known out out' table bare role holds sizes same lawful is long w = record {
+  role = role ∙ w.role;
+  free = holds.0 ∙ w.free;
+  bare = bare ∙ w.bare;
+  suits = suits_on t t' me.0.sizes new.0.sizes (sym table) (sym sizes) w.suits;
+  is_current = w.is_current ∙ ap (λ (g : Generations). g.current) (sym same);
+  is_known = w.is_known ∙ ap (λ (g : Generations). map stored g.passes) (sym same);
+  many = ap (λ (g : Generations). length g.passes) same ∙ (w.many ∙ ap (λ (z : Sizes). z.passes) (sym sizes));
+  unplaced = λ v. ap (λ (g : Generations). (known_of g (pass_id v)).placed) same ∙ w.unplaced v;
+  is_out = is;
+  outs = long ∙ (w.outs ∙ ap (λ (z : Sizes). z.passes) (sym sizes));
+  lawful = lawful;
+}

@@ -1,55 +1,30 @@
 -- What an actor may touch, and what its touch shows.
-use Rattle.std.proofs.Common.{◌≡◌, ◌⊎◌, ℕ, ◌+◌, ◌<◌, ◌≤◌, eqb, Bool, true, false, ◌&&◌, ◌||◌, List, [], ◌∷◌, length, map, sym, refl, ap}
-use Rattle.std.proofs.Common.{◌∙◌, subst, ⊎_elim, inl, inr, append-nil, arith, Option, Some, None}
-use Rattle.std.specs.Prelude.{MatchBool, nat_lt, IsSomeAnd}
+use Rattle.epoch_rule.proofs.Common.{◌≡◌, ◌⊎◌, ℕ, ◌+◌, ◌<◌, ◌≤◌, eqb, Bool, true, false, List, [], ◌∷◌, length, sym, refl, ap, ◌∙◌, subst, ⊎_elim, inl, inr}
+use Rattle.epoch_rule.proofs.Common.{append-nil, arith, Option, Some, None, MatchBool, nat_lt, lt-ltb, ltb-true, le-leb, eqb-true, eq-eqb, IsPrefix, Forest}
+use Rattle.epoch_rule.proofs.Common.{Hand, Place, Event, At, HistoryEntry, Every, IsEdition, past, cell, PassState, pass_after, pass_id, Generation}
+use Rattle.epoch_rule.proofs.Common.{generation, entered_generation, Shared, shared_possible, is_same_place, Sizes, View, history_entry, actor_of}
+use Rattle.epoch_rule.proofs.Common.{actor_of_hand, own_entries, state_of, IsLegal, pass_seen, generations_seen, ComesNext, shown_by, IsEnteredIn, TouchesWord}
+use Rattle.epoch_rule.proofs.Common.{IsReady, IsTouch, touch_at, Wrote, WriterMay, both, generation_stays, sound, Carried, none_is_not_some, IsSettled}
+use Rattle.epoch_rule.proofs.Common.{ToldStep, Told, event_of, ◌&&◌, IsSomeAnd, IsRegionPlace, IsNotifiersPlace, extent, extent_of, words_of, place_from}
+use Rattle.epoch_rule.proofs.Common.{pages_in, is_data_or_register, word_of_page, notifiers_place, is_notifiers, KeepsHome, IsReach, PassMay, ShowsStep}
+use Rattle.epoch_rule.proofs.Common.{ShowsTouch, both_of, or_left, or_right}
 use Rattle.std.specs.List.{list_any}
-use Rattle.std.proofs.lemmas.Bool.{lt-ltb, ltb-true, le-leb, eqb-true, eq-eqb}
-use mathlib.Core.List.{IsPrefix}
-use lib.ListN.{length-replicate, get_or-replicate}
-use Rattle.mem_base.specs.declared.map.forests.Forest.{Forest}
+use Rattle.mem_base.specs.declared.access.cells.WordStep.{WordStep}
 use Rattle.mem_base.specs.declared.map.forests.Node.{Node}
 use Rattle.mem_base.specs.declared.map.kinds.Client.{Client}
 use Rattle.mem_base.specs.declared.map.kinds.Client.TheVariants as clients
 use Rattle.mem_base.specs.map.Region.{node_of}
-use Rattle.mem_base.specs.declared.machine.events.Hand.{Hand}
 use Rattle.mem_base.specs.declared.machine.events.Hand.TheVariants as hands
-use Rattle.mem_base.specs.declared.access.cells.Place.{Place}
-use Rattle.mem_base.specs.declared.access.cells.WordStep.{WordStep}
 use Rattle.mem_base.specs.declared.access.cells.WordStep.TheVariants as steps
-use Rattle.mem_base.specs.declared.machine.events.Event.{Event}
 use Rattle.mem_base.specs.declared.machine.events.Event.TheVariants as events
-use Rattle.mem_base.specs.declared.machine.events.Carried.TheVariants.{At}
-use Rattle.mem_base.specs.declared.machine.events.HistoryEntry.{HistoryEntry}
-use Rattle.mem_base.specs.lists.Every.{Every}
-use Rattle.mem_base.specs.access.EditionPlaces.{IsRegionPlace, IsNotifiersPlace, IsEdition}
 use Rattle.mem_base.specs.views.Naming.{names}
-use Rattle.mem_base.specs.access.Places.{extent, extent_of, words_of, place_from, past, pages_in, is_data_or_register, word_of_page}
-use Rattle.mem_base.specs.access.Places.{notifiers_place, is_notifiers}
-use Rattle.mem_base.specs.access.Cells.{cell}
-use Rattle.mem_base.specs.machine.Passes.{PassState, idle, pass_of, pass_after, pass_id}
-use Rattle.mem_base.specs.machine.Generations.{Generation, generation, Generations, known_of, entered_generation}
 use Rattle.mem_base.specs.machine.Guards.{is_notifier, may_reach, may_mark}
-use Rattle.mem_base.specs.machine.SharedHistory.{Shared, shared_opening, shared_possible, is_same_place}
-use Rattle.epoch_rule.specs.declared.views.Sizes.{Sizes}
-use Rattle.epoch_rule.specs.declared.views.View.{View}
 use Rattle.epoch_rule.specs.declared.touches.Touch.{Touch}
 use Rattle.epoch_rule.specs.declared.touches.Touch.TheVariants as touches
-use Rattle.mem_base.specs.machine.Turns.{history_entry}
-use Rattle.mem_base.specs.machine.Actors.{actor_of, actor_of_hand, own_entries, pass_after_all}
-use Rattle.epoch_rule.specs.Rule.{state_of, IsLegal, pass_seen, generations_seen, ComesNext, KeepsSlot, KeepsHome}
-use Rattle.epoch_rule.specs.Copies.{shown_by, IsEnteredIn}
-use Rattle.epoch_rule.specs.Touches.{TouchesWord, IsReady, IsTouch, Told, ToldStep, event_of, touch_at}
-use Rattle.epoch_rule.specs.Wrote.{Wrote, WordWas}
-use Rattle.epoch_rule.specs.Shown.{IsReach, PassMay, WriterMay, ShowsStep, ShowsTouch}
-use Rattle.atomic_table.specs.Seated.{TableId}
-use Rattle.atomic_table.specs.Table.{Me}
-use Rattle.epoch_rule.specs.declared.writers.Found.{Found}
-use Rattle.epoch_rule.specs.Writing.{IsWriting, stored}
-use Rattle.view_laws.proofs.Tests.{both, both_of, or_left, or_right}
-use Rattle.history_laws.proofs.AppendLaws.{pass_owns, generation_stays}
-use Rattle.history_laws.proofs.NumberLaws.{sound}
-use Rattle.epoch_rule.proofs.PassLaws.{own_added, begins_added, ends_added, pass_added, generations_added, suits_on}
+use Rattle.epoch_rule.proofs.PassLaws.{own_added, begins_added, ends_added, pass_added, generations_added, pass_known}
 use Rattle.epoch_rule.proofs.WordSteps.{entered_is}
+use Rattle.view_laws.proofs.SortedLaws.{any_found}
+use Rattle.view_laws.proofs.LiveLaws.{every_in}
 
 all_same : (p q : Place) → is_same_place p q ≡ true → q ≡ p
 all_same p q h =
@@ -62,15 +37,7 @@ all_same p q h =
     λ i. record { region = record { 0 = e0 i }; start = e1 i; words = e2 i; bytes = e3 i; regs = e4 i }
 
 pub one_of : (P : Place → Type 0) (p : Place) (qs : List Place) → Every P qs → list_any (is_same_place p) qs ≡ true → P p
-one_of P p [] k h = absurd (grind arith)
-one_of P p (q ∷ qs) k h = go (is_same_place p q) refl (one_of P p qs k.1) h
-  where
-    go : (b : Bool) → is_same_place p q ≡ b → (list_any (is_same_place p) qs ≡ true → P p) → (b || list_any (is_same_place p) qs) ≡ true → P p
-    go true e rest h = subst P (all_same p q e) k.0
-    go false e rest h = rest h
-
-itself : (n : ℕ) → eqb n n ≡ true
-itself n = eq-eqb n n refl
+one_of P p qs k h = let t = any_found (is_same_place p) qs h in subst P (all_same p t.0 t.2) (every_in P t.0 qs k t.1)
 
 -- a pass that is entered in a generation may reach the words of the places that it carries
 reaches : (f : Forest) (ps : List Place) (p : Place) (word : ℕ) → IsEdition f ps → list_any (is_same_place p) ps ≡ true → is_data_or_register p word ≡ true
@@ -110,7 +77,7 @@ marks_inside p clients.Code page fits near = omega arith
 marks_inside p clients.Migration page fits near = omega arith
 
 -- what a pass may touch is a word of the place
-reach_inside : (p : Place) (v word : ℕ) (touch : Touch) → p.words ≡ words_of (extent p.bytes p.regs) → IsTouch (hands.Pass (pass_id v)) p word touch
+pub reach_inside : (p : Place) (v word : ℕ) (touch : Touch) → p.words ≡ words_of (extent p.bytes p.regs) → IsTouch (hands.Pass (pass_id v)) p word touch
     → IsReach p word touch → word < p.words
 reach_inside p v word touches.Look fits kind reach = let l = ltb-true _ _ reach in omega arith
 reach_inside p v word (touches.Step step) fits kind reach = let l = ltb-true _ _ reach in omega arith
@@ -119,23 +86,19 @@ reach_inside p v word touches.Fill fits kind reach = absurd kind
 reach_inside p v word (touches.Mark client page) fits kind reach = let l = marks_inside p client page fits reach in let same = kind.1 in omega arith
 reach_inside p v word (touches.Harvest client index) fits kind reach = absurd kind.0
 
-pub pass_inside : (f : Forest) (ps : List Place) (p : Place) (v word : ℕ) (touch : Touch) → IsEdition f ps → IsTouch (hands.Pass (pass_id v)) p word touch
-    → PassMay ps p word touch → word < p.words
-pass_inside f ps p v word touch k kind may = reach_inside p v word touch (fits_extent f ps p k may.0) kind may.1
-
 -- the steps on words that may be, where the pass is entered in such a generation
 pass_steps : (s : Shared) (v : ℕ) (f : Forest) (ps : List Place) (p : Place) (word : ℕ) (touch : Touch) → IsEdition f ps
     → entered_generation s.generations s.passes (pass_id v) ≡ Some (generation f ps) → IsTouch (hands.Pass (pass_id v)) p word touch
     → PassMay ps p word touch → shared_possible s (event_of (hands.Pass (pass_id v)) p word touch) (At p) ≡ true
 pass_steps s v f ps p word touches.Look k is kind may =
-    rw is (both _ _ (both _ _ (itself p.region.0) (reaches f ps p word k may.0 may.1)) may.0)
+    rw is (both _ _ (both _ _ (eq-eqb _ _ refl) (reaches f ps p word k may.0 may.1)) may.0)
 pass_steps s v f ps p word (touches.Step step) k is kind may =
-    rw is (both _ _ (both _ _ (itself p.region.0) (reaches f ps p word k may.0 may.1)) may.0)
+    rw is (both _ _ (both _ _ (eq-eqb _ _ refl) (reaches f ps p word k may.0 may.1)) may.0)
 pass_steps s v f ps p word (touches.Try old first bytes value) k is kind may =
-    rw is (both _ _ (both _ _ (itself p.region.0) (reaches f ps p word k may.0 may.1)) may.0)
+    rw is (both _ _ (both _ _ (eq-eqb _ _ refl) (reaches f ps p word k may.0 may.1)) may.0)
 pass_steps s v f ps p word touches.Fill k is kind may = absurd kind
 pass_steps s v f ps p word (touches.Mark client page) k is kind may =
-    rw is (both _ _ (both _ _ (itself p.region.0) (marks f ps p page k may.0 may.1)) may.0)
+    rw is (both _ _ (both _ _ (eq-eqb _ _ refl) (marks f ps p page k may.0 may.1)) may.0)
 pass_steps s v f ps p word (touches.Harvest client index) k is kind may = absurd kind.0
 
 -- the kind of a touch
@@ -143,31 +106,13 @@ pub kinds : (hand : Hand) (p : Place) (word : ℕ) (touch : Touch) → IsTouch h
     → TouchesWord (actor_of_hand hand) (event_of hand p word touch) p (touch_at (event_of hand p word touch) p)
 kinds hand p word touches.Look k = record { mine = refl; is = refl; generations = λ g r. refl; passes = λ ps r. refl; published = λ gs. refl }
 kinds hand p word (touches.Step step) k = record { mine = refl; is = refl; generations = λ g r. refl; passes = λ ps r. refl; published = λ gs. refl }
-kinds hand p word (touches.Try old first bytes value) k = record {
-  mine = refl;
-  is = refl;
-  generations = λ g r. refl;
-  passes = λ ps r. refl;
-  published = λ gs. refl;
-}
+kinds hand p word (touches.Try _ _ _ _) k = record { mine = refl; is = refl; generations = λ g r. refl; passes = λ ps r. refl; published = λ gs. refl }
 kinds hands.Writer p word touches.Fill k = record { mine = refl; is = refl; generations = λ g r. refl; passes = λ ps r. refl; published = λ gs. refl }
 kinds (hands.Pass v) p word touches.Fill k = absurd k
-kinds (hands.Pass v) p word (touches.Mark client page) k = record {
-  mine = refl;
-  is = refl;
-  generations = λ g r. refl;
-  passes = λ ps r. refl;
-  published = λ gs. refl;
-}
-kinds hands.Writer p word (touches.Mark client page) k = absurd k.0
-kinds hands.Writer p word (touches.Harvest client index) k = record {
-  mine = refl;
-  is = refl;
-  generations = λ g r. refl;
-  passes = λ ps r. refl;
-  published = λ gs. refl;
-}
-kinds (hands.Pass v) p word (touches.Harvest client index) k = absurd k.0
+kinds (hands.Pass v) p word (touches.Mark _ _) k = record { mine = refl; is = refl; generations = λ g r. refl; passes = λ ps r. refl; published = λ gs. refl }
+kinds hands.Writer p word (touches.Mark _ _) k = absurd k.0
+kinds hands.Writer p word (touches.Harvest _ _) k = record { mine = refl; is = refl; generations = λ g r. refl; passes = λ ps r. refl; published = λ gs. refl }
+kinds (hands.Pass v) p word (touches.Harvest _ _) k = absurd k.0
 
 pub word_is : (hand : Hand) (p : Place) (word : ℕ) (touch : Touch) → IsTouch hand p word touch → (touch_at (event_of hand p word touch) p).word ≡ p.start + word
 word_is hand p word touches.Look k = refl
@@ -178,16 +123,12 @@ word_is hand p word (touches.Mark client page) k = ap (λ (n : ℕ). p.start + n
 word_is hand p word (touches.Harvest client index) k = ap (λ (n : ℕ). p.start + n) (sym k.1)
 
 -- a pass is ready
-
 entered_seen : {E : Type 0} (number : E → ℕ) (forest : E → Forest) (places : E → List Place) (z : Sizes) (log : List HistoryEntry) (p : ℕ) (v : View) (e : E)
     → IsLegal z log → p < z.passes → IsPrefix v.seen log → own_entries (p + 1) v.seen ≡ own_entries (p + 1) log
     → IsEnteredIn number forest places p v e → entered_generation (state_of z log).generations (state_of z log).passes (pass_id p)
     ≡ Some (shown_by forest places e)
 entered_seen number forest places z log p v e l near begins same s =
-    let knows : pass_of (state_of z log).passes (pass_id p) ≡ pass_seen p v =
-    pass_owns log (shared_opening z.words z.passes) p (subst (λ (m : ℕ). p < m) (sym (length-replicate z.passes idle)) near)
-    ∙ (ap (λ h. pass_after_all h (own_entries (p + 1) log)) (get_or-replicate z.passes p idle idle near) ∙ ap (pass_after_all idle) (sym same)) in
-    entered_is z log l p near (number e) (ap (λ (h : PassState). h.entered) knows ∙ s.entered)
+    entered_is z log l p near (number e) (ap (λ (h : PassState). h.entered) (pass_known z log p v near same) ∙ s.entered)
     ∙ ap (λ (x : Generation). Some x) (generation_stays v.seen log begins (number e) s.published ∙ sym s.shows)
 
 pub ready_pass : {E : Type 0} (number : E → ℕ) (forest : E → Forest) (places : E → List Place) (z : Sizes) (p : ℕ) (v : View) (e : E) (at : Place) (word : ℕ)
@@ -203,16 +144,15 @@ ready_pass number forest places z p v e at word touch law role near s room kind 
 }
 
 -- the writer is ready
-
 writer_steps : (s : Shared) (p : Place) (word : ℕ) (touch : Touch) → IsTouch hands.Writer p word touch → word < p.words → past p ≤ length s.words
     → shared_possible s (event_of hands.Writer p word touch) (At p) ≡ true
-writer_steps s p word touches.Look kind l m = both _ _ (itself p.region.0) (both _ _ (lt-ltb _ _ l) (le-leb _ _ m))
-writer_steps s p word (touches.Step step) kind l m = both _ _ (itself p.region.0) (both _ _ (lt-ltb _ _ l) (le-leb _ _ m))
-writer_steps s p word (touches.Try old first bytes value) kind l m = both _ _ (itself p.region.0) (both _ _ (lt-ltb _ _ l) (le-leb _ _ m))
-writer_steps s p word touches.Fill kind l m = both _ _ (itself p.region.0) (both _ _ (lt-ltb _ _ l) (le-leb _ _ m))
+writer_steps s p word touches.Look kind l m = both _ _ (eq-eqb _ _ refl) (both _ _ (lt-ltb _ _ l) (le-leb _ _ m))
+writer_steps s p word (touches.Step step) kind l m = both _ _ (eq-eqb _ _ refl) (both _ _ (lt-ltb _ _ l) (le-leb _ _ m))
+writer_steps s p word (touches.Try old first bytes value) kind l m = both _ _ (eq-eqb _ _ refl) (both _ _ (lt-ltb _ _ l) (le-leb _ _ m))
+writer_steps s p word touches.Fill kind l m = both _ _ (eq-eqb _ _ refl) (both _ _ (lt-ltb _ _ l) (le-leb _ _ m))
 writer_steps s p word (touches.Mark client page) kind l m = absurd kind.0
 writer_steps s p word (touches.Harvest client index) kind l m =
-    both _ _ (itself p.region.0) (both _ _ (lt-ltb _ _ (subst (λ (n : ℕ). n < p.words) kind.1 l)) (le-leb _ _ m))
+    both _ _ (eq-eqb _ _ refl) (both _ _ (lt-ltb _ _ (subst (λ (n : ℕ). n < p.words) kind.1 l)) (le-leb _ _ m))
 
 pub ready_writer : (z : Sizes) (v : View) (at : Place) (word : ℕ) (touch : Touch) → v.role ≡ Some 0 → IsTouch hands.Writer at word touch → WriterMay z at word
     → IsReady z v hands.Writer at word touch
@@ -224,46 +164,56 @@ ready_writer z v at word touch role kind may = record {
       writer_steps (state_of z log) at word touch kind may.0 (let a = may.1 in let w = ok.wide in omega arith);
 }
 
--- what a touch told, as the caller sees it
+-- of each case of a test
+in_either : {A B C : Type 0} (b : Bool) → (A → C) → (B → C) → MatchBool b A B → C
+in_either true f g h = f h
+in_either false f g h = g h
 
-pub wrote : (hand : Hand) (v : View) (e : Event) (p : Place) (r : ℕ) (w : View) → actor_of e ≡ actor_of_hand hand
-    → ComesNext (actor_of_hand hand) v e (At p) r w → Wrote hand v.sizes v.seen (history_entry e (At p) r ∷ []) w.seen
-wrote hand v e p r w mine h = record {
-  begins = begins_added (actor_of_hand hand) v e (At p) r w h;
+in_both : {A B C D : Type 0} (b : Bool) → (A → C) → (B → D) → MatchBool b A B → MatchBool b C D
+in_both true f g h = f h
+in_both false f g h = g h
+
+-- what a touch told, as the caller sees it
+pub wrote : (hand : Hand) (v : View) (e : Event) (x : Carried) (r : ℕ) (w : View) → actor_of e ≡ actor_of_hand hand
+    → ComesNext (actor_of_hand hand) v e x r w → Wrote hand v.sizes v.seen (history_entry e x r ∷ []) w.seen
+wrote hand v e x r w mine h = record {
+  begins = begins_added (actor_of_hand hand) v e x r w h;
   lawful = h.lawful;
-  events = own_added (actor_of_hand hand) v e (At p) r w mine h;
-  ends = ends_added (actor_of_hand hand) v e (At p) r w h [];
+  events = own_added (actor_of_hand hand) v e x r w mine h;
+  ends = ends_added (actor_of_hand hand) v e x r w h [];
+}
+
+-- meeting a note wrote nothing
+pub wrote_none : (hand : Hand) (v m w : View) → m.was ≡ v.seen → m.sizes ≡ v.sizes → IsSettled (actor_of_hand hand) m w → Wrote hand v.sizes v.seen [] w.seen
+wrote_none hand v m w was sizes h = subst (λ (y : Sizes × List HistoryEntry). Wrote hand y.0 y.1 [] w.seen) (λ i. (sizes i, was i)) record {
+  begins = (h.was.0, h.was.1 ∙ ap (λ (x : View). x.seen) (sym h.same));
+  lawful = subst (λ (x : View). IsLegal m.sizes x.seen) (sym h.same) h.lawful;
+  events = ap (λ (x : View). own_entries (actor_of_hand hand) x.seen) h.same ∙ (sym h.quiet ∙ sym (append-nil (own_entries (actor_of_hand hand) m.was)));
+  ends = λ x none. none_is_not_some x none;
 }
 
 shown_step : (hand : Hand) (p : Place) (word : ℕ) (s : WordStep) (v : View) (r : ℕ) (w : View) → ToldStep hand p word s v r w
     → ShowsStep hand v.sizes p word s v.seen r w.seen
-shown_step hand p word steps.Load v r w h = wrote hand v _ p r w refl h
-shown_step hand p word (steps.Replace first bytes value) v r w h = (h.0, (h.1.0, wrote hand v _ p h.1.0 w refl h.1.1))
-shown_step hand p word steps.AddOne v r w h = wrote hand v _ p r w refl h
-shown_step hand p word (steps.Or bits) v r w h = wrote hand v _ p r w refl h
-shown_step hand p word steps.Take v r w h = wrote hand v _ p r w refl h
+shown_step hand p word steps.Load v r w h = wrote hand v _ _ r w refl h
+shown_step hand p word (steps.Replace first bytes value) v r w h = (h.0, (h.1.0, wrote hand v _ _ h.1.0 w refl h.1.1))
+shown_step hand p word steps.AddOne v r w h = wrote hand v _ _ r w refl h
+shown_step hand p word (steps.Or bits) v r w h = wrote hand v _ _ r w refl h
+shown_step hand p word steps.Take v r w h = wrote hand v _ _ r w refl h
 
 pub shown : (hand : Hand) (p : Place) (word : ℕ) (touch : Touch) (v : View) (r : ℕ) (w : View) → IsTouch hand p word touch → Told hand p word touch v r w
     → ShowsTouch hand v.sizes p word touch v.seen r w.seen
 shown hand p word touches.Look v r w k h = (ap (λ (x : View). x.seen) h.0, h.1)
 shown hand p word (touches.Step step) v r w k h = shown_step hand p word step v r w h
-shown hand p word (touches.Try old first bytes value) v r w k h = go (eqb r old) h
-  where
-    go : (b : Bool) → MatchBool b (ComesNext (actor_of_hand hand) v (events.Word hand (cell p.region word) (steps.Replace first bytes value)) (At p) r w)
-        ((w ≡ v) × WordWas v.sizes v.seen (p.start + word) r)
-        → MatchBool b (Wrote hand v.sizes v.seen (history_entry (events.Word hand (cell p.region word) (steps.Replace first bytes value))
-        (At p) r ∷ []) w.seen) ((w.seen ≡ v.seen) × WordWas v.sizes v.seen (p.start + word) r)
-    go true h = wrote hand v _ p r w refl h
-    go false h = (ap (λ (x : View). x.seen) h.0, h.1)
-shown hands.Writer p word touches.Fill v r w k h = (h.0, wrote hands.Writer v _ p 0 w refl h.1)
+shown hand p word (touches.Try old first bytes value) v r w k h =
+    in_both (eqb r old) (wrote hand v _ _ r w refl) (λ t. (ap (λ (x : View). x.seen) t.0, t.1)) h
+shown hands.Writer p word touches.Fill v r w k h = (h.0, wrote hands.Writer v _ _ 0 w refl h.1)
 shown (hands.Pass u) p word touches.Fill v r w k h = absurd k
-shown (hands.Pass u) p word (touches.Mark client page) v r w k h = (wrote (hands.Pass u) v _ p 0 w refl h.0, h.1)
+shown (hands.Pass u) p word (touches.Mark client page) v r w k h = (wrote (hands.Pass u) v _ _ 0 w refl h.0, h.1)
 shown hands.Writer p word (touches.Mark client page) v r w k h = absurd k.0
-shown hands.Writer p word (touches.Harvest client index) v r w k h = wrote hands.Writer v _ p r w refl h
+shown hands.Writer p word (touches.Harvest client index) v r w k h = wrote hands.Writer v _ _ r w refl h
 shown (hands.Pass u) p word (touches.Harvest client index) v r w k h = absurd k.0
 
 -- what a touch leaves of its actor's part
-
 -- a touch showed nothing, or its event
 told_either : (hand : Hand) (p : Place) (word : ℕ) (touch : Touch) (v : View) (r : ℕ) (w : View) → IsTouch hand p word touch → Told hand p word touch v r w
     → (w ≡ v) ⊎ ((q : ℕ) × ComesNext (actor_of_hand hand) v (event_of hand p word touch) (At p) q w)
@@ -273,13 +223,7 @@ told_either hand p word (touches.Step (steps.Replace first bytes value)) v r w k
 told_either hand p word (touches.Step steps.AddOne) v r w k h = inr (r, h)
 told_either hand p word (touches.Step (steps.Or bits)) v r w k h = inr (r, h)
 told_either hand p word (touches.Step steps.Take) v r w k h = inr (r, h)
-told_either hand p word (touches.Try old first bytes value) v r w k h = go (eqb r old) h
-  where
-    go : (b : Bool) → MatchBool b (ComesNext (actor_of_hand hand) v (events.Word hand (cell p.region word) (steps.Replace first bytes value)) (At p) r w)
-        ((w ≡ v) × WordWas v.sizes v.seen (p.start + word) r)
-        → (w ≡ v) ⊎ ((q : ℕ) × ComesNext (actor_of_hand hand) v (events.Word hand (cell p.region word) (steps.Replace first bytes value)) (At p) q w)
-    go true h = inr (r, h)
-    go false h = inl h.0
+told_either hand p word (touches.Try old first bytes value) v r w k h = in_either (eqb r old) (λ t. inr (r, t)) (λ t. inl t.0) h
 told_either hands.Writer p word touches.Fill v r w k h = inr (0, h.1)
 told_either (hands.Pass u) p word touches.Fill v r w k h = absurd k
 told_either (hands.Pass u) p word (touches.Mark client page) v r w k h = inr (0, h.0)
@@ -344,21 +288,3 @@ home_kept p word touch v r w k h = ⊎_elim
     (λ (e : w ≡ v). λ q l. ap (λ (x : View). own_entries (q + 1) x.seen) e)
     (λ (t : (n : ℕ) × ComesNext 0 v (event_of hands.Writer p word touch) (At p) n w). t.1.home refl)
     (told_either hands.Writer p word touch v r w k h)
-
--- the writer's seat after a step that changes no generation
-pub writing_kept : {S : Type 0} (t t' : TableId) (me new : Me S View) (current : ℕ) (known : List Found) (out : List Bool) → t' ≡ t → new.1 ≡ me.1
-    → KeepsSlot me.0 new.0 → Kept me.0 new.0 → generations_seen new.0 ≡ generations_seen me.0
-    → IsWriting t me current known out → IsWriting t' new current known out
-writing_kept t t' me new current known out table bare holds k same w = record {
-  role = k.role ∙ w.role;
-  free = holds.0 ∙ w.free;
-  bare = bare ∙ w.bare;
-  suits = suits_on t t' me.0.sizes new.0.sizes (sym table) (sym k.sizes) w.suits;
-  is_current = w.is_current ∙ ap (λ (g : Generations). g.current) (sym same);
-  is_known = w.is_known ∙ ap (λ (g : Generations). map stored g.passes) (sym same);
-  many = ap (λ (g : Generations). length g.passes) same ∙ (w.many ∙ ap (λ (z : Sizes). z.passes) (sym k.sizes));
-  unplaced = λ v. ap (λ (g : Generations). (known_of g (pass_id v)).placed) same ∙ w.unplaced v;
-  is_out = w.is_out ∙ sym k.out;
-  outs = w.outs ∙ ap (λ (z : Sizes). z.passes) (sym k.sizes);
-  lawful = k.lawful w.lawful;
-}

@@ -1,6 +1,6 @@
 // A script that may be what a machine's texts mean.
 ghost use Rattle.std.specs.Prelude.{IfErr, IfOk, List, ℕ};
-ghost use Rattle.monitor_import.specs.Drafts.{Explains, IsScript};
+ghost use Rattle.monitor_import.specs.Drafts.{Explains, IsScript, NamesSpaces};
 
 use crate::draws::{Source, add_machine, add_map, add_regions};
 use crate::faults::ImportFault;
@@ -8,6 +8,7 @@ use crate::flats::views_of;
 use crate::plans::plans_of;
 use crate::spaces::{add_shows, add_spaces};
 use crate::trees::trees_of;
+use crate::wanted::{has_space, unknown_in};
 use mem_base::Name;
 use monitor_text::{FlatLine, MonitorFault, TreeLine, read_flat, read_tree};
 use script_lines::Line;
@@ -41,7 +42,7 @@ fn guess(
 // The text, if it is a script.
 fn tried(alloc: Global, text: &Line) -> Result<Vec<u8>, ImportFault>
     ensures script { IfOk result (λ made. IsScript made.items) }
-    ensures faults { (tree flat : List ℕ) → IfErr result (Explains tree flat) }
+    ensures faults { (tree flat : List ℕ) (wanted : List (List ℕ)) → IfErr result (Explains tree flat wanted) }
 {
     let made = text.as_bytes().to_vec(alloc)?;
     match parse(alloc, &made) {
@@ -60,7 +61,8 @@ pub fn draft(
     wanted: &[Name],
 ) -> Result<Vec<u8>, ImportFault>
     ensures script { IfOk result (λ text. IsScript text.items) }
-    ensures faults { IfErr result (Explains tree.now flat.now) }
+    ensures spaces { IfOk result (λ _. NamesSpaces tree.now wanted.now) }
+    ensures faults { IfErr result (Explains tree.now flat.now wanted.now) }
 {
     if tree.len() >= 1 << 31 || flat.len() >= 1 << 31 {
         return Err(ImportFault::Long);
@@ -75,6 +77,12 @@ pub fn draft(
         Err(MonitorFault::Bad { line }) => return Err(ImportFault::Flat { line }),
         Err(MonitorFault::Memory) => return Err(ImportFault::Memory),
     };
+    if !has_space(&lines) {
+        return Err(ImportFault::NoSpace);
+    }
+    if let Some(at) = unknown_in(&lines, wanted) {
+        return Err(ImportFault::Unknown { at });
+    }
     let text = guess(alloc, &lines, &views, wanted)?;
     tried(alloc, &text)
 }

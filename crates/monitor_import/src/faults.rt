@@ -13,6 +13,10 @@ pub enum ImportFault {
     Tree { line: u32 },
     /// The first line of the views' text that has none of the forms, counted from 1.
     Flat { line: u32 },
+    /// No line of the tree's text names a space.
+    NoSpace,
+    /// No line of the tree's text names the space of this one of the wanted names, counted from 0: the first such name.
+    Unknown { at: usize },
     /// The text that was made is no script, as where it is longer than a script may be.
     Made { text: Vec<u8>, bad: BadScript },
     Memory,

@@ -18,6 +18,7 @@ mod regions;
 mod spaces;
 mod targets;
 mod trees;
+mod wanted;
 
 pub use drafts::draft;
 pub use faults::ImportFault;

@@ -7,16 +7,21 @@ use scope_run::Files;
 use std::alloc::Global;
 use std::fs::File;
 
-/// The files of the process, by their paths; `-` is the standard input.
+/// The files of the process, by their paths; `-` is the standard input, which is read once: a second read of it fails.
 #[derive(Drop)]
 pub(crate) struct HostFiles<'a> {
     rt: &'a HostRuntime,
     faults: u64,
+    is_input_read: bool,
 }
 
 impl<'a> HostFiles<'a> {
     pub(crate) fn new(rt: &'a HostRuntime) -> HostFiles<'a> {
-        HostFiles { rt, faults: 0 }
+        HostFiles {
+            rt,
+            faults: 0,
+            is_input_read: false,
+        }
     }
 
     // What was read, with one more fault where the read failed.
@@ -39,6 +44,10 @@ impl<'a> Files for HostFiles<'a> {
 
     fn read(&mut self, alloc: Global, name: &str, most: usize) -> Result<Vec<u8>, ReadStop> {
         if name == "-" {
+            if self.is_input_read {
+                return self.counted(Err(ReadStop::Failed));
+            }
+            self.is_input_read = true;
             let read = read_all(alloc, &mut StdSource::new(self.rt.reader()), most);
             return self.counted(read);
         }

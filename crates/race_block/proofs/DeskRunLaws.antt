@@ -20,7 +20,7 @@ use Rattle.race_laws.proofs.ActingLaws.{desk_acts}
 use Rattle.race_laws.proofs.EnterLaws.{some_published}
 use Rattle.race_laws.proofs.NextLines.{desk_append}
 use Rattle.race_block.specs.declared.desks.Asked.{Asked}
-use Rattle.race_block.specs.declared.desks.DeskLine as block_lines
+use Rattle.race_block.specs.declared.tasks.OwnLine.{OwnLine}
 use Rattle.race_block.specs.Desks.{DeskKeeps, DoesDeskLine, HasDoneLines, HasHeard, HasStopped, IsAsked, IsNotDone, LeavesLine, StopsIn, clerk_with}
 use Rattle.race_block.specs.Desks.{line_asked, line_meant, lines_meant}
 use Rattle.race_block.proofs.DeskLaws.{heard_both, told_both, with_nothing}
@@ -120,23 +120,23 @@ one_stops k lines c d e notes more now said line all left h s cut = record {
 
 -- lists of lines
 
-take_more : (xs : List block_lines.DeskLine) (at : ℕ) (x : block_lines.DeskLine) → at < length xs → slice_index_or xs at x ≡ x
+take_more : (xs : List OwnLine) (at : ℕ) (x : OwnLine) → at < length xs → slice_index_or xs at x ≡ x
     → lines_meant (take (at + 1) xs) ≡ lines_meant (take at xs) ++ line_meant x ∷ []
 take_more [] at x l is = absurd (omega (arith, l))
-take_more (y ∷ xs) zero x l is = ap (λ (z : block_lines.DeskLine). line_meant z ∷ []) is
+take_more (y ∷ xs) zero x l is = ap (λ (z : OwnLine). line_meant z ∷ []) is
 take_more (y ∷ xs) (suc at) x l is =
     let next : suc at + 1 ≡ suc (at + 1) = omega arith in
     ap (λ (n : ℕ). lines_meant (take n (y ∷ xs))) next ∙ ap (λ (zs : List Line). line_meant y ∷ zs) (take_more xs at x (omega (arith, l)) is)
 
-cut_at : (xs : List block_lines.DeskLine) (at : ℕ) (x : block_lines.DeskLine) → at < length xs → slice_index_or xs at x ≡ x
+cut_at : (xs : List OwnLine) (at : ℕ) (x : OwnLine) → at < length xs → slice_index_or xs at x ≡ x
     → lines_meant xs ≡ lines_meant (take at xs) ++ line_meant x ∷ lines_meant (drop (suc at) xs)
 cut_at [] at x l is = absurd (omega (arith, l))
-cut_at (y ∷ xs) zero x l is = ap (λ (z : block_lines.DeskLine). line_meant z ∷ lines_meant xs) is
+cut_at (y ∷ xs) zero x l is = ap (λ (z : OwnLine). line_meant z ∷ lines_meant xs) is
 cut_at (y ∷ xs) (suc at) x l is = ap (λ (zs : List Line). line_meant y ∷ zs) (cut_at xs at x (omega (arith, l)) is)
 
 -- the loop
 
-pub step_done : (k : Known) (xs : List block_lines.DeskLine) (at : ℕ) (x : block_lines.DeskLine) (c d e : Clerk) (notes more : List NoteValue)
+pub step_done : (k : Known) (xs : List OwnLine) (at : ℕ) (x : OwnLine) (c d e : Clerk) (notes more : List NoteValue)
     (now next : Known) (said written : List Said) → at < length xs → slice_index_or xs at x ≡ x
     → HasDoneLines k (lines_meant (take at xs)) c d notes now said → DoesDeskLine now (line_meant x) d notes said e more next written
     → HasDoneLines k (lines_meant (take (at + 1) xs)) c e more next written
@@ -144,7 +144,7 @@ step_done k xs at x c d e notes more now next said written l is h s =
     subst (λ (zs : List Line). HasDoneLines k zs c e more next written) (sym (take_more xs at x l is))
     (one_more k (lines_meant (take at xs)) c d e notes more now said (line_meant x) s.x h s.asked next written s.leaves)
 
-pub step_stops : (k : Known) (xs : List block_lines.DeskLine) (at : ℕ) (x : block_lines.DeskLine) (c d e : Clerk) (notes more : List NoteValue)
+pub step_stops : (k : Known) (xs : List OwnLine) (at : ℕ) (x : OwnLine) (c d e : Clerk) (notes more : List NoteValue)
     (now : Known) (said : List Said) → at < length xs → slice_index_or xs at x ≡ x
     → HasDoneLines k (lines_meant (take at xs)) c d notes now said → IsNotDone now (line_meant x) d notes e more
     → HasStopped k (lines_meant xs) c e more
@@ -157,16 +157,16 @@ step_stops k xs at x c d e notes more now said l is h (inr s) =
     one_lost k front c d e notes more now said (line_meant x) s.0 h s.1 (lines_meant xs) left
     (cut_at xs at x l is ∙ sym (append_assoc front (line_meant x ∷ []) left))
 
-take_whole : (xs : List block_lines.DeskLine) (n : ℕ) → length xs ≤ n → take n xs ≡ xs
+take_whole : (xs : List OwnLine) (n : ℕ) → length xs ≤ n → take n xs ≡ xs
 take_whole [] zero l = refl
 take_whole [] (suc n) l = refl
 take_whole (x ∷ xs) zero l = absurd (omega (arith, l))
-take_whole (x ∷ xs) (suc n) l = ap (λ (zs : List block_lines.DeskLine). x ∷ zs) (take_whole xs n (omega (arith, l)))
+take_whole (x ∷ xs) (suc n) l = ap (λ (zs : List OwnLine). x ∷ zs) (take_whole xs n (omega (arith, l)))
 
 pub first_done : (k : Known) (c : Clerk) (notes : List NoteValue) (said : List Said) → notes ≡ [] → said ≡ [] → HasDoneLines k [] c c notes k said
 first_done k c notes said unheard silent =
     subst (λ (z : List NoteValue × List Said). HasDoneLines k [] c c z.0 k z.1) (λ i. (sym unheard i, sym silent i)) (none_done k c)
 
-pub all_done : (k : Known) (xs : List block_lines.DeskLine) (at : ℕ) (c d : Clerk) (notes : List NoteValue) (now : Known) (said : List Said)
+pub all_done : (k : Known) (xs : List OwnLine) (at : ℕ) (c d : Clerk) (notes : List NoteValue) (now : Known) (said : List Said)
     → length xs ≤ at → HasDoneLines k (lines_meant (take at xs)) c d notes now said → HasDoneLines k (lines_meant xs) c d notes now said
-all_done k xs at c d notes now said l h = subst (λ (ys : List block_lines.DeskLine). HasDoneLines k (lines_meant ys) c d notes now said) (take_whole xs at l) h
+all_done k xs at c d notes now said l h = subst (λ (ys : List OwnLine). HasDoneLines k (lines_meant ys) c d notes now said) (take_whole xs at l) h

@@ -1,3 +1,4 @@
+pub mod ResolvingLaws
 pub mod StepLaws
 pub mod KeptLaws
 pub mod DeskLaws

@@ -45,10 +45,13 @@ use Rattle.race_lines.specs.LineTasks.{refused_text}
 use Rattle.race_block.specs.declared.tasks.PassTask.{PassTask}
 use Rattle.race_block.specs.declared.tasks.PassTask.TheVariants.{Refused, Order, Enter, Leave, Read, Write, Copy}
 use Rattle.race_block.specs.declared.tasks.BlockLine.{BlockLine}
+use Rattle.pass_lines.specs.declared.answers.LineAnswer.{LineAnswer}
+use Rattle.pass_lines.specs.Texts.{answer_text}
 use Rattle.race_block.specs.declared.tasks.LineGot.{LineGot}
 use Rattle.race_block.specs.declared.tasks.LineGot.TheVariants as gots
-use Rattle.race_block.specs.Lines.{HasAnswered, HasDone, HasOrdered, HasStepped, HaveRun, IsUnderway}
-use Rattle.race_block.specs.Laws.{StandsFor, count_own, said_of, taken_by, why_of}
+use Rattle.race_block.specs.Lines.{HasAnswered, HasDone, HasOrdered, HasStepped, HaveRun, IsAnswer, IsUnderway}
+use Rattle.race_block.specs.Resolving.{StandsFor}
+use Rattle.race_block.specs.Laws.{count_own, said_of, taken_by, why_of}
 
 -- one line after others
 
@@ -181,6 +184,20 @@ pub record StepKept (k : Known) (count : ℕ) (deed : PassDeed) (line : Line) (c
   pub taken : taken_by got ≡ length new
   pub keeps : KeepsLines k count (deed_on deed line own new (state_seen w)) w
 
+-- an answer takes no entry of the clerk, and its line says it
+none_taken : (got : LineGot) (answer : LineAnswer) → IsAnswer got answer → taken_by got ≡ 0
+none_taken gots.Refused answer is = absurd is
+none_taken gots.Ordered answer is = absurd is
+none_taken (gots.ReadFew access bytes) answer is = refl
+none_taken (gots.Answered given) answer is = refl
+
+answer_said : (names : Names) (k : Known) (pass : PassId) (line : Line) (got : LineGot) (answer : LineAnswer) (e : DeskEntry) → IsAnswer got answer
+    → says (answer_text pass answer) ≡ said_of names k pass line got e
+answer_said names k pass line gots.Refused answer e is = absurd is
+answer_said names k pass line gots.Ordered answer e is = absurd is
+answer_said names k pass line (gots.ReadFew access bytes) answer e is = ap (λ (x : LineAnswer). says (answer_text pass x)) (sym is)
+answer_said names k pass line (gots.Answered given) answer e is = ap (λ (x : LineAnswer). says (answer_text pass x)) (sym is)
+
 same_clerk : (c d : Clerk) → d ≡ c → d ≡ record { who = c.who; got = c.got ++ [] }
 same_clerk c d same = same ∙ ap (λ (got : List DeskEntry). let x : Clerk = record { who = c.who; got = got } in x) (sym (append-nil c.got))
 
@@ -225,7 +242,7 @@ module _ (k : Known) (count : ℕ) (deed : PassDeed) (line : Line) (c : Clerk) (
         does = subst (λ (r : Resolved Task). PassLineDoes (by_task w own none names later replies more r) own none (state_seen w) None replies)
             (sym is) i.does;
         said = λ others. ap (λ (r : Resolved Task). (by_task w own none names later replies more r).said) is ∙ i.says
-            ∙ ap (λ (x : LineGot). said_of names k pass line x (entry_at others 0)) (sym h.is);
+            ∙ answer_said names k pass line got h.answer (entry_at others 0) h.is;
       } in record {
         own = own;
         new = none;
@@ -234,7 +251,7 @@ module _ (k : Known) (count : ℕ) (deed : PassDeed) (line : Line) (c : Clerk) (
         clerk = same_clerk c d h.clerk;
         inside = h.does.inside;
         are = are;
-        taken = ap taken_by h.is;
+        taken = none_taken got h.answer h.is;
         keeps = goes_on k count deed line v w got own none None keeps h.does.grew are (λ zs. tt);
       }
 

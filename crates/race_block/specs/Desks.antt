@@ -29,15 +29,15 @@ use Rattle.race_lines.specs.DeskLines.{desk_line_by, entry_with}
 use Rattle.race_lines.specs.LineTasks.{Resolves, resolved}
 use Rattle.race_block.specs.declared.desks.Asked.{Asked}
 use Rattle.race_block.specs.declared.desks.Given.{Given}
-use Rattle.race_block.specs.declared.desks.DeskLine as block_lines
+use Rattle.race_block.specs.declared.tasks.OwnLine.{OwnLine}
 use Rattle.race_block.specs.declared.desks.DeskActor.{DeskActor}
 
 -- the line of the script
-abbrev pub line_meant : block_lines.DeskLine → Line
+abbrev pub line_meant : OwnLine → Line
 line_meant x = (x.number, x.command.now)
 
 -- the numbers of its command fit
-abbrev pub FitsLine : block_lines.DeskLine → Type 0
+abbrev pub FitsLine : OwnLine → Type 0
 FitsLine x = FitsCommand x.command.now
 
 -- an order was given, and what it got is its receipt's; the clerk wrote it down, and the receipt's note was kept
@@ -163,7 +163,7 @@ pub record IsReady (a : DeskActor) : Type 0 where
   pub silent : a.said.items ≡ []
   pub unheard : a.notes.items ≡ []
 
-abbrev pub lines_meant : List block_lines.DeskLine → List Line
+abbrev pub lines_meant : List OwnLine → List Line
 lines_meant xs = map line_meant xs
 
 -- it did all its lines, or out of memory the first of them

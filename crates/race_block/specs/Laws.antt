@@ -20,30 +20,14 @@ use Rattle.epoch_rule.specs.Values.{PassValue}
 use Rattle.race_laws.specs.Acting.{PassDeed}
 use Rattle.pass_lines.specs.Doing.{Grew, IsInItsGeneration, state_seen}
 use Rattle.pass_lines.specs.Laws.{KeepsLines}
+use Rattle.pass_lines.specs.declared.answers.LineAnswer.TheVariants as answers
 use Rattle.pass_lines.specs.Texts.{answer_text}
 use Rattle.race_lines.specs.LineTasks.{refused_text}
-use Rattle.race_block.specs.declared.tasks.PassTask.{PassTask}
-use Rattle.race_block.specs.declared.tasks.PassTask.TheVariants.{Refused, Order, Enter, Leave, Read, Write, Copy}
 use Rattle.race_block.specs.declared.tasks.BlockLine.{BlockLine}
 use Rattle.race_block.specs.declared.tasks.LineGot.{LineGot}
 use Rattle.race_block.specs.declared.tasks.LineGot.TheVariants as gots
 use Rattle.race_block.specs.Lines.{HaveRun}
-
--- the task is what a line asks for, once its names are resolved
-abbrev pub StandsFor : PassTask → Resolved Task → Type 0
-StandsFor (Refused why) r = r ≡ Err (refused_text why)
-StandsFor (Order order) r = (name : Text) × (r ≡ Ok (ordered order name))
-StandsFor Enter r = r ≡ Ok entered
-StandsFor Leave r = r ≡ Ok left
-StandsFor (Read space addr len) r = r ≡ Ok (accessed space addr (reading len))
-StandsFor (Write space addr bytes) r = r ≡ Ok (accessed space addr (writing bytes.now))
-StandsFor (Copy from addr len to to_addr) r = r ≡ Ok (copied from addr len to to_addr)
-
--- these are the tasks of a script's lines, by what is known as the block starts
-abbrev pub AreTasksOf : Known → List Line → List BlockLine → Type 0
-AreTasksOf k [] [] = Unit {0}
-AreTasksOf k (line ∷ lines) (x ∷ xs) = (x.number ≡ line.0) × StandsFor x.task (task_of k line.1) × AreTasksOf k lines xs
-AreTasksOf k _ _ = ⊥
+use Rattle.race_block.specs.Resolving.{AreTasksOf}
 
 -- what a pass did, from where it stood
 abbrev pub deed_from : PassState → List Line → List HistoryEntry → List DeskEntry → PassState → PassDeed
@@ -63,6 +47,7 @@ why_of _ = []
 abbrev pub said_of : Names → Known → PassId → Line → LineGot → DeskEntry → Said
 said_of names k pass line gots.Refused e = says (refused_line line.0 (why_of (task_of k line.1)))
 said_of names k pass line gots.Ordered e = says_with (do_text names line.0 pass e.answer) e
+said_of names k pass line (gots.ReadFew access bytes) e = says (answer_text pass (answers.Read access bytes))
 said_of names k pass line (gots.Answered answer) e = says (answer_text pass answer)
 
 -- how many entries of the clerk's list are a line's

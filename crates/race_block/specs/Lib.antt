@@ -1,3 +1,4 @@
+pub mod Resolving
 pub mod Lines
 pub mod Desks
 pub mod Blocks

@@ -1,5 +1,5 @@
 -- What a pass does in a block, line by line.
-use Rattle.std.specs.Prelude.{◌≡◌, ℕ, ◌≤◌, false, List, [], ◌∷◌, ◌++◌, length, take}
+use Rattle.std.specs.Prelude.{◌≡◌, ◌⊎◌, ℕ, ◌≤◌, true, false, List, [], ◌∷◌, ◌++◌, length, take}
 use mathlib.Core.List.{IsPrefix}
 use Rattle.std.specs.Prelude.{All}
 use Rattle.mem_base.specs.declared.machine.records.DeskOrder.{DeskOrder}
@@ -12,13 +12,17 @@ use Rattle.desk_lock.specs.declared.orders.Receipt.{Receipt}
 use Rattle.desk_lock.specs.Clerks.{wrote_down}
 use Rattle.desk_lock.specs.Receipts.{HasNotifier, IsReceipt}
 use Rattle.pass_lines.specs.declared.answers.LineAnswer.{LineAnswer}
+use Rattle.pass_lines.specs.declared.answers.LineAnswer.TheVariants as answers
 use Rattle.pass_lines.specs.Doing.{DoesLine, Grew, IsInItsGeneration}
 use Rattle.race_block.specs.declared.tasks.PassTask.{PassTask}
 use Rattle.race_block.specs.declared.tasks.PassTask.TheVariants.{Refused, Order, Enter, Leave, Read, Write, Copy}
 use Rattle.race_block.specs.declared.tasks.BlockLine.{BlockLine}
 use Rattle.race_block.specs.declared.tasks.LineGot.{LineGot}
 use Rattle.race_block.specs.declared.tasks.LineGot.TheVariants as gots
+use Rattle.race_block.specs.declared.tasks.PassLines.{PassLines}
+use Rattle.race_block.specs.declared.tasks.PassLines.TheVariants as kinds
 use Rattle.race_block.specs.declared.passes.PassActor.{PassActor}
+use Rattle.race_block.specs.Resolving.{AreTasksIn, IsPassLine, copy_room, tasks_in}
 
 -- what is asked of a task: the bounce has room for what it copies, and a notifier that is to be taken is one of those that there are
 abbrev pub FitsTask : ℕ → PassTask → Type 0
@@ -39,10 +43,22 @@ pub record HasOrdered (order : DeskOrder) (c : Clerk) (v : PassValue Published) 
   pub inside : IsInItsGeneration w
   pub clerk : d ≡ wrote_down c order receipt
 
+-- what a line got is this answer
+abbrev pub IsAnswer : LineGot → LineAnswer → Type 0
+IsAnswer (gots.Answered given) answer = given ≡ answer
+IsAnswer (gots.ReadFew access bytes) answer = answers.Read access bytes ≡ answer
+IsAnswer _ answer = ⊥
+
+-- the pass did a task, and got its answer
+pub record HasGot (task : Task) (v : PassValue Published) (got : LineGot) (w : PassValue Published) : Type 0 where
+  pub answer : LineAnswer
+  pub is : IsAnswer got answer
+  pub does : DoesLine v task answer w
+
 -- the pass did what this task asks for
 pub record HasAnswered (task : Task) (c : Clerk) (v : PassValue Published) (got : LineGot) (d : Clerk) (w : PassValue Published) : Type 0 where
   pub answer : LineAnswer
-  pub is : got ≡ gots.Answered answer
+  pub is : IsAnswer got answer
   pub clerk : d ≡ c
   pub does : DoesLine v task answer w
 
@@ -86,16 +102,30 @@ pub record IsUnderway (xs : List BlockLine) (c : Clerk) (v : PassValue Published
   pub inside : IsInItsGeneration w
   pub cabinet : w.cabinet ≡ v.cabinet
 
+-- the lines of a pass may be done: the numbers of their commands fit, or what is asked of their tasks holds
+abbrev pub AreFit : PassLines → Type 0
+AreFit (kinds.Unresolved lines names) = All IsPassLine lines.items
+AreFit (kinds.Resolved tasks) = All (FitsLine copy_room) tasks.items
+
 -- an actor that may begin
 pub record IsReady (a : PassActor) : Type 0 where
   pub inside : IsInItsGeneration a.vcpu
-  pub fits : All (FitsLine a.bounce) a.lines.items
+  pub room : a.bounce ≡ copy_room
+  pub fits : AreFit a.lines
   pub nothing : a.got.items ≡ []
 
--- the actor did all its lines, or out of memory the first of them
+-- these lines were done, all of them, or out of memory the first of them, with a bounce, what a clerk had written down and what a pass was
+pub record HasRunLines (xs : List BlockLine) (bounce : ℕ) (c : Clerk) (v : PassValue Published) (b : PassActor) : Type 0 where
+  pub lines : tasks_in b.lines ≡ xs
+  pub bounce_is : b.bounce ≡ bounce
+  pub most : length b.got.items ≤ length xs
+  pub ran : HaveRun (take (length b.got.items) xs) c v b.got.items b.clerk b.vcpu
+  pub whole : b.out_of_memory ≡ false → length b.got.items ≡ length xs
+
+-- the actor did all its lines, or out of memory the first of them; or there was no memory to resolve their names
 pub record HasRun (a b : PassActor) : Type 0 where
-  pub lines : b.lines.items ≡ a.lines.items
+  pub lines : AreTasksIn a.lines (tasks_in b.lines) ⊎ ((b.out_of_memory ≡ true) × (b.got.items ≡ []))
   pub bounce : b.bounce ≡ a.bounce
-  pub most : length b.got.items ≤ length a.lines.items
-  pub ran : HaveRun (take (length b.got.items) a.lines.items) a.clerk a.vcpu b.got.items b.clerk b.vcpu
-  pub whole : b.out_of_memory ≡ false → length b.got.items ≡ length a.lines.items
+  pub most : length b.got.items ≤ length (tasks_in b.lines)
+  pub ran : HaveRun (take (length b.got.items) (tasks_in b.lines)) a.clerk a.vcpu b.got.items b.clerk b.vcpu
+  pub whole : b.out_of_memory ≡ false → length b.got.items ≡ length (tasks_in b.lines)

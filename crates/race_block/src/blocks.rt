@@ -13,9 +13,9 @@ use std::{mem, thread};
 
 /// Who acts in a block.
 #[derive(Drop)]
-pub enum BlockActor<'a> {
+pub enum BlockActor<'a, 'k> {
     Desk(DeskActor<'a>),
-    Pass(PassActor<'a>),
+    Pass(PassActor<'a, 'k>),
     /// Nobody: the actor was taken out.
     Gone,
 }
@@ -26,7 +26,7 @@ fn act<J: Naming, G: Gate, R: Wait>(
     alloc: Global,
     gate: &G,
     lock: &DeskLock<J>,
-    actor: &mut BlockActor<'_>,
+    actor: &mut BlockActor<'_, '_>,
 )
     requires ready { CanAct J.start.seat.cabinet actor.old }
     ensures acted { HasActed J.start.seat.cabinet actor.old actor.new }
@@ -50,7 +50,7 @@ pub fn act_all<J: Naming + Send + Sync, G: Gate, R: Threads + Wait + Sync>(
     alloc: Global,
     gate: &G,
     lock: &DeskLock<J>,
-    actors: &mut [BlockActor<'_>],
+    actors: &mut [BlockActor<'_, '_>],
 )
     requires ready { All (CanAct J.start.seat.cabinet) actors.old }
     ensures acted { (i : ℕ) (d : BlockActor) → i < length actors.old
@@ -60,7 +60,7 @@ pub fn act_all<J: Naming + Send + Sync, G: Gate, R: Threads + Wait + Sync>(
         rt,
         actors,
         17,
-        &|_, actor: &mut BlockActor<'_>|
+        &|_, actor: &mut BlockActor<'_, '_>|
             requires { CanAct J.start.seat.cabinet actor.now }
             ensures { HasActed J.start.seat.cabinet actor.entry.now actor.exit.now }
         { act(rt, alloc, gate, lock, actor) },

@@ -7,28 +7,22 @@ ghost use Rattle.race_lines.specs.LineTasks.{HasItsNames, resolved};
 ghost use Rattle.race_block.specs.Desks.{AreNotesOf, DoesDeskLine, FitsLine, Gives, GivesOwn, HasRun, IsAsked, IsNotDone, IsReady, KeepsNotes};
 ghost use Rattle.race_block.specs.Desks.{LeavesLine, OrderFits, StopsIn, entry_of, line_meant};
 
+use crate::tasks::OwnLine;
 use desk_lock::{Clerk, Orderly, Receipt};
 use epoch_rule::Note;
 use generation::Generation;
-use mem_base::{Command, DeskAnswer, DeskOrder};
+use mem_base::{DeskAnswer, DeskOrder};
 use outside::{Actor, Gate};
 use race_lines::{Answered, KnownNames, LineSaid, LineTask, ResolvedTask, task_of};
 use std::alloc::{AllocError, Global};
 use std::sync::{Arc, Wait};
-
-/// A line of the desk in a block: its number in the script, and its command.
-#[derive(Clone, Copy)]
-pub struct DeskLine<'a> {
-    pub number: u32,
-    pub command: &'a Command,
-}
 
 /// The desk in a block: what it knows of names, the clerk of its orders, its lines, and what they wrote.
 #[derive(Drop)]
 pub struct DeskActor<'a> {
     pub known: KnownNames,
     pub clerk: Clerk,
-    pub lines: Vec<DeskLine<'a>>,
+    pub lines: Vec<OwnLine<'a>>,
     /// What the first lines wrote, one for each.
     pub said: Vec<LineSaid>,
     /// A note of each order: what the writer had seen after it.
@@ -117,7 +111,7 @@ fn ask_line<'a, O: Orderly, R: Wait>(
     known: &KnownNames,
     clerk: &mut Clerk,
     notes: &mut Vec<Note<Generation>>,
-    line: &DeskLine<'a>,
+    line: &OwnLine<'a>,
 ) -> Result<Asked<'a>, AllocError>
     requires fits { FitsLine line.now }
     ensures asked { IfOk result (λ x. IsAsked known.now (line_meant line.now) clerk.old notes.old.items x clerk.new notes.new.items) }
@@ -180,7 +174,7 @@ fn do_line<O: Orderly, G: Gate, R: Wait>(
     clerk: &mut Clerk,
     notes: &mut Vec<Note<Generation>>,
     said: &mut Vec<LineSaid>,
-    line: &DeskLine<'_>,
+    line: &OwnLine<'_>,
 ) -> bool
     requires fits { FitsLine line.now }
     ensures done { result ≡ true → DoesDeskLine known.old (line_meant line.now) clerk.old notes.old.items said.old.items clerk.new notes.new.items

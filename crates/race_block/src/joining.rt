@@ -34,7 +34,7 @@ fn hear_notes(desk: &mut Record, notes: &mut Vec<Note<Generation>>)
 
 // The record hears what an actor has seen: its virtual CPU, or the notes of its orders.
 #[tactic(auto, using(desk_lock::proofs::RecordLaws::later_same))]
-fn hear_one(desk: &mut Record, actor: &mut BlockActor<'_>)
+fn hear_one(desk: &mut Record, actor: &mut BlockActor<'_, '_>)
     requires own { IsOf desk.old.seat.cabinet actor.old }
     ensures told { HasTold desk.new.seat.seen actor.old actor.new }
     ensures later { IsLater desk.old desk.new }
@@ -51,7 +51,7 @@ fn hear_one(desk: &mut Record, actor: &mut BlockActor<'_>)
 }
 
 // The record hears what all actors have seen.
-fn hear_all(desk: &mut Record, actors: &mut [BlockActor<'_>])
+fn hear_all(desk: &mut Record, actors: &mut [BlockActor<'_, '_>])
     requires own { All (IsOf desk.old.seat.cabinet) actors.old }
     ensures told { (i : ℕ) (d : BlockActor) → i < length actors.old
         → HasTold desk.new.seat.seen (slice_index_or actors.old i d) (slice_index_or actors.new i d) }
@@ -64,7 +64,7 @@ fn hear_all(desk: &mut Record, actors: &mut [BlockActor<'_>])
 }
 
 // The virtual CPU of an actor meets what the writer has seen.
-fn meet_one(desk: &mut Record, actor: &mut BlockActor<'_>)
+fn meet_one(desk: &mut Record, actor: &mut BlockActor<'_, '_>)
     requires own { IsVcpuOf desk.old.seat.cabinet actor.old }
     requires heard { IsHeard desk.old.seat.seen actor.old }
     ensures same { desk.new ≡ desk.old }
@@ -80,7 +80,7 @@ fn meet_one(desk: &mut Record, actor: &mut BlockActor<'_>)
 }
 
 // All virtual CPUs meet what the writer has seen.
-fn meet_all(desk: &mut Record, actors: &mut [BlockActor<'_>])
+fn meet_all(desk: &mut Record, actors: &mut [BlockActor<'_, '_>])
     requires own { All (IsVcpuOf desk.old.seat.cabinet) actors.old }
     requires heard { All (IsHeard desk.old.seat.seen) actors.old }
     ensures same { desk.new ≡ desk.old }
@@ -113,7 +113,7 @@ fn closed<J: Naming>(lock: DeskLock<J>, clerks: &[Clerk]) -> (Record, Option<Dif
 }
 
 // The clerk of an actor.
-fn take_clerk(alloc: Global, actor: &mut BlockActor<'_>) -> Clerk
+fn take_clerk(alloc: Global, actor: &mut BlockActor<'_, '_>) -> Clerk
     ensures clerk { result ≡ clerk_of actor.old }
     ensures rest { actor.new ≡ without_clerk actor.old }
 {
@@ -125,7 +125,7 @@ fn take_clerk(alloc: Global, actor: &mut BlockActor<'_>) -> Clerk
 }
 
 // The clerks of all actors, into the room that was taken for them.
-fn take_clerks(alloc: Global, actors: &mut [BlockActor<'_>], clerks: &mut Vec<Clerk>)
+fn take_clerks(alloc: Global, actors: &mut [BlockActor<'_, '_>], clerks: &mut Vec<Clerk>)
     requires empty { clerks.old.items ≡ [] }
     requires room { length actors.old ≤ vec_capacity clerks.old }
     ensures clerks { clerks.new.items ≡ map clerk_of actors.old }
@@ -146,7 +146,7 @@ pub fn run_block<J: Naming + Send + Sync, G: Gate, R: Threads + Wait + Sync>(
     alloc: Global,
     gate: &G,
     first: Record,
-    actors: &mut [BlockActor<'_>],
+    actors: &mut [BlockActor<'_, '_>],
     clerks: &mut Vec<Clerk>,
 ) -> (Record, Option<Differs>)
     requires start { first ≡ J.start }

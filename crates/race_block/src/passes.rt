@@ -1,14 +1,19 @@
 // A pass that does its lines.
-ghost use Rattle.std.specs.Prelude.{◌≡◌, ◌≤◌, [], true, false, All, IfOk, OnErr};
+ghost use Rattle.std.specs.Prelude.{◌≡◌, ◌≤◌, [], true, false, All, IfOk, OnErr, take};
+ghost use Rattle.mem_base.specs.access.AccessSteps.{reading};
+ghost use Rattle.mem_base.specs.script.Tasks.{accessed};
 ghost use Rattle.desk_lock.specs.Receipts.{HasNotifier};
 ghost use Rattle.pass_lines.specs.Doing.{IsInItsGeneration};
-ghost use Rattle.race_block.specs.Lines.{FitsLine, FitsTask, HasDone, HasOrdered, HasRun, HasStepped, IsReady};
+ghost use Rattle.race_block.specs.Lines.{FitsLine, FitsTask, HasDone, HasGot, HasOrdered, HasRun, HasRunLines, HasStepped, IsReady};
 ghost use Rattle.race_block.specs.declared.tasks.LineGot.TheVariants.{Ordered};
+ghost use Rattle.vcpu_pass.specs.Calls.{HasAccessed};
 
-use crate::tasks::{BlockLine, LineGot, PassTask};
+use crate::few::FewBytes;
+use crate::resolving::resolve;
+use crate::tasks::{BlockLine, LineGot, PassLines, PassTask};
 use desk_lock::{Clerk, Orderly, Receipt};
 use io_window::Bounce;
-use mem_base::{DeskOrder, PassId};
+use mem_base::{Access, DeskOrder, PassId, SpaceId};
 use outside::{Actor, Gate};
 use pass_lines::{copy, enter, leave, read, write};
 use std::alloc::{AllocError, Global};
@@ -17,11 +22,11 @@ use vcpu_pass::Vcpu;
 
 /// A pass in a block: its virtual CPU with a bounce for what is copied, the clerk of its orders, its lines, and what they got.
 #[derive(Drop)]
-pub struct PassActor<'a> {
+pub struct PassActor<'a, 'k> {
     pub vcpu: Vcpu<'a>,
     pub bounce: Bounce,
     pub clerk: Clerk,
-    pub lines: Vec<BlockLine<'a>>,
+    pub lines: PassLines<'a, 'k>,
     /// What the first lines got, one for each.
     pub got: Vec<LineGot>,
     /// Memory ran out before the next line was done.
@@ -46,6 +51,53 @@ fn order<O: Orderly, R: Wait>(
     let Receipt { note, .. } = desk.give(rt, clerk, order)?;
     vcpu.meet(note);
     Ok(LineGot::Ordered)
+}
+
+// Reads bytes into the first places of what is at hand.
+fn read_first(
+    vcpu: &mut Vcpu<'_>,
+    space: SpaceId,
+    addr: u64,
+    count: usize,
+    bytes: &mut [u8; 16],
+) -> Access
+    requires few { count ≤ 16 }
+    ensures { HasAccessed vcpu.old space addr (reading count) result (take count bytes.new) vcpu.new }
+{
+    vcpu.read(space, addr, &mut bytes[..count])
+}
+
+// Reads few bytes: they take no memory of their own.
+fn read_few(vcpu: &mut Vcpu<'_>, space: SpaceId, addr: u64, len: u8) -> LineGot
+    requires inside { IsInItsGeneration vcpu.old }
+    requires few { len ≤ 16 }
+    ensures { HasGot (accessed space addr (reading len)) vcpu.old result vcpu.new }
+{
+    let mut bytes = [0u8; 16];
+    let access = read_first(vcpu, space, addr, len as usize, &mut bytes);
+    LineGot::ReadFew {
+        access,
+        bytes: FewBytes::new(bytes, len),
+    }
+}
+
+// Reads bytes. Out of memory nothing was done.
+fn read_bytes(
+    alloc: Global,
+    vcpu: &mut Vcpu<'_>,
+    space: SpaceId,
+    addr: u64,
+    len: u8,
+) -> Result<LineGot, AllocError>
+    requires inside { IsInItsGeneration vcpu.old }
+    ensures done { IfOk result (λ got. HasGot (accessed space addr (reading len)) vcpu.old got vcpu.new) }
+    ensures unchanged { OnErr result (vcpu.new ≡ vcpu.old) }
+{
+    if len <= 16 {
+        return Ok(read_few(vcpu, space, addr, len));
+    }
+    let answer = read(alloc, vcpu, space, addr, len)?;
+    Ok(LineGot::Answered(answer))
 }
 
 // Does what a line asks for. Out of memory nothing was done.
@@ -82,10 +134,7 @@ fn do_task<'a, O: Orderly, R: Wait>(
             (vcpu, bounce, Ok(LineGot::Answered(answer)))
         }
         PassTask::Read { space, addr, len } => {
-            let got = match read(alloc, &mut vcpu, *space, *addr, *len) {
-                Ok(answer) => Ok(LineGot::Answered(answer)),
-                Err(error) => Err(error),
-            };
+            let got = read_bytes(alloc, &mut vcpu, *space, *addr, *len);
             (vcpu, bounce, got)
         }
         PassTask::Write { space, addr, bytes } => {
@@ -150,8 +199,57 @@ fn do_line<'a, O: Orderly, G: Gate, R: Wait>(
     }
 }
 
-impl<'a> PassActor<'a> {
-    /// Does the lines in order, and reaches the gate before each. Where memory runs out it stops, and has done the first of them.
+// Does lines in order, and reaches the gate before each. Where memory runs out it stops, and has done the first of them.
+fn run_lines<'a, 'k, O: Orderly, G: Gate, R: Wait>(
+    rt: &R,
+    alloc: Global,
+    gate: &G,
+    desk: &mut O,
+    mut vcpu: Vcpu<'a>,
+    mut bounce: Bounce,
+    mut clerk: Clerk,
+    lines: Vec<BlockLine<'a>>,
+    mut got: Vec<LineGot>,
+) -> PassActor<'a, 'k>
+    requires own { O.cabinet desk.old ≡ vcpu.cabinet }
+    requires inside { IsInItsGeneration vcpu }
+    requires fits { All (FitsLine bounce) lines.items }
+    requires nothing { got.items ≡ [] }
+    ensures run { HasRunLines lines.entry.items bounce clerk vcpu.entry result }
+    ensures desk { O.cabinet desk.new ≡ O.cabinet desk.old }
+{
+    let _ = got.reserve(lines.len());
+    for at in 0..lines.len() {
+        let line = &lines[at];
+        let (next, room, done) = do_line(
+            rt, alloc, gate, desk, vcpu, bounce, &mut clerk, &mut got, line,
+        );
+        vcpu = next;
+        bounce = room;
+        if !done {
+            return PassActor {
+                vcpu,
+                bounce,
+                clerk,
+                lines: PassLines::Resolved(lines),
+                got,
+                out_of_memory: true,
+            };
+        }
+    }
+    PassActor {
+        vcpu,
+        bounce,
+        clerk,
+        lines: PassLines::Resolved(lines),
+        got,
+        out_of_memory: false,
+    }
+}
+
+impl<'a, 'k> PassActor<'a, 'k> {
+    /// Resolves the names of the lines, where this was not done before; then does the lines in order, and reaches the gate before each. Where
+    /// memory runs out it stops, and has done the first of them.
     ///
     /// The desk is of the machine of the virtual CPU, the bounce has room for what is copied, and nothing was done yet.
     pub fn run<O: Orderly, G: Gate, R: Wait>(
@@ -160,45 +258,30 @@ impl<'a> PassActor<'a> {
         alloc: Global,
         gate: &G,
         desk: &mut O,
-    ) -> PassActor<'a>
+    ) -> PassActor<'a, 'k>
         requires own { O.cabinet desk.old ≡ self.vcpu.cabinet }
         requires ready { IsReady self }
         ensures run { HasRun self.entry result }
         ensures desk { O.cabinet desk.new ≡ O.cabinet desk.old }
     {
         let PassActor {
-            mut vcpu,
-            mut bounce,
-            mut clerk,
-            lines,
-            mut got,
-            out_of_memory: _,
-        } = self;
-        for at in 0..lines.len() {
-            let line = &lines[at];
-            let (next, room, done) = do_line(
-                rt, alloc, gate, desk, vcpu, bounce, &mut clerk, &mut got, line,
-            );
-            vcpu = next;
-            bounce = room;
-            if !done {
-                return PassActor {
-                    vcpu,
-                    bounce,
-                    clerk,
-                    lines,
-                    got,
-                    out_of_memory: true,
-                };
-            }
-        }
-        PassActor {
             vcpu,
             bounce,
             clerk,
             lines,
             got,
-            out_of_memory: false,
-        }
+            out_of_memory: _,
+        } = self;
+        let Ok(lines) = resolve(alloc, lines) else {
+            return PassActor {
+                vcpu,
+                bounce,
+                clerk,
+                lines: PassLines::Resolved(Vec::new(alloc)),
+                got,
+                out_of_memory: true,
+            };
+        };
+        run_lines(rt, alloc, gate, desk, vcpu, bounce, clerk, lines, got)
     }
 }

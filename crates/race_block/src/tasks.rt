@@ -1,8 +1,16 @@
 // The lines of a pass in a block, and what they got.
 
-use mem_base::{Bytes, DeskOrder, SpaceId};
+use crate::few::FewBytes;
+use mem_base::{Access, Bytes, Command, DeskOrder, SpaceId};
 use pass_lines::LineAnswer;
-use race_lines::Refused;
+use race_lines::{KnownNames, Refused};
+
+/// A line of an actor in a block: its number in the script, and its command.
+#[derive(Clone, Copy)]
+pub struct OwnLine<'a> {
+    pub number: u32,
+    pub command: &'a Command,
+}
 
 /// What a line asks of a pass, once its names are resolved.
 #[derive(Debug, Drop)]
@@ -44,6 +52,18 @@ pub struct BlockLine<'a> {
     pub task: PassTask<'a>,
 }
 
+/// The lines of a pass in a block.
+#[derive(Drop)]
+pub enum PassLines<'a, 'k> {
+    /// As they stand in the script. Their names are resolved by these, which nobody changes in the block.
+    Unresolved {
+        lines: Vec<OwnLine<'a>>,
+        names: &'k KnownNames,
+    },
+    /// With their tasks.
+    Resolved(Vec<BlockLine<'a>>),
+}
+
 /// What a line of a pass got.
 #[derive(Debug, Drop)]
 pub enum LineGot {
@@ -51,6 +71,8 @@ pub enum LineGot {
     Refused,
     /// Its order was answered: what it got is the next entry of the clerk's list.
     Ordered,
-    /// The pass did what was asked, and this is the answer.
+    /// The pass read few bytes: the read ended so, and these are its bytes.
+    ReadFew { access: Access, bytes: FewBytes },
+    /// The pass did what else was asked, and this is the answer.
     Answered(LineAnswer),
 }

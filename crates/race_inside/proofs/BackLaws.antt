@@ -22,7 +22,7 @@ use Rattle.view_laws.proofs.Tests.{true_is_not_false}
 use Rattle.race_phases.specs.Plain.{has_lines}
 use Rattle.race_block.specs.declared.blocks.BlockActor.{BlockActor}
 use Rattle.race_block.specs.declared.blocks.BlockActor.TheVariants.{Desk, Pass, Gone}
-use Rattle.race_inside.specs.Seats.{AreActorsOf, AreBack, AreSeats, ComeBack, HaveSeatOf, IsBack, TakesCpu, acting, idle}
+use Rattle.race_inside.specs.Seats.{AllComeBack, AreActorsOf, AreBack, AreBusy, AreSeats, ComeBack, HaveSeatOf, IsBack, TakesCpu, acting, idle}
 use Rattle.race_inside.proofs.SeatLists.{last_actor, last_seat, one_acts, one_waits, others_act, others_wait}
 
 -- what a pop takes
@@ -92,6 +92,24 @@ one_back false lines n m olds mid rest waiting fewer before between after got mo
     (comes v w front passes (takes.0 ∙ all) (subst (λ (whos : List ℕ). AreActorsOf w whos passes) (others_act lines n m more is) acts)
     (subst (λ (xs : List (PassValue Published)). AreSeats v (idle lines n) xs) (sym t.0) l.seats))
     (subst (λ (b : Bool). IsBack b v w n l.last) (sym is) l.seat) (puts l.last t.1)
+
+-- the same by which passes are busy
+
+pub none_come : (busy : List Bool) (olds rest : List BlockActor) (waiting before after : List (PassValue Published)) → length busy ≡ 0 → rest ≡ olds
+    → after ≡ before → AllComeBack busy olds rest waiting before after
+none_come busy olds rest waiting before after none same still lines are = none_back lines (length busy) olds rest waiting before after none same still
+
+pub one_comes : (busy less : List Bool) (acts : Bool) (olds mid rest : List BlockActor) (waiting fewer before between after : List (PassValue Published))
+    (got : Option (PassValue Published)) → busy ≡ less ++ acts ∷ [] → TakesCpu acts olds mid waiting fewer got
+    → AllComeBack less mid rest fewer before between → ((x : PassValue Published) → got ≡ Some x → after ≡ between ++ x ∷ [])
+    → AllComeBack busy olds rest waiting before after
+one_comes busy less acts olds mid rest waiting fewer before between after got is takes comes puts lines are =
+    let long : length busy ≡ length less + 1 = ap length is ∙ length_push less acts in
+    let here : has_lines (block lines) (length less) ≡ acts = sym (are (length less) acts (omega (arith, long)))
+    ∙ ap (λ (bs : List Bool). get_or bs (length less) acts) is ∙ get_or_push less acts acts (length less) refl in
+    let others : AreBusy lines less = λ p d near. sym (get_or_append_left less (acts ∷ []) d p near) ∙ ap (λ (bs : List Bool). get_or bs p d) (sym is)
+    ∙ are p d (omega (arith, near, long)) in
+    one_back acts lines (length less) (length busy) olds mid rest waiting fewer before between after got long here takes (comes lines others) puts
 
 -- All meet what the record has seen
 

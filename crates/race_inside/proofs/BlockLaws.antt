@@ -1,5 +1,5 @@
 -- A block, from the places that its actors took to what its runner has after it.
-use Rattle.std.proofs.Common.{◌≡◌, ◌⊎◌, ℕ, ◌+◌, ◌<◌, false, List, [], ◌∷◌, ◌++◌, length, get_or, refl, sym, ap, subst, ◌∙◌, arith}
+use Rattle.std.proofs.Common.{◌≡◌, ◌⊎◌, ℕ, ◌+◌, ◌<◌, Bool, false, List, [], ◌∷◌, ◌++◌, length, get_or, refl, sym, ap, subst, ◌∙◌, arith}
 use Rattle.std.proofs.lemmas.List.{length_push, nil_from_length}
 use Rattle.std.proofs.Common.{zero, suc, inl, inr, All, Option, Some, None, OnOk, Result, Ok, Err, option_to_list}
 use Rattle.std.specs.List.{range_with_len, list_any}
@@ -19,6 +19,7 @@ use Rattle.race_laws.proofs.StoppedEnds.{race_goes_on}
 use Rattle.desk_lock.specs.Records.{IsLater, RecordState, later_entries}
 use Rattle.race_phases.specs.Plain.{has_lines}
 use Rattle.race_block.specs.declared.blocks.BlockActor.{BlockActor}
+use Rattle.race_block.specs.declared.blocks.BlockActor.TheVariants.{Desk, Pass, Gone}
 use Rattle.race_block.specs.Blocks.{CanAct}
 use Rattle.race_block.specs.Joined.{HasJoined}
 use Rattle.race_outside.specs.Levels.{HasMet}
@@ -26,7 +27,7 @@ use Rattle.race_outside.specs.Outside.{StepsOn, StopsIn, WritesOn, stand_of}
 use Rattle.race_inside.specs.Starts.{AreAtStart}
 use Rattle.race_inside.specs.Ran.{HasRunBlock, block_text, is_out_of_memory, known_after_block}
 use Rattle.race_inside.specs.Blocks.{HasRunAll}
-use Rattle.race_inside.specs.Seats.{AreSeated, ComeBack, acting, known_now}
+use Rattle.race_inside.specs.Seats.{AllComeBack, AreSeated, ComeBack, IsKnown, IsTold, acting, desks_known, known_now, names_then}
 use Rattle.race_inside.specs.Texts.{actors_said, names_now}
 use Rattle.race_inside.specs.declared.seats.Seated.{Seated}
 use Rattle.race_inside.proofs.SeatLaws.{all_can, all_start}
@@ -72,26 +73,30 @@ has_run_all v w olds given news clerks differs same later legal closes count cle
 module _ (k : Known) (lines : List Line) (v : RecordState) (s : Seated) (h : AreSeated k lines v s) where
   pub seated_start : AreAtStart k lines v.seat.seen (actors_in (block lines)) s.actors.items
   seated_start = subst (λ (xs : List BlockActor). AreAtStart k lines v.seat.seen (actors_in (block lines)) xs) (sym h.actors)
-      (all_start k lines v s.known h.front h.passes h.desk h.starts)
+      (all_start k lines v s.known.now h.front h.passes h.desk h.starts)
 
   pub seated_can : Every (CanAct v.seat.cabinet) s.actors.items
-  seated_can = subst (Every (CanAct v.seat.cabinet)) (sym h.actors) (all_can k lines v s.known h.front h.passes h.desk h.can)
+  seated_can = subst (Every (CanAct v.seat.cabinet)) (sym h.actors) (all_can k lines v s.known.now h.front h.passes h.desk h.can)
 
   pub seated_can_all : All (CanAct v.seat.cabinet) s.actors.items
   seated_can_all i d l = every_at (CanAct v.seat.cabinet) s.actors.items i d l seated_can
 
 module _ (k : Known) (lines : List Line) (v w : RecordState) (s : Seated) (h : AreSeated k lines v s) (news : List BlockActor) (clerks : List Clerk)
     (differs : Option Differs) (r : HasRunAll v w s.actors.items news clerks differs) where
-  pub parts : Parted k lines v w r.later.grew.cabinet s.known news
-  parts = parted k lines v w r.later.grew.cabinet s.known h.front h.passes news clerks h.desk (near_passes lines) h.starts h.can
+  pub parts : Parted k lines v w r.later.grew.cabinet s.known.now news
+  parts = parted k lines v w r.later.grew.cabinet s.known.now h.front h.passes news clerks h.desk (near_passes lines) h.starts h.can
       (r.all_news ∙ ap length h.actors) (r.all_clerks ∙ ap length h.actors)
       (subst (λ (xs : List BlockActor). (i : ℕ) (d : BlockActor) (c : Clerk) → i < length xs
       → HasJoined w.seat.seen (get_or xs i d) (get_or news i d) (get_or clerks i c)) h.actors r.joined)
 
   -- all virtual CPUs have come back
-  pub came_back : (rest : List BlockActor) (cpus : List (PassValue Published)) → ComeBack lines most_passes news rest s.waiting.items s.cpus.items cpus
-      → (rest ≡ parts.front) × AllBack lines v w cpus
-  came_back rest cpus comes =
+  pub came_back : (told : List Bool) (rest : List BlockActor) (cpus : List (PassValue Published)) → told ≡ s.busy.items
+      → AllComeBack told news rest s.waiting.items s.cpus.items cpus → (rest ≡ parts.front) × AllBack lines v w cpus
+  came_back told rest cpus same come =
+      let all : AllComeBack s.busy.items news rest s.waiting.items s.cpus.items cpus =
+      subst (λ (bs : List Bool). AllComeBack bs news rest s.waiting.items s.cpus.items cpus) same come in
+      let comes : ComeBack lines most_passes news rest s.waiting.items s.cpus.items cpus =
+      subst (λ (n : ℕ). ComeBack lines n news rest s.waiting.items s.cpus.items cpus) h.all_busy (all lines h.busy) in
       let b = comes v w parts.front parts.passes parts.is parts.seats h.wait in
       (b.rest_is, all_back lines v w parts.front rest s.cpus.items cpus h.no_cpus b)
 
@@ -110,7 +115,7 @@ module _ (k : Known) (lines : List Line) (v w : RecordState) (s : Seated) (h : A
     rest = all_rest lines v w cpus after back met;
   }
 
-  pub texts_are : actors_said (names_now s.known news) w.part.desk.listening.journal news clerks ++ differs_line differs
+  pub texts_are : actors_said (names_now s.known.now news) w.part.desk.listening.journal news clerks ++ differs_line differs
       ≡ block_text k lines w news clerks differs
   texts_are =
       ap (λ (t : Text). t ++ differs_line differs)
@@ -125,8 +130,23 @@ module _ (k : Known) (lines : List Line) (v w : RecordState) (s : Seated) (h : A
       popped_one parts.front less got parts.few (sym is ∙ pops) (λ e. ap length (sym is) ∙ none e)
 
   pub known_is : (rest less : List BlockActor) (got : Option BlockActor) → rest ≡ parts.front → rest ≡ less ++ option_to_list got
-      → (got ≡ None → length rest ≡ 0) → known_now k s.known (option_to_list got) ≡ known_after_block k news
-  known_is rest less got is pops none = ap (λ (xs : List BlockActor). known_now k s.known xs) (known_list rest less got is pops none) ∙ parts.now
+      → (got ≡ None → length rest ≡ 0) → known_now k s.known.now (option_to_list got) ≡ known_after_block k news
+  known_is rest less got is pops none = ap (λ (xs : List BlockActor). known_now k s.known.now xs) (known_list rest less got is pops none) ∙ parts.now
+
+-- what is known is told by what the desk knows
+pub is_told : (kept : Option Known) (actors : List BlockActor) → IsKnown kept actors → IsTold kept (desks_known actors)
+is_told (Some x) actors h = tt
+is_told None (Desk a ∷ actors) h = tt
+is_told None [] h = absurd h
+is_told None (Pass a ∷ actors) h = absurd h
+is_told None (Gone ∷ actors) h = absurd h
+
+pub names_same : (k : Known) (kept : Option Known) (actors : List BlockActor) → names_then k kept (desks_known actors) ≡ known_now k kept actors
+names_same k (Some x) actors = refl
+names_same k None (Desk a ∷ actors) = refl
+names_same k None [] = refl
+names_same k None (Pass a ∷ actors) = refl
+names_same k None (Gone ∷ actors) = refl
 
 both_ok : {T E P Q R : Type 0} (r : Result T E) → OnOk r P → OnOk r Q → (P → Q → R) → OnOk r R
 both_ok (Ok x) p q f = f p q
@@ -137,14 +157,14 @@ pub steps_on : {T E : Type 0} (k : Known) (lines : List Line) (v w last : Record
     (clerks told : List Clerk) (differs : Option Differs) → HasRunAll v w s.actors.items news clerks differs → (next : Known) (before after : Text)
     (done : Result T E) → shown ≡ news → told ≡ clerks → last ≡ w → next ≡ known_after_block k news
     → OnOk done (list_any is_out_of_memory shown ≡ false)
-    → OnOk done (after ≡ before ++ (actors_said (names_now s.known shown) w.part.desk.listening.journal shown told ++ differs_line differs))
+    → OnOk done (after ≡ before ++ (actors_said (names_now s.known.now shown) w.part.desk.listening.journal shown told ++ differs_line differs))
     → (list_any is_out_of_memory news ≡ false → StepsOn v k (block lines) w (known_after_block k news) (block_text k lines w news clerks differs))
     → OnOk done (WritesOn v k (block lines) last next before after)
 steps_on k lines v w last s h news shown clerks told differs r next before after done same_news same_clerks same known lasted text steps =
     both_ok done lasted text (λ all put. record {
       written = block_text k lines w news clerks differs;
       text = put ∙ ap (λ (t : Text). before ++ t)
-          ((λ i. actors_said (names_now s.known (same_news i)) w.part.desk.listening.journal (same_news i) (same_clerks i) ++ differs_line differs)
+          ((λ i. actors_said (names_now s.known.now (same_news i)) w.part.desk.listening.journal (same_news i) (same_clerks i) ++ differs_line differs)
           ∙ texts_are k lines v w s h news clerks differs r);
       steps = subst (λ (z : RecordState × Known). StepsOn v k (block lines) z.0 z.1 (block_text k lines w news clerks differs)) (λ i. (sym same i, sym known i))
           (steps (subst (λ (xs : List BlockActor). list_any is_out_of_memory xs ≡ false) same_news all));

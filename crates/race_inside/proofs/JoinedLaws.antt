@@ -1,5 +1,9 @@
 -- The actors of a block after it: their virtual CPUs, what is known, and what they write.
-use Rattle.std.proofs.Common.{◌≡◌, ℕ, ◌+◌, zero, suc, ◌<◌, List, [], ◌∷◌, ◌++◌, length, take, get_or, refl, sym, ap, subst, ◌∙◌, arith}
+use Rattle.std.proofs.lemmas.List.{nil_from_length}
+use Rattle.mem_base.specs.declared.map.ids.PassId.{PassId}
+use Rattle.mem_base.specs.declared.machine.records.DeskEntry.{DeskEntry}
+use Rattle.epoch_rule.specs.Values.{PassValue}
+use Rattle.std.proofs.Common.{◌≡◌, ℕ, ◌+◌, zero, suc, ◌<◌, Bool, true, List, [], ◌∷◌, ◌++◌, length, take, get_or, refl, sym, ap, subst, ◌∙◌, arith}
 use Rattle.std.proofs.Common.{Option, Some, None, option_map, ◌⊎◌, inl, inr}
 use Rattle.std.specs.Prelude.{flat_map}
 use Rattle.mem_base.specs.lists.Every.{Every}
@@ -22,7 +26,8 @@ use Rattle.race_block.specs.declared.passes.PassActor.{PassActor}
 use Rattle.race_block.specs.declared.tasks.BlockLine.{BlockLine}
 use Rattle.race_block.specs.declared.tasks.LineGot.{LineGot}
 use Rattle.race_block.specs.Blocks.{CanAct}
-use Rattle.race_block.specs.Laws.{AreTasksOf, HasKept}
+use Rattle.race_block.specs.Laws.{HasKept, saids}
+use Rattle.race_block.specs.Resolving.{AreTasksOf, tasks_in}
 use Rattle.race_block.specs.Lines.{HaveRun}
 use Rattle.race_block.proofs.KeptLaws.{passes_keep_lines}
 use Rattle.race_block.specs.Joined.{HasJoined, HasJoinedPass}
@@ -30,6 +35,7 @@ use Rattle.race_inside.specs.Starts.{AreAtStart, IsAtStart, PassStarts}
 use Rattle.race_inside.specs.Ran.{actor_text, actors_text, known_after_block}
 use Rattle.race_inside.specs.Seats.{AreActorsOf, HaveSeatOf, IsKnown, IsSeatOf, SeatsDesk, acting, known_now}
 use Rattle.race_inside.specs.Texts.{actor_said, actors_said, lines_said, names_now}
+use Rattle.race_inside.proofs.PassLaws.{tasks_done}
 use Rattle.race_inside.proofs.TextLaws.{lines_same}
 
 -- the first of a pass's lines, with their tasks
@@ -40,6 +46,30 @@ tasks_taken k (suc n) [] (x ∷ xs) are = absurd are
 tasks_taken k (suc n) (line ∷ lines) [] are = absurd are
 tasks_taken k (suc n) (line ∷ lines) (x ∷ xs) are = (are.0, are.1, tasks_taken k n lines xs are.2)
 
+-- those of the lines that a pass did
+tasks_first : (k : Known) (n : ℕ) (lines : List Line) (xs : List BlockLine) (out : Bool) → (AreTasksOf k lines xs ⊎ ((out ≡ true) × (n ≡ 0)))
+    → AreTasksOf k (take n lines) (take n xs)
+tasks_first k n lines xs out (inl h) = tasks_taken k n lines xs h
+tasks_first k n lines xs out (inr h) = subst (λ (m : ℕ). AreTasksOf k (take m lines) (take m xs)) (sym h.1) tt
+
+-- what they say
+said_same : (names : Names) (k : Known) (pass : PassId) (lines : List Line) (xs : List BlockLine) (c d : Clerk) (v w : PassValue Published)
+    (all : List LineGot) (entries : List DeskEntry) (out : Bool) → (AreTasksOf k lines xs ⊎ ((out ≡ true) × (length all ≡ 0)))
+    → HaveRun (take (length all) xs) c v all d w → lines_said names pass xs all entries ≡ saids names k pass lines all entries
+said_same names k pass lines xs c d v w all entries out (inl are) h = lines_same names k pass lines xs c d v w all entries are h
+said_same names k pass lines xs c d v w all entries out (inr none) h =
+    let empty : all ≡ [] = nil_from_length all none.1 in
+    ap (λ (gs : List LineGot). lines_said names pass xs gs entries) empty ∙ none_said names pass xs entries ∙ sym (no_saids names k pass lines entries)
+    ∙ ap (λ (gs : List LineGot). saids names k pass lines gs entries) (sym empty)
+  where
+    none_said : (names : Names) (pass : PassId) (xs : List BlockLine) (entries : List DeskEntry) → lines_said names pass xs [] entries ≡ []
+    none_said names pass [] entries = refl
+    none_said names pass (x ∷ xs) entries = refl
+
+    no_saids : (names : Names) (k : Known) (pass : PassId) (lines : List Line) (entries : List DeskEntry) → saids names k pass lines [] entries ≡ []
+    no_saids names k pass [] entries = refl
+    no_saids names k pass (line ∷ lines) entries = refl
+
 -- a pass after the block
 module _ (k : Known) (lines : List Line) (v w : RecordState) (who : ℕ) (a b : PassActor) (c : Clerk) (starts : PassStarts k lines v.seat.seen who a)
     (can : CanAct v.seat.cabinet (Pass a)) (same : w.seat.cabinet ≡ v.seat.cabinet) (j : HasJoinedPass w.seat.seen a b c) where
@@ -47,8 +77,9 @@ module _ (k : Known) (lines : List Line) (v w : RecordState) (who : ℕ) (a b : 
   count = length j.after.got.items
 
   kept : HasKept k (take count (lines_by who (block lines))) a.clerk a.vcpu j.after.got.items j.after.clerk j.after.vcpu
-  kept = passes_keep_lines k (take count (lines_by who (block lines))) (take count a.lines.items) a.clerk a.vcpu j.after.got.items j.after.clerk j.after.vcpu
-      j.run.ran (tasks_taken k count (lines_by who (block lines)) a.lines.items starts.tasks) can.0.inside
+  kept = passes_keep_lines k (take count (lines_by who (block lines))) (take count (tasks_in j.after.lines)) a.clerk a.vcpu j.after.got.items
+      j.after.clerk j.after.vcpu j.run.ran (tasks_first k count (lines_by who (block lines)) (tasks_in j.after.lines) j.after.out_of_memory
+      (tasks_done k (lines_by who (block lines)) a j.after starts.lines_are j.run)) can.0.inside
 
   number : b.vcpu.number ≡ who
   number = j.grew.number ∙ kept.grew.number ∙ starts.number
@@ -69,20 +100,20 @@ module _ (k : Known) (lines : List Line) (v w : RecordState) (who : ℕ) (a b : 
   clerk_is : c.who ≡ b.vcpu.number
   clerk_is = ap (λ (d : Clerk). d.who) j.clerk ∙ ap (λ (d : Clerk). d.who) kept.clerk ∙ ap (λ (d : Clerk). d.who) starts.clerk ∙ sym number
 
-  lines_are : b.lines.items ≡ a.lines.items
-  lines_are = ap (λ l. l.items) j.lines ∙ j.run.lines
-
   pub pass_text : (names : Names) (journal : List Delivery) → actor_said names journal (Pass b) c ≡ actor_text k lines names journal (Pass b) c
   pass_text names journal =
       let told : List LineGot = b.got.items in
       let got_is : told ≡ j.after.got.items = ap (λ l. l.items) j.got in
-      let tasks : AreTasksOf k (lines_by b.vcpu.number (block lines)) a.lines.items =
-      subst (λ (n : ℕ). AreTasksOf k (lines_by n (block lines)) a.lines.items) (sym number) starts.tasks in
-      let ran : HaveRun (take (length told) a.lines.items) a.clerk a.vcpu told j.after.clerk j.after.vcpu =
-      subst (λ (gs : List LineGot). HaveRun (take (length gs) a.lines.items) a.clerk a.vcpu gs j.after.clerk j.after.vcpu) (sym got_is) j.run.ran in
-      ap (λ (xs : List Said). flat_map (said_text names journal) xs)
-      ((λ i. lines_said names (pass_id (clerk_is i)) (lines_are i) told c.got)
-      ∙ lines_same names k (pass_id b.vcpu.number) (lines_by b.vcpu.number (block lines)) a.lines.items a.clerk j.after.clerk a.vcpu j.after.vcpu told c.got
+      let xs : List BlockLine = tasks_in j.after.lines in
+      let out : Bool = j.after.out_of_memory in
+      let tasks : AreTasksOf k (lines_by b.vcpu.number (block lines)) xs ⊎ ((out ≡ true) × (length told ≡ 0)) =
+      subst (λ (z : ℕ × List LineGot). AreTasksOf k (lines_by z.0 (block lines)) xs ⊎ ((out ≡ true) × (length z.1 ≡ 0)))
+      (λ i. (sym number i, sym got_is i)) (tasks_done k (lines_by who (block lines)) a j.after starts.lines_are j.run) in
+      let ran : HaveRun (take (length told) xs) a.clerk a.vcpu told j.after.clerk j.after.vcpu =
+      subst (λ (gs : List LineGot). HaveRun (take (length gs) xs) a.clerk a.vcpu gs j.after.clerk j.after.vcpu) (sym got_is) j.run.ran in
+      ap (λ (ss : List Said). flat_map (said_text names journal) ss)
+      ((λ i. lines_said names (pass_id (clerk_is i)) (tasks_in (j.lines i)) told c.got)
+      ∙ said_same names k (pass_id b.vcpu.number) (lines_by b.vcpu.number (block lines)) xs a.clerk j.after.clerk a.vcpu j.after.vcpu told c.got out
       tasks ran)
 
 module _ (k : Known) (lines : List Line) (v w : RecordState) (same : w.seat.cabinet ≡ v.seat.cabinet) where

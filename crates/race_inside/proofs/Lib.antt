@@ -5,7 +5,6 @@ pub mod PassLaws
 pub mod EndLaws
 pub mod PhaseLaws
 pub mod PhaseTextLaws
-pub mod TaskLaws
 pub mod LineLists
 pub mod SeatLists
 pub mod SeatLaws

@@ -1,73 +1,260 @@
--- The lines of an actor, collected one after another.
-use Rattle.std.proofs.Common.{◌≡◌, ℕ, ◌+◌, ◌<◌, ◌==◌, Bool, true, false, List, [], ◌∷◌, ◌++◌, length, drop, append_assoc, append-nil, sym, ap, subst, ◌∙◌}
+-- The lines of the actors, dealt one after another, and the tasks of the passes'.
+use Rattle.std.proofs.Common.{◌≡◌, ◌≢◌, ℕ, ◌+◌, ◌<◌, ◌≤◌, ◌==◌, Bool, true, false, List, [], ◌∷◌, ◌++◌, All, length, drop, get_or, append_assoc, append-nil}
+use Rattle.std.proofs.Common.{refl, sym, ap, subst, ◌∙◌, arith}
 use Rattle.std.proofs.Common.{if◌then◌else◌}
-use Rattle.std.specs.Prelude.{slice_index_or}
-use Rattle.std.proofs.lemmas.List.{at_drop_more, map_push}
+use Rattle.std.specs.Prelude.{nat_le, slice_index_or, slice_set}
+use Rattle.std.proofs.lemmas.Bool.Decides.{nat_tests}
+use Rattle.std.proofs.lemmas.List.{at_drop_more, get_or_append_left, get_or_push, get_or-set_same, get_or-set_other, get_or_default}
+use Rattle.std.proofs.lemmas.List.{length-map, length-set, length_push, map_push}
+use borrow.Author.Count.{below_more}
+use Rattle.mem_base.specs.lists.Every.{Every}
+use Rattle.mem_base.proofs.EveryLaws.{every_at, every_filter}
+use Rattle.mem_base.specs.declared.script.commands.Command.{Command}
+use Rattle.mem_base.specs.map.Limits.{most_passes}
+use Rattle.run_laws.specs.Fitting.{AreFitting, FitsCommand}
+use Rattle.race_outside.proofs.CopyLaws.{is_pass}
 use Rattle.mem_base.specs.script.Scripts.{Line}
 use Rattle.mem_base.specs.script.Tasks.{Known}
 use Rattle.mem_base.specs.script.Race.{actor_number, block, desk_number, lines_by}
-use Rattle.race_block.specs.declared.desks.DeskLine.{DeskLine}
+use Rattle.race_phases.specs.Plain.{has_lines}
+use Rattle.race_block.specs.declared.tasks.OwnLine.{OwnLine}
+use Rattle.race_block.specs.Desks as desks
 use Rattle.race_block.specs.Desks.{line_meant, lines_meant}
-use Rattle.race_block.specs.declared.tasks.BlockLine.{BlockLine}
-use Rattle.race_block.specs.Laws.{AreTasksOf}
-use Rattle.race_inside.specs.Rooms.{IsTaskOf}
-
--- whatever the tasks of the lines that are left are, these and they are the tasks of all
-abbrev pub AreTasksSoFar : Known → ℕ → List Line → List Line → List BlockLine → Type 0
-AreTasksSoFar k who whole left own =
-    (more : List BlockLine) → AreTasksOf k (lines_by who (block left)) more → AreTasksOf k (lines_by who (block whole)) (own ++ more)
-
-pub none_so_far : (k : Known) (who : ℕ) (whole left : List Line) (own : List BlockLine) → left ≡ whole → own ≡ [] → AreTasksSoFar k who whole left own
-none_so_far k who whole left own same none more are =
-    subst (λ (xs : List Line × List BlockLine). AreTasksOf k (lines_by who (block xs.0)) (xs.1 ++ more)) (λ i. (same i, sym none i)) are
-
-pub one_more : (k : Known) (who : ℕ) (whole left rest : List Line) (line : Line) (own after : List BlockLine) (x : BlockLine) → left ≡ line ∷ rest
-    → (actor_number line.1 == who) ≡ true → IsTaskOf k line x → after ≡ own ++ x ∷ [] → AreTasksSoFar k who whole left own
-    → AreTasksSoFar k who whole rest after
-one_more k who whole left rest line own after x is mine task put so_far more are =
-    let lines : lines_by who (block left) ≡ line ∷ lines_by who (block rest) =
-    ap (λ (ls : List Line). lines_by who (block ls)) is ∙ ap (λ (b : Bool). if b then line ∷ lines_by who (block rest) else lines_by who (block rest)) mine in
-    let all : (own ++ x ∷ more) ≡ after ++ more = sym (append_assoc own (x ∷ []) more) ∙ ap (λ (xs : List BlockLine). xs ++ more) (sym put) in
-    subst (λ (xs : List BlockLine). AreTasksOf k (lines_by who (block whole)) xs) all
-    (so_far (x ∷ more) (subst (λ (ls : List Line). AreTasksOf k ls (x ∷ more)) (sym lines) (task.0, task.1, are)))
-
-pub not_mine : (k : Known) (who : ℕ) (whole left rest : List Line) (line : Line) (own : List BlockLine) → left ≡ line ∷ rest
-    → (actor_number line.1 == who) ≡ false → AreTasksSoFar k who whole left own → AreTasksSoFar k who whole rest own
-not_mine k who whole left rest line own is others so_far more are =
-    let lines : lines_by who (block left) ≡ lines_by who (block rest) =
-    ap (λ (ls : List Line). lines_by who (block ls)) is ∙ ap (λ (b : Bool). if b then line ∷ lines_by who (block rest) else lines_by who (block rest)) others in
-    so_far more (subst (λ (ls : List Line). AreTasksOf k ls more) (sym lines) are)
-
-pub all_so_far : (k : Known) (who : ℕ) (whole left : List Line) (own : List BlockLine) → left ≡ [] → AreTasksSoFar k who whole left own
-    → AreTasksOf k (lines_by who (block whole)) own
-all_so_far k who whole left own none so_far =
-    subst (λ (xs : List BlockLine). AreTasksOf k (lines_by who (block whole)) xs) (append-nil own)
-    (so_far [] (subst (λ (ls : List Line). AreTasksOf k (lines_by who (block ls)) []) (sym none) tt))
+use Rattle.race_block.specs.Lines as passes
+use Rattle.race_block.specs.Resolving.{AreTasksOf, IsPassLine, copy_room}
+use Rattle.race_inside.specs.declared.rooms.Work.{Work}
+use Rattle.race_inside.specs.Rooms.{AreAll, AreIdle, AreOwn, ArePrepared, AreWorksOf, HasDesksWork, HasOwn}
+use Rattle.race_inside.specs.Rooms.{HasTasks, IsPrepared, IsWorkOf, TakesLine, most_actors}
 
 -- what is left of a list, with its first one
 pub next_left : (lines : List Line) (i : ℕ) (line : Line) → i < length lines → slice_index_or lines i line ≡ line
     → drop i lines ≡ line ∷ drop (i + 1) lines
 next_left lines i line room is = at_drop_more (λ (xs : List Line). xs) lines i line room ∙ ap (λ (x : Line). x ∷ drop (i + 1) lines) is
 
--- the lines of the desk so far, and those that are left, are all of them
-abbrev pub AreLinesSoFar : List Line → List Line → List DeskLine → Type 0
-AreLinesSoFar whole left own = lines_meant own ++ lines_by desk_number (block left) ≡ lines_by desk_number (block whole)
+-- numbers of actors
 
-pub desk_more : (whole left rest : List Line) (line : Line) (own after : List DeskLine) (x : DeskLine) → left ≡ line ∷ rest
-    → (actor_number line.1 == desk_number) ≡ true → line_meant x ≡ line → after ≡ own ++ x ∷ [] → AreLinesSoFar whole left own
-    → AreLinesSoFar whole rest after
-desk_more whole left rest line own after x is mine meant put so_far =
-    let others : List Line = lines_by desk_number (block rest) in
-    let lines : lines_by desk_number (block left) ≡ line ∷ others =
-    ap (λ (ls : List Line). lines_by desk_number (block ls)) is ∙ ap (λ (b : Bool). if b then line ∷ others else others) mine in
-    ap (λ (xs : List DeskLine). lines_meant xs ++ others) put ∙ ap (λ (ls : List Line). ls ++ others) (map_push line_meant own x)
+same_self : (n : ℕ) → (n == n) ≡ true
+same_self n = grind (arith, nat_tests)
+
+same_number : (a p : ℕ) → (a == p) ≡ true → a ≡ p
+same_number a p e = grind (arith, nat_tests)
+
+other_number : (a p : ℕ) → (a == p) ≡ false → a ≢ p
+other_number a p e same = grind (arith, nat_tests)
+
+-- an actor is one of those that there are
+pub near_actor : (c : Command) → FitsCommand c → actor_number c < most_actors
+near_actor c fits = go (actor_number c == desk_number) refl
+  where
+    go : (b : Bool) → (actor_number c == desk_number) ≡ b → actor_number c < most_actors
+    go true e = let is : actor_number c ≡ desk_number = same_number (actor_number c) desk_number e in omega (arith, is)
+    go false e =
+        let few : actor_number c < most_passes = is_pass c fits (other_number (actor_number c) desk_number e) in omega (arith, few)
+
+-- Dealing
+
+-- the lines of an actor so far, and those that are left, are all of them
+abbrev pub AreLinesSoFar : ℕ → List Line → List Line → List OwnLine → Type 0
+AreLinesSoFar who whole left own = lines_meant own ++ lines_by who (block left) ≡ lines_by who (block whole)
+
+one_more : (who : ℕ) (whole left rest : List Line) (line : Line) (own after : List OwnLine) (x : OwnLine) → left ≡ line ∷ rest
+    → (actor_number line.1 == who) ≡ true → line_meant x ≡ line → after ≡ own ++ x ∷ [] → AreLinesSoFar who whole left own
+    → AreLinesSoFar who whole rest after
+one_more who whole left rest line own after x is mine meant put so_far =
+    let others : List Line = lines_by who (block rest) in
+    let lines : lines_by who (block left) ≡ line ∷ others =
+    ap (λ (ls : List Line). lines_by who (block ls)) is ∙ ap (λ (b : Bool). if b then line ∷ others else others) mine in
+    ap (λ (xs : List OwnLine). lines_meant xs ++ others) put ∙ ap (λ (ls : List Line). ls ++ others) (map_push line_meant own x)
     ∙ append_assoc (lines_meant own) (line_meant x ∷ []) others ∙ ap (λ (l : Line). lines_meant own ++ l ∷ others) meant
     ∙ ap (λ (ls : List Line). lines_meant own ++ ls) (sym lines) ∙ so_far
 
-pub not_the_desks : (whole left rest : List Line) (line : Line) (own : List DeskLine) → left ≡ line ∷ rest
-    → (actor_number line.1 == desk_number) ≡ false → AreLinesSoFar whole left own → AreLinesSoFar whole rest own
-not_the_desks whole left rest line own is others so_far =
-    let lines : lines_by desk_number (block left) ≡ lines_by desk_number (block rest) =
-    ap (λ (ls : List Line). lines_by desk_number (block ls)) is
-    ∙ ap (λ (b : Bool). if b then line ∷ lines_by desk_number (block rest) else lines_by desk_number (block rest)) others in
+not_mine : (who : ℕ) (whole left rest : List Line) (line : Line) (own : List OwnLine) → left ≡ line ∷ rest
+    → (actor_number line.1 == who) ≡ false → AreLinesSoFar who whole left own → AreLinesSoFar who whole rest own
+not_mine who whole left rest line own is others so_far =
+    let lines : lines_by who (block left) ≡ lines_by who (block rest) =
+    ap (λ (ls : List Line). lines_by who (block ls)) is
+    ∙ ap (λ (b : Bool). if b then line ∷ lines_by who (block rest) else lines_by who (block rest)) others in
     ap (λ (ls : List Line). lines_meant own ++ ls) (sym lines) ∙ so_far
+
+abbrev pub IsDealt : List Line → List Line → ℕ → Work → Type 0
+IsDealt whole left p work = AreLinesSoFar p whole left work.own.items × (work.bounce ≡ copy_room)
+
+-- the lines that are left are still to be dealt
+pub record AreDealt (whole left : List Line) (works : List Work) : Type 0 where
+  pub all : length works ≡ most_actors
+  pub each : (p : ℕ) (d : Work) → p < length works → IsDealt whole left p (get_or works p d)
+
+pub none_dealt : (whole left : List Line) (works : List Work) → left ≡ whole → AreIdle works → AreDealt whole left works
+none_dealt whole left works same idle = record {
+  all = idle.all;
+  each = λ p d near. let i = idle.each p d near in (
+    (λ j. lines_meant (i.no_lines j) ++ lines_by p (block (same j))),
+    i.bounce,
+  );
+}
+
+-- the actor that took the line
+took : (whole left rest : List Line) (line : Line) (who : ℕ) (works after : List Work) → left ≡ line ∷ rest
+    → (actor_number line.1 == who) ≡ true → (t : TakesLine line who works after) → IsDealt whole left who (get_or works who t.later)
+    → IsDealt whole rest who t.later
+took whole left rest line who works after is mine t h = (
+  one_more who whole left rest line (get_or works who t.later).own.items t.later.own.items t.added is mine t.meant t.put h.0,
+  t.bounce ∙ h.1,
+)
+
+each_dealt : (whole left rest : List Line) (line : Line) (who : ℕ) (works after : List Work) (p : ℕ) (d : Work) (b : Bool)
+    → left ≡ line ∷ rest → actor_number line.1 ≡ who → TakesLine line who works after → who < length works → (who == p) ≡ b
+    → IsDealt whole left p (get_or works p d)
+    → ((later : Work) → IsDealt whole left who (get_or works who later)) → IsDealt whole rest p (get_or after p d)
+each_dealt whole left rest line who works after p d true is number t near same h mine =
+    let at : who ≡ p = same_number who p same in
+    let own : (actor_number line.1 == who) ≡ true = ap (λ (n : ℕ). n == who) number ∙ same_self who in
+    let there : t.later ≡ get_or after p d = sym (get_or-set_same works who t.later d near) ∙ (λ i. get_or (sym t.set_at i) (at i) d) in
+    subst (λ (z : ℕ × Work). IsDealt whole rest z.0 z.1) (λ i. (at i, there i))
+    (took whole left rest line who works after is own t (mine t.later))
+each_dealt whole left rest line who works after p d false is number t near other h mine =
+    let apart : who ≢ p = other_number who p other in
+    let there : get_or works p d ≡ get_or after p d =
+    sym (get_or-set_other works who p t.later d (λ e. apart (sym e))) ∙ ap (λ (ws : List Work). get_or ws p d) (sym t.set_at) in
+    subst (IsDealt whole rest p) there
+    (not_mine p whole left rest line (get_or works p d).own.items is (ap (λ (n : ℕ). n == p) number ∙ other) h.0, h.1)
+
+-- one line more is dealt
+pub one_dealt : (whole left rest : List Line) (line : Line) (works after : List Work) → left ≡ line ∷ rest → FitsCommand line.1
+    → TakesLine line (actor_number line.1) works after → AreDealt whole left works → AreDealt whole rest after
+one_dealt whole left rest line works after is fits t h =
+    let who : ℕ = actor_number line.1 in
+    let few : who < most_actors = near_actor line.1 fits in
+    let near : who < length works = let all = h.all in omega (arith, few, all) in
+    let long : length after ≡ length works = ap length t.set_at ∙ length-set works who t.later in record {
+      all = long ∙ h.all;
+      each = λ p d within. each_dealt whole left rest line who works after p d (who == p) is refl t near refl
+          (h.each p d (omega (arith, within, long))) (λ later. h.each who later near);
+    }
+
+-- all lines are dealt
+pub all_dealt : (whole left : List Line) (works : List Work) → left ≡ [] → AreDealt whole left works → AreAll whole works
+all_dealt whole left works none h = record {
+  all = h.all;
+  own = λ p d near. let w = h.each p d near in record {
+    own = sym (append-nil (lines_meant (get_or works p d).own.items))
+        ∙ ap (λ (ls : List Line). lines_meant (get_or works p d).own.items ++ lines_by p (block ls)) (sym none) ∙ w.0;
+    bounce = w.1;
+  };
+}
+
+-- The desk's lines are the last
+
+pub others_own : (lines : List Line) (works others : List Work) (own : List OwnLine) → AreAll lines works → HasDesksWork works others own
+    → (length others ≡ most_passes) × AreOwn lines others
+others_own lines works others own all has =
+    let long : length works ≡ length others + 1 = ap length has.1 ∙ length_push others has.0 in
+    let many : length works ≡ most_actors = all.all in (
+      omega (arith, long, many),
+      λ p d near. subst (HasOwn lines p)
+          (ap (λ (ws : List Work). get_or ws p d) has.1 ∙ get_or_append_left others (has.0 ∷ []) d p near) (all.own p d (omega (arith, near, long))),
+    )
+
+pub desks_own : (lines : List Line) (works others : List Work) (own : List OwnLine) → AreAll lines works → HasDesksWork works others own
+    → lines_meant own ≡ lines_by desk_number (block lines)
+desks_own lines works others own all has =
+    let long : length works ≡ length others + 1 = ap length has.1 ∙ length_push others has.0 in
+    let many : length works ≡ most_actors = all.all in
+    let few : length others ≡ desk_number = omega (arith, long, many) in
+    let is : get_or works desk_number has.0 ≡ has.0 =
+    ap (λ (ws : List Work). get_or ws desk_number has.0) has.1 ∙ get_or_push others has.0 has.0 desk_number few in
+    ap lines_meant (has.2 ∙ ap (λ (w : Work). w.own.items) (sym is)) ∙ (all.own desk_number has.0 (omega (arith, many))).own
+
+-- The numbers of the commands fit
+
+every_unmapped : (P : Line → Type 0) (own : List OwnLine) → Every P (lines_meant own) → Every (λ x. P (line_meant x)) own
+every_unmapped P [] h = tt
+every_unmapped P (x ∷ own) h = (h.0, every_unmapped P own h.1)
+
+pub desks_fit : (lines : List Line) (own : List OwnLine) → AreFitting lines → lines_meant own ≡ lines_by desk_number (block lines)
+    → All desks.FitsLine own
+desks_fit lines own fits is i d near = every_at desks.FitsLine own i d near (every_unmapped (λ l. FitsCommand l.1) own
+    (subst (Every (λ l. FitsCommand l.1)) (sym is) (every_filter (λ l. FitsCommand l.1) (λ l. actor_number l.1 == desk_number) lines fits)))
+
+abbrev CanBePassLine : Line → Type 0
+CanBePassLine line = (actor_number line.1 < most_passes) × FitsCommand line.1
+
+fit_by : (p : ℕ) (lines : List Line) → p < most_passes → AreFitting lines → Every CanBePassLine (lines_by p (block lines))
+fit_by p [] near h = tt
+fit_by p (line ∷ lines) near h = go (actor_number line.1 == p) refl (fit_by p lines near h.1)
+  where
+    go : (b : Bool) → (actor_number line.1 == p) ≡ b → Every CanBePassLine (lines_by p (block lines))
+        → Every CanBePassLine (if b then line ∷ lines_by p (block lines) else lines_by p (block lines))
+    go true e rest = let is : actor_number line.1 ≡ p = same_number (actor_number line.1) p e in ((omega (arith, is, near), h.0), rest)
+    go false e rest = rest
+
+pub passes_fit : (p : ℕ) (lines : List Line) (own : List OwnLine) → p < most_passes → AreFitting lines → lines_meant own ≡ lines_by p (block lines)
+    → All IsPassLine own
+passes_fit p lines own few fits is i d near = every_at IsPassLine own i d near (every_unmapped CanBePassLine own
+    (subst (Every CanBePassLine) (sym is) (fit_by p lines few fits)))
+
+-- The tasks of the passes' lines
+
+-- one more is prepared
+pub prepared_more : (k : Known) (xs ys : List Work) (i : ℕ) (e y : Work) → length ys ≡ length xs → i < length xs
+    → ((p : ℕ) (d : Work) → i ≤ p → get_or ys p d ≡ get_or xs p d)
+    → ((p : ℕ) (d : Work) → p < i → IsPrepared k (get_or xs p d) (get_or ys p d)) → IsPrepared k (get_or ys i e) y
+    → (p : ℕ) (d : Work) → p < i + 1 → IsPrepared k (get_or xs p d) (get_or (slice_set ys i y) p d)
+prepared_more k xs ys i e y long room same all here p d near =
+    let inside : i < length ys = omega (arith, room, long) in
+    let P : ℕ → Type 0 = λ n. IsPrepared k (get_or xs n d) (get_or (slice_set ys i y) n d) in
+    let old : get_or ys i e ≡ get_or xs i d = same i e (omega arith) ∙ get_or_default xs i e d room in
+    let now : y ≡ get_or (slice_set ys i y) i d = sym (get_or-set_same ys i y d inside) in
+    below_more P i
+    (λ n l. subst (λ (z : Work). IsPrepared k (get_or xs n d) z) (sym (get_or-set_other ys i n y d (λ f. absurd (omega (arith, f, l)))))
+    (all n d l))
+    (subst (λ (z : Work × Work). IsPrepared k z.0 z.1) (λ j. (old j, now j)) here) p near
+
+pub same_after : (xs ys : List Work) (i : ℕ) (y : Work) → ((p : ℕ) (d : Work) → i ≤ p → get_or ys p d ≡ get_or xs p d)
+    → (p : ℕ) (d : Work) → i + 1 ≤ p → get_or (slice_set ys i y) p d ≡ get_or xs p d
+same_after xs ys i y same p d l = get_or-set_other ys i p y d (λ e. absurd (omega (arith, e, l))) ∙ same p d (omega (arith, l))
+
+-- what the passes have to do, where the desk has no lines
+
+has_none : (own : List OwnLine) (ls : List Line) → lines_meant own ≡ ls → length own ≡ 0 → nat_le 1 (length ls) ≡ false
+has_none own ls is none = let long : length own ≡ length ls = sym (length-map own line_meant) ∙ ap length is in grind (arith, nat_tests)
+
+false_or : {A : Type 0} (b : Bool) → b ≡ false → b ≡ true → A
+false_or true e h = absurd (grind arith)
+false_or false e h = absurd (grind arith)
+
+pub works_alone : (k : Known) (lines : List Line) (desk : List OwnLine) (works : List Work) → AreFitting lines
+    → lines_meant desk ≡ lines_by desk_number (block lines) → length desk ≡ 0 → length works ≡ most_passes → AreOwn lines works
+    → AreWorksOf k lines works
+works_alone k lines desk works fits is none many own p d near =
+    let few : p < most_passes = omega (arith, near, many) in
+    let w = own p d near in record {
+      own = w.own;
+      fits = passes_fit p lines (get_or works p d).own.items few fits w.own;
+      bounce = w.bounce;
+      tasks = λ some. false_or (has_lines (block lines) desk_number) (has_none desk (lines_by desk_number (block lines)) is none) some;
+    }
+
+-- and where it has some
+pub works_prepared : (k : Known) (lines : List Line) (works after : List Work) → AreFitting lines → length works ≡ most_passes → AreOwn lines works
+    → ArePrepared k works after → AreWorksOf k lines after
+works_prepared k lines works after fits many own made p d near =
+    let long : length after ≡ length works = made.all in
+    let within : p < length works = omega (arith, near, long) in
+    let few : p < most_passes = omega (arith, within, many) in
+    let w = own p d within in
+    let m = made.each p d within in
+    let lines_are : lines_meant (get_or after p d).own.items ≡ lines_by p (block lines) = ap lines_meant m.own ∙ w.own in record {
+      own = lines_are;
+      fits = passes_fit p lines (get_or after p d).own.items few fits lines_are;
+      bounce = m.bounce ∙ w.bounce;
+      tasks = λ some. record {
+        tasks = subst (λ (ls : List Line). AreTasksOf k ls (get_or after p d).tasks.items) w.own m.tasks;
+        fits = m.fits;
+      };
+    }
+
+pub own_fit : (lines : List Line) (works : List Work) → AreFitting lines → length works ≡ most_passes → AreOwn lines works
+    → (p : ℕ) (d : Work) → p < length works → All IsPassLine (get_or works p d).own.items
+own_fit lines works fits many own p d near =
+    passes_fit p lines (get_or works p d).own.items (omega (arith, near, many)) fits (own p d near).own

@@ -1,5 +1,6 @@
 -- A pass after a block, held against what all have seen then: it did its lines, or the first of them.
-use Rattle.std.proofs.Common.{◌≡◌, ◌<◌, ◌+◌, ℕ, zero, suc, false, List, [], ◌∷◌, ◌++◌, length, map, take, refl, sym, ap, subst, ◌∙◌, append-nil, arith}
+use Rattle.std.proofs.Common.{◌≡◌, ◌<◌, ◌+◌, ℕ, zero, suc, Bool, true, false, List, [], ◌∷◌, ◌++◌, length, map, take, refl, sym}
+use Rattle.std.proofs.Common.{ap, subst, ◌∙◌, append-nil, arith, ◌⊎◌, inl, inr}
 use Rattle.mem_base.specs.declared.machine.events.HistoryEntry.{HistoryEntry}
 use Rattle.mem_base.specs.declared.machine.records.DeskEntry.{DeskEntry}
 use Rattle.mem_base.specs.map.Limits.{most_passes}
@@ -19,7 +20,11 @@ use Rattle.pass_lines.proofs.DoneLaws.{at_later, published_prefix}
 use Rattle.race_block.specs.declared.passes.PassActor.{PassActor}
 use Rattle.race_block.specs.declared.tasks.BlockLine.{BlockLine}
 use Rattle.race_block.specs.Lines as passes
-use Rattle.race_block.specs.Laws.{AreTasksOf, HasKept, count_own, deed_from, saids}
+use Rattle.race_block.specs.declared.tasks.PassLines.{PassLines}
+use Rattle.race_block.specs.declared.tasks.PassLines.TheVariants.{Unresolved, Resolved}
+use Rattle.race_block.specs.Resolving.{AreLinesBy, AreTasksIn, AreTasksOf, tasks_in}
+use Rattle.view_laws.proofs.Tests.{true_is_not_false}
+use Rattle.race_block.specs.Laws.{HasKept, count_own, deed_from, saids}
 use Rattle.race_block.proofs.KeptLaws.{passes_keep_lines}
 use Rattle.race_block.specs.Joined.{HasJoinedPass}
 use Rattle.race_inside.specs.Starts.{PassStarts}
@@ -51,6 +56,46 @@ first_tasks k (suc n) (line ∷ lines) (x ∷ xs) h =
 first_tasks k (suc n) [] (x ∷ xs) h = absurd h
 first_tasks k (suc n) (line ∷ lines) [] h = absurd h
 
+-- the same, by what a pass did: it resolved the names of its lines, or had no memory for that and did nothing
+record FirstDone (k : Known) (n : ℕ) (lines : List Line) (xs : List BlockLine) (out : Bool) : Type 0 where
+  front : List Line
+  left : List Line
+  cut : lines ≡ front ++ left
+  tasks : AreTasksOf k front (take n xs)
+  whole : out ≡ false → left ≡ []
+
+first_done : (k : Known) (n : ℕ) (lines : List Line) (xs : List BlockLine) (out : Bool) → (AreTasksOf k lines xs ⊎ ((out ≡ true) × (n ≡ 0)))
+    → (out ≡ false → n ≡ length xs) → FirstDone k n lines xs out
+first_done k n lines xs out (inl h) all = let f = first_tasks k n lines xs h in record {
+  front = f.front;
+  left = f.left;
+  cut = f.cut;
+  tasks = f.tasks;
+  whole = λ e. f.whole (all e);
+}
+first_done k n lines xs out (inr h) all = record {
+  front = [];
+  left = lines;
+  cut = refl;
+  tasks = subst (λ (m : ℕ). AreTasksOf k [] (take m xs)) (sym h.1) tt;
+  whole = λ e. true_is_not_false out h.0 e;
+}
+
+-- the tasks of a pass's lines
+tasks_by : (k : Known) (lines : List Line) (own : PassLines) (xs : List BlockLine) → AreLinesBy k lines own → AreTasksIn own xs → AreTasksOf k lines xs
+tasks_by k lines (Unresolved ls names) xs s h =
+    subst (λ (z : Known × List Line). AreTasksOf z.0 z.1 xs) (λ i. (s.1 i, s.0 i)) h
+tasks_by k lines (Resolved ys) xs s h = subst (λ (zs : List BlockLine). AreTasksOf k lines zs) (sym h) s
+
+pub tasks_done : (k : Known) (lines : List Line) (a b : PassActor) → AreLinesBy k lines a.lines → passes.HasRun a b
+    → AreTasksOf k lines (tasks_in b.lines) ⊎ ((b.out_of_memory ≡ true) × (length b.got.items ≡ 0))
+tasks_done k lines a b s h = go h.lines
+  where
+    go : (AreTasksIn a.lines (tasks_in b.lines) ⊎ ((b.out_of_memory ≡ true) × (b.got.items ≡ [])))
+        → AreTasksOf k lines (tasks_in b.lines) ⊎ ((b.out_of_memory ≡ true) × (length b.got.items ≡ 0))
+    go (inl t) = inl (tasks_by k lines a.lines (tasks_in b.lines) s t)
+    go (inr t) = inr (t.0, ap length t.1)
+
 -- the pass of a number after its block, with its clerk: by what it had seen before
 pub record PassEnded (k : Known) (lines : List Line) (before seen : List HistoryEntry) (who : ℕ) (b : PassActor) (c : Clerk) : Type 0 where
   pub near : who < most_passes
@@ -76,11 +121,11 @@ module _ (k : Known) (lines : List Line) (before seen : List HistoryEntry) (who 
   abbrev did : ℕ
   did = length j.after.got.items
 
-  first : FirstTasks k did mine a.lines.items
-  first = first_tasks k did mine a.lines.items s.tasks
+  first : FirstDone k did mine (tasks_in j.after.lines) j.after.out_of_memory
+  first = first_done k did mine (tasks_in j.after.lines) j.after.out_of_memory (tasks_done k mine a j.after s.lines_are j.run) j.run.whole
 
   kept : HasKept k first.front a.clerk a.vcpu j.after.got.items j.after.clerk j.after.vcpu
-  kept = passes_keep_lines k first.front (take did a.lines.items) a.clerk a.vcpu j.after.got.items j.after.clerk j.after.vcpu j.run.ran first.tasks
+  kept = passes_keep_lines k first.front (take did (tasks_in j.after.lines)) a.clerk a.vcpu j.after.got.items j.after.clerk j.after.vcpu j.run.ran first.tasks
       ready.inside
 
   wrote : c ≡ record { who = who; got = kept.got }
@@ -118,7 +163,7 @@ module _ (k : Known) (lines : List Line) (before seen : List HistoryEntry) (who 
       j.after.vcpu.seen seen j.heard kept.keeps.0)
 
   did_all : b.out_of_memory ≡ false → first.left ≡ []
-  did_all e = first.whole (j.run.whole (sym j.out_of_memory ∙ e))
+  did_all e = first.whole (sym j.out_of_memory ∙ e)
 
   front_is : b.out_of_memory ≡ false → first.front ≡ mine
   front_is e = sym (first.cut ∙ ap (λ (ls : List Line). first.front ++ ls) (did_all e) ∙ append-nil first.front)

@@ -10,17 +10,26 @@ use Rattle.mem_base.specs.script.Scripts.{Line}
 use Rattle.mem_base.specs.script.Tasks.{Known, task_of}
 use Rattle.generation.specs.Published.{Published}
 use Rattle.epoch_rule.specs.Values.{PassValue}
+use Rattle.pass_lines.specs.declared.answers.LineAnswer.{LineAnswer}
 use Rattle.race_block.specs.declared.tasks.PassTask.{PassTask}
 use Rattle.race_block.specs.declared.tasks.PassTask.TheVariants.{Refused, Order, Enter, Leave, Read, Write, Copy}
 use Rattle.race_block.specs.declared.tasks.BlockLine.{BlockLine}
 use Rattle.race_block.specs.declared.tasks.LineGot.{LineGot}
 use Rattle.race_block.specs.declared.tasks.LineGot.TheVariants as gots
-use Rattle.race_block.specs.Laws.{AreTasksOf, StandsFor, said_of, saids, taken_by, why_of}
-use Rattle.race_block.specs.Lines.{HasDone, HaveRun}
+use Rattle.race_block.specs.Resolving.{AreTasksOf, StandsFor}
+use Rattle.race_block.specs.Laws.{said_of, saids, taken_by, why_of}
+use Rattle.race_block.specs.Lines.{HasDone, HaveRun, IsAnswer}
 use Rattle.race_inside.specs.Texts.{line_said, lines_said}
 
 -- a line that was done with this result
 module _ (names : Names) (k : Known) (pass : PassId) (line : Line) (e : DeskEntry) where
+  same_answer : (number : ℕ) (task : PassTask) (got : LineGot) (answer : LineAnswer) → IsAnswer got answer
+      → line_said names pass (record { number = number; task = task }) got e ≡ said_of names k pass line got e
+  same_answer number task gots.Refused answer is = absurd is
+  same_answer number task gots.Ordered answer is = absurd is
+  same_answer number task (gots.ReadFew access bytes) answer is = refl
+  same_answer number task (gots.Answered given) answer is = refl
+
   refused_same : (number : ℕ) (task : PassTask) (c d : Clerk) (v w : PassValue Published) (got : LineGot) → number ≡ line.0
       → StandsFor task (task_of k line.1) → HasDone task c v got d w
       → line_said names pass (record { number = number; task = task }) got e ≡ said_of names k pass line got e
@@ -30,21 +39,11 @@ module _ (names : Names) (k : Known) (pass : PassId) (line : Line) (e : DeskEntr
   refused_same number (Order order) c d v w got is s h =
       ap (λ (x : LineGot). line_said names pass (record { number = number; task = Order order }) x e) h.0
       ∙ (λ i. says_with (do_text names (is i) pass e.answer) e) ∙ ap (λ (x : LineGot). said_of names k pass line x e) (sym h.0)
-  refused_same number Enter c d v w got is s h =
-      ap (λ (x : LineGot). line_said names pass (record { number = number; task = Enter }) x e) h.is
-      ∙ ap (λ (x : LineGot). said_of names k pass line x e) (sym h.is)
-  refused_same number Leave c d v w got is s h =
-      ap (λ (x : LineGot). line_said names pass (record { number = number; task = Leave }) x e) h.is
-      ∙ ap (λ (x : LineGot). said_of names k pass line x e) (sym h.is)
-  refused_same number (Read space addr len) c d v w got is s h =
-      ap (λ (x : LineGot). line_said names pass (record { number = number; task = Read space addr len }) x e) h.is
-      ∙ ap (λ (x : LineGot). said_of names k pass line x e) (sym h.is)
-  refused_same number (Write space addr bytes) c d v w got is s h =
-      ap (λ (x : LineGot). line_said names pass (record { number = number; task = Write space addr bytes }) x e) h.is
-      ∙ ap (λ (x : LineGot). said_of names k pass line x e) (sym h.is)
-  refused_same number (Copy from addr len to to_addr) c d v w got is s h =
-      ap (λ (x : LineGot). line_said names pass (record { number = number; task = Copy from addr len to to_addr }) x e) h.is
-      ∙ ap (λ (x : LineGot). said_of names k pass line x e) (sym h.is)
+  refused_same number Enter c d v w got is s h = same_answer number Enter got h.answer h.is
+  refused_same number Leave c d v w got is s h = same_answer number Leave got h.answer h.is
+  refused_same number (Read space addr len) c d v w got is s h = same_answer number (Read space addr len) got h.answer h.is
+  refused_same number (Write space addr bytes) c d v w got is s h = same_answer number (Write space addr bytes) got h.answer h.is
+  refused_same number (Copy from addr len to to_addr) c d v w got is s h = same_answer number (Copy from addr len to to_addr) got h.answer h.is
 
 -- a list is its first one and the rest
 first_of : {X : Type 0} (x y : X) (xs ys : List X) → x ∷ xs ≡ y ∷ ys → x ≡ y

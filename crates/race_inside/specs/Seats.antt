@@ -16,12 +16,15 @@ use Rattle.race_block.specs.declared.blocks.BlockActor.{BlockActor}
 use Rattle.race_block.specs.declared.blocks.BlockActor.TheVariants.{Desk, Pass}
 use Rattle.race_block.specs.declared.passes.PassActor.{PassActor}
 use Rattle.race_block.specs.declared.tasks.BlockLine.{BlockLine}
+use Rattle.race_block.specs.declared.tasks.OwnLine.{OwnLine}
+use Rattle.race_block.specs.declared.tasks.PassLines.{PassLines}
+use Rattle.race_block.specs.declared.tasks.PassLines.TheVariants.{Unresolved, Resolved}
 use Rattle.race_block.specs.Blocks.{CanAct}
 use Rattle.race_block.specs.Desks as desks
 use Rattle.race_block.specs.Joined.{new_clerk}
 use Rattle.race_inside.specs.Starts.{AreAtStart, DeskStarts}
-use Rattle.race_inside.specs.declared.rooms.PassWork.{PassWork}
-use Rattle.race_inside.specs.declared.rooms.PassWork.TheVariants.{Nothing, Lines}
+use Rattle.race_inside.specs.declared.rooms.Work.{Work}
+use Rattle.race_inside.specs.Rooms.{acts}
 use Rattle.race_inside.specs.declared.seats.Seated.{Seated}
 
 -- Before the block
@@ -57,20 +60,35 @@ SeatsDesk k lines (Some kept) [] = (has_lines (block lines) desk_number ≡ fals
 SeatsDesk k lines None (Desk a ∷ []) = (has_lines (block lines) desk_number ≡ true) × DeskStarts k lines a × desks.IsReady a
 SeatsDesk k lines _ _ = ⊥
 
--- an actor that has this virtual CPU, these lines and this bounce, and did nothing yet
-pub record IsNewActor (who : ℕ) (cpu : PassValue Published) (own : List BlockLine) (bounce : ℕ) (a : PassActor) : Type 0 where
+-- what is known is kept, or the desk has lines
+abbrev pub KeepsKnown : Known → List Line → Option Known → Type 0
+KeepsKnown k lines (Some kept) = kept ≡ k
+KeepsKnown k lines None = has_lines (block lines) desk_number ≡ true
+
+-- a pass gets its lines as they stand, with what is known, where this is kept; else with their tasks
+abbrev pub GivesLines : Option Known → List OwnLine → List BlockLine → PassLines → Type 0
+GivesLines (Some kept) own tasks (Unresolved lines names) = (lines.items ≡ own) × (names.now ≡ kept)
+GivesLines None own tasks (Resolved xs) = xs.items ≡ tasks
+GivesLines _ own tasks _ = ⊥
+
+-- an actor that has this virtual CPU, the lines of this work and its bounce, and did nothing yet
+pub record IsNewActor (who : ℕ) (known : Option Known) (cpu : PassValue Published) (work : Work) (a : PassActor) : Type 0 where
   pub cpu_is : a.vcpu ≡ cpu
   pub clerk : a.clerk ≡ new_clerk who
-  pub lines : a.lines.items ≡ own
-  pub room : a.bounce ≡ bounce
+  pub lines : GivesLines known work.own.items work.tasks.items a.lines
+  pub room : a.bounce ≡ work.bounce
   pub nothing : a.got.items ≡ []
 
--- the pass has lines and is one actor more, or waits
-abbrev pub SeatsPass : ℕ → PassValue Published → PassWork → List BlockActor → List BlockActor → List (PassValue Published) → List (PassValue Published)
-    → Type 0
-SeatsPass who cpu Nothing olds news before after = (news ≡ olds) × (after ≡ before ++ cpu ∷ [])
-SeatsPass who cpu (Lines own bounce) olds news before after =
-    (after ≡ before) × (a : PassActor) × (news ≡ olds ++ Pass a ∷ []) × IsNewActor who cpu own.items bounce a
+-- a pass that has lines is one actor more, and any other waits
+abbrev pub TakesSeat : Bool → ℕ → Option Known → PassValue Published → Work → List BlockActor → List BlockActor → List (PassValue Published)
+    → List (PassValue Published) → Type 0
+TakesSeat true who known cpu work olds news before after =
+    (after ≡ before) × (a : PassActor) × (news ≡ olds ++ Pass a ∷ []) × IsNewActor who known cpu work a
+TakesSeat false who known cpu work olds news before after = (news ≡ olds) × (after ≡ before ++ cpu ∷ [])
+
+abbrev pub SeatsPass : ℕ → Option Known → PassValue Published → Work → List BlockActor → List BlockActor → List (PassValue Published)
+    → List (PassValue Published) → Type 0
+SeatsPass who known cpu work = TakesSeat (acts work) who known cpu work
 
 -- the first `n` passes have their places: those with lines are actors, and the others wait
 pub record HaveSeats (k : Known) (lines : List Line) (r : RecordState) (n : ℕ) (olds news : List BlockActor) (before after : List (PassValue Published))
@@ -83,15 +101,21 @@ pub record HaveSeats (k : Known) (lines : List Line) (r : RecordState) (n : ℕ)
   pub aside : after ≡ before ++ others
   pub wait : AreSeats r (idle lines n) others
 
+-- these are the passes that have lines, of the first ones
+abbrev pub AreBusy : List Line → List Bool → Type 0
+AreBusy lines busy = (p : ℕ) (d : Bool) → p < length busy → slice_index_or busy p d ≡ has_lines (block lines) p
+
 -- all have their places
 pub record AreSeated (k : Known) (lines : List Line) (r : RecordState) (s : Seated) : Type 0 where
   pub front : List BlockActor
   pub passes : List BlockActor
   pub actors : s.actors.items ≡ front ++ passes
-  pub desk : SeatsDesk k lines s.known front
+  pub desk : SeatsDesk k lines s.known.now front
   pub starts : AreAtStart k lines r.seat.seen (acting lines most_passes) passes
   pub can : Every (CanAct r.seat.cabinet) passes
   pub wait : AreSeats r (idle lines most_passes) s.waiting.items
+  pub all_busy : length s.busy.items ≡ most_passes
+  pub busy : AreBusy lines s.busy.items
   pub no_cpus : s.cpus.items ≡ []
   pub cpus_fit : most_passes ≤ vec_capacity s.cpus
   pub no_clerks : s.clerks.items ≡ []
@@ -137,6 +161,12 @@ ComeBack lines n olds rest waiting before after =
     (v w : RecordState) (front passes : List BlockActor) → olds ≡ front ++ passes → AreActorsOf w (acting lines n) passes
     → AreSeats v (idle lines n) waiting → AreBack lines v w n front rest before after
 
+-- all of the first ones, as many as are told of, by which of them are busy
+abbrev pub AllComeBack : List Bool → List BlockActor → List BlockActor → List (PassValue Published) → List (PassValue Published)
+    → List (PassValue Published) → Type 0
+AllComeBack busy olds rest waiting before after =
+    (lines : List Line) → AreBusy lines busy → ComeBack lines (length busy) olds rest waiting before after
+
 -- What is known, after the block
 
 -- it was kept, or the desk has it
@@ -149,3 +179,19 @@ abbrev pub known_now : Known → Option Known → List BlockActor → Known
 known_now k (Some kept) actors = kept
 known_now k None (Desk a ∷ actors) = a.known
 known_now k None _ = k
+
+-- what the desk knows, where it acted
+abbrev pub desks_known : List BlockActor → Option Known
+desks_known (Desk a ∷ actors) = Some a.known
+desks_known _ = None
+
+-- what is known is told by one of them
+abbrev pub IsTold : Option Known → Option Known → Type 0
+IsTold (Some kept) desks = Unit {0}
+IsTold None (Some now) = Unit {0}
+IsTold None None = ⊥
+
+abbrev pub names_then : Known → Option Known → Option Known → Known
+names_then k (Some kept) desks = kept
+names_then k None (Some now) = now
+names_then k None None = k

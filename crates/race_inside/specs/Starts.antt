@@ -10,7 +10,7 @@ use Rattle.race_block.specs.declared.blocks.BlockActor.TheVariants.{Desk, Pass, 
 use Rattle.race_block.specs.declared.desks.DeskActor.{DeskActor}
 use Rattle.race_block.specs.declared.passes.PassActor.{PassActor}
 use Rattle.race_block.specs.Desks.{lines_meant}
-use Rattle.race_block.specs.Laws.{AreTasksOf}
+use Rattle.race_block.specs.Resolving.{AreLinesBy}
 use Rattle.race_block.specs.Joined.{new_clerk}
 
 -- the desk has its lines of the block, knows what is known before it, and ordered nothing yet
@@ -19,13 +19,13 @@ pub record DeskStarts (k : Known) (lines : List Line) (a : DeskActor) : Type 0 w
   pub clerk : a.clerk ≡ new_clerk desk_number
   pub lines_are : lines_meant a.lines.items ≡ lines_by desk_number (block lines)
 
--- the pass of a number has the tasks of its lines, by what is known before the block; it has seen what all have seen, and ordered nothing yet
+-- the pass of a number has its lines, whose names are resolved by what is known before the block; it has seen what all have seen, and ordered nothing yet
 pub record PassStarts (k : Known) (lines : List Line) (seen : List HistoryEntry) (who : ℕ) (a : PassActor) : Type 0 where
   pub near : who < most_passes
   pub number : a.vcpu.number ≡ who
   pub level : a.vcpu.seen ≡ seen
   pub clerk : a.clerk ≡ new_clerk who
-  pub tasks : AreTasksOf k (lines_by who (block lines)) a.lines.items
+  pub lines_are : AreLinesBy k (lines_by who (block lines)) a.lines
 
 -- the actor is the one of this number
 abbrev pub IsAtStart : Known → List Line → List HistoryEntry → ℕ → BlockActor → Type 0

@@ -10,6 +10,7 @@ use Rattle.mem_base.specs.script.Named.{Names, no_names}
 use Rattle.mem_base.specs.script.RefusalLines.{refused_line}
 use Rattle.mem_base.specs.script.RaceLines.{Said, do_text, entry_at, said_text, says, says_with}
 use Rattle.mem_base.specs.script.Tasks.{Known}
+use Rattle.pass_lines.specs.declared.answers.LineAnswer.TheVariants as answers
 use Rattle.pass_lines.specs.Texts.{answer_text}
 use Rattle.race_lines.specs.LineTasks.{refused_text}
 use Rattle.race_block.specs.declared.blocks.BlockActor.{BlockActor}
@@ -20,6 +21,7 @@ use Rattle.race_block.specs.declared.tasks.LineGot.TheVariants as gots
 use Rattle.race_block.specs.declared.tasks.PassTask.{PassTask}
 use Rattle.race_block.specs.declared.tasks.PassTask.TheVariants.{Refused}
 use Rattle.race_block.specs.Laws.{taken_by}
+use Rattle.race_block.specs.Resolving.{tasks_in}
 
 -- the refusal of a line by one of its names
 abbrev pub refusal : ℕ → PassTask → Text
@@ -34,6 +36,7 @@ ordered_said names number pass e = says_with (do_text names number pass e.answer
 abbrev pub line_said : Names → PassId → BlockLine → LineGot → DeskEntry → Said
 line_said names pass x gots.Refused e = says (refusal x.number x.task)
 line_said names pass x gots.Ordered e = ordered_said names x.number pass e
+line_said names pass x (gots.ReadFew access bytes) e = says (answer_text pass (answers.Read access bytes))
 line_said names pass x (gots.Answered answer) e = says (answer_text pass answer)
 
 -- lines one after another, by the entries of the clerk
@@ -45,7 +48,7 @@ lines_said names pass _ _ entries = []
 -- all that an actor's lines said, by its clerk
 abbrev pub actor_said : Names → List Delivery → BlockActor → Clerk → Text
 actor_said names journal (Desk a) c = flat_map (said_text names journal) a.said.items
-actor_said names journal (Pass a) c = flat_map (said_text names journal) (lines_said names (pass_id c.who) a.lines.items a.got.items c.got)
+actor_said names journal (Pass a) c = flat_map (said_text names journal) (lines_said names (pass_id c.who) (tasks_in a.lines) a.got.items c.got)
 actor_said names journal Gone c = []
 
 abbrev pub actors_said : Names → List Delivery → List BlockActor → List Clerk → Text

@@ -11,13 +11,13 @@ ghost use Rattle.race_outside.specs.Levels.{HasMet, IsHeard, IsOfCabinet};
 ghost use Rattle.race_outside.specs.Ready.{AreReady};
 ghost use Rattle.race_outside.specs.Outside.{StopsIn, WritesOn};
 ghost use Rattle.race_inside.specs.Blocks.{HasRunAll};
-ghost use Rattle.race_inside.specs.Seats.{AreSeated};
+ghost use Rattle.race_inside.specs.Seats.{AreSeated, IsTold, names_then};
 
-use crate::rooms::room_for;
-use crate::seats::{Seated, known_after, seat, unseat_passes};
+use crate::rooms::{Room, room_for};
+use crate::seats::{Seated, desks_known, known_after, seat, seat_desk, unseat_passes};
 use crate::texts::add_block;
 use desk_lock::{Clerk, Naming, Record};
-use mem_base::{Command, Differs, MOST_PASSES};
+use mem_base::{Command, Differs};
 use outside::Gate;
 use race_block::{BlockActor, run_block};
 use race_lines::KnownNames;
@@ -30,12 +30,12 @@ use std::thread::Threads;
 use vcpu_pass::Vcpu;
 
 // Lets the actors of a block do their lines beside one another, behind one lock.
-fn run_actors<'c, J: Naming + Send + Sync, G: Gate, R: Threads + Wait + Sync>(
+fn run_actors<'c, 'k, J: Naming + Send + Sync, G: Gate, R: Threads + Wait + Sync>(
     rt: &R,
     alloc: Global,
     gate: &G,
     first: Record,
-    actors: &mut Vec<BlockActor<'c>>,
+    actors: &mut Vec<BlockActor<'c, 'k>>,
     clerks: &mut Vec<Clerk>,
 ) -> (Record, Option<Differs>)
     requires start { first ≡ J.start }
@@ -67,28 +67,35 @@ fn meet<'c>(desk: &mut Record, cpus: &mut Vec<Vcpu<'c>>)
     meet_all(desk, cpus.as_mut_slice());
 }
 
-// Lets the actors of a block do their lines, once there is room for all of it.
+// Lets the actors of a block do their lines, once they have their places. It gives back what the desk knows then, where it acted.
 fn run_in<'c, J: Naming + Send + Sync, G: Gate, R: Threads + Wait + Sync>(
     rt: &R,
     alloc: Global,
     gate: &G,
     desk: Record,
-    seated: Seated<'c>,
+    seated: Seated<'c, '_>,
     lines: &[(u32, Command)],
     text: &mut Line,
-) -> (Record, Vec<Vcpu<'c>>, KnownNames, Result<(), AllocError>)
+) -> (
+    Record,
+    Vec<Vcpu<'c>>,
+    Option<KnownNames>,
+    Result<(), AllocError>,
+)
     requires start { desk ≡ J.start }
     requires seated { (k : Known) × AreSeated k lines.now desk seated }
     ensures ready { AreReady result.0 result.1.items }
     ensures later { IsLater desk result.0 }
+    ensures told { IsTold seated.entry.known.now result.2 }
     ensures step { (k : Known) → AreSeated k lines.now desk seated.entry
-        → OnOk result.3 (WritesOn desk k (block lines.now) result.0 result.2 text.old text.new) }
+        → OnOk result.3 (WritesOn desk k (block lines.now) result.0 (names_then k seated.entry.known.now result.2) text.old text.new) }
     ensures stopped { (k : Known) → AreSeated k lines.now desk seated.entry → StopsIn desk k (block lines.now) result.0 }
 {
     let Seated {
         mut actors,
         mut clerks,
         known,
+        busy,
         mut waiting,
         mut cpus,
     } = seated;
@@ -102,16 +109,16 @@ fn run_in<'c, J: Naming + Send + Sync, G: Gate, R: Threads + Wait + Sync>(
     );
     let done = add_block(
         text,
-        &known,
+        known,
         &after,
         actors.as_slice(),
         clerks.as_slice(),
         differs,
     );
-    unseat_passes(MOST_PASSES, lines, &mut actors, &mut waiting, &mut cpus);
+    unseat_passes(busy.as_slice(), &mut actors, &mut waiting, &mut cpus);
     meet(&mut after, &mut cpus);
-    let known = known_after(actors.pop(), known);
-    (after, cpus, known, done)
+    let desks = desks_known(actors.pop());
+    (after, cpus, desks, done)
 }
 
 /// A block of a race: its actors do their lines beside one another, each in a thread of its own where one can be made, over one lock before
@@ -140,8 +147,17 @@ pub fn block<'c, G: Gate, R: Threads + Wait + Sync>(
 {
     match room_for(alloc, &known, lines) {
         Ok(room) => {
-            let seated = seat(alloc, cpus, known, lines, room);
-            run_in::<Brand, G, R>(rt, alloc, gate, desk, seated, lines, text)
+            let Room {
+                desk_lines,
+                mut actors,
+                passes,
+            } = room;
+            let kept = seat_desk(alloc, known, desk_lines, lines, &mut actors);
+            let seated = seat(alloc, &kept, cpus, lines, actors, passes);
+            let (after, cpus, desks, done) = run_in::<Brand, G, R>(
+                rt, alloc, gate, desk, seated, lines, text,
+            );
+            (after, cpus, known_after(desks, kept), done)
         }
         Err(error) => (desk, cpus, known, Err(error)),
     }

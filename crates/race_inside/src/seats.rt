@@ -8,36 +8,38 @@ ghost use Rattle.desk_lock.specs.Records.{RecordState};
 ghost use Rattle.race_block.specs.declared.blocks.BlockActor.TheVariants.{Pass};
 ghost use Rattle.race_block.specs.Desks as desks;
 ghost use Rattle.race_block.specs.Desks.{lines_meant};
-ghost use Rattle.race_inside.specs.Rooms.{AreWorksOf, IsRoomFor};
-ghost use Rattle.race_inside.specs.Seats.{AreSeated, AreSeatsOf, ComeBack, HaveSeats, IsKnown, SeatsDesk, SeatsPass, TakesCpu, known_now};
+ghost use Rattle.race_inside.specs.Rooms.{AreWorksOf, IsPassRoomFor};
+ghost use Rattle.race_inside.specs.Seats.{AllComeBack, AreSeated, AreSeatsOf, GivesLines, HaveSeats, IsTold, KeepsKnown, SeatsDesk};
+ghost use Rattle.race_inside.specs.Seats.{SeatsPass, TakesCpu, desks_known, names_then};
 
-use crate::rooms::{PassWork, Room};
+use crate::rooms::{PassRoom, Work, acts};
 use desk_lock::Clerk;
 use mem_base::Command;
-use race_block::{BlockActor, DeskActor, DeskLine, PassActor};
+use race_block::{BlockActor, BlockLine, DeskActor, OwnLine, PassActor, PassLines};
 use race_lines::KnownNames;
-use race_phases::{DESK_NUMBER, has_line};
+use race_phases::DESK_NUMBER;
 use std::alloc::Global;
 use vcpu_pass::Vcpu;
 
-/// The actors of a block, with room for their clerks; the virtual CPUs that wait, and what is known, where the desk waits; and room for
-/// all virtual CPUs after the block.
+/// The actors of a block, with room for their clerks; which passes are among them, and the virtual CPUs that wait; what is known, where
+/// the desk waits; and room for all virtual CPUs after the block.
 #[derive(Drop)]
-pub(crate) struct Seated<'a> {
-    pub(crate) actors: Vec<BlockActor<'a>>,
+pub(crate) struct Seated<'a, 'k> {
+    pub(crate) actors: Vec<BlockActor<'a, 'k>>,
     pub(crate) clerks: Vec<Clerk>,
-    pub(crate) known: Option<KnownNames>,
+    pub(crate) known: &'k Option<KnownNames>,
+    pub(crate) busy: Vec<bool>,
     pub(crate) waiting: Vec<Vcpu<'a>>,
     pub(crate) cpus: Vec<Vcpu<'a>>,
 }
 
-// The desk takes its place as the first actor, where it has lines; else what is known is kept.
-fn seat_desk<'a>(
+/// The desk takes its place as the first actor, where it has lines; else what is known is kept.
+pub(crate) fn seat_desk<'a>(
     alloc: Global,
     known: KnownNames,
-    own: Vec<DeskLine<'a>>,
+    own: Vec<OwnLine<'a>>,
     lines: &[(u32, Command)],
-    actors: &mut Vec<BlockActor<'a>>,
+    actors: &mut Vec<BlockActor<'a, '_>>,
 ) -> Option<KnownNames>
     requires lines { lines_meant own.items ≡ lines_by desk_number (block lines.now) }
     requires fits { All desks.FitsLine own.items }
@@ -46,7 +48,7 @@ fn seat_desk<'a>(
     ensures desk { SeatsDesk known lines.now result actors.new.items }
     ensures capacity { vec_capacity actors.new ≡ vec_capacity actors.old }
 {
-    if !has_line(DESK_NUMBER, lines) {
+    if own.is_empty() {
         return Some(known);
     }
     actors.push_reserved(BlockActor::Desk(DeskActor {
@@ -60,47 +62,67 @@ fn seat_desk<'a>(
     None
 }
 
+// The lines of a pass: as they stand with what is known, where this is kept; else with the tasks that were made before.
+fn lines_for<'a, 'k>(
+    known: &'k Option<KnownNames>,
+    own: Vec<OwnLine<'a>>,
+    tasks: Vec<BlockLine<'a>>,
+) -> PassLines<'a, 'k>
+    ensures { GivesLines known.now own.entry.items tasks.entry.items result }
+{
+    match known {
+        Some(names) => PassLines::Unresolved { lines: own, names },
+        None => PassLines::Resolved(tasks),
+    }
+}
+
 // A pass takes its place.
-fn seat_pass<'a>(
+fn seat_pass<'a, 'k>(
     alloc: Global,
     who: u32,
+    known: &'k Option<KnownNames>,
     cpu: Vcpu<'a>,
-    work: PassWork<'a>,
-    actors: &mut Vec<BlockActor<'a>>,
+    work: Work<'a>,
+    actors: &mut Vec<BlockActor<'a, 'k>>,
     waiting: &mut Vec<Vcpu<'a>>,
 )
     requires actors_fit { length actors.old.items < vec_capacity actors.old }
     requires waiting_fit { length waiting.old.items < vec_capacity waiting.old }
-    ensures seat { SeatsPass who cpu.entry work.entry actors.old.items actors.new.items waiting.old.items waiting.new.items }
+    ensures seat { SeatsPass who known.now cpu.entry work.entry actors.old.items actors.new.items waiting.old.items waiting.new.items }
     ensures actors_room { vec_capacity actors.new ≡ vec_capacity actors.old }
     ensures waiting_room { vec_capacity waiting.new ≡ vec_capacity waiting.old }
 {
-    match work {
-        PassWork::Nothing => waiting.push_reserved(cpu),
-        PassWork::Lines { lines, bounce } => actors.push_reserved(BlockActor::Pass(PassActor {
-            vcpu: cpu,
-            bounce,
-            clerk: Clerk::new(alloc, who),
-            lines,
-            got: Vec::new(alloc),
-            out_of_memory: false,
-        })),
+    if !acts(&work) {
+        waiting.push_reserved(cpu);
+        return;
     }
+    let Work { own, tasks, bounce } = work;
+    let lines = lines_for(known, own, tasks);
+    actors.push_reserved(BlockActor::Pass(PassActor {
+        vcpu: cpu,
+        bounce,
+        clerk: Clerk::new(alloc, who),
+        lines,
+        got: Vec::new(alloc),
+        out_of_memory: false,
+    }));
 }
 
 // All passes take their places, by what each has to do.
-fn seat_passes<'a>(
+fn seat_passes<'a, 'k>(
     alloc: Global,
+    known: &'k Option<KnownNames>,
     cpus: &mut Vec<Vcpu<'a>>,
-    works: &mut Vec<PassWork<'a>>,
-    actors: &mut Vec<BlockActor<'a>>,
+    works: &mut Vec<Work<'a>>,
+    actors: &mut Vec<BlockActor<'a, 'k>>,
     waiting: &mut Vec<Vcpu<'a>>,
 )
     requires most { length cpus.old.items ≤ most_passes }
     requires works { length works.old.items ≡ length cpus.old.items }
     requires actors_fit { length actors.old.items + length cpus.old.items ≤ vec_capacity actors.old }
     requires waiting_fit { length waiting.old.items + length cpus.old.items ≤ vec_capacity waiting.old }
-    ensures seats { (k : Known) (lines : List Line) (r : RecordState) → AreSeatsOf r cpus.old.items → AreWorksOf k lines works.old.items
+    ensures seats { (k : Known) (lines : List Line) (r : RecordState) → KeepsKnown k lines known.now → AreSeatsOf r cpus.old.items
+        → AreWorksOf k lines works.old.items
         → HaveSeats k lines r (length cpus.old.items) actors.old.items actors.new.items waiting.old.items waiting.new.items }
     ensures actors_most { length actors.new.items ≤ length actors.old.items + length cpus.old.items }
     ensures waiting_most { length waiting.new.items ≤ length waiting.old.items + length cpus.old.items }
@@ -114,44 +136,55 @@ fn seat_passes<'a>(
         unreachable!();
     };
     let who = cpus.len() as u32;
-    seat_passes(alloc, cpus, works, actors, waiting);
-    seat_pass(alloc, who, cpu, work, actors, waiting);
+    seat_passes(alloc, known, cpus, works, actors, waiting);
+    seat_pass(alloc, who, known, cpu, work, actors, waiting);
 }
 
-/// The desk and all passes take their places before a block.
-pub(crate) fn seat<'a>(
+/// All passes take their places before a block, after the desk.
+pub(crate) fn seat<'a, 'k>(
     alloc: Global,
+    known: &'k Option<KnownNames>,
     cpus: Vec<Vcpu<'a>>,
-    known: KnownNames,
     lines: &[(u32, Command)],
-    room: Room<'a>,
-) -> Seated<'a>
+    actors: Vec<BlockActor<'a, 'k>>,
+    room: PassRoom<'a>,
+) -> Seated<'a, 'k>
     requires all { length cpus.items ≡ most_passes }
-    requires room { IsRoomFor known lines.now room }
-    ensures { (r : RecordState) → AreSeatsOf r cpus.entry.items → AreSeated known lines.now r result }
+    requires fit { most_passes + 1 ≤ vec_capacity actors }
+    requires room { (k : Known) × SeatsDesk k lines.now known.now actors.items × IsPassRoomFor k lines.now room }
+    ensures seated { (k : Known) (r : RecordState) → SeatsDesk k lines.now known.now actors.entry.items → IsPassRoomFor k lines.now room.entry
+        → AreSeatsOf r cpus.entry.items → AreSeated k lines.now r result }
+    ensures known { result.known.now ≡ known.now }
 {
-    let Room {
-        desk_lines,
+    let PassRoom {
         mut works,
-        mut actors,
+        busy,
         mut waiting,
         cpus: after,
         clerks,
     } = room;
     let mut before = cpus;
-    let known = seat_desk(alloc, known, desk_lines, lines, &mut actors);
-    seat_passes(alloc, &mut before, &mut works, &mut actors, &mut waiting);
+    let mut seated = actors;
+    seat_passes(
+        alloc,
+        known,
+        &mut before,
+        &mut works,
+        &mut seated,
+        &mut waiting,
+    );
     Seated {
-        actors,
+        actors: seated,
         clerks,
         known,
+        busy,
         waiting,
         cpus: after,
     }
 }
 
 // The virtual CPU of an actor.
-fn cpu_of<'a>(actor: Option<BlockActor<'a>>) -> Option<Vcpu<'a>>
+fn cpu_of<'a>(actor: Option<BlockActor<'a, '_>>) -> Option<Vcpu<'a>>
     ensures { (a : PassActor) → actor.entry ≡ Some (Pass a) → result ≡ Some a.vcpu }
 {
     match actor {
@@ -163,7 +196,7 @@ fn cpu_of<'a>(actor: Option<BlockActor<'a>>) -> Option<Vcpu<'a>>
 // The virtual CPU of the last pass that acts, or of the last one that waits.
 fn take_cpu<'a>(
     acts: bool,
-    actors: &mut Vec<BlockActor<'a>>,
+    actors: &mut Vec<BlockActor<'a, '_>>,
     waiting: &mut Vec<Vcpu<'a>>,
 ) -> Option<Vcpu<'a>>
     ensures { TakesCpu acts actors.old.items actors.new.items waiting.old.items waiting.new.items result }
@@ -174,41 +207,48 @@ fn take_cpu<'a>(
     waiting.pop()
 }
 
-/// The first passes stand in order of their numbers again, from the ends of the actors and of those that wait.
+/// The first passes stand in order of their numbers again, from the ends of the actors, where they are busy, and of those that wait.
 pub(crate) fn unseat_passes<'a>(
-    count: u32,
-    lines: &[(u32, Command)],
-    actors: &mut Vec<BlockActor<'a>>,
+    busy: &[bool],
+    actors: &mut Vec<BlockActor<'a, '_>>,
     waiting: &mut Vec<Vcpu<'a>>,
     cpus: &mut Vec<Vcpu<'a>>,
 )
-    requires fit { length cpus.old.items + count ≤ vec_capacity cpus.old }
-    ensures back { ComeBack lines.now count actors.old.items actors.new.items waiting.old.items cpus.old.items cpus.new.items }
-    ensures most { length cpus.new.items ≤ length cpus.old.items + count }
+    requires fit { length cpus.old.items + length busy.now ≤ vec_capacity cpus.old }
+    ensures back { AllComeBack busy.now actors.old.items actors.new.items waiting.old.items cpus.old.items cpus.new.items }
+    ensures most { length cpus.new.items ≤ length cpus.old.items + length busy.now }
     ensures room { vec_capacity cpus.new ≡ vec_capacity cpus.old }
 {
-    if count == 0 {
+    let Some((acts, others)) = busy.split_last() else {
         return;
-    }
-    let pass = count - 1;
-    let acts = has_line(pass, lines);
-    let cpu = take_cpu(acts, actors, waiting);
-    unseat_passes(pass, lines, actors, waiting, cpus);
+    };
+    let cpu = take_cpu(*acts, actors, waiting);
+    unseat_passes(others, actors, waiting, cpus);
     if let Some(cpu) = cpu {
         cpus.push_reserved(cpu);
     }
 }
 
+/// What the desk knows after a block, where it acted.
+pub(crate) fn desks_known(desk: Option<BlockActor<'_, '_>>) -> Option<KnownNames>
+    ensures { result ≡ desks_known (option_to_list desk.entry) }
+{
+    match desk {
+        Some(BlockActor::Desk(lines)) => Some(lines.known),
+        _ => None,
+    }
+}
+
 /// What is known after a block: what was kept, or what the desk knows then.
-pub(crate) fn known_after(desk: Option<BlockActor<'_>>, kept: Option<KnownNames>) -> KnownNames
-    requires { IsKnown kept (option_to_list desk) }
-    ensures { (k : Known) → result ≡ known_now k kept (option_to_list desk.entry) }
+pub(crate) fn known_after(desks: Option<KnownNames>, kept: Option<KnownNames>) -> KnownNames
+    requires { IsTold kept desks }
+    ensures { (k : Known) → result ≡ names_then k kept desks }
 {
     match kept {
         Some(known) => known,
-        None => match desk {
-            Some(BlockActor::Desk(lines)) => lines.known,
-            _ => unreachable!(),
+        None => match desks {
+            Some(known) => known,
+            None => unreachable!(),
         },
     }
 }

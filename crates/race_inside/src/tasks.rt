@@ -1,118 +1,97 @@
-// The lines of a block by whose they are: those of a pass with their tasks, those of the desk as they stand.
-ghost use Rattle.std.specs.Prelude.{◌≡◌, ◌<◌, All, IfOk};
-ghost use Rattle.mem_base.specs.map.Limits.{most_passes};
-ghost use Rattle.mem_base.specs.script.Race.{actor_number, block, desk_number, lines_by};
-ghost use Rattle.mem_base.specs.script.Tasks.{task_of};
+// The lines of a block by whose they are, and their tasks, where these are made before the block.
+ghost use Rattle.std.specs.Prelude.{◌≡◌, ◌<◌, [], ◌∷◌, ◌++◌, All, OnOk, ℕ, length, slice_index_or};
 ghost use Rattle.run_laws.specs.Fitting.{AreFitting, FitsCommand};
-ghost use Rattle.race_lines.specs.LineTasks.{resolved};
-ghost use Rattle.race_block.specs.Desks as desks;
-ghost use Rattle.race_block.specs.Desks.{line_meant, lines_meant};
-ghost use Rattle.race_block.specs.Laws.{AreTasksOf, StandsFor};
-ghost use Rattle.race_block.specs.Lines as passes;
-ghost use Rattle.race_inside.specs.Rooms.{IsOfPass, IsTaskOf, copy_room};
+ghost use Rattle.mem_base.specs.script.Race.{actor_number};
+ghost use Rattle.race_block.specs.Desks.{line_meant};
+ghost use Rattle.race_block.specs.Resolving.{IsPassLine};
+ghost use Rattle.race_inside.specs.Rooms.{AreAll, AreIdle, ArePrepared, IsPrepared, TakesLine, most_actors};
 
+use crate::rooms::Work;
 use mem_base::Command;
-use race_block::{BlockLine, DeskLine, PassTask};
-use race_lines::{KnownNames, LineTask, ResolvedTask, task_of};
-use race_phases::{DESK_NUMBER, actor_number};
+use race_block::{OwnLine, resolve_lines};
+use race_lines::KnownNames;
+use race_phases::actor_number;
 use std::alloc::{AllocError, Global};
 
-// What a line of a pass asks for, in the words of an actor.
-fn pass_task(task: ResolvedTask<'_>) -> PassTask<'_>
-    requires { IsOfPass task }
-    ensures { StandsFor result (resolved task.entry) }
-{
-    match task {
-        Ok(LineTask::Ordered { order, naming: _ }) => PassTask::Order(order),
-        Ok(LineTask::Entered) => PassTask::Enter,
-        Ok(LineTask::Left) => PassTask::Leave,
-        Ok(LineTask::Read { space, addr, len }) => PassTask::Read { space, addr, len },
-        Ok(LineTask::Written { space, addr, bytes }) => PassTask::Write { space, addr, bytes },
-        Ok(
-            LineTask::Copied {
-                space,
-                addr,
-                len,
-                to_space,
-                to_addr,
-            },
-        ) => PassTask::Copy {
-            from: space,
-            addr,
-            len,
-            to: to_space,
-            to_addr,
-        },
-        Ok(_) => unreachable!(),
-        Err(why) => PassTask::Refused(why),
-    }
-}
-
-// A line of a pass, with its task by what is known.
-fn block_line<'a>(
-    alloc: Global,
-    known: &KnownNames,
-    line: &'a (u32, Command),
-) -> Result<BlockLine<'a>, AllocError>
-    requires pass { actor_number line.now.1 < most_passes }
-    requires fits { FitsCommand line.now.1 }
-    ensures is { IfOk result (IsTaskOf known.now line.now) }
-    ensures fits { IfOk result (passes.FitsLine copy_room) }
-{
-    let task = task_of(alloc, known, &line.1)?;
-    Ok(BlockLine {
-        number: line.0,
-        task: pass_task(task),
-    })
-}
-
-/// The lines of a pass in a block, with their tasks by what is known. It fails only where memory runs out.
-pub(crate) fn lines_of_pass<'a>(
-    alloc: Global,
-    known: &KnownNames,
-    who: u32,
-    lines: &'a [(u32, Command)],
-) -> Result<Vec<BlockLine<'a>>, AllocError>
-    requires pass { who < most_passes }
-    requires fits { AreFitting lines.now }
-    ensures tasks { IfOk result (λ own. AreTasksOf known.now (lines_by who (block lines.now)) own.items) }
-    ensures fits { IfOk result (λ own. All (passes.FitsLine copy_room) own.items) }
-{
-    let mut own = Vec::new(alloc);
-    for line in lines {
-        if actor_number(&line.1) == who {
-            let own_line = block_line(alloc, known, line)?;
-            own.push(own_line)?;
-        }
-    }
-    Ok(own)
-}
-
-// A line of the desk.
-fn desk_line(line: &(u32, Command)) -> DeskLine<'_>
+// A line of an actor.
+fn own_line(line: &(u32, Command)) -> OwnLine<'_>
     ensures { line_meant result ≡ line.now }
 {
-    DeskLine {
+    OwnLine {
         number: line.0,
         command: &line.1,
     }
 }
 
-/// The lines of the desk in a block. It fails only where memory runs out.
-pub(crate) fn lines_of_desk(
-    alloc: Global,
-    lines: &[(u32, Command)],
-) -> Result<Vec<DeskLine<'_>>, AllocError>
-    requires fits { AreFitting lines.now }
-    ensures lines { IfOk result (λ own. lines_meant own.items ≡ lines_by desk_number (block lines.now)) }
-    ensures fits { IfOk result (λ own. All desks.FitsLine own.items) }
+// Puts a line to those that an actor has to do.
+fn put_line<'a>(work: &mut Work<'a>, line: OwnLine<'a>) -> Result<(), AllocError>
+    ensures line { OnOk result (work.new.own.items ≡ work.old.own.items ++ line.entry ∷ []) }
+    ensures bounce { work.new.bounce ≡ work.old.bounce }
 {
-    let mut own = Vec::new(alloc);
+    work.own.push(line)?;
+    Ok(())
+}
+
+// Deals a line to an actor.
+fn deal_to<'a>(
+    who: u32,
+    line: &'a (u32, Command),
+    works: &mut Vec<Work<'a>>,
+) -> Result<(), AllocError>
+    requires who { who < most_actors }
+    requires all { length works.old.items ≡ most_actors }
+    ensures { OnOk result (TakesLine line.now who works.old.items works.new.items) }
+{
+    put_line(&mut works[who as usize], own_line(line))?;
+    Ok(())
+}
+
+// Deals a line of a block to its actor.
+fn deal_line<'a>(line: &'a (u32, Command), works: &mut Vec<Work<'a>>) -> Result<(), AllocError>
+    requires fits { FitsCommand line.now.1 }
+    requires all { length works.old.items ≡ most_actors }
+    ensures { OnOk result (TakesLine line.now (actor_number line.now.1) works.old.items works.new.items) }
+{
+    let who = actor_number(&line.1);
+    deal_to(who, line, works)?;
+    Ok(())
+}
+
+/// Deals the lines of a block to their actors, by one walk. It fails only where memory runs out.
+pub(crate) fn deal<'a>(
+    lines: &'a [(u32, Command)],
+    works: &mut Vec<Work<'a>>,
+) -> Result<(), AllocError>
+    requires fits { AreFitting lines.now }
+    requires idle { AreIdle works.old.items }
+    ensures { OnOk result (AreAll lines.now works.new.items) }
+{
     for line in lines {
-        if actor_number(&line.1) == DESK_NUMBER {
-            let own_line = desk_line(line);
-            own.push(own_line)?;
-        }
+        deal_line(line, works)?;
     }
-    Ok(own)
+    Ok(())
+}
+
+// Makes the tasks of what a pass has to do.
+fn prepare<'a>(alloc: Global, known: &KnownNames, work: &mut Work<'a>) -> Result<(), AllocError>
+    requires fits { All IsPassLine work.old.own.items }
+    ensures { OnOk result (IsPrepared known.now work.old work.new) }
+{
+    work.tasks = resolve_lines(alloc, known, work.own.as_slice())?;
+    Ok(())
+}
+
+/// Makes the tasks of what each pass has to do, by what is known. It fails only where memory runs out.
+pub(crate) fn prepare_all<'a>(
+    alloc: Global,
+    known: &KnownNames,
+    works: &mut Vec<Work<'a>>,
+) -> Result<(), AllocError>
+    requires fit { (p : ℕ) (d : Work) → p < length works.old.items → All IsPassLine (slice_index_or works.old.items p d).own.items }
+    ensures { OnOk result (ArePrepared known.now works.old.items works.new.items) }
+{
+    for at in 0..works.len() {
+        prepare(alloc, known, &mut works[at])?;
+    }
+    Ok(())
 }

@@ -3,17 +3,19 @@ ghost use Rattle.std.specs.Prelude.{◌≡◌, ◌++◌, false, flat_map, OnOk};
 ghost use Rattle.std.specs.List.{list_any};
 ghost use Rattle.mem_base.specs.script.Race.{differs_line};
 ghost use Rattle.mem_base.specs.script.RaceLines.{entry_at, said_text};
+ghost use Rattle.pass_lines.specs.declared.answers.LineAnswer.TheVariants.{Read};
 ghost use Rattle.pass_lines.specs.Texts.{answer_text};
 ghost use Rattle.race_block.specs.Laws.{taken_by};
+ghost use Rattle.race_block.specs.Resolving.{tasks_in};
 ghost use Rattle.race_inside.specs.Ran.{is_out_of_memory};
 ghost use Rattle.race_inside.specs.Seats.{IsKnown};
 ghost use Rattle.race_inside.specs.Texts.{actor_said, actors_said, line_said, lines_said, names_now, ordered_said, refusal};
 ghost use Rattle.script_names.specs.Tables.{printed_names};
 
 use desk_lock::{Clerk, Record};
-use mem_base::{DeskEntry, Differs, ListenerEvent, ListenerId, PassId};
+use mem_base::{Access, DeskEntry, Differs, ListenerEvent, ListenerId, PassId};
 use pass_lines::LineAnswer;
-use race_block::{BlockActor, BlockLine, LineGot, PassTask};
+use race_block::{BlockActor, BlockLine, FewBytes, LineGot, PassLines, PassTask};
 use race_lines::{
     KnownNames, LineSaid, add_differs_line, add_do_answer, add_name_refused, add_told_lines,
     delivered_between,
@@ -72,6 +74,18 @@ fn add_answer(text: &mut Line, pass: PassId, answer: &LineAnswer) -> Result<(), 
     }
 }
 
+// The line of a read of few bytes.
+fn add_few(
+    text: &mut Line,
+    pass: PassId,
+    access: Access,
+    bytes: &FewBytes,
+) -> Result<(), AllocError>
+    ensures { OnOk result (text.new ≡ text.old ++ answer_text pass (Read access bytes.now)) }
+{
+    add_read_line(text, pass, access, bytes.as_slice())
+}
+
 // What a line of a pass wrote.
 fn add_line(
     text: &mut Line,
@@ -89,6 +103,7 @@ fn add_line(
     match got {
         LineGot::Refused => add_refusal(text, line.number, &line.task),
         LineGot::Ordered => add_ordered(text, names, journal, line.number, pass, entries, at),
+        LineGot::ReadFew { access, bytes } => add_few(text, pass, *access, bytes),
         LineGot::Answered(answer) => add_answer(text, pass, answer),
     }
 }
@@ -142,12 +157,22 @@ fn add_said(
     Ok(())
 }
 
+// The tasks of a pass's lines.
+fn tasks_in<'l, 'a>(lines: &'l PassLines<'a, '_>) -> &'l [BlockLine<'a>]
+    ensures { result.now ≡ tasks_in lines.now }
+{
+    match lines {
+        PassLines::Unresolved { lines: _, names: _ } => &[],
+        PassLines::Resolved(tasks) => tasks.as_slice(),
+    }
+}
+
 // What the lines of an actor wrote.
 fn add_actor(
     text: &mut Line,
     names: &Names,
     journal: &[(ListenerId, ListenerEvent)],
-    actor: &BlockActor<'_>,
+    actor: &BlockActor<'_, '_>,
     clerk: &Clerk,
 ) -> Result<(), AllocError>
     ensures { OnOk result (text.new ≡ text.old ++ actor_said (printed_names names.now) journal.now actor.now clerk.now) }
@@ -159,7 +184,7 @@ fn add_actor(
             names,
             journal,
             PassId(clerk.who()),
-            pass.lines.as_slice(),
+            tasks_in(&pass.lines),
             pass.got.as_slice(),
             clerk.got(),
         ),
@@ -172,7 +197,7 @@ fn add_actors(
     text: &mut Line,
     names: &Names,
     journal: &[(ListenerId, ListenerEvent)],
-    actors: &[BlockActor<'_>],
+    actors: &[BlockActor<'_, '_>],
     clerks: &[Clerk],
 ) -> Result<(), AllocError>
     ensures { OnOk result (text.new ≡ text.old ++ actors_said (printed_names names.now) journal.now actors.now clerks.now) }
@@ -190,7 +215,7 @@ fn add_actors(
 fn add_by_desk(
     text: &mut Line,
     journal: &[(ListenerId, ListenerEvent)],
-    actors: &[BlockActor<'_>],
+    actors: &[BlockActor<'_, '_>],
     clerks: &[Clerk],
 ) -> Result<(), AllocError>
     requires { IsKnown None actors.now }
@@ -205,7 +230,7 @@ fn add_by_desk(
 }
 
 // Whether memory ran out for an actor.
-fn is_out_of_memory(actor: &BlockActor<'_>) -> bool
+fn is_out_of_memory(actor: &BlockActor<'_, '_>) -> bool
     ensures { result ≡ is_out_of_memory actor.now }
 {
     match actor {
@@ -216,7 +241,7 @@ fn is_out_of_memory(actor: &BlockActor<'_>) -> bool
 }
 
 // Whether memory ran out for any of them.
-fn any_out_of_memory(actors: &[BlockActor<'_>]) -> bool
+fn any_out_of_memory(actors: &[BlockActor<'_, '_>]) -> bool
     ensures { result ≡ list_any is_out_of_memory actors.now }
 {
     for actor in actors {
@@ -233,7 +258,7 @@ pub(crate) fn add_block(
     text: &mut Line,
     known: &Option<KnownNames>,
     desk: &Record,
-    actors: &[BlockActor<'_>],
+    actors: &[BlockActor<'_, '_>],
     clerks: &[Clerk],
     differs: Option<Differs>,
 ) -> Result<(), AllocError>

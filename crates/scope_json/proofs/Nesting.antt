@@ -19,12 +19,15 @@ use Rattle.view_diff.specs.declared.Difference.{Difference}
 use Rattle.view_slots.specs.Texts.{range_of}
 use Rattle.script_map.specs.Left.{Shown, first_of, published_in, refused_in}
 use Rattle.script_map.specs.Refusals.{Refused}
+use Rattle.script_lint.specs.Blocks.{idle_par}
+use Rattle.script_lint.specs.Refusals.{taken_along_by}
+use Rattle.script_lint.specs.Transactions.{unclosed}
 use Rattle.scope_words.specs.declared.requests.Request.{Request}
 use Rattle.scope_words.specs.declared.requests.Request.TheVariants.{Why, Lint, Diff, Slots, Draw, Explain, Import, Check}
 use Rattle.scope_run.specs.Diffs.{is_kept}
 use Rattle.scope_run.specs.Explains.{topic_code}
 use Rattle.scope_run.specs.Requests.{Holding}
-use Rattle.scope_run.specs.Scripts.{TellsAll, left_by}
+use Rattle.scope_run.specs.Scripts.{TellsAll, left_by, told_by}
 use Rattle.scope_run.specs.Tables.{slot_number}
 use Rattle.scope_values.specs.Findings.{finding_data}
 use Rattle.scope_values.specs.Rows.{row_data}
@@ -35,9 +38,9 @@ use Rattle.scope_json.specs.Answers.{AnswersWith, AnswersWord}
 use Rattle.scope_json.specs.Diffs.{TellsBetween, TellsDiff, TellsFirst, alone_data, changes_of, diff_data, diff_fields, difference_data, second_data}
 use Rattle.scope_json.specs.Diffs.{space_data, space_fields}
 use Rattle.scope_json.specs.Draws.{draw_data, draw_fields}
-use Rattle.scope_json.specs.Explains.{explain_fields, explained_data, fault_data, fault_fields, topic_answer}
+use Rattle.scope_json.specs.Explains.{explain_fields, explained_data, fault_data, fault_fields, refused_data, topic_answer}
 use Rattle.scope_json.specs.Monitors.{check_data, import_data, text_fields}
-use Rattle.scope_json.specs.Lints.{findings_in, lint_by, lint_fields, refused_data, refused_fields}
+use Rattle.scope_json.specs.Lints.{findings_in, line_data, lint_by, lint_data, lint_fields, number_data, refused_fields, taken_data, taken_fields}
 use Rattle.scope_json.specs.Tables.{TellsSlotsIn, TellsSlotsOf, TellsTables, slots_data, slots_fields, step_data, table_data, table_fields}
 use Rattle.scope_json.specs.Texts.{answer_of}
 use Rattle.scope_json.specs.Whys.{why_data, why_fields}
@@ -54,10 +57,24 @@ refused_depth r = depth_of_record 0 (refused_fields r) (leaf 0, (leaf 0, tt))
 refusals_depth : (rs : List Refused) → depth (list_of (map refused_data rs)) ≤ 2
 refusals_depth rs = depth_of_map 1 refused_data rs refused_depth
 
-lint_depth : (rs : List Refused) (s : State) → depth (lint_by rs s) ≤ 3
-lint_depth rs s =
-    answer_depth 2 (codes "lint") (lint_fields rs s)
-    (refusals_depth rs, (depth_of_map 1 (finding_data s.names) (findings_in s) (finding_depth s.names), tt))
+line_depth : (n : ℕ) (line : Option ℕ) → depth (line_data line) ≤ n
+line_depth n None = leaf n
+line_depth n (Some line) = leaf n
+
+taken_depth : (lines : List Line) (rs : List Refused) (r : Refused) → depth (taken_data lines rs r) ≤ 1
+taken_depth lines rs r = depth_of_record 0 (taken_fields lines rs r) (leaf 0, (leaf 0, (line_depth 0 (taken_along_by lines rs r), tt)))
+
+lint_depth : (lines : List Line) (rs : List Refused) (s : State) → depth (lint_by lines rs s) ≤ 3
+lint_depth lines rs s =
+    let begun = unclosed lines rs in
+    let idle = idle_par lines in
+    answer_depth 2 (codes "lint") (lint_fields lines rs begun idle s.names (findings_in s)) (
+      depth_of_map 1 (taken_data lines rs) rs (taken_depth lines rs),
+      (
+        depth_of_map 1 number_data begun (λ line. leaf 1),
+        (line_depth 2 idle, (depth_of_map 1 (finding_data s.names) (findings_in s) (finding_depth s.names), tt)),
+      ),
+    )
 
 -- a part for each element of a list
 parts_shallow : {X : Type 0} (n : ℕ) (tells : X → List Data → Type 0) (xs : List X) (items : List Data)
@@ -143,29 +160,29 @@ word_depth held what (Some code) d something h =
     (answer_depth 1 (codes "explain") (topic_answer h.0.0) (topic_depth h.0.0, tt)) (omega arith)
 word_depth held what None d something h = same_depth d (explained_data (script_of h.0)) 3 h.2.0 (explained_depth (script_of h.0)) (omega arith)
 
-lint_within : (lines : List Line) (d : Data) → d ≡ lint_by (refused_in (first_of lines) lines) (left_by lines) → depth d ≤ max_depth
+lint_within : (lines : List Line) (d : Data) → d ≡ lint_data lines → depth d ≤ max_depth
 lint_within lines d is =
     let rs = refused_in (first_of lines) lines in
-    same_depth d (lint_by rs (left_by lines)) 3 is (lint_depth rs (left_by lines)) (omega arith)
+    same_depth d (lint_by lines rs (left_by lines)) 3 is (lint_depth lines rs (left_by lines)) (omega arith)
 
 -- every answer nests at most so deep as a text may that is read
 pub answers_depth : (request : Request) (held : Holding) (d : Data) (something : Bool) → AnswersWith request held d something → depth d ≤ max_depth
 answers_depth (Why script space addr region) held d something h =
     let told = h.0.2.2.2 in
-    let names = (left_by h.0.2.2.0).names in
+    let names = (told_by h.0.0 h.0.2.2.0).names in
     same_depth d (why_data names told.one told.hops) 7 told.data_is
     (answer_depth 6 (codes "why") (why_fields names told.one told.hops) (searches_depth names told.one told.hops, tt)) (omega arith)
 answers_depth (Lint script) held d something h = lint_within h.2.0 d h.2.2.0
 answers_depth (Diff first second) held d something h =
     let told = h.2.2.2.2 in
-    same_depth d (diff_data told.0) 6 told.2 (diff_depth (left_by h.2.2.0) (left_by h.2.2.2.0) told.0 told.1) (omega arith)
+    same_depth d (diff_data told.0) 6 told.2 (diff_depth (told_by h.0 h.2.2.0) (told_by h.2.0 h.2.2.2.0) told.0 told.1) (omega arith)
 answers_depth (Slots script) held d something h =
     let told = h.0.2.2 in
     let lines = h.0.2.0 in
-    same_depth d (slots_data told.0) 6 told.2 (slots_depth (left_by lines) (published_in (first_of lines) lines) told.0 told.1) (omega arith)
+    same_depth d (slots_data told.0) 6 told.2 (slots_depth (told_by h.0.0 lines) (published_in (first_of lines) lines) told.0 told.1) (omega arith)
 answers_depth (Draw script space style) held d something h =
     let told = h.0.2.2 in
-    let names = (left_by h.0.2.0).names in
+    let names = (told_by h.0.0 h.0.2.0).names in
     same_depth d (draw_data space.now names told.rows) 4 told.data_is
     (answer_depth 3 (codes "draw") (draw_fields space.now names told.rows) (leaf 3, (depth_of_map 2 (row_data names) told.rows (row_depth names), tt)))
     (omega arith)

@@ -12,7 +12,7 @@ use Rattle.script_map.specs.Left.{first_of, refused_in}
 use Rattle.script_map.specs.Refusals.{Refused}
 use Rattle.scope_values.specs.Topics.{topic_data}
 use Rattle.scope_run.specs.Explains.{topic_code}
-use Rattle.scope_json.specs.Lints.{refused_data}
+use Rattle.scope_json.specs.Lints.{refused_fields}
 use Rattle.scope_json.specs.Texts.{answer_of, has_any}
 
 -- a line at fault, and the cause
@@ -21,6 +21,10 @@ fault_fields bad = (codes "line", number (unsigned bad.line)) ∷ (codes "cause"
 
 abbrev pub fault_data : BadScript → Data
 fault_data bad = record_of (fault_fields bad)
+
+-- a refused command
+abbrev pub refused_data : Refused → Data
+refused_data r = record_of (refused_fields r)
 
 abbrev pub explain_fields : Data → List Refused → List (Text × Data)
 explain_fields fault refused = (codes "fault", fault) ∷ (codes "refused", list_of (map refused_data refused)) ∷ []

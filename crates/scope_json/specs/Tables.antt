@@ -15,7 +15,7 @@ use Rattle.mem_base.specs.views.Walk.{walk}
 use Rattle.view_slots.specs.Texts.{range_of}
 use Rattle.script_map.specs.Left.{Shown, first_of, published_in}
 use Rattle.scope_values.specs.Steps.{slot_data}
-use Rattle.scope_run.specs.Scripts.{TellsAll, left_by}
+use Rattle.scope_run.specs.Scripts.{TellsAll, told_by}
 use Rattle.scope_run.specs.Tables.{HasEdges, IsTable, slot_number}
 use Rattle.scope_json.specs.Texts.{answer_of}
 
@@ -52,9 +52,9 @@ TellsSlotsOf names gs (Some space) items = (edges : List ℕ) × HasEdges edges 
 abbrev pub TellsSlotsIn : State → List Shown → List Data → Type 0
 TellsSlotsIn s gs items = TellsAll (λ name here. TellsSlotsOf s.names gs (space_named s name) here) s.names.spaces items
 
--- all spaces that a script makes, in the generations that it publishes
-abbrev pub TellsSlots : List Line → List Data → Type 0
-TellsSlots lines items = TellsSlotsIn (left_by lines) (published_in (first_of lines) lines) items
+-- all spaces that the script of a text makes, in the generations that it publishes
+abbrev pub TellsSlots : Text → List Line → List Data → Type 0
+TellsSlots script lines items = TellsSlotsIn (told_by script lines) (published_in (first_of lines) lines) items
 
 abbrev pub slots_fields : List Data → List (Text × Data)
 slots_fields items = (codes "tables", list_of items) ∷ []

@@ -3,8 +3,7 @@ ghost use Rattle.std.specs.Prelude.{◌≡◌, ◌++◌, Some, List, IfOk, IfErr
 ghost use Rattle.serde_json.specs.Data.{Data};
 ghost use Rattle.serde_json.specs.View.{view};
 ghost use Rattle.json_build.specs.Held.{values};
-ghost use Rattle.script_map.specs.Left.{left_state};
-ghost use Rattle.scope_run.specs.Scripts.{FailsOnBoth, FailsOnSecond, OfScript, TellsAll, left_by};
+ghost use Rattle.scope_run.specs.Scripts.{FailsOnBoth, FailsOnSecond, OfScript, TellsAll, told_by};
 ghost use Rattle.scope_run.specs.declared.answers.Fault.TheVariants.{Memory};
 ghost use Rattle.scope_json.specs.Diffs.{TellsBetween, TellsDiff, TellsFirst, alone_data, changes_of, diff_data, difference_data, second_data, space_data};
 ghost use Rattle.scope_json.specs.Texts.{has_any};
@@ -14,7 +13,7 @@ use json_build::{Fields, Items, Value};
 use mem_base::{RangeEvent, SpaceId};
 use scope_run::{Fault, Which, difference_of, differs, is_kept, space_count, space_of, stopped};
 use scope_values::change;
-use script_map::{ScriptMap, read};
+use script_memory::{ToldMap, read_told};
 use script_names::NameTable;
 use std::alloc::{AllocError, Global};
 use view_diff::Difference;
@@ -78,13 +77,13 @@ fn add_common(
     alloc: Global,
     items: &mut Items,
     name: &[u8],
-    first: &ScriptMap,
+    first: &ToldMap,
     from: SpaceId,
-    second: &ScriptMap,
+    second: &ToldMap,
     to: SpaceId,
 ) -> Result<(), AllocError>
     ensures { OnOk result ((here : List Data) × (values items.new ≡ values items.old ++ here)
-        × TellsBetween (left_state first.now) (left_state second.now) name.now (Some from) (Some to) here) }
+        × TellsBetween first.now.state second.now.state name.now (Some from) (Some to) here) }
 {
     let difference = difference_of(alloc, first, from, second, to)?;
     add_difference(alloc, items, name, &difference)
@@ -102,13 +101,13 @@ fn add_between(
     alloc: Global,
     items: &mut Items,
     name: &[u8],
-    first: &ScriptMap,
+    first: &ToldMap,
     from: Option<SpaceId>,
-    second: &ScriptMap,
+    second: &ToldMap,
     to: Option<SpaceId>,
 ) -> Result<(), AllocError>
     ensures { OnOk result ((here : List Data) × (values items.new ≡ values items.old ++ here)
-        × TellsBetween (left_state first.now) (left_state second.now) name.now from to here) }
+        × TellsBetween first.now.state second.now.state name.now from to here) }
 {
     match (from, to) {
         (Some(from), Some(to)) => add_common(alloc, items, name, first, from, second, to),
@@ -122,11 +121,11 @@ fn add_first(
     alloc: Global,
     items: &mut Items,
     name: &[u8],
-    first: &ScriptMap,
-    second: &ScriptMap,
+    first: &ToldMap,
+    second: &ToldMap,
 ) -> Result<(), AllocError>
     ensures { OnOk result ((here : List Data) × (values items.new ≡ values items.old ++ here)
-        × TellsFirst (left_state first.now) (left_state second.now) name.now here) }
+        × TellsFirst first.now.state second.now.state name.now here) }
 {
     let from = space_of(alloc, first, name)?;
     let to = space_of(alloc, second, name)?;
@@ -138,9 +137,9 @@ fn add_second(
     alloc: Global,
     items: &mut Items,
     name: &[u8],
-    first: &ScriptMap,
+    first: &ToldMap,
 ) -> Result<(), AllocError>
-    ensures { OnOk result (values items.new ≡ values items.old ++ second_data (left_state first.now) name.now) }
+    ensures { OnOk result (values items.new ≡ values items.old ++ second_data first.now.state name.now) }
 {
     match space_of(alloc, first, name)? {
         Some(_) => Ok(()),
@@ -152,11 +151,11 @@ fn add_second(
 fn add_firsts(
     alloc: Global,
     items: &mut Items,
-    first: &ScriptMap,
-    second: &ScriptMap,
+    first: &ToldMap,
+    second: &ToldMap,
 ) -> Result<(), AllocError>
     ensures { OnOk result ((here : List Data) × (values items.new ≡ values items.old ++ here)
-        × TellsAll (TellsFirst (left_state first.now) (left_state second.now)) (left_state first.now).names.spaces here) }
+        × TellsAll (TellsFirst first.now.state second.now.state) first.now.state.names.spaces here) }
 {
     let names = first.names();
     let spaces = names.spaces();
@@ -170,11 +169,11 @@ fn add_firsts(
 fn add_seconds(
     alloc: Global,
     items: &mut Items,
-    first: &ScriptMap,
-    second: &ScriptMap,
+    first: &ToldMap,
+    second: &ToldMap,
 ) -> Result<(), AllocError>
     ensures { OnOk result (values items.new
-        ≡ values items.old ++ flat_map (second_data (left_state first.now)) (left_state second.now).names.spaces) }
+        ≡ values items.old ++ flat_map (second_data first.now.state) second.now.state.names.spaces) }
 {
     let names = second.names();
     let spaces = names.spaces();
@@ -185,8 +184,8 @@ fn add_seconds(
 }
 
 // The spaces of the first script, and then those of the second alone.
-fn spaces_of(alloc: Global, first: &ScriptMap, second: &ScriptMap) -> Result<Items, AllocError>
-    ensures { IfOk result (λ items. TellsDiff (left_state first.now) (left_state second.now) (values items)) }
+fn spaces_of(alloc: Global, first: &ToldMap, second: &ToldMap) -> Result<Items, AllocError>
+    ensures { IfOk result (λ items. TellsDiff first.now.state second.now.state (values items)) }
 {
     let mut items = Items::new(alloc);
     add_firsts(alloc, &mut items, first, second)?;
@@ -194,8 +193,8 @@ fn spaces_of(alloc: Global, first: &ScriptMap, second: &ScriptMap) -> Result<Ite
     Ok(items)
 }
 
-fn told_of(alloc: Global, first: &ScriptMap, second: &ScriptMap) -> Result<Told, AllocError>
-    ensures { IfOk result (λ t. (items : List Data) × TellsDiff (left_state first.now) (left_state second.now) items
+fn told_of(alloc: Global, first: &ToldMap, second: &ToldMap) -> Result<Told, AllocError>
+    ensures { IfOk result (λ t. (items : List Data) × TellsDiff first.now.state second.now.state items
         × (view t.value ≡ diff_data items) × (t.something ≡ has_any items)) }
 {
     let items = spaces_of(alloc, first, second)?;
@@ -208,8 +207,8 @@ fn told_of(alloc: Global, first: &ScriptMap, second: &ScriptMap) -> Result<Told,
     })
 }
 
-fn diff_in(alloc: Global, first: &ScriptMap, second: &ScriptMap) -> Result<Told, Fault>
-    ensures told { IfOk result (λ t. (items : List Data) × TellsDiff (left_state first.now) (left_state second.now) items
+fn diff_in(alloc: Global, first: &ToldMap, second: &ToldMap) -> Result<Told, Fault>
+    ensures told { IfOk result (λ t. (items : List Data) × TellsDiff first.now.state second.now.state items
         × (view t.value ≡ diff_data items) × (t.something ≡ has_any items)) }
     ensures fails { IfErr result (λ fault. fault ≡ Memory) }
 {
@@ -217,12 +216,12 @@ fn diff_in(alloc: Global, first: &ScriptMap, second: &ScriptMap) -> Result<Told,
     Ok(told)
 }
 
-fn diff_with(alloc: Global, first: &ScriptMap, second: &[u8]) -> Result<Told, Fault>
-    ensures told { IfOk result (λ t. OfScript second.now (λ lines. (items : List Data) × TellsDiff (left_state first.now) (left_by lines) items
+fn diff_with(alloc: Global, first: &ToldMap, second: &[u8]) -> Result<Told, Fault>
+    ensures told { IfOk result (λ t. OfScript second.now (λ lines. (items : List Data) × TellsDiff first.now.state (told_by second.now lines) items
         × (view t.value ≡ diff_data items) × (t.something ≡ has_any items))) }
     ensures fails { IfErr result (λ fault. FailsOnSecond second.now fault) }
 {
-    match read(alloc, second) {
+    match read_told(alloc, second) {
         Ok(map) => diff_in(alloc, first, &map),
         Err(stop) => Err(stopped(Which::Second, stop)),
     }
@@ -231,10 +230,11 @@ fn diff_with(alloc: Global, first: &ScriptMap, second: &[u8]) -> Result<Told, Fa
 /// How the views of the spaces of two scripts differ, by names.
 pub(crate) fn diff(alloc: Global, first: &[u8], second: &[u8]) -> Result<Told, Fault>
     ensures told { IfOk result (λ t. OfScript first.now (λ old. OfScript second.now (λ new.
-        (items : List Data) × TellsDiff (left_by old) (left_by new) items × (view t.value ≡ diff_data items) × (t.something ≡ has_any items)))) }
+        (items : List Data) × TellsDiff (told_by first.now old) (told_by second.now new) items × (view t.value ≡ diff_data items)
+        × (t.something ≡ has_any items)))) }
     ensures fails { IfErr result (λ fault. FailsOnBoth first.now second.now fault) }
 {
-    match read(alloc, first) {
+    match read_told(alloc, first) {
         Ok(map) => diff_with(alloc, &map, second),
         Err(stop) => Err(stopped(Which::First, stop)),
     }

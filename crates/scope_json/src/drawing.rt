@@ -5,8 +5,7 @@ ghost use Rattle.mem_base.specs.script.Shows.{shown_forest};
 ghost use Rattle.mem_base.specs.views.Flattened.{view_of};
 ghost use Rattle.view_picture.specs.Rows.{Tiles, ranges_of};
 ghost use Rattle.view_picture.specs.declared.rows.Row.{Row};
-ghost use Rattle.script_map.specs.Left.{left_state};
-ghost use Rattle.scope_run.specs.Scripts.{FailsIn, FailsOn, OfScript, left_by};
+ghost use Rattle.scope_run.specs.Scripts.{FailsIn, FailsOn, OfScript, told_by};
 ghost use Rattle.scope_json.specs.Draws.{TellsDraw, draw_data};
 
 use crate::answers::{Told, answer_to};
@@ -14,18 +13,13 @@ use json_build::Value;
 use mem_base::{Name, SpaceId};
 use scope_run::{Fault, Which, rows_in, stopped};
 use scope_values::row_list;
-use script_map::{ScriptMap, read};
+use script_memory::{ToldMap, read_told};
 use std::alloc::{AllocError, Global};
 
 // The rows of a space.
-fn value_of(
-    alloc: Global,
-    map: &ScriptMap,
-    name: &Name,
-    space: SpaceId,
-) -> Result<Value, AllocError>
-    ensures { IfOk result (λ v. (rows : List Row) × Tiles 0 (2 ^ 64) rows × (ranges_of rows ≡ view_of (shown_forest (left_state map.now)) space)
-        × (view v ≡ draw_data name.now (left_state map.now).names rows)) }
+fn value_of(alloc: Global, map: &ToldMap, name: &Name, space: SpaceId) -> Result<Value, AllocError>
+    ensures { IfOk result (λ v. (rows : List Row) × Tiles 0 (2 ^ 64) rows × (ranges_of rows ≡ view_of (shown_forest map.now.state) space)
+        × (view v ≡ draw_data name.now map.now.state.names rows)) }
 {
     let rows = rows_in(alloc, map, space)?;
     let mut fields = answer_to(alloc, "draw")?;
@@ -35,10 +29,10 @@ fn value_of(
     Ok(fields.object())
 }
 
-fn draw_in(alloc: Global, map: &ScriptMap, name: &Name) -> Result<Told, Fault>
-    ensures told { IfOk result (λ t. TellsDraw (left_state map.now) name.now (view t.value)) }
+fn draw_in(alloc: Global, map: &ToldMap, name: &Name) -> Result<Told, Fault>
+    ensures told { IfOk result (λ t. TellsDraw map.now.state name.now (view t.value)) }
     ensures nothing { IfOk result (λ t. t.something ≡ false) }
-    ensures fails { IfErr result (λ fault. FailsIn (left_state map.now) (Some name.now) None fault) }
+    ensures fails { IfErr result (λ fault. FailsIn map.now.state (Some name.now) None fault) }
 {
     let Some(space) = map.space(name) else {
         return Err(Fault::NoSpace);
@@ -52,11 +46,11 @@ fn draw_in(alloc: Global, map: &ScriptMap, name: &Name) -> Result<Told, Fault>
 
 /// The rows of a picture of a space in the map that a script leaves.
 pub(crate) fn draw(alloc: Global, script: &[u8], name: &Name) -> Result<Told, Fault>
-    ensures told { IfOk result (λ t. OfScript script.now (λ lines. TellsDraw (left_by lines) name.now (view t.value))) }
+    ensures told { IfOk result (λ t. OfScript script.now (λ lines. TellsDraw (told_by script.now lines) name.now (view t.value))) }
     ensures nothing { IfOk result (λ t. t.something ≡ false) }
     ensures fails { IfErr result (λ fault. FailsOn script.now (Some name.now) None fault) }
 {
-    match read(alloc, script) {
+    match read_told(alloc, script) {
         Ok(map) => draw_in(alloc, &map, name),
         Err(stop) => Err(stopped(Which::First, stop)),
     }

@@ -2,15 +2,16 @@
 ghost use Rattle.std.specs.Prelude.{◌≡◌, ◌∷◌, [], false, true, is_some, codes, IfOk, IfErr, IfSome, map};
 ghost use Rattle.serde_json.specs.Data.{null};
 ghost use Rattle.serde_json.specs.View.{view};
+ghost use Rattle.json_build.specs.Parts.{list_of};
 ghost use Rattle.mem_base.specs.script.RefusalLines.{cause_text};
 ghost use Rattle.mem_base.specs.script.Scripts.{script_of};
 ghost use Rattle.scope_run.specs.Explains.{topic_code};
 ghost use Rattle.scope_run.specs.declared.answers.Fault.TheVariants.{Memory};
-ghost use Rattle.scope_json.specs.Explains.{TellsTopic, explain_data, explain_mends, explained_data, fault_data, topic_answer};
+ghost use Rattle.scope_json.specs.Explains.{TellsTopic, explain_data, explain_mends, explained_data, fault_data, refused_data, topic_answer};
 ghost use Rattle.scope_json.specs.Texts.{answer_of, has_any};
 
 use crate::answers::{Told, answer_to};
-use crate::linting::refused_list;
+use crate::linting::add_refused;
 use json_build::{Fields, Items, Value};
 use mem_base::{BadScript, Cause};
 use scope_run::Fault;
@@ -41,6 +42,27 @@ fn fault_value(alloc: Global, bad: BadScript) -> Result<Value, AllocError>
     fields.number(alloc, "line", u64::from(bad.line))?;
     fields.text(alloc, "cause", cause_text(bad.cause))?;
     Ok(fields.object())
+}
+
+// A refused command.
+fn refused_value(alloc: Global, refused: &RefusedLine) -> Result<Value, AllocError>
+    ensures { IfOk result (λ v. view v ≡ refused_data refused.now) }
+{
+    let mut fields = Fields::new(alloc);
+    add_refused(alloc, &mut fields, refused)?;
+    Ok(fields.object())
+}
+
+// The refused commands, one object each.
+fn refused_list(alloc: Global, refused: &[RefusedLine]) -> Result<Value, AllocError>
+    ensures { IfOk result (λ v. view v ≡ list_of (map refused_data refused.now)) }
+{
+    let mut items = Items::new(alloc);
+    for one in refused {
+        let value = refused_value(alloc, one)?;
+        items.push(value)?;
+    }
+    Ok(items.list())
 }
 
 // What is wrong with a text: its fault, and what is refused.

@@ -7,7 +7,7 @@ ghost use Rattle.json_build.specs.Parts.{list_of};
 ghost use Rattle.mem_base.specs.script.States.{space_named};
 ghost use Rattle.script_names.specs.Tables.{printed_names};
 ghost use Rattle.view_slots.specs.Texts.{range_of};
-ghost use Rattle.script_map.specs.Left.{all_shown, left_state};
+ghost use Rattle.script_map.specs.Left.{all_shown};
 ghost use Rattle.scope_run.specs.Scripts.{FailsOn, OfScript};
 ghost use Rattle.scope_run.specs.Tables.{HasEdges, slot_number};
 ghost use Rattle.scope_run.specs.declared.answers.Fault.TheVariants.{Memory};
@@ -19,7 +19,7 @@ use json_build::{Fields, Items, Value};
 use mem_base::{Edition, FlatRange, RangeEvent, SpaceId, View};
 use scope_run::{Fault, Which, edges_of, slot_number, space_count, space_of, table_in};
 use scope_values::slot;
-use script_map::{History, ScriptMap, follow};
+use script_memory::{ToldHistory, ToldMap, follow_told};
 use script_names::Names;
 use script_text::{ParseFault, Script, parse};
 use std::alloc::{AllocError, Global};
@@ -145,11 +145,11 @@ fn add_named(
     alloc: Global,
     items: &mut Items,
     name: &[u8],
-    map: &ScriptMap,
+    map: &ToldMap,
     published: &[Arc<Generation, Global>],
 ) -> Result<(), AllocError>
     ensures { OnOk result ((more : List Data) × (values items.new ≡ values items.old ++ more)
-        × TellsSlotsOf (left_state map.now).names (all_shown published.now) (space_named (left_state map.now) name.now) more) }
+        × TellsSlotsOf map.now.state.names (all_shown published.now) (space_named map.now.state name.now) more) }
 {
     match space_of(alloc, map, name)? {
         Some(space) => add_space(alloc, items, map.names(), published, space),
@@ -161,11 +161,11 @@ fn add_named(
 fn add_spaces(
     alloc: Global,
     items: &mut Items,
-    map: &ScriptMap,
+    map: &ToldMap,
     published: &[Arc<Generation, Global>],
 ) -> Result<(), AllocError>
     ensures { OnOk result ((more : List Data) × (values items.new ≡ values items.old ++ more)
-        × TellsSlotsIn (left_state map.now) (all_shown published.now) more) }
+        × TellsSlotsIn map.now.state (all_shown published.now) more) }
 {
     let names = map.names();
     let spaces = names.spaces();
@@ -175,8 +175,8 @@ fn add_spaces(
     Ok(())
 }
 
-fn tables_of(alloc: Global, history: &History) -> Result<Items, AllocError>
-    ensures { IfOk result (λ items. TellsSlotsIn (left_state history.now.map) (all_shown history.now.published.items) (values items)) }
+fn tables_of(alloc: Global, history: &ToldHistory) -> Result<Items, AllocError>
+    ensures { IfOk result (λ items. TellsSlotsIn history.now.map.state (all_shown history.now.published.items) (values items)) }
 {
     let mut items = Items::new(alloc);
     add_spaces(
@@ -188,8 +188,8 @@ fn tables_of(alloc: Global, history: &History) -> Result<Items, AllocError>
     Ok(items)
 }
 
-fn told_of(alloc: Global, history: &History) -> Result<Told, AllocError>
-    ensures told { IfOk result (λ t. (items : List Data) × TellsSlotsIn (left_state history.now.map) (all_shown history.now.published.items) items
+fn told_of(alloc: Global, history: &ToldHistory) -> Result<Told, AllocError>
+    ensures told { IfOk result (λ t. (items : List Data) × TellsSlotsIn history.now.map.state (all_shown history.now.published.items) items
         × (view t.value ≡ slots_data items)) }
     ensures nothing { IfOk result (λ t. t.something ≡ false) }
 {
@@ -202,8 +202,8 @@ fn told_of(alloc: Global, history: &History) -> Result<Told, AllocError>
     })
 }
 
-fn slots_in(alloc: Global, history: &History) -> Result<Told, Fault>
-    ensures told { IfOk result (λ t. (items : List Data) × TellsSlotsIn (left_state history.now.map) (all_shown history.now.published.items) items
+fn slots_in(alloc: Global, history: &ToldHistory) -> Result<Told, Fault>
+    ensures told { IfOk result (λ t. (items : List Data) × TellsSlotsIn history.now.map.state (all_shown history.now.published.items) items
         × (view t.value ≡ slots_data items)) }
     ensures nothing { IfOk result (λ t. t.something ≡ false) }
     ensures fails { IfErr result (λ fault. fault ≡ Memory) }
@@ -213,12 +213,12 @@ fn slots_in(alloc: Global, history: &History) -> Result<Told, Fault>
 }
 
 // The slots of a script that was read.
-fn slots_of(alloc: Global, script: &Script) -> Result<Told, Fault>
-    ensures told { IfOk result (λ t. (items : List Data) × TellsSlots script.now items × (view t.value ≡ slots_data items)) }
+fn slots_of(alloc: Global, text: &[u8], script: &Script) -> Result<Told, Fault>
+    ensures told { IfOk result (λ t. (items : List Data) × TellsSlots text.now script.now items × (view t.value ≡ slots_data items)) }
     ensures nothing { IfOk result (λ t. t.something ≡ false) }
     ensures fails { IfErr result (λ fault. fault ≡ Memory) }
 {
-    match follow(alloc, script) {
+    match follow_told(alloc, text, script) {
         Ok(history) => slots_in(alloc, &history),
         Err(_) => Err(Fault::Memory),
     }
@@ -226,12 +226,13 @@ fn slots_of(alloc: Global, script: &Script) -> Result<Told, Fault>
 
 /// The memory slots of each space in each generation that a script publishes.
 pub(crate) fn slots(alloc: Global, script: &[u8]) -> Result<Told, Fault>
-    ensures told { IfOk result (λ t. OfScript script.now (λ lines. (items : List Data) × TellsSlots lines items × (view t.value ≡ slots_data items))) }
+    ensures told { IfOk result (λ t. OfScript script.now (λ lines. (items : List Data) × TellsSlots script.now lines items
+        × (view t.value ≡ slots_data items))) }
     ensures nothing { IfOk result (λ t. t.something ≡ false) }
     ensures fails { IfErr result (λ fault. FailsOn script.now None None fault) }
 {
     match parse(alloc, script) {
-        Ok(script) => slots_of(alloc, &script),
+        Ok(lines) => slots_of(alloc, script, &lines),
         Err(ParseFault::Bad(bad)) => Err(Fault::Script {
             which: Which::First,
             bad,

@@ -5,8 +5,7 @@ ghost use Rattle.mem_base.specs.map.Limits.{most_translations};
 ghost use Rattle.mem_base.specs.script.Shows.{shown_forest};
 ghost use Rattle.find_why.specs.Hops.{AreHops};
 ghost use Rattle.find_why.specs.declared.hops.Hop.{Hop};
-ghost use Rattle.script_map.specs.Left.{left_state};
-ghost use Rattle.scope_run.specs.Scripts.{FailsIn, FailsOn, OfScript, left_by};
+ghost use Rattle.scope_run.specs.Scripts.{FailsIn, FailsOn, OfScript, told_by};
 ghost use Rattle.scope_json.specs.Whys.{TellsWhy, why_data};
 
 use crate::answers::{Told, answer_to};
@@ -15,19 +14,19 @@ use json_build::Value;
 use mem_base::{Name, RegionId, SpaceId};
 use scope_run::{Fault, Which, region_asked, stopped};
 use scope_values::search_list;
-use script_map::{ScriptMap, read};
+use script_memory::{ToldMap, read_told};
 use std::alloc::{AllocError, Global};
 
 // The value about an address of a space.
 fn value_of(
     alloc: Global,
-    map: &ScriptMap,
+    map: &ToldMap,
     space: SpaceId,
     addr: u64,
     region: Option<RegionId>,
 ) -> Result<Value, AllocError>
-    ensures { IfOk result (λ v. (hops : List Hop) × AreHops (shown_forest (left_state map.now)) most_translations space addr hops
-        × (view v ≡ why_data (left_state map.now).names region hops)) }
+    ensures { IfOk result (λ v. (hops : List Hop) × AreHops (shown_forest map.now.state) most_translations space addr hops
+        × (view v ≡ why_data map.now.state.names region hops)) }
 {
     let hops = find_hops(alloc, map.generation().forest(), space, addr)?;
     let mut fields = answer_to(alloc, "why")?;
@@ -39,14 +38,14 @@ fn value_of(
 // The same of names.
 fn why_in(
     alloc: Global,
-    map: &ScriptMap,
+    map: &ToldMap,
     space: &Name,
     addr: u64,
     region: Option<&Name>,
 ) -> Result<Told, Fault>
-    ensures told { IfOk result (λ t. TellsWhy (left_state map.now) space.now addr (option_map (λ n. n.now) region.entry) (view t.value)) }
+    ensures told { IfOk result (λ t. TellsWhy map.now.state space.now addr (option_map (λ n. n.now) region.entry) (view t.value)) }
     ensures nothing { IfOk result (λ t. t.something ≡ false) }
-    ensures fails { IfErr result (λ fault. FailsIn (left_state map.now) (Some space.now) (option_map (λ n. n.now) region.entry) fault) }
+    ensures fails { IfErr result (λ fault. FailsIn map.now.state (Some space.now) (option_map (λ n. n.now) region.entry) fault) }
 {
     let Some(space) = map.space(space) else {
         return Err(Fault::NoSpace);
@@ -69,11 +68,11 @@ pub(crate) fn why(
     region: Option<&Name>,
 ) -> Result<Told, Fault>
     ensures told { IfOk result (λ t. OfScript script.now
-        (λ lines. TellsWhy (left_by lines) space.now addr (option_map (λ n. n.now) region.entry) (view t.value))) }
+        (λ lines. TellsWhy (told_by script.now lines) space.now addr (option_map (λ n. n.now) region.entry) (view t.value))) }
     ensures nothing { IfOk result (λ t. t.something ≡ false) }
     ensures fails { IfErr result (λ fault. FailsOn script.now (Some space.now) (option_map (λ n. n.now) region.entry) fault) }
 {
-    match read(alloc, script) {
+    match read_told(alloc, script) {
         Ok(map) => why_in(alloc, &map, space, addr, region),
         Err(stop) => Err(stopped(Which::First, stop)),
     }

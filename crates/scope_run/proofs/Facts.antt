@@ -4,11 +4,12 @@ use Rattle.std.specs.Prelude.{IfErr, IfOk, OnOk}
 use Rattle.mem_base.specs.script.Spelling.{Text}
 use Rattle.mem_base.specs.script.Scripts.{Line, script_of}
 use Rattle.mem_base.specs.script.States.{State}
-use Rattle.script_map.specs.Left.{IsLeftBy, Left, left_state}
+use Rattle.script_map.specs.Left.{IsLeftBy, Left}
 use Rattle.script_map.specs.Reads.{IfBad, IsLeftByText}
 use Rattle.script_map.specs.declared.reading.MapStop.{MapStop}
 use Rattle.script_map.specs.declared.reading.MapStop.TheVariants as stops
-use Rattle.scope_run.specs.Scripts.{FailsIn, FailsOn, FailsOnBoth, FailsOnSecond, OfScript, left_by, stopped_by}
+use Rattle.script_memory.specs.Told.{IsToldByText, Told}
+use Rattle.scope_run.specs.Scripts.{FailsIn, FailsOn, FailsOnBoth, FailsOnSecond, OfScript, stopped_by, told_by}
 use Rattle.scope_run.specs.declared.answers.Fault.{Fault}
 use Rattle.scope_run.specs.declared.answers.Fault.TheVariants as faults
 use Rattle.scope_run.specs.declared.answers.Which.TheVariants.{First, Second}
@@ -26,9 +27,9 @@ pub both_ok : {T E : Type 0} (r : Result T E) (P Q R : T → Type 0) → ((x : T
 both_ok (Ok x) P Q R f p q = f x p q
 both_ok (Err e) P Q R f p q = tt
 
--- a fact of the state that is left
-pub of_state : (text : Text) (m : Left) (fact : State → Type 0) → IsLeftByText text m → fact (left_state m) → OfScript text (λ lines. fact (left_by lines))
-of_state text m fact h x = (h.0, h.1, subst fact h.2.state x)
+-- a fact of the state that is told
+pub of_state : (text : Text) (m : Told) (fact : State → Type 0) → IsToldByText text m → fact m.state → OfScript text (λ lines. fact (told_by text lines))
+of_state text m fact h x = (h.0, h.1, subst (λ (t : Told). fact t.state) h.2 x)
 
 -- a fact of the commands
 pub of_lines : (text : Text) (m : Left) (fact : List Line → Type 0) → IsLeftByText text m → ((lines : List Line) → IsLeftBy lines m → fact lines)
@@ -36,7 +37,7 @@ pub of_lines : (text : Text) (m : Left) (fact : List Line → Type 0) → IsLeft
 of_lines text m fact h give = (h.0, h.1, give h.0 h.2)
 
 -- why a command on a map has no answer
-pub fails_on : (text : Text) (m : Left) (space region : Option Text) (fault : Fault) → IsLeftByText text m → FailsIn (left_state m) space region fault
+pub fails_on : (text : Text) (m : Told) (space region : Option Text) (fault : Fault) → IsToldByText text m → FailsIn m.state space region fault
     → FailsOn text space region fault
 fails_on text m space region (faults.File which) h x = of_state text m (λ s. FailsIn s space region (faults.File which)) h x
 fails_on text m space region (faults.Script First bad) h x = absurd x

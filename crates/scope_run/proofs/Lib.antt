@@ -3,5 +3,4 @@ pub mod Parts
 pub mod TableLaws
 pub mod FileLaws
 mod ExplainLaws
-mod LintLaws
 mod MonitorLaws

@@ -3,13 +3,13 @@ use Rattle.std.proofs.Common.{◌≡◌, ◌<◌, ◌||◌, ℕ, Bool, nat_lt, O
 use Rattle.mem_base.specs.script.Spelling.{Text}
 use Rattle.scope_run.specs.Files.{Tells}
 use Rattle.script_settle.specs.Refused.{HasRefused}
-use Rattle.scope_run.specs.Imports.{FailsCheck, FailsImport, TellsImport, has_comment}
+use Rattle.scope_run.specs.Imports.{FailsCheck, FailsImport, TellsImport, has_comment, wanted_in}
 use Rattle.scope_run.specs.Requests.{FailsChecking, FailsImporting, Holding, IsSecondUnread, IsTextUnread, IsUnread, TellsIfNamed}
 use Rattle.scope_run.specs.declared.answers.Fault.{Fault}
 use Rattle.scope_run.specs.declared.answers.Fault.TheVariants as faults
 use Rattle.scope_run.specs.declared.answers.Which.{Which}
 use Rattle.scope_run.specs.declared.answers.Which.TheVariants.{First, Second}
-use Rattle.scope_run.specs.declared.importing.MonitorStop.TheVariants.{BadLine, Long, Made}
+use Rattle.scope_run.specs.declared.importing.MonitorStop.TheVariants.{BadLine, Long, NoSpaces, Unknown, Made}
 
 not_second : Second ≡ First → ⊥
 not_second e = cc
@@ -27,6 +27,8 @@ unread_later held failed more name which faults.NoRegion f x = x
 unread_later held failed more name which faults.NoAddress f x = x
 unread_later held failed more name which (faults.Monitor (BadLine file line)) f x = x
 unread_later held failed more name which (faults.Monitor (Long file)) f x = x
+unread_later held failed more name which (faults.Monitor NoSpaces) f x = x
+unread_later held failed more name which (faults.Monitor (Unknown at)) f x = x
 unread_later held failed more name which (faults.Monitor (Made bad)) f x = x
 unread_later held failed more name which faults.Memory f x = tt
 
@@ -45,46 +47,53 @@ tells_import made text count something h e s = (
 )
 
 -- of `import`
-pub unread_tree : (held : Holding) (failed : Type 0) (tree : Text) (flat : Option Text) (fault : Fault) → IsTextUnread held failed tree First fault
-    → FailsImporting held failed tree flat fault
-unread_tree held failed tree flat (faults.File which) x = x
-unread_tree held failed tree flat (faults.Script which bad) x = x
-unread_tree held failed tree flat faults.NoSpace x = x
-unread_tree held failed tree flat faults.NoRegion x = x
-unread_tree held failed tree flat faults.NoAddress x = x
-unread_tree held failed tree flat (faults.Monitor (BadLine which line)) x = absurd x
-unread_tree held failed tree flat (faults.Monitor (Long First)) x = x.1
-unread_tree held failed tree flat (faults.Monitor (Long Second)) x = absurd (not_second x.0)
-unread_tree held failed tree flat (faults.Monitor (Made bad)) x = absurd x
-unread_tree held failed tree flat faults.Memory x = tt
+pub unread_tree : (held : Holding) (failed : Type 0) (tree : Text) (flat spaces : Option Text) (fault : Fault) → IsTextUnread held failed tree First fault
+    → FailsImporting held failed tree flat spaces fault
+unread_tree held failed tree flat spaces (faults.File which) x = x
+unread_tree held failed tree flat spaces (faults.Script which bad) x = x
+unread_tree held failed tree flat spaces faults.NoSpace x = x
+unread_tree held failed tree flat spaces faults.NoRegion x = x
+unread_tree held failed tree flat spaces faults.NoAddress x = x
+unread_tree held failed tree flat spaces (faults.Monitor (BadLine which line)) x = absurd x
+unread_tree held failed tree flat spaces (faults.Monitor (Long First)) x = x.1
+unread_tree held failed tree flat spaces (faults.Monitor (Long Second)) x = absurd (not_second x.0)
+unread_tree held failed tree flat spaces (faults.Monitor NoSpaces) x = absurd x
+unread_tree held failed tree flat spaces (faults.Monitor (Unknown at)) x = absurd x
+unread_tree held failed tree flat spaces (faults.Monitor (Made bad)) x = absurd x
+unread_tree held failed tree flat spaces faults.Memory x = tt
 
-pub unread_flat : (held : Holding) (failed : Type 0) (tree : Text) (flat : Option Text) (fault : Fault) → IsSecondUnread held failed flat fault
-    → FailsImporting held failed tree flat fault
-unread_flat held failed tree None fault x = subst (FailsImporting held failed tree None) (sym x) tt
-unread_flat held failed tree (Some name) (faults.File which) x = x
-unread_flat held failed tree (Some name) (faults.Script which bad) x = x
-unread_flat held failed tree (Some name) faults.NoSpace x = x
-unread_flat held failed tree (Some name) faults.NoRegion x = x
-unread_flat held failed tree (Some name) faults.NoAddress x = x
-unread_flat held failed tree (Some name) (faults.Monitor (BadLine which line)) x = absurd x
-unread_flat held failed tree (Some name) (faults.Monitor (Long First)) x = absurd (not_first x.0)
-unread_flat held failed tree (Some name) (faults.Monitor (Long Second)) x = x.1
-unread_flat held failed tree (Some name) (faults.Monitor (Made bad)) x = absurd x
-unread_flat held failed tree (Some name) faults.Memory x = tt
+pub unread_flat : (held : Holding) (failed : Type 0) (tree : Text) (flat spaces : Option Text) (fault : Fault) → IsSecondUnread held failed flat fault
+    → FailsImporting held failed tree flat spaces fault
+unread_flat held failed tree None spaces fault x = subst (FailsImporting held failed tree None spaces) (sym x) tt
+unread_flat held failed tree (Some name) spaces (faults.File which) x = x
+unread_flat held failed tree (Some name) spaces (faults.Script which bad) x = x
+unread_flat held failed tree (Some name) spaces faults.NoSpace x = x
+unread_flat held failed tree (Some name) spaces faults.NoRegion x = x
+unread_flat held failed tree (Some name) spaces faults.NoAddress x = x
+unread_flat held failed tree (Some name) spaces (faults.Monitor (BadLine which line)) x = absurd x
+unread_flat held failed tree (Some name) spaces (faults.Monitor (Long First)) x = absurd (not_first x.0)
+unread_flat held failed tree (Some name) spaces (faults.Monitor (Long Second)) x = x.1
+unread_flat held failed tree (Some name) spaces (faults.Monitor NoSpaces) x = absurd x
+unread_flat held failed tree (Some name) spaces (faults.Monitor (Unknown at)) x = absurd x
+unread_flat held failed tree (Some name) spaces (faults.Monitor (Made bad)) x = absurd x
+unread_flat held failed tree (Some name) spaces faults.Memory x = tt
 
-pub import_fails : (held : Holding) (failed : Type 0) (tree : Text) (flat : Option Text) (bytes printed : Text) (fault : Fault) → Tells (held tree) bytes
-    → TellsIfNamed held flat printed → FailsImport bytes printed fault → FailsImporting held failed tree flat fault
-import_fails held failed tree flat bytes printed (faults.File which) t u x = absurd x
-import_fails held failed tree flat bytes printed (faults.Script which bad) t u x = x
-import_fails held failed tree flat bytes printed faults.NoSpace t u x = x
-import_fails held failed tree flat bytes printed faults.NoRegion t u x = x
-import_fails held failed tree flat bytes printed faults.NoAddress t u x = x
-import_fails held failed tree flat bytes printed (faults.Monitor (BadLine First line)) t u x = (bytes, t, x)
-import_fails held failed tree flat bytes printed (faults.Monitor (BadLine Second line)) t u x = (printed, u, x)
-import_fails held failed tree flat bytes printed (faults.Monitor (Long First)) t u x = (bytes, t, x)
-import_fails held failed tree flat bytes printed (faults.Monitor (Long Second)) t u x = (printed, u, x)
-import_fails held failed tree flat bytes printed (faults.Monitor (Made bad)) t u x = x
-import_fails held failed tree flat bytes printed faults.Memory t u x = tt
+pub import_fails : (held : Holding) (failed : Type 0) (tree : Text) (flat spaces : Option Text) (bytes printed : Text) (fault : Fault)
+    → Tells (held tree) bytes → TellsIfNamed held flat printed → FailsImport bytes printed (wanted_in spaces) fault
+    → FailsImporting held failed tree flat spaces fault
+import_fails held failed tree flat spaces bytes printed (faults.File which) t u x = absurd x
+import_fails held failed tree flat spaces bytes printed (faults.Script which bad) t u x = x
+import_fails held failed tree flat spaces bytes printed faults.NoSpace t u x = x
+import_fails held failed tree flat spaces bytes printed faults.NoRegion t u x = x
+import_fails held failed tree flat spaces bytes printed faults.NoAddress t u x = x
+import_fails held failed tree flat spaces bytes printed (faults.Monitor (BadLine First line)) t u x = (bytes, t, x)
+import_fails held failed tree flat spaces bytes printed (faults.Monitor (BadLine Second line)) t u x = (printed, u, x)
+import_fails held failed tree flat spaces bytes printed (faults.Monitor (Long First)) t u x = (bytes, t, x)
+import_fails held failed tree flat spaces bytes printed (faults.Monitor (Long Second)) t u x = (printed, u, x)
+import_fails held failed tree flat spaces bytes printed (faults.Monitor NoSpaces) t u x = (bytes, t, x)
+import_fails held failed tree flat spaces bytes printed (faults.Monitor (Unknown at)) t u x = (bytes, t, x)
+import_fails held failed tree flat spaces bytes printed (faults.Monitor (Made bad)) t u x = x
+import_fails held failed tree flat spaces bytes printed faults.Memory t u x = tt
 
 -- of `check`
 pub unread_script : (held : Holding) (failed : Type 0) (script flat : Text) (fault : Fault) → IsUnread held failed script First fault
@@ -108,6 +117,8 @@ unread_printed held failed script flat faults.NoAddress x = x
 unread_printed held failed script flat (faults.Monitor (BadLine which line)) x = absurd x
 unread_printed held failed script flat (faults.Monitor (Long First)) x = absurd (not_first x.0)
 unread_printed held failed script flat (faults.Monitor (Long Second)) x = x.1
+unread_printed held failed script flat (faults.Monitor NoSpaces) x = absurd x
+unread_printed held failed script flat (faults.Monitor (Unknown at)) x = absurd x
 unread_printed held failed script flat (faults.Monitor (Made bad)) x = absurd x
 unread_printed held failed script flat faults.Memory x = tt
 
@@ -123,5 +134,7 @@ check_fails held failed script flat bytes printed (faults.Monitor (BadLine First
 check_fails held failed script flat bytes printed (faults.Monitor (BadLine Second line)) t u x = (printed, u, x)
 check_fails held failed script flat bytes printed (faults.Monitor (Long First)) t u x = x
 check_fails held failed script flat bytes printed (faults.Monitor (Long Second)) t u x = (printed, u, x)
+check_fails held failed script flat bytes printed (faults.Monitor NoSpaces) t u x = x
+check_fails held failed script flat bytes printed (faults.Monitor (Unknown at)) t u x = x
 check_fails held failed script flat bytes printed (faults.Monitor (Made bad)) t u x = x
 check_fails held failed script flat bytes printed faults.Memory t u x = tt

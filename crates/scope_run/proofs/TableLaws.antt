@@ -10,7 +10,8 @@ use Rattle.mem_base.specs.views.Flattened.{view_of}
 use Rattle.generation.specs.Published.{Published}
 use Rattle.view_slots.specs.Edges.{HasEnds, Keeps}
 use Rattle.view_slots.proofs.EdgeLaws.{all_kept}
-use Rattle.script_map.specs.Left.{IsLeftBy, Left, Shown, all_shown, first_of, left_state, published_in, shown_by}
+use Rattle.script_map.specs.Left.{Shown, all_shown, first_of, published_in, shown_by}
+use Rattle.script_memory.specs.Told.{Told, told_of}
 use Rattle.scope_run.specs.Tables.{HasEdges, TellsSlots, TellsSlotsIn}
 use Rattle.std.proofs.Math.Seq.{take-suc}
 
@@ -40,7 +41,7 @@ edges_next {Z} old new space gs i d g l is h k e =
     (edges_more new space (all_shown (take i gs)) (shown_by (arc_value g)) (edges_kept old new space (all_shown (take i gs)) k h) e))
 
 -- the spaces of a script in the generations that it publishes
-pub slots_whole : (lines : List Line) (m : Left) (gs : List Shown) (text : Text) → IsLeftBy lines m → gs ≡ published_in (first_of lines) lines
-    → TellsSlotsIn (left_state m) gs text → TellsSlots lines text
-slots_whole lines m gs text h is t =
-    subst (λ s. TellsSlotsIn s (published_in (first_of lines) lines) text) h.state (subst (λ xs. TellsSlotsIn (left_state m) xs text) is t)
+pub slots_whole : (script : Text) (lines : List Line) (m : Told) (gs : List Shown) (text : Text) → m ≡ told_of script lines
+    → gs ≡ published_in (first_of lines) lines → TellsSlotsIn m.state gs text → TellsSlots script lines text
+slots_whole script lines m gs text h is t =
+    subst (λ (x : Told). TellsSlotsIn x.state (published_in (first_of lines) lines) text) h (subst (λ xs. TellsSlotsIn m.state xs text) is t)

@@ -16,11 +16,12 @@ use Rattle.scope_words.specs.declared.requests.Request.TheVariants.{Why, Lint, D
 use Rattle.scope_run.specs.Diffs.{TellsDiff}
 use Rattle.scope_run.specs.Explains.{Explains, TellsTopic, topic_code}
 use Rattle.scope_run.specs.Files.{Tells}
-use Rattle.scope_run.specs.Imports.{TellsImport, most_monitor}
+use Rattle.scope_run.specs.Imports.{TellsImport, most_monitor, wanted_in}
 use Rattle.scope_run.specs.Lints.{lint_text, tells_something}
-use Rattle.scope_run.specs.Scripts.{FailsOn, OfScript, left_by}
+use Rattle.scope_run.specs.Scripts.{FailsOn, OfScript, told_by}
 use Rattle.scope_run.specs.Tables.{TellsSlots}
-use Rattle.scope_run.specs.declared.importing.MonitorStop.TheVariants.{BadLine, Long, Made}
+use Rattle.scope_run.specs.declared.importing.MonitorStop.TheVariants.{BadLine, Long, NoSpaces, Unknown, Made}
+use Rattle.monitor_import.specs.Drafts.{OfTree, has_space, unknown_in}
 use Rattle.monitor_text.specs.Rows.{flat_line, tree_line}
 use Rattle.monitor_text.specs.Texts.{lines_of}
 use Rattle.script_check.specs.Checks.{IsChecked}
@@ -42,22 +43,22 @@ IsAddress word a = address (tokens_of word) ≡ Ok (a, [])
 abbrev pub AnswersWord : Holding → Text → Option Text → Text → Bool → Type 0
 AnswersWord held what (Some code) text something = TellsTopic what text × (something ≡ false)
 AnswersWord held what None text something =
-    OfFile held what (λ bytes. Explains (script_of bytes) text) × (something ≡ tells_something text)
+    OfFile held what (λ bytes. Explains bytes (script_of bytes) text) × (something ≡ tells_something text)
 
 -- the answer to a request: its text, and whether there is something to mend
 abbrev pub AnswersTo : Request → Holding → Text → Bool → Type 0
 AnswersTo (Why script space addr region) held text something =
     OfFile held script.now (λ bytes. (a : ℕ) × IsAddress addr.now a
-    × OfScript bytes (λ lines. TellsWhy (left_by lines) space.now a (option_map (λ r. r.now) region) text)) × (something ≡ false)
+    × OfScript bytes (λ lines. TellsWhy (told_by bytes lines) space.now a (option_map (λ r. r.now) region) text)) × (something ≡ false)
 AnswersTo (Lint script) held text something =
     OfFile held script.now (λ bytes. OfScript bytes (λ lines. text ≡ lint_text lines)) × (something ≡ tells_something text)
 AnswersTo (Diff first second) held text something =
     OfFile held first.now (λ old. OfFile held second.now (λ new.
-    OfScript old (λ a. OfScript new (λ b. TellsDiff (left_by a) (left_by b) text)))) × (something ≡ tells_something text)
+    OfScript old (λ a. OfScript new (λ b. TellsDiff (told_by old a) (told_by new b) text)))) × (something ≡ tells_something text)
 AnswersTo (Slots script) held text something =
-    OfFile held script.now (λ bytes. OfScript bytes (λ lines. TellsSlots lines text)) × (something ≡ false)
+    OfFile held script.now (λ bytes. OfScript bytes (λ lines. TellsSlots bytes lines text)) × (something ≡ false)
 AnswersTo (Draw script space style) held text something =
-    OfFile held script.now (λ bytes. OfScript bytes (λ lines. is_some (space_named (left_by lines) space.now) ≡ true)) × (something ≡ false)
+    OfFile held script.now (λ bytes. OfScript bytes (λ lines. is_some (space_named (told_by bytes lines) space.now) ≡ true)) × (something ≡ false)
 AnswersTo (Explain what) held text something = AnswersWord held what.now (topic_code what.now) text something
 AnswersTo (Import tree flat spaces) held text something = TellsImport text something
 AnswersTo (Check script flat) held text something =
@@ -109,16 +110,20 @@ abbrev pub IsSecondUnread : Holding → Type 0 → Option Text → Fault → Typ
 IsSecondUnread held failed None fault = fault ≡ faults.Memory
 IsSecondUnread held failed (Some name) fault = IsTextUnread held failed name Second fault
 
--- of `import`: a read failed, or a text is too long or has a line that is none of the monitor's, or what was made is no script
-abbrev pub FailsImporting : Holding → Type 0 → Text → Option Text → Fault → Type 0
-FailsImporting held failed tree flat (faults.File which) = failed
-FailsImporting held failed tree flat (faults.Monitor (BadLine First line)) = OfFile held tree (λ bytes. lines_of tree_line bytes ≡ Err line)
-FailsImporting held failed tree flat (faults.Monitor (BadLine Second line)) = OfSecond held flat (λ bytes. lines_of flat_line bytes ≡ Err line)
-FailsImporting held failed tree flat (faults.Monitor (Long First)) = OfFile held tree (λ bytes. most_monitor < length bytes)
-FailsImporting held failed tree flat (faults.Monitor (Long Second)) = OfSecond held flat (λ bytes. most_monitor < length bytes)
-FailsImporting held failed tree flat (faults.Monitor (Made bad)) = (text : Text) × (script_of text ≡ Err bad)
-FailsImporting held failed tree flat faults.Memory = ⊤
-FailsImporting held failed tree flat fault = ⊥
+-- of `import`: a read failed, or a text is too long or has a line that is none of the monitor's, or that of the tree names no space, or none of
+-- a name that is wanted, or what was made is no script
+abbrev pub FailsImporting : Holding → Type 0 → Text → Option Text → Option Text → Fault → Type 0
+FailsImporting held failed tree flat spaces (faults.File which) = failed
+FailsImporting held failed tree flat spaces (faults.Monitor (BadLine First line)) = OfFile held tree (λ bytes. lines_of tree_line bytes ≡ Err line)
+FailsImporting held failed tree flat spaces (faults.Monitor (BadLine Second line)) = OfSecond held flat (λ bytes. lines_of flat_line bytes ≡ Err line)
+FailsImporting held failed tree flat spaces (faults.Monitor (Long First)) = OfFile held tree (λ bytes. most_monitor < length bytes)
+FailsImporting held failed tree flat spaces (faults.Monitor (Long Second)) = OfSecond held flat (λ bytes. most_monitor < length bytes)
+FailsImporting held failed tree flat spaces (faults.Monitor NoSpaces) = OfFile held tree (λ bytes. OfTree bytes (λ lines. has_space lines ≡ false))
+FailsImporting held failed tree flat spaces (faults.Monitor (Unknown at)) =
+    OfFile held tree (λ bytes. OfTree bytes (λ lines. unknown_in lines (wanted_in spaces) ≡ Some at))
+FailsImporting held failed tree flat spaces (faults.Monitor (Made bad)) = (text : Text) × (script_of text ≡ Err bad)
+FailsImporting held failed tree flat spaces faults.Memory = ⊤
+FailsImporting held failed tree flat spaces fault = ⊥
 
 -- of `check`: a read failed, or the text is no script, or that of the monitor is too long or has a line that is none of the monitor's
 abbrev pub FailsChecking : Holding → Type 0 → Text → Text → Fault → Type 0
@@ -138,7 +143,8 @@ FailsFor (Diff first second) held failed fault = FailsDiff held failed first.now
 FailsFor (Slots script) held failed fault = FailsFile held failed script.now None None fault
 FailsFor (Draw script space style) held failed fault = FailsFile held failed script.now (Some space.now) None fault
 FailsFor (Explain what) held failed fault = FailsFile held failed what.now None None fault
-FailsFor (Import tree flat spaces) held failed fault = FailsImporting held failed tree.now (option_map (λ f. f.now) flat) fault
+FailsFor (Import tree flat spaces) held failed fault =
+    FailsImporting held failed tree.now (option_map (λ f. f.now) flat) (option_map (λ s. s.now) spaces) fault
 FailsFor (Check script flat) held failed fault = FailsChecking held failed script.now flat.now fault
 
 -- how a run ends after an answer

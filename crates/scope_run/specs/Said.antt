@@ -1,18 +1,20 @@
 -- What is said of a request that has no answer.
-use Rattle.std.specs.Prelude.{ℕ, ◌==◌, if◌then◌else◌, [], ◌++◌, codes, decimal, Option, Some, None}
+use Rattle.std.specs.Prelude.{ℕ, ◌==◌, if◌then◌else◌, [], ◌++◌, codes, decimal, slice_get, unwrap_or, Option, Some, None}
 use Rattle.mem_base.specs.declared.script.faults.BadScript.{BadScript}
 use Rattle.mem_base.specs.declared.script.faults.Cause.{Cause}
 use Rattle.mem_base.specs.declared.script.faults.Cause.TheVariants as causes
 use Rattle.mem_base.specs.script.RefusalLines.{line_feed}
 use Rattle.mem_base.specs.script.Spelling.{Text}
+use Rattle.scope_run.specs.Imports.{words_of}
 use Rattle.scope_run.specs.declared.answers.Fault.{Fault}
 use Rattle.scope_run.specs.declared.answers.Fault.TheVariants as faults
 use Rattle.scope_run.specs.declared.answers.Which.{Which}
 use Rattle.scope_run.specs.declared.answers.Which.TheVariants.{First, Second}
 use Rattle.scope_run.specs.declared.importing.MonitorStop.{MonitorStop}
-use Rattle.scope_run.specs.declared.importing.MonitorStop.TheVariants.{BadLine, Long, Made}
+use Rattle.scope_run.specs.declared.importing.MonitorStop.TheVariants.{BadLine, Long, NoSpaces, Unknown, Made}
 use Rattle.scope_words.specs.Requests.{address_word, first_file, region_word, second_file, space_word}
 use Rattle.scope_words.specs.declared.requests.Request.{Request}
+use Rattle.scope_words.specs.declared.requests.Request.TheVariants.{Import}
 
 -- the cause of a fault in words
 abbrev pub cause_words : Cause → Text
@@ -42,10 +44,22 @@ abbrev pub unlike : Which → Text
 unlike First = codes ": no line of info mtree -D"
 unlike Second = codes ": no line of info mtree -f"
 
+-- the words that a request gives for the spaces that are wanted; empty where it has none
+abbrev pub spaces_word : Request → Text
+spaces_word (Import tree flat (Some spaces)) = spaces.now
+spaces_word _ = []
+
+-- one of the words between commas, counted from 0
+abbrev pub word_at : Text → ℕ → Text
+word_at text at = unwrap_or (slice_get (words_of text) at) []
+
 -- what is said of a text of the monitor's
 abbrev pub monitor_said : Request → MonitorStop → Text
 monitor_said request (BadLine which line) = file_of request which ++ ((codes ": line " ++ decimal line) ++ unlike which)
 monitor_said request (Long which) = file_of request which ++ codes ": longer than what is read of it, which is 16777216 bytes"
+monitor_said request NoSpaces = first_file request ++ codes ": no address space is named in it"
+monitor_said request (Unknown at) =
+    word_at (spaces_word request) at ++ (codes ": no address space of this name in " ++ first_file request)
 monitor_said request (Made bad) = bad_text (codes "the script that was made") bad
 
 -- what is said, without the name of the program

@@ -5,6 +5,7 @@ use Rattle.mem_base.specs.script.Spelling.{Text}
 use Rattle.mem_base.specs.script.Scripts.{Line, script_of}
 use Rattle.mem_base.specs.script.States.{State, region_named, space_named}
 use Rattle.script_map.specs.Left.{first_of, state_after}
+use Rattle.script_memory.specs.Told.{told_of}
 use Rattle.script_map.specs.declared.reading.MapStop.{MapStop}
 use Rattle.script_map.specs.declared.reading.MapStop.TheVariants as stops
 use Rattle.scope_run.specs.declared.answers.Fault.{Fault}
@@ -15,6 +16,10 @@ use Rattle.scope_run.specs.declared.answers.Which.TheVariants.{First, Second}
 -- the state that a script leaves
 abbrev pub left_by : List Line → State
 left_by lines = state_after (first_of lines) lines
+
+-- the state that is told of a script: the same, with the regions that are read as memory told as RAM
+abbrev pub told_by : Text → List Line → State
+told_by text lines = (told_of text lines).state
 
 -- why a text gives no map, as a fault
 abbrev pub stopped_by : Which → MapStop → Fault
@@ -47,7 +52,7 @@ FailsIn s space region _ = ⊥
 abbrev pub FailsOn : Text → Option Text → Option Text → Fault → Type 0
 FailsOn text space region (faults.Script First bad) = script_of text ≡ Err bad
 FailsOn text space region faults.Memory = ⊤
-FailsOn text space region fault = OfScript text (λ lines. FailsIn (left_by lines) space region fault)
+FailsOn text space region fault = OfScript text (λ lines. FailsIn (told_by text lines) space region fault)
 
 -- a command has no answer for its second text, which is no script
 abbrev pub FailsOnSecond : Text → Fault → Type 0

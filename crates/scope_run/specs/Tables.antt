@@ -16,7 +16,7 @@ use Rattle.view_slots.specs.Edges.{HasEnds}
 use Rattle.view_slots.specs.Slots.{IsPiece, memory_alone}
 use Rattle.view_slots.specs.Texts.{header_line, range_of, step_line}
 use Rattle.script_map.specs.Left.{Shown, first_of, published_in}
-use Rattle.scope_run.specs.Scripts.{TellsAll, left_by}
+use Rattle.scope_run.specs.Scripts.{TellsAll, told_by}
 
 -- the number of a slot: that of the edge at which it begins, which no generation changes
 abbrev pub slot_number : List ℕ → FlatRange → ℕ
@@ -59,6 +59,6 @@ TellsSlotsOf names gs (Some space) text = (edges : List ℕ) × HasEdges edges s
 abbrev pub TellsSlotsIn : State → List Shown → Text → Type 0
 TellsSlotsIn s gs text = TellsAll (λ name here. TellsSlotsOf s.names gs (space_named s name) here) s.names.spaces text
 
--- all spaces that a script makes, in the generations that it publishes
-abbrev pub TellsSlots : List Line → Text → Type 0
-TellsSlots lines text = TellsSlotsIn (left_by lines) (published_in (first_of lines) lines) text
+-- all spaces that the script of a text makes, in the generations that it publishes
+abbrev pub TellsSlots : Text → List Line → Text → Type 0
+TellsSlots script lines text = TellsSlotsIn (told_by script lines) (published_in (first_of lines) lines) text

@@ -3,17 +3,16 @@ ghost use Rattle.std.specs.Prelude.{◌≡◌, ◌++◌, Some, not, IfOk, IfErr,
 ghost use Rattle.std.specs.List.{list_any};
 ghost use Rattle.mem_base.specs.script.States.{space_named};
 ghost use Rattle.mem_base.specs.script.Spelling.{Text};
-ghost use Rattle.script_map.specs.Left.{left_state};
 ghost use Rattle.scope_run.specs.Diffs.{Compares, TellsBetween, TellsDiff, TellsFirst, alone_text, change_text, difference_text, is_kept, second_text};
 ghost use Rattle.scope_run.specs.Lints.{tells_something};
-ghost use Rattle.scope_run.specs.Scripts.{FailsOnBoth, FailsOnSecond, OfScript, TellsAll, left_by};
+ghost use Rattle.scope_run.specs.Scripts.{FailsOnBoth, FailsOnSecond, OfScript, TellsAll, told_by};
 ghost use Rattle.scope_run.specs.declared.answers.Fault.TheVariants.{Memory};
 
 use crate::answers::{Answer, Fault, Which, found, stopped};
 use crate::views::{space_count, view_in};
 use mem_base::{Name, RangeEvent, SpaceId};
 use script_lines::Line;
-use script_map::{ScriptMap, read};
+use script_memory::{ToldMap, read_told};
 use script_names::NameTable;
 use std::alloc::{AllocError, Global};
 use view_diff::{Difference, add_step, compare};
@@ -69,12 +68,12 @@ fn add_difference(text: &mut Line, name: &[u8], difference: &Difference) -> Resu
 /// How the view of a space of one script differs from that of a space of another.
 pub fn difference_of(
     alloc: Global,
-    first: &ScriptMap,
+    first: &ToldMap,
     from: SpaceId,
-    second: &ScriptMap,
+    second: &ToldMap,
     to: SpaceId,
 ) -> Result<Difference, AllocError>
-    ensures { IfOk result (λ d. Compares (left_state first.now) (left_state second.now) from to d) }
+    ensures { IfOk result (λ d. Compares first.now.state second.now.state from to d) }
 {
     let old = view_in(alloc, first.generation(), from)?;
     let new = view_in(alloc, second.generation(), to)?;
@@ -86,13 +85,13 @@ fn add_common(
     alloc: Global,
     text: &mut Line,
     name: &[u8],
-    first: &ScriptMap,
+    first: &ToldMap,
     from: SpaceId,
-    second: &ScriptMap,
+    second: &ToldMap,
     to: SpaceId,
 ) -> Result<(), AllocError>
     ensures { OnOk result ((here : Text) × (text.new ≡ text.old ++ here)
-        × TellsBetween (left_state first.now) (left_state second.now) name.now (Some from) (Some to) here) }
+        × TellsBetween first.now.state second.now.state name.now (Some from) (Some to) here) }
 {
     let difference = difference_of(alloc, first, from, second, to)?;
     add_difference(text, name, &difference)
@@ -108,8 +107,8 @@ fn add_alone(text: &mut Line, name: &[u8], which: &str) -> Result<(), AllocError
 }
 
 /// The space of a script with a name, as bytes.
-pub fn space_of(alloc: Global, map: &ScriptMap, name: &[u8]) -> Result<Option<SpaceId>, AllocError>
-    ensures { IfOk result (λ space. space ≡ space_named (left_state map.now) name.now) }
+pub fn space_of(alloc: Global, map: &ToldMap, name: &[u8]) -> Result<Option<SpaceId>, AllocError>
+    ensures { IfOk result (λ space. space ≡ space_named map.now.state name.now) }
 {
     let name = Name::new(name.to_vec(alloc)?);
     Ok(map.space(&name))
@@ -120,13 +119,13 @@ fn add_between(
     alloc: Global,
     text: &mut Line,
     name: &[u8],
-    first: &ScriptMap,
+    first: &ToldMap,
     from: Option<SpaceId>,
-    second: &ScriptMap,
+    second: &ToldMap,
     to: Option<SpaceId>,
 ) -> Result<(), AllocError>
     ensures { OnOk result ((here : Text) × (text.new ≡ text.old ++ here)
-        × TellsBetween (left_state first.now) (left_state second.now) name.now from to here) }
+        × TellsBetween first.now.state second.now.state name.now from to here) }
 {
     match (from, to) {
         (Some(from), Some(to)) => add_common(alloc, text, name, first, from, second, to),
@@ -140,11 +139,11 @@ fn add_first(
     alloc: Global,
     text: &mut Line,
     name: &[u8],
-    first: &ScriptMap,
-    second: &ScriptMap,
+    first: &ToldMap,
+    second: &ToldMap,
 ) -> Result<(), AllocError>
     ensures { OnOk result ((here : Text) × (text.new ≡ text.old ++ here)
-        × TellsFirst (left_state first.now) (left_state second.now) name.now here) }
+        × TellsFirst first.now.state second.now.state name.now here) }
 {
     let from = space_of(alloc, first, name)?;
     let to = space_of(alloc, second, name)?;
@@ -156,9 +155,9 @@ fn add_second(
     alloc: Global,
     text: &mut Line,
     name: &[u8],
-    first: &ScriptMap,
+    first: &ToldMap,
 ) -> Result<(), AllocError>
-    ensures { OnOk result (text.new ≡ text.old ++ second_text (left_state first.now) name.now) }
+    ensures { OnOk result (text.new ≡ text.old ++ second_text first.now.state name.now) }
 {
     match space_of(alloc, first, name)? {
         Some(_) => Ok(()),
@@ -170,11 +169,11 @@ fn add_second(
 fn add_firsts(
     alloc: Global,
     text: &mut Line,
-    first: &ScriptMap,
-    second: &ScriptMap,
+    first: &ToldMap,
+    second: &ToldMap,
 ) -> Result<(), AllocError>
     ensures { OnOk result ((here : Text) × (text.new ≡ text.old ++ here)
-        × TellsAll (TellsFirst (left_state first.now) (left_state second.now)) (left_state first.now).names.spaces here) }
+        × TellsAll (TellsFirst first.now.state second.now.state) first.now.state.names.spaces here) }
 {
     let names = first.names();
     let spaces = names.spaces();
@@ -188,10 +187,10 @@ fn add_firsts(
 fn add_seconds(
     alloc: Global,
     text: &mut Line,
-    first: &ScriptMap,
-    second: &ScriptMap,
+    first: &ToldMap,
+    second: &ToldMap,
 ) -> Result<(), AllocError>
-    ensures { OnOk result (text.new ≡ text.old ++ flat_map (second_text (left_state first.now)) (left_state second.now).names.spaces) }
+    ensures { OnOk result (text.new ≡ text.old ++ flat_map (second_text first.now.state) second.now.state.names.spaces) }
 {
     let names = second.names();
     let spaces = names.spaces();
@@ -202,8 +201,8 @@ fn add_seconds(
 }
 
 // The spaces of the first script, and then those of the second alone.
-fn text_of(alloc: Global, first: &ScriptMap, second: &ScriptMap) -> Result<Line, AllocError>
-    ensures { IfOk result (λ text. TellsDiff (left_state first.now) (left_state second.now) text) }
+fn text_of(alloc: Global, first: &ToldMap, second: &ToldMap) -> Result<Line, AllocError>
+    ensures { IfOk result (λ text. TellsDiff first.now.state second.now.state text) }
 {
     let mut text = Line::new(alloc);
     add_firsts(alloc, &mut text, first, second)?;
@@ -211,8 +210,8 @@ fn text_of(alloc: Global, first: &ScriptMap, second: &ScriptMap) -> Result<Line,
     Ok(text)
 }
 
-fn diff_in(alloc: Global, first: &ScriptMap, second: &ScriptMap) -> Result<Answer, Fault>
-    ensures told { IfOk result (λ a. TellsDiff (left_state first.now) (left_state second.now) a.text) }
+fn diff_in(alloc: Global, first: &ToldMap, second: &ToldMap) -> Result<Answer, Fault>
+    ensures told { IfOk result (λ a. TellsDiff first.now.state second.now.state a.text) }
     ensures something { IfOk result (λ a. a.something ≡ tells_something a.text) }
     ensures fails { IfErr result (λ fault. fault ≡ Memory) }
 {
@@ -220,12 +219,12 @@ fn diff_in(alloc: Global, first: &ScriptMap, second: &ScriptMap) -> Result<Answe
     Ok(found(text))
 }
 
-fn diff_with(alloc: Global, first: &ScriptMap, second: &[u8]) -> Result<Answer, Fault>
-    ensures told { IfOk result (λ a. OfScript second.now (λ lines. TellsDiff (left_state first.now) (left_by lines) a.text)) }
+fn diff_with(alloc: Global, first: &ToldMap, second: &[u8]) -> Result<Answer, Fault>
+    ensures told { IfOk result (λ a. OfScript second.now (λ lines. TellsDiff first.now.state (told_by second.now lines) a.text)) }
     ensures something { IfOk result (λ a. a.something ≡ tells_something a.text) }
     ensures fails { IfErr result (λ fault. FailsOnSecond second.now fault) }
 {
-    match read(alloc, second) {
+    match read_told(alloc, second) {
         Ok(map) => diff_in(alloc, first, &map),
         Err(stop) => Err(stopped(Which::Second, stop)),
     }
@@ -236,11 +235,12 @@ fn diff_with(alloc: Global, first: &ScriptMap, second: &[u8]) -> Result<Answer, 
 ///
 /// There is something to mend just where the text is not empty. It answers `Script` where a text is no script.
 pub fn diff(alloc: Global, first: &[u8], second: &[u8]) -> Result<Answer, Fault>
-    ensures told { IfOk result (λ a. OfScript first.now (λ old. OfScript second.now (λ new. TellsDiff (left_by old) (left_by new) a.text))) }
+    ensures told { IfOk result (λ a. OfScript first.now (λ old. OfScript second.now (λ new.
+        TellsDiff (told_by first.now old) (told_by second.now new) a.text))) }
     ensures something { IfOk result (λ a. a.something ≡ tells_something a.text) }
     ensures fails { IfErr result (λ fault. FailsOnBoth first.now second.now fault) }
 {
-    match read(alloc, first) {
+    match read_told(alloc, first) {
         Ok(map) => diff_with(alloc, &map, second),
         Err(stop) => Err(stopped(Which::First, stop)),
     }

@@ -4,20 +4,19 @@ ghost use Rattle.mem_base.specs.script.Shows.{shown_forest};
 ghost use Rattle.mem_base.specs.script.States.{space_named};
 ghost use Rattle.mem_base.specs.views.Flattened.{view_of};
 ghost use Rattle.view_picture.specs.Rows.{Tiles, ranges_of};
-ghost use Rattle.script_map.specs.Left.{left_state};
-ghost use Rattle.scope_run.specs.Scripts.{FailsIn, FailsOn, OfScript, left_by};
+ghost use Rattle.scope_run.specs.Scripts.{FailsIn, FailsOn, OfScript, told_by};
 
 use crate::answers::{Answer, Fault, Which, stopped, told};
 use crate::views::{root_in, view_in};
 use mem_base::{Name, SpaceId};
 use scope_words::Style;
 use script_lines::Line;
-use script_map::{ScriptMap, read};
+use script_memory::{ToldMap, read_told};
 use std::alloc::{AllocError, Global};
 use view_picture::{Row, Window, add_picture, add_svg, rows_of, windows_of};
 
 // The windows of the tree under a space.
-fn windows_in(alloc: Global, map: &ScriptMap, space: SpaceId) -> Result<Vec<Window>, AllocError> {
+fn windows_in(alloc: Global, map: &ToldMap, space: SpaceId) -> Result<Vec<Window>, AllocError> {
     let generation = map.generation();
     match root_in(generation, space) {
         Some(root) => windows_of(alloc, &generation.forest().nodes, root),
@@ -26,9 +25,9 @@ fn windows_in(alloc: Global, map: &ScriptMap, space: SpaceId) -> Result<Vec<Wind
 }
 
 /// The rows of a space's view, from the first address to the last.
-pub fn rows_in(alloc: Global, map: &ScriptMap, space: SpaceId) -> Result<Vec<Row>, AllocError>
+pub fn rows_in(alloc: Global, map: &ToldMap, space: SpaceId) -> Result<Vec<Row>, AllocError>
     ensures tiles { IfOk result (λ rows. Tiles 0 (2 ^ 64) rows.items) }
-    ensures ranges { IfOk result (λ rows. ranges_of rows.items ≡ view_of (shown_forest (left_state map.now)) space) }
+    ensures ranges { IfOk result (λ rows. ranges_of rows.items ≡ view_of (shown_forest map.now.state) space) }
 {
     let view = view_in(alloc, map.generation(), space)?;
     rows_of(alloc, &view)
@@ -36,7 +35,7 @@ pub fn rows_in(alloc: Global, map: &ScriptMap, space: SpaceId) -> Result<Vec<Row
 
 fn picture_of(
     alloc: Global,
-    map: &ScriptMap,
+    map: &ToldMap,
     space: SpaceId,
     style: Style,
 ) -> Result<Line, AllocError> {
@@ -51,15 +50,21 @@ fn picture_of(
             rows.as_slice(),
             windows.as_slice(),
         )?,
-        Style::Svg => add_svg(&mut text, map.names(), rows.as_slice(), windows.as_slice())?,
+        Style::Svg => add_svg(
+            alloc,
+            &mut text,
+            map.names(),
+            rows.as_slice(),
+            windows.as_slice(),
+        )?,
     }
     Ok(text)
 }
 
-fn draw_in(alloc: Global, map: &ScriptMap, space: &Name, style: Style) -> Result<Answer, Fault>
-    ensures named { OnOk result (is_some (space_named (left_state map.now) space.now) ≡ true) }
+fn draw_in(alloc: Global, map: &ToldMap, space: &Name, style: Style) -> Result<Answer, Fault>
+    ensures named { OnOk result (is_some (space_named map.now.state space.now) ≡ true) }
     ensures nothing { IfOk result (λ a. a.something ≡ false) }
-    ensures fails { IfErr result (λ fault. FailsIn (left_state map.now) (Some space.now) None fault) }
+    ensures fails { IfErr result (λ fault. FailsIn map.now.state (Some space.now) None fault) }
 {
     let Some(space) = map.space(space) else {
         return Err(Fault::NoSpace);
@@ -72,11 +77,11 @@ fn draw_in(alloc: Global, map: &ScriptMap, space: &Name, style: Style) -> Result
 ///
 /// There is never something to mend. It answers `Script` where the text is no script, `NoSpace` where the script leaves no space of the name.
 pub fn draw(alloc: Global, script: &[u8], space: &Name, style: Style) -> Result<Answer, Fault>
-    ensures named { OnOk result (OfScript script.now (λ lines. is_some (space_named (left_by lines) space.now) ≡ true)) }
+    ensures named { OnOk result (OfScript script.now (λ lines. is_some (space_named (told_by script.now lines) space.now) ≡ true)) }
     ensures nothing { IfOk result (λ a. a.something ≡ false) }
     ensures fails { IfErr result (λ fault. FailsOn script.now (Some space.now) None fault) }
 {
-    match read(alloc, script) {
+    match read_told(alloc, script) {
         Ok(map) => draw_in(alloc, &map, space, style),
         Err(stop) => Err(stopped(Which::First, stop)),
     }

@@ -1,16 +1,16 @@
 // `explain`.
 ghost use Rattle.std.specs.Prelude.{◌≡◌, false, IfOk, IfErr, IfSome, is_some};
-ghost use Rattle.mem_base.specs.script.RefusalLines.{bad_line};
 ghost use Rattle.mem_base.specs.script.Scripts.{script_of};
+ghost use Rattle.script_explain.specs.Faults.{TellsFault};
 ghost use Rattle.script_explain.specs.Told.{topic_text};
-ghost use Rattle.scope_run.specs.Explains.{BeginsSo, Explains, TellsRefusal, TellsTopic, topic_code};
+ghost use Rattle.scope_run.specs.Explains.{Explains, TellsRefusal, TellsTopic, topic_code};
 ghost use Rattle.scope_run.specs.Lints.{tells_something};
 ghost use Rattle.scope_run.specs.Scripts.{TellsAll};
 ghost use Rattle.scope_run.specs.declared.answers.Fault.TheVariants.{Memory};
 
 use crate::answers::{Answer, Fault, found, told};
 use mem_base::BadScript;
-use script_explain::{Topic, add_bad, add_refused, add_topic, topic_of};
+use script_explain::{Topic, add_fault, add_refused, add_topic, topic_of};
 use script_lines::Line;
 use script_map::{MapStop, RefusedLine, read};
 use std::alloc::{AllocError, Global};
@@ -28,10 +28,10 @@ fn refusals_text(alloc: Global, script: &[u8], refused: &[RefusedLine]) -> Resul
 
 // The first line at fault, what is wrong, and what to do.
 fn bad_text(alloc: Global, script: &[u8], bad: BadScript) -> Result<Line, AllocError>
-    ensures { IfOk result (λ text. BeginsSo (bad_line bad) text) }
+    ensures { IfOk result (λ text. TellsFault script.now bad text) }
 {
     let mut text = Line::new(alloc);
-    add_bad(alloc, &mut text, script, bad)?;
+    add_fault(alloc, &mut text, script, bad)?;
     Ok(text)
 }
 
@@ -45,7 +45,7 @@ fn explain_refused(alloc: Global, script: &[u8], refused: &[RefusedLine]) -> Res
 }
 
 fn explain_bad(alloc: Global, script: &[u8], bad: BadScript) -> Result<Answer, Fault>
-    ensures told { IfOk result (λ a. BeginsSo (bad_line bad) a.text) }
+    ensures told { IfOk result (λ a. TellsFault script.now bad a.text) }
     ensures something { IfOk result (λ a. a.something ≡ tells_something a.text) }
     ensures fails { IfErr result (λ fault. fault ≡ Memory) }
 {
@@ -57,7 +57,7 @@ fn explain_bad(alloc: Global, script: &[u8], bad: BadScript) -> Result<Answer, F
 ///
 /// There is something to mend just where the text is not empty. It fails only where memory runs out.
 pub fn explain(alloc: Global, script: &[u8]) -> Result<Answer, Fault>
-    ensures told { IfOk result (λ a. Explains (script_of script.now) a.text) }
+    ensures told { IfOk result (λ a. Explains script.now (script_of script.now) a.text) }
     ensures something { IfOk result (λ a. a.something ≡ tells_something a.text) }
     ensures fails { IfErr result (λ fault. fault ≡ Memory) }
 {

@@ -1,6 +1,7 @@
 // What is said of a request that cannot be answered.
-ghost use Rattle.std.specs.Prelude.{◌≡◌, ◌++◌, IfOk, OnOk, codes, decimal};
-ghost use Rattle.scope_run.specs.Said.{bad_text, cause_words, fault_text, file_of, line_text, monitor_said, said, unlike};
+ghost use Rattle.std.specs.Prelude.{◌≡◌, ◌++◌, IfOk, OnOk, codes, decimal, option_map, slice_get};
+ghost use Rattle.scope_run.specs.Imports.{words_of};
+ghost use Rattle.scope_run.specs.Said.{bad_text, cause_words, fault_text, file_of, line_text, monitor_said, said, spaces_word, unlike, word_at};
 
 use crate::answers::{Fault, Which};
 use crate::importing::MonitorStop;
@@ -82,6 +83,48 @@ fn add_bad_line(line: &mut Line, file: &str, which: Which, number: u32) -> Resul
     line.text(unlike(which))
 }
 
+// The names of the spaces that are wanted, with commas between them.
+fn spaces_word<'a>(request: &Request<'a>) -> &'a str
+    ensures { result.now ≡ spaces_word request.now }
+{
+    match request {
+        Request::Import {
+            spaces: Some(spaces),
+            ..
+        } => spaces,
+        _ => "",
+    }
+}
+
+// One of the words between commas, if there is such a one.
+fn found_at(text: &str, at: usize) -> Option<&str>
+    ensures { option_map (λ w. w.now) result ≡ slice_get (words_of text.now) at }
+{
+    text.split(',').nth(at)
+}
+
+// One of the words between commas.
+fn word_at(text: &str, at: usize) -> &str
+    ensures { result.now ≡ word_at text.now at }
+{
+    match found_at(text, at) {
+        Some(word) => word,
+        None => "",
+    }
+}
+
+// A wanted name that no line of the tree's text gives to a space.
+fn add_unknown(line: &mut Line, request: &Request<'_>, at: usize) -> Result<(), AllocError>
+    ensures { OnOk result (line.new ≡ line.old ++ monitor_said request.now (MonitorStop.Unknown at)) }
+{
+    line.text(word_at(spaces_word(request), at))?;
+    add_word(
+        line,
+        ": no address space of this name in ",
+        request.first_file(),
+    )
+}
+
 // What is wrong with a text of the monitor's.
 fn add_monitor(line: &mut Line, request: &Request<'_>, stop: MonitorStop) -> Result<(), AllocError>
     ensures { OnOk result (line.new ≡ line.old ++ monitor_said request.now stop) }
@@ -96,6 +139,12 @@ fn add_monitor(line: &mut Line, request: &Request<'_>, stop: MonitorStop) -> Res
             file_of(request, which),
             ": longer than what is read of it, which is 16777216 bytes",
         ),
+        MonitorStop::NoSpaces => add_word(
+            line,
+            request.first_file(),
+            ": no address space is named in it",
+        ),
+        MonitorStop::Unknown { at } => add_unknown(line, request, at),
         MonitorStop::Made(bad) => add_bad(line, "the script that was made", bad),
     }
 }

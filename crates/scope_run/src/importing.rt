@@ -21,14 +21,18 @@ pub enum MonitorStop {
     BadLine { which: Which, line: u32 },
     /// A text is longer than what is read of it.
     Long(Which),
+    /// No line of the tree's text names a space.
+    NoSpaces,
+    /// No line of it names the space of this one of the names that are wanted, counted from 0.
+    Unknown { at: usize },
     /// The script that was made is none: its first line at fault, and the cause.
     Made(BadScript),
 }
 
 // Of two texts, of which one has 2^31 bytes or more, that one is too long.
-fn too_long(tree: &[u8], flat: &[u8]) -> Fault
-    requires { Explains tree.now flat.now ImportFault.Long }
-    ensures { FailsImport tree.now flat.now result }
+fn too_long(tree: &[u8], flat: &[u8], wanted: &[Name]) -> Fault
+    requires { Explains tree.now flat.now wanted.now ImportFault.Long }
+    ensures { FailsImport tree.now flat.now wanted.now result }
 {
     if tree.len() >= 1 << 31 {
         Fault::Monitor(MonitorStop::Long(Which::First))
@@ -38,12 +42,12 @@ fn too_long(tree: &[u8], flat: &[u8]) -> Fault
 }
 
 // Why there is no script, as a fault.
-fn no_script(tree: &[u8], flat: &[u8], fault: ImportFault) -> Fault
-    requires { Explains tree.now flat.now fault }
-    ensures { FailsImport tree.now flat.now result }
+fn no_script(tree: &[u8], flat: &[u8], wanted: &[Name], fault: ImportFault) -> Fault
+    requires { Explains tree.now flat.now wanted.now fault }
+    ensures { FailsImport tree.now flat.now wanted.now result }
 {
     match fault {
-        ImportFault::Long => too_long(tree, flat),
+        ImportFault::Long => too_long(tree, flat, wanted),
         ImportFault::Tree { line } => Fault::Monitor(MonitorStop::BadLine {
             which: Which::First,
             line,
@@ -52,6 +56,8 @@ fn no_script(tree: &[u8], flat: &[u8], fault: ImportFault) -> Fault
             which: Which::Second,
             line,
         }),
+        ImportFault::NoSpace => Fault::Monitor(MonitorStop::NoSpaces),
+        ImportFault::Unknown { at } => Fault::Monitor(MonitorStop::Unknown { at }),
         ImportFault::Made { bad, .. } => Fault::Monitor(MonitorStop::Made(bad)),
         ImportFault::Memory => Fault::Memory,
     }
@@ -95,11 +101,11 @@ fn made_answer(alloc: Global, made: &Imported) -> Result<Answer, Fault>
 /// commands is refused.
 pub fn import(alloc: Global, tree: &[u8], flat: &[u8], wanted: &[Name]) -> Result<Answer, Fault>
     ensures told { IfOk result (λ a. TellsImport a.text a.something) }
-    ensures fails { IfErr result (λ fault. FailsImport tree.now flat.now fault) }
+    ensures fails { IfErr result (λ fault. FailsImport tree.now flat.now wanted.now fault) }
 {
     match import_machine(alloc, tree, flat, wanted) {
         Ok(made) => made_answer(alloc, &made),
-        Err(fault) => Err(no_script(tree, flat, fault)),
+        Err(fault) => Err(no_script(tree, flat, wanted, fault)),
     }
 }
 

@@ -1,7 +1,8 @@
 // Requests on what QEMU's monitor printed.
-ghost use Rattle.std.specs.Prelude.{◌≡◌, ◌≤◌, IfErr, IfOk, option_map};
+ghost use Rattle.std.specs.Prelude.{◌≡◌, ◌≤◌, IfErr, IfOk, map, option_map};
 ghost use Rattle.outside.specs.Causes.{Rose};
 ghost use Rattle.scope_run.specs.Files.{Tells};
+ghost use Rattle.scope_run.specs.Imports.{wanted_in, words_of};
 ghost use Rattle.scope_run.specs.Requests.{AnswersTo, FailsFor, IsSecondUnread, IsTextUnread, TellsIfNamed};
 
 use crate::answers::{Answer, Fault, Which};
@@ -49,15 +50,32 @@ fn flat_in<F: Files>(alloc: Global, files: &mut F, name: Option<&str>) -> Result
     }
 }
 
-// The names between commas; none where no word is given.
-fn names_in(alloc: Global, words: Option<&str>) -> Result<Vec<Name>, AllocError> {
+// The words between commas.
+fn words_of(alloc: Global, text: &str) -> Result<Vec<&str>, AllocError>
+    ensures { IfOk result (λ words. map (λ w. w.now) words.items ≡ words_of text.now) }
+{
+    text.split(',').collect(alloc)
+}
+
+// Words as names.
+fn names_of(alloc: Global, words: &[&str]) -> Result<Vec<Name>, AllocError>
+    ensures { IfOk result (λ names. names.items ≡ map (λ w. w.now) words.now) }
+{
     let mut names = Vec::new(alloc);
-    if let Some(words) = words {
-        for word in words.split(',') {
-            names.push(Name::new(word.as_bytes().to_vec(alloc)?))?;
-        }
+    for word in words {
+        names.push(Name::new(word.as_bytes().to_vec(alloc)?))?;
     }
     Ok(names)
+}
+
+// The names between commas; none where no word is given.
+fn names_in(alloc: Global, words: Option<&str>) -> Result<Vec<Name>, AllocError>
+    ensures { IfOk result (λ names. names.items ≡ wanted_in (option_map (λ w. w.now) words.entry)) }
+{
+    match words {
+        Some(words) => names_of(alloc, words_of(alloc, words)?.as_slice()),
+        None => Ok(Vec::new(alloc)),
+    }
 }
 
 /// The script of what the monitor printed, by the names of the files.

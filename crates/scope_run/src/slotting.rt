@@ -7,7 +7,7 @@ ghost use Rattle.script_names.specs.Tables.{printed_names};
 ghost use Rattle.mem_base.specs.lists.Every.{Every};
 ghost use Rattle.view_slots.specs.Edges.{HasEnds, Keeps};
 ghost use Rattle.view_slots.specs.Texts.{range_of};
-ghost use Rattle.script_map.specs.Left.{all_shown, left_state};
+ghost use Rattle.script_map.specs.Left.{all_shown};
 ghost use Rattle.scope_run.specs.Scripts.{FailsOn, OfScript};
 ghost use Rattle.scope_run.specs.Tables.{HasEdges, IsTable, TellsSlots, TellsSlotsIn, TellsSlotsOf, TellsTables, numbered_step, slot_number, table_text};
 ghost use Rattle.scope_run.specs.declared.answers.Fault.TheVariants.{Memory};
@@ -18,7 +18,7 @@ use crate::views::{space_count, view_in};
 use generation::Generation;
 use mem_base::{Edition, FlatRange, RangeEvent, SpaceId, View};
 use script_lines::Line;
-use script_map::{History, ScriptMap, follow};
+use script_memory::{ToldHistory, ToldMap, follow_told};
 use script_names::Names;
 use script_text::{ParseFault, Script, parse};
 use std::alloc::{AllocError, Global};
@@ -180,11 +180,11 @@ fn add_named(
     alloc: Global,
     text: &mut Line,
     name: &[u8],
-    map: &ScriptMap,
+    map: &ToldMap,
     published: &[Arc<Generation, Global>],
 ) -> Result<(), AllocError>
     ensures { OnOk result ((more : Text) × (text.new ≡ text.old ++ more)
-        × TellsSlotsOf (left_state map.now).names (all_shown published.now) (space_named (left_state map.now) name.now) more) }
+        × TellsSlotsOf map.now.state.names (all_shown published.now) (space_named map.now.state name.now) more) }
 {
     match space_of(alloc, map, name)? {
         Some(space) => add_space(alloc, text, map.names(), published, space),
@@ -196,10 +196,10 @@ fn add_named(
 fn add_spaces(
     alloc: Global,
     text: &mut Line,
-    map: &ScriptMap,
+    map: &ToldMap,
     published: &[Arc<Generation, Global>],
 ) -> Result<(), AllocError>
-    ensures { OnOk result ((more : Text) × (text.new ≡ text.old ++ more) × TellsSlotsIn (left_state map.now) (all_shown published.now) more) }
+    ensures { OnOk result ((more : Text) × (text.new ≡ text.old ++ more) × TellsSlotsIn map.now.state (all_shown published.now) more) }
 {
     let names = map.names();
     let spaces = names.spaces();
@@ -209,16 +209,16 @@ fn add_spaces(
     Ok(())
 }
 
-fn text_of(alloc: Global, history: &History) -> Result<Line, AllocError>
-    ensures { IfOk result (λ text. TellsSlotsIn (left_state history.now.map) (all_shown history.now.published.items) text) }
+fn text_of(alloc: Global, history: &ToldHistory) -> Result<Line, AllocError>
+    ensures { IfOk result (λ text. TellsSlotsIn history.now.map.state (all_shown history.now.published.items) text) }
 {
     let mut text = Line::new(alloc);
     add_spaces(alloc, &mut text, &history.map, history.published.as_slice())?;
     Ok(text)
 }
 
-fn slots_in(alloc: Global, history: &History) -> Result<Answer, Fault>
-    ensures told { IfOk result (λ a. TellsSlotsIn (left_state history.now.map) (all_shown history.now.published.items) a.text) }
+fn slots_in(alloc: Global, history: &ToldHistory) -> Result<Answer, Fault>
+    ensures told { IfOk result (λ a. TellsSlotsIn history.now.map.state (all_shown history.now.published.items) a.text) }
     ensures nothing { IfOk result (λ a. a.something ≡ false) }
     ensures fails { IfErr result (λ fault. fault ≡ Memory) }
 {
@@ -227,12 +227,12 @@ fn slots_in(alloc: Global, history: &History) -> Result<Answer, Fault>
 }
 
 // The slots of a script that was read.
-fn slots_of(alloc: Global, script: &Script) -> Result<Answer, Fault>
-    ensures told { IfOk result (λ a. TellsSlots script.now a.text) }
+fn slots_of(alloc: Global, text: &[u8], script: &Script) -> Result<Answer, Fault>
+    ensures told { IfOk result (λ a. TellsSlots text.now script.now a.text) }
     ensures nothing { IfOk result (λ a. a.something ≡ false) }
     ensures fails { IfErr result (λ fault. fault ≡ Memory) }
 {
-    match follow(alloc, script) {
+    match follow_told(alloc, text, script) {
         Ok(history) => slots_in(alloc, &history),
         Err(_) => Err(Fault::Memory),
     }
@@ -243,12 +243,12 @@ fn slots_of(alloc: Global, script: &Script) -> Result<Answer, Fault>
 ///
 /// There is never something to mend. It answers `Script` where the text is no script.
 pub fn slots(alloc: Global, script: &[u8]) -> Result<Answer, Fault>
-    ensures told { IfOk result (λ a. OfScript script.now (λ lines. TellsSlots lines a.text)) }
+    ensures told { IfOk result (λ a. OfScript script.now (λ lines. TellsSlots script.now lines a.text)) }
     ensures nothing { IfOk result (λ a. a.something ≡ false) }
     ensures fails { IfErr result (λ fault. FailsOn script.now None None fault) }
 {
     match parse(alloc, script) {
-        Ok(script) => slots_of(alloc, &script),
+        Ok(lines) => slots_of(alloc, script, &lines),
         Err(ParseFault::Bad(bad)) => Err(Fault::Script {
             which: Which::First,
             bad,

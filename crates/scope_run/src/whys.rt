@@ -5,8 +5,7 @@ ghost use Rattle.mem_base.specs.script.Shows.{shown_forest};
 ghost use Rattle.mem_base.specs.script.States.{space_named};
 ghost use Rattle.find_why.specs.Hops.{AreHops};
 ghost use Rattle.find_why.specs.declared.hops.Hop.{Hop};
-ghost use Rattle.script_map.specs.Left.{left_state};
-ghost use Rattle.scope_run.specs.Scripts.{FailsIn, FailsOn, IsMissing, OfScript, left_by};
+ghost use Rattle.scope_run.specs.Scripts.{FailsIn, FailsOn, IsMissing, OfScript, told_by};
 ghost use Rattle.scope_run.specs.Whys.{IsAsked, TellsWhy, why_text};
 ghost use Rattle.scope_run.specs.declared.answers.Fault.TheVariants as faults;
 ghost use Rattle.std.specs.Prelude.{List};
@@ -16,13 +15,13 @@ use find_why::{Hops, why as find_hops};
 use mem_base::{Name, RegionId, SpaceId};
 use scope_lines::{add_region_lines, add_why_lines};
 use script_lines::Line;
-use script_map::{ScriptMap, read};
+use script_memory::{ToldMap, read_told};
 use std::alloc::{AllocError, Global};
 
 /// The region that was asked for, if one was. It answers `NoRegion` where the map has none of the name.
-pub fn region_asked(map: &ScriptMap, region: Option<&Name>) -> Result<Option<RegionId>, Fault>
-    ensures found { IfOk result (λ one. IsAsked (left_state map.now) (option_map (λ n. n.now) region.entry) one) }
-    ensures missing { IfErr result (λ fault. (fault ≡ faults.NoRegion) × IsMissing (left_state map.now) (option_map (λ n. n.now) region.entry)) }
+pub fn region_asked(map: &ToldMap, region: Option<&Name>) -> Result<Option<RegionId>, Fault>
+    ensures found { IfOk result (λ one. IsAsked map.now.state (option_map (λ n. n.now) region.entry) one) }
+    ensures missing { IfErr result (λ fault. (fault ≡ faults.NoRegion) × IsMissing map.now.state (option_map (λ n. n.now) region.entry)) }
 {
     let Some(name) = region else {
         return Ok(None);
@@ -36,11 +35,11 @@ pub fn region_asked(map: &ScriptMap, region: Option<&Name>) -> Result<Option<Reg
 // The lines of searches, all of them or those that concern one region.
 fn add_lines(
     text: &mut Line,
-    map: &ScriptMap,
+    map: &ToldMap,
     hops: &Hops,
     region: Option<RegionId>,
 ) -> Result<(), AllocError>
-    ensures { OnOk result (text.new ≡ text.old ++ why_text (left_state map.now).names region hops.now) }
+    ensures { OnOk result (text.new ≡ text.old ++ why_text map.now.state.names region hops.now) }
 {
     match region {
         Some(region) => add_region_lines(text, map.names(), hops, region),
@@ -51,13 +50,13 @@ fn add_lines(
 // The text about an address of a space.
 fn text_of(
     alloc: Global,
-    map: &ScriptMap,
+    map: &ToldMap,
     space: SpaceId,
     addr: u64,
     region: Option<RegionId>,
 ) -> Result<Line, AllocError>
-    ensures { IfOk result (λ text. (hops : List Hop) × AreHops (shown_forest (left_state map.now)) most_translations space addr hops
-        × (text ≡ why_text (left_state map.now).names region hops)) }
+    ensures { IfOk result (λ text. (hops : List Hop) × AreHops (shown_forest map.now.state) most_translations space addr hops
+        × (text ≡ why_text map.now.state.names region hops)) }
 {
     let mut text = Line::new(alloc);
     let hops = find_hops(alloc, map.generation().forest(), space, addr)?;
@@ -68,14 +67,14 @@ fn text_of(
 // The same of names.
 fn why_in(
     alloc: Global,
-    map: &ScriptMap,
+    map: &ToldMap,
     space: &Name,
     addr: u64,
     region: Option<&Name>,
 ) -> Result<Answer, Fault>
-    ensures told { IfOk result (λ a. TellsWhy (left_state map.now) space.now addr (option_map (λ n. n.now) region.entry) a.text) }
+    ensures told { IfOk result (λ a. TellsWhy map.now.state space.now addr (option_map (λ n. n.now) region.entry) a.text) }
     ensures nothing { IfOk result (λ a. a.something ≡ false) }
-    ensures fails { IfErr result (λ fault. FailsIn (left_state map.now) (Some space.now) (option_map (λ n. n.now) region.entry) fault) }
+    ensures fails { IfErr result (λ fault. FailsIn map.now.state (Some space.now) (option_map (λ n. n.now) region.entry) fault) }
 {
     let Some(space) = map.space(space) else {
         return Err(Fault::NoSpace);
@@ -98,11 +97,11 @@ pub fn why(
     region: Option<&Name>,
 ) -> Result<Answer, Fault>
     ensures told { IfOk result (λ a. OfScript script.now
-        (λ lines. TellsWhy (left_by lines) space.now addr (option_map (λ n. n.now) region.entry) a.text)) }
+        (λ lines. TellsWhy (told_by script.now lines) space.now addr (option_map (λ n. n.now) region.entry) a.text)) }
     ensures nothing { IfOk result (λ a. a.something ≡ false) }
     ensures fails { IfErr result (λ fault. FailsOn script.now (Some space.now) (option_map (λ n. n.now) region.entry) fault) }
 {
-    match read(alloc, script) {
+    match read_told(alloc, script) {
         Ok(map) => why_in(alloc, &map, space, addr, region),
         Err(stop) => Err(stopped(Which::First, stop)),
     }

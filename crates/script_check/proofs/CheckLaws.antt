@@ -6,15 +6,25 @@ use Rattle.mem_base.specs.declared.map.ids.SpaceId.{SpaceId}
 use Rattle.mem_base.specs.lists.Every.{Every}
 use Rattle.mem_base.specs.script.Named.{space_name}
 use Rattle.mem_base.specs.script.Spelling.{Text}
-use Rattle.mem_base.specs.script.States.{region_named}
 use Rattle.mem_base.specs.views.Flattened.{view_of}
-use Rattle.script_map.specs.Left.{Left, Shown, left_state, shown_in}
+use Rattle.script_map.specs.Left.{shown_in}
 use Rattle.script_check.specs.Blocks.{Printed}
-use Rattle.script_check.specs.Checks.{Compared, IsSpacePrinted, Explains, IsToldOf, IsToldOfText, compared, compared_with, is_other, some_differs, space_verdict, spaces_text}
-use Rattle.script_check.specs.Marks.{memory_in}
+use Rattle.script_check.specs.Checks.{
+  Compared,
+  IsSpacePrinted,
+  Explains,
+  IsToldOf,
+  IsToldOfText,
+  compared,
+  compared_with,
+  is_other,
+  some_differs,
+  space_verdict,
+  spaces_text,
+}
 use Rattle.script_check.specs.declared.faults.CheckFault.{CheckFault}
 use Rattle.script_check.specs.declared.faults.CheckFault.TheVariants.{Memory}
-use Rattle.script_map.specs.Reads.{IsLeftByText}
+use Rattle.script_memory.specs.Told.{IsToldByText, Told}
 use Rattle.script_check.specs.declared.verdicts.Verdict.{Verdict}
 use Rattle.script_check.specs.declared.verdicts.Verdict.TheVariants.{Same, Differs, Unprinted}
 use Rattle.script_check.proofs.VerdictLaws.{same_is_printed}
@@ -48,12 +58,11 @@ pub differs_of_all : (x : Compared) (spaces : List (SpaceId × RegionId)) (diffe
     → differs ≡ some_differs x x.forest.spaces
 differs_of_all x spaces differs s e = e ∙ ap (some_differs x) s
 
-pub is_told : (script : Text) (m : Left) (blocks : List Printed) (memory : List RegionId) (text : Text) (differs : Bool)
-    → memory ≡ memory_in (region_named (left_state m)) script
-    → text ≡ spaces_text (compared_with m memory blocks) (shown_in (left_state m)).forest.spaces
-    → differs ≡ some_differs (compared_with m memory blocks) (shown_in (left_state m)).forest.spaces → IsToldOf script m blocks text differs
-is_told script m blocks memory text differs e t d =
-    let x : Compared = compared script m blocks in
+pub is_told : (m : Told) (blocks : List Printed) (memory : List RegionId) (text : Text) (differs : Bool) → memory ≡ m.memory
+    → text ≡ spaces_text (compared_with m memory blocks) (shown_in m.state).forest.spaces
+    → differs ≡ some_differs (compared_with m memory blocks) (shown_in m.state).forest.spaces → IsToldOf m blocks text differs
+is_told m blocks memory text differs e t d =
+    let x : Compared = compared m blocks in
     let found : differs ≡ some_differs x x.forest.spaces = d ∙ ap (λ (ids : List RegionId). some_differs (compared_with m ids blocks) x.forest.spaces) e in
     record {
       told = t ∙ ap (λ (ids : List RegionId). spaces_text (compared_with m ids blocks) x.forest.spaces) e;
@@ -62,9 +71,9 @@ is_told script m blocks memory text differs e t d =
       all = λ none. all_printed x x.forest.spaces (sym found ∙ none);
     }
 
-pub told_of_text : (script : Text) (m : Left) (blocks : List Printed) (text : Text) (differs : Bool) → IsLeftByText script m
-    → IsToldOf script m blocks text differs → IsToldOfText script blocks text differs
-told_of_text script m blocks text differs h t = record { left = m; reads = h; told = t }
+pub told_of_text : (script : Text) (m : Told) (blocks : List Printed) (text : Text) (differs : Bool) → IsToldByText script m
+    → IsToldOf m blocks text differs → IsToldOfText script blocks text differs
+told_of_text script m blocks text differs h t = record { map = m; reads = h; told = t }
 
 pub if_err : {T E : Type 0} (P Q : E → Type 0) (r : Result T E) → ((e : E) → P e → Q e) → IfErr r P → IfErr r Q
 if_err P Q (Ok x) f h = tt

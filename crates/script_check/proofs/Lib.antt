@@ -1,4 +1,3 @@
 mod BlockLaws
-mod MarkLaws
 mod VerdictLaws
 mod CheckLaws

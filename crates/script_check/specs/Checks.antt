@@ -9,15 +9,13 @@ use Rattle.mem_base.specs.lists.Every.{Every}
 use Rattle.mem_base.specs.script.Spelling.{Text}
 use Rattle.mem_base.specs.script.Scripts.{script_of}
 use Rattle.mem_base.specs.script.Named.{Names, space_name}
-use Rattle.mem_base.specs.script.States.{region_named}
 use Rattle.mem_base.specs.views.Flattened.{view_of}
 use Rattle.monitor_text.specs.Rows.{flat_line}
 use Rattle.monitor_text.specs.Texts.{lines_of}
 use Rattle.monitor_text.specs.declared.flat_text.FlatLine.{FlatLine}
-use Rattle.script_map.specs.Left.{Left, left_state, shown_in}
-use Rattle.script_map.specs.Reads.{IsLeftByText}
+use Rattle.script_map.specs.Left.{shown_in}
+use Rattle.script_memory.specs.Told.{IsToldByText, Told}
 use Rattle.script_check.specs.Blocks.{Printed, blocks_of}
-use Rattle.script_check.specs.Marks.{memory_in}
 use Rattle.script_check.specs.Verdicts.{IsPrinted, verdict_from}
 use Rattle.script_check.specs.Told.{verdict_text}
 use Rattle.script_check.specs.declared.verdicts.Verdict.{Verdict}
@@ -25,7 +23,8 @@ use Rattle.script_check.specs.declared.verdicts.Verdict.TheVariants.{Same, Diffe
 use Rattle.script_check.specs.declared.faults.CheckFault.{CheckFault}
 use Rattle.script_check.specs.declared.faults.CheckFault.TheVariants.{Script, Flat, Long, Memory}
 
--- what is compared: the names and the forest that a script left, its regions that stand for memory, and the views that were printed
+-- what is compared: the names and the forest that a script left, as they are told, its regions that are read as memory, and the views
+-- that were printed
 pub record Compared : Type 0 where
   pub names : Names
   pub forest : Forest
@@ -57,27 +56,27 @@ spaces_text x spaces = flat_map (λ space. space_text x space.0) spaces
 abbrev pub some_differs : Compared → List (SpaceId × RegionId) → Bool
 some_differs x spaces = list_any (λ space. is_other (space_verdict x space.0)) spaces
 
--- what is compared of what a script left, with these regions that stand for memory and these views
-abbrev pub compared_with : Left → List RegionId → List Printed → Compared
-compared_with m memory blocks = record { names = (left_state m).names; forest = (shown_in (left_state m)).forest; memory = memory; blocks = blocks }
+-- what is compared of what is told of a script, with these regions that are read as memory and these views
+abbrev pub compared_with : Told → List RegionId → List Printed → Compared
+compared_with m memory blocks = record { names = m.state.names; forest = (shown_in m.state).forest; memory = memory; blocks = blocks }
 
--- the same by the script's text
-abbrev pub compared : Text → Left → List Printed → Compared
-compared script m blocks = compared_with m (memory_in (region_named (left_state m)) script) blocks
+-- the same with its own such regions
+abbrev pub compared : Told → List Printed → Compared
+compared m blocks = compared_with m m.memory blocks
 
 -- what is told of a script, by what it left and the views, and whether a space is not told as the same: one that is has a view that was
 -- printed of it, and where none is not, all have
-pub record IsToldOf (script : Text) (m : Left) (blocks : List Printed) (text : Text) (differs : Bool) : Type 0 where
-  pub told : text ≡ spaces_text (compared script m blocks) (compared script m blocks).forest.spaces
-  pub found : differs ≡ some_differs (compared script m blocks) (compared script m blocks).forest.spaces
-  pub same : (space : SpaceId) → space_verdict (compared script m blocks) space ≡ Same → IsSpacePrinted (compared script m blocks) space
-  pub all : differs ≡ false → Every (λ (s : SpaceId × RegionId). IsSpacePrinted (compared script m blocks) s.0) (compared script m blocks).forest.spaces
+pub record IsToldOf (m : Told) (blocks : List Printed) (text : Text) (differs : Bool) : Type 0 where
+  pub told : text ≡ spaces_text (compared m blocks) (compared m blocks).forest.spaces
+  pub found : differs ≡ some_differs (compared m blocks) (compared m blocks).forest.spaces
+  pub same : (space : SpaceId) → space_verdict (compared m blocks) space ≡ Same → IsSpacePrinted (compared m blocks) space
+  pub all : differs ≡ false → Every (λ (s : SpaceId × RegionId). IsSpacePrinted (compared m blocks) s.0) (compared m blocks).forest.spaces
 
 -- the same of a script by its text alone
 pub record IsToldOfText (script : Text) (blocks : List Printed) (text : Text) (differs : Bool) : Type 0 where
-  pub left : Left
-  pub reads : IsLeftByText script left
-  pub told : IsToldOf script left blocks text differs
+  pub map : Told
+  pub reads : IsToldByText script map
+  pub told : IsToldOf map blocks text differs
 
 -- the views of a text, or why there are none
 abbrev pub ReadsBlocks : Text → Result (Vec Printed) CheckFault → Type 0

@@ -7,13 +7,13 @@ ghost use Rattle.script_check.specs.declared.faults.CheckFault.TheVariants.{Memo
 use crate::blocks::{Block, blocks_of};
 use crate::faults::CheckFault;
 use crate::lines::add_verdict;
-use crate::marks::memory_in;
 use crate::verdicts::{Verdict, verdict_of};
 use mem_base::{RegionId, SpaceId};
 use monitor_text::{MonitorFault, read_flat};
 use race_lines::ranges_in;
 use script_lines::Line;
-use script_map::{MapStop, ScriptMap, read};
+use script_map::MapStop;
+use script_memory::{ToldMap, read_told};
 use std::alloc::{AllocError, Global};
 
 /// What is told of all spaces, and whether one is not told as the same.
@@ -37,7 +37,7 @@ fn is_other(verdict: Verdict) -> bool
 fn add_space(
     alloc: Global,
     text: &mut Line,
-    map: &ScriptMap,
+    map: &ToldMap,
     memory: &[RegionId],
     blocks: &[Block],
     space: SpaceId,
@@ -57,7 +57,7 @@ fn add_space(
 fn add_spaces(
     alloc: Global,
     text: &mut Line,
-    map: &ScriptMap,
+    map: &ToldMap,
     memory: &[RegionId],
     blocks: &[Block],
     spaces: &[(SpaceId, RegionId)],
@@ -88,10 +88,10 @@ fn flat_blocks(alloc: Global, flat: &[u8]) -> Result<Vec<Block>, CheckFault>
     }
 }
 
-// What is told of all spaces of a script's map, by its regions that stand for memory.
+// What is told of all spaces of a script's map, by its regions that are read as memory.
 fn tell_spaces(
     alloc: Global,
-    map: &ScriptMap,
+    map: &ToldMap,
     memory: &[RegionId],
     blocks: &[Block],
 ) -> Result<Checked, AllocError>
@@ -107,17 +107,11 @@ fn tell_spaces(
 }
 
 // The spaces of a script's map.
-fn check_map(
-    alloc: Global,
-    script: &[u8],
-    blocks: &[Block],
-    map: &ScriptMap,
-) -> Result<Checked, CheckFault>
-    ensures told { IfOk result (λ c. IsToldOf script.now map.now blocks.now c.text c.differs) }
+fn check_map(alloc: Global, blocks: &[Block], map: &ToldMap) -> Result<Checked, CheckFault>
+    ensures told { IfOk result (λ c. IsToldOf map.now blocks.now c.text c.differs) }
     ensures fails { IfErr result (λ fault. fault ≡ Memory) }
 {
-    let memory = memory_in(alloc, script, map)?;
-    let checked = tell_spaces(alloc, map, memory.as_slice(), blocks)?;
+    let checked = tell_spaces(alloc, map, map.memory(), blocks)?;
     Ok(checked)
 }
 
@@ -126,8 +120,8 @@ fn check_blocks(alloc: Global, script: &[u8], blocks: &[Block]) -> Result<Checke
     ensures told { IfOk result (λ c. IsToldOfText script.now blocks.now c.text c.differs) }
     ensures faults { (flat : List ℕ) → IfErr result (Explains script.now flat) }
 {
-    match read(alloc, script) {
-        Ok(map) => check_map(alloc, script, blocks, &map),
+    match read_told(alloc, script) {
+        Ok(map) => check_map(alloc, blocks, &map),
         Err(MapStop::Bad(bad)) => Err(CheckFault::Script(bad)),
         Err(MapStop::Memory) => Err(CheckFault::Memory),
     }

@@ -8,11 +8,9 @@ mod blocks;
 mod checks;
 mod faults;
 mod lines;
-mod marks;
 mod verdicts;
 
 pub use blocks::{Block, blocks_of};
 pub use checks::{Checked, check};
 pub use faults::CheckFault;
-pub use marks::memory_in;
 pub use verdicts::{Verdict, verdict_of};

@@ -22,7 +22,7 @@ pub struct Imported {
 // Runs a text, and hands it back; also where it is no script.
 fn tried(alloc: Global, text: Vec<u8>) -> Result<(Vec<u8>, Round), ImportFault>
     ensures refused { IfOk result (λ p. HasRefused p.0.items p.1.refused) }
-    ensures faults { (tree flat : List ℕ) → IfErr result (Explains tree flat) }
+    ensures faults { (tree flat : List ℕ) (wanted : List (List ℕ)) → IfErr result (Explains tree flat wanted) }
 {
     match run_once(alloc, &text) {
         Ok(round) => Ok((text, round)),
@@ -34,7 +34,7 @@ fn tried(alloc: Global, text: Vec<u8>) -> Result<(Vec<u8>, Round), ImportFault>
 // The text with comments in the place of what is refused, after a few rounds at most.
 fn settle(alloc: Global, text: Vec<u8>) -> Result<Imported, ImportFault>
     ensures refused { IfOk result (λ made. HasRefused made.text.items made.refused) }
-    ensures faults { (tree flat : List ℕ) → IfErr result (Explains tree flat) }
+    ensures faults { (tree flat : List ℕ) (wanted : List (List ℕ)) → IfErr result (Explains tree flat wanted) }
 {
     let (mut text, mut round) = tried(alloc, text)?;
     for _ in 0..MOST_ROUNDS {
@@ -60,7 +60,7 @@ pub fn import(
     wanted: &[Name],
 ) -> Result<Imported, ImportFault>
     ensures refused { IfOk result (λ made. HasRefused made.text.items made.refused) }
-    ensures faults { IfErr result (Explains tree.now flat.now) }
+    ensures faults { IfErr result (Explains tree.now flat.now wanted.now) }
 {
     settle(alloc, draft(alloc, tree, flat, wanted)?)
 }

@@ -4,6 +4,7 @@
 //! between them. How it is drawn, as text or as SVG, is told from the rows.
 #![tactic(auto)]
 
+mod layout;
 mod rows;
 mod shapes;
 mod svg;

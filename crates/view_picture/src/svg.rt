@@ -1,21 +1,21 @@
 // A picture as SVG.
 
+use crate::layout::layout_of;
 use crate::rows::Row;
 use crate::shapes::{add_size, kind_of};
 use crate::windows::Window;
-use mem_base::RegionId;
 use script_lines::Line;
 use script_names::Names;
-use std::alloc::AllocError;
+use std::alloc::{AllocError, Global};
 
-// A row is 26 high; the boxes of the view are 300 wide from 150 on, and the windows 150 wide, one column for each depth.
+// A line is 26 high; the boxes of the view are 300 wide from 150 on, and those of windows 240, one column for each depth.
 const HIGH: u64 = 26;
 
 const LEFT: u64 = 150;
 
 const WIDE: u64 = 300;
 
-const COLUMN: u64 = 150;
+const COLUMN: u64 = 240;
 
 // The color of a kind: memory green, ROM yellow, devices blue, what translates violet, all else grey.
 fn color(kind: &str) -> &'static str {
@@ -28,19 +28,9 @@ fn color(kind: &str) -> &'static str {
     }
 }
 
-// The upper edge of the row with an index.
-fn top_of(index: usize) -> u64 {
-    (index as u64).saturating_mul(HIGH).saturating_add(30)
-}
-
-// The index of the row that holds an address.
-fn row_at(rows: &[Row], addr: u64) -> usize {
-    for (index, row) in rows.iter().enumerate() {
-        if addr <= row.last() {
-            return index;
-        }
-    }
-    rows.len()
+// The upper edge of a line.
+fn edge_of(line: u64) -> u64 {
+    line.saturating_mul(HIGH).saturating_add(30)
 }
 
 // A box with a color.
@@ -87,9 +77,15 @@ fn add_label(out: &mut Line, names: &Names, row: Row) -> Result<(), AllocError> 
     add_size(out, row.last().saturating_sub(row.start()))
 }
 
-// A row of the view: its address and its box.
-fn add_row(out: &mut Line, names: &Names, row: Row, index: usize) -> Result<(), AllocError> {
-    let y = top_of(index);
+// A row of the view: its address and its box, from its first line to the one below it.
+fn add_row(
+    out: &mut Line,
+    names: &Names,
+    row: Row,
+    line: u64,
+    below: u64,
+) -> Result<(), AllocError> {
+    let y = edge_of(line);
     begin_text(out, LEFT - 8, y.saturating_add(12), "a")?;
     out.hex(row.start())?;
     out.text("</text>\n")?;
@@ -97,48 +93,45 @@ fn add_row(out: &mut Line, names: &Names, row: Row, index: usize) -> Result<(), 
         Row::Range(range) => color(kind_of(names, range.leaf)),
         Row::Hole { .. } => "none",
     };
-    add_box(out, LEFT, y, WIDE, HIGH, fill)?;
+    let high = edge_of(below).saturating_sub(y);
+    add_box(out, LEFT, y, WIDE, high, fill)?;
     begin_text(out, LEFT + 8, y.saturating_add(17), "t")?;
     add_label(out, names, row)?;
     out.text("</text>\n")
 }
 
-// The name of a window.
+// The name of a window, and of what an alias shows.
 fn add_name(
     out: &mut Line,
     names: &Names,
-    region: RegionId,
+    window: Window,
     x: u64,
     y: u64,
 ) -> Result<(), AllocError> {
     begin_text(out, x.saturating_add(6), y.saturating_add(17), "w")?;
-    out.bytes(names.region_name(region))?;
+    out.bytes(names.region_name(window.region))?;
+    if let Some(target) = window.target {
+        out.named(" -&gt; ", names.region_name(target))?;
+    }
     out.text("</text>\n")
 }
 
-// A window of the tree, in the column of its depth, over the rows that it reaches.
+// A window of the tree, in the column of its depth, from its line to the one below it. An alias has the color of what it shows.
 fn add_window(
     out: &mut Line,
     names: &Names,
-    rows: &[Row],
     window: Window,
+    line: u64,
+    below: u64,
 ) -> Result<(), AllocError> {
-    let first = row_at(rows, window.first);
-    let last = row_at(rows, window.last);
     let x = u64::from(window.depth)
         .saturating_mul(COLUMN)
         .saturating_add(LEFT + WIDE + 20);
-    let y = top_of(first);
-    let high = top_of(last.saturating_add(1)).saturating_sub(y);
-    add_box(
-        out,
-        x,
-        y,
-        COLUMN - 4,
-        high,
-        color(kind_of(names, window.region)),
-    )?;
-    add_name(out, names, window.region, x, y)
+    let y = edge_of(line);
+    let high = edge_of(below).saturating_sub(y);
+    let shown = window.target.unwrap_or(window.region);
+    add_box(out, x, y, COLUMN - 4, high, color(kind_of(names, shown)))?;
+    add_name(out, names, window, x, y)
 }
 
 // The greatest depth of some windows.
@@ -151,13 +144,13 @@ fn deepest(windows: &[Window]) -> u32 {
 }
 
 // The head of the file: how large the picture is, and how its texts look.
-fn add_head(out: &mut Line, rows: &[Row], windows: &[Window]) -> Result<(), AllocError> {
+fn add_head(out: &mut Line, windows: &[Window], lines: u64) -> Result<(), AllocError> {
     let wide = u64::from(deepest(windows))
         .saturating_add(1)
         .saturating_mul(COLUMN)
         .saturating_add(LEFT + WIDE + 30);
     out.counted("<svg xmlns=\"http://www.w3.org/2000/svg\" width=\"", wide)?;
-    out.counted("\" height=\"", top_of(rows.len()).saturating_add(20))?;
+    out.counted("\" height=\"", edge_of(lines).saturating_add(20))?;
     out.text(
         "\">\n<style>text{font:13px monospace}.a{text-anchor:end;fill:#555}.w{fill:#222}</style>\n",
     )?;
@@ -165,19 +158,30 @@ fn add_head(out: &mut Line, rows: &[Row], windows: &[Window]) -> Result<(), Allo
 }
 
 /// A picture as SVG: the rows of the view at the left, a hole folded to one row, and at the right the windows of the tree, a
-/// column for each depth, each over the rows that it reaches.
+/// column for each depth. A row has a line for each window that begins in it, and a window reaches from its line down to where it
+/// ends.
 pub fn add_svg(
+    alloc: Global,
     out: &mut Line,
     names: &Names,
     rows: &[Row],
     windows: &[Window],
 ) -> Result<(), AllocError> {
-    add_head(out, rows, windows)?;
+    let layout = layout_of(alloc, rows, windows)?;
+    add_head(out, windows, layout.top_of(rows.len()))?;
     for (index, row) in rows.iter().enumerate() {
-        add_row(out, names, *row, index)?;
+        let below = layout.top_of(index.saturating_add(1));
+        add_row(out, names, *row, layout.top_of(index), below)?;
     }
-    for window in windows {
-        add_window(out, names, rows, *window)?;
+    for (index, window) in windows.iter().enumerate() {
+        let line = layout.line_of(index);
+        add_window(
+            out,
+            names,
+            *window,
+            line,
+            layout.line_below(rows, windows, index),
+        )?;
     }
     out.text("</svg>\n")
 }

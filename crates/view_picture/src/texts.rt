@@ -93,7 +93,7 @@ fn add_lead(
     }
 }
 
-// A window of the tree: indented by what it stands in, with its last address and a priority that is not 0.
+// A window of the tree: indented by what it stands in, with its addresses, a priority that is not 0, and what an alias shows.
 fn add_window(out: &mut Line, names: &Names, window: Window) -> Result<(), AllocError> {
     out.text("  ")?;
     add_repeated(out, "  ", window.depth as usize)?;
@@ -107,7 +107,10 @@ fn add_window(out: &mut Line, names: &Names, window: Window) -> Result<(), Alloc
         }
         out.decimal(u64::from(window.priority.unsigned_abs()))?;
     }
-    Ok(())
+    match window.target {
+        Some(target) => out.named(" -> ", names.region_name(target)),
+        None => Ok(()),
+    }
 }
 
 // A row: its box, and beside it the windows that begin in it.

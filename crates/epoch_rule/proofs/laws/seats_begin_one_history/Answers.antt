@@ -1,4 +1,4 @@
-use Rattle.epoch_rule.specs.Copies.{IsCopy}
+use Rattle.epoch_rule.proofs.Common.{IsCopy}
 use Rattle.epoch_rule.proofs.SeatSteps.{sees_whole}
 use Rattle.epoch_rule.proofs.laws.seats_begin_one_history.Goals as goal
 

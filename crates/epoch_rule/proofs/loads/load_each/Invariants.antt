@@ -1,5 +1,4 @@
-use Rattle.std.proofs.Common.{◌≡◌, ◌*◌, take}
-use Rattle.epoch_rule.specs.Loads.{HasLoaded, IsAtPlace, StaysPass}
+use Rattle.epoch_rule.proofs.Common.{◌≡◌, ◌*◌, take, HasLoaded, IsAtPlace, StaysPass}
 use Rattle.epoch_rule.proofs.loads.load_each.Given as goal
 
 -- the words before this one are loaded, and the pass stands as it did

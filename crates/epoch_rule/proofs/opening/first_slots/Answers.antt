@@ -1,6 +1,4 @@
-use Rattle.std.proofs.Common.{arith, ◌≡◌, ℕ, sym, subst}
-use Rattle.std.specs.Arc.{arc_value}
-use Rattle.epoch_rule.specs.Opening.{AreFirstSlots}
+use Rattle.epoch_rule.proofs.Common.{arith, ◌≡◌, ℕ, sym, subst, arc_value, AreFirstSlots}
 use Rattle.epoch_rule.proofs.OpeningLaws.{no_slots, more_slots}
 use Rattle.epoch_rule.proofs.opening.first_slots.Goals as goal
 

@@ -1,5 +1,4 @@
-use Rattle.std.specs.Arc.{arc_value}
-use Rattle.epoch_rule.specs.Opening.{AreFirstSlots}
+use Rattle.epoch_rule.proofs.Common.{arc_value, AreFirstSlots}
 use Rattle.epoch_rule.proofs.opening.first_slots.Given as goal
 
 abbrev pub invariant-loop : goal.invariant-loop

@@ -1,5 +1,4 @@
-use Rattle.std.proofs.Common.{arith}
-use Rattle.epoch_rule.specs.Copies.{IsCopy}
+use Rattle.epoch_rule.proofs.Common.{arith, IsCopy}
 use Rattle.epoch_rule.proofs.WordSteps.{ready_look}
 use Rattle.epoch_rule.proofs.plans.look_as.Goals as goal
 

@@ -1,6 +1,4 @@
-use Rattle.std.proofs.Common.{arith, sym, ap}
-use Rattle.mem_base.specs.access.Words.{word_after}
-use Rattle.epoch_rule.specs.Copies.{IsCopy}
+use Rattle.epoch_rule.proofs.Common.{arith, sym, ap, word_after, IsCopy}
 use Rattle.epoch_rule.proofs.WordSteps.{ready_touch}
 use Rattle.epoch_rule.proofs.plans.or_as.Goals as goal
 

@@ -1,5 +1,4 @@
-use Rattle.std.proofs.Common.{◌≡◌, ◌+◌, drop}
-use Rattle.epoch_rule.specs.Calls.{first_at}
+use Rattle.epoch_rule.proofs.Common.{◌≡◌, ◌+◌, drop, first_at}
 use Rattle.epoch_rule.proofs.steps.first_at.Given as goal
 
 -- none before has this lowest number

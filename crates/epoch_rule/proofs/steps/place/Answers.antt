@@ -1,12 +1,6 @@
-use Rattle.std.proofs.Common.{arith, ◌≡◌, ℕ, ◌+◌, ◌*◌, ◌%◌, [], ◌∷◌, Some, sym, refl, ap, ◌∙◌, subst}
-use Rattle.atomic_table.specs.Table.{rest}
+use Rattle.epoch_rule.proofs.Common.{arith, ◌≡◌, ℕ, ◌+◌, ◌*◌, ◌%◌, [], ◌∷◌, Some, sym, refl, ap, ◌∙◌, subst, rest, Nothing, known_of, View, pass_id, ComesNext}
+use Rattle.epoch_rule.proofs.Common.{generations_seen, IsCopy}
 use Rattle.mem_base.specs.declared.machine.events.Event.TheVariants.{Place}
-use Rattle.mem_base.specs.declared.machine.events.Carried.TheVariants.{Nothing}
-use Rattle.mem_base.specs.machine.Generations.{known_of}
-use Rattle.epoch_rule.specs.declared.views.View.{View}
-use Rattle.mem_base.specs.machine.Passes.{pass_id}
-use Rattle.epoch_rule.specs.Rule.{ComesNext, generations_seen}
-use Rattle.epoch_rule.specs.Copies.{IsCopy}
 use Rattle.epoch_rule.proofs.ActorSteps.{reach, place_as}
 use Rattle.epoch_rule.proofs.steps.place.Given.{Over}
 use Rattle.epoch_rule.proofs.steps.place.Goals.{After-exchange, After-load}

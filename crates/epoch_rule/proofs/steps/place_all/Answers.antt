@@ -1,17 +1,11 @@
-use Rattle.std.proofs.Common.{arith, ◌≡◌, ℕ, ◌+◌, ◌≤◌, sym, ap, ◌∙◌, subst}
-use Rattle.mem_base.specs.machine.Generations.{Generations, PassTrack, known_of}
-use Rattle.epoch_rule.specs.declared.views.View.{View}
-use Rattle.mem_base.specs.machine.Passes.{pass_id}
-use Rattle.epoch_rule.specs.Rule.{generations_seen}
-use Rattle.mem_base.specs.machine.Actors.{generations_after_all}
-use Rattle.epoch_rule.specs.Calls.{HasPlaced, places_of}
-use Rattle.epoch_rule.proofs.SweepLaws.{placing_next, placing_generations, places_current, places_later, places_placed, last_copy, last_length}
+use Rattle.epoch_rule.proofs.Common.{arith, ◌≡◌, ℕ, ◌+◌, ◌≤◌, sym, ap, ◌∙◌, subst, Generations, PassTrack, known_of, View, pass_id, generations_seen}
+use Rattle.epoch_rule.proofs.Common.{generations_after_all, HasPlaced, places_of, length, ◌++◌, length-append, suc, refl, HasWritten, option_to_list}
+use Rattle.epoch_rule.proofs.SweepLaws.{writes_generations, places_current, places_later, places_placed, last_copy, writes_more}
 use Rattle.epoch_rule.proofs.steps.place_all.Given.{Over}
 use Rattle.epoch_rule.proofs.steps.place_all.Goals.{After-pop}
 use Rattle.epoch_rule.proofs.steps.place_all.Goals as goal
 
 -- the copies that are placed by now
-
 abbrev began : (g : Over) → After-pop g → Generations
 began g c = generations_seen c.args.seat.now.me.0
 
@@ -19,7 +13,7 @@ placed : (g : Over) (c : After-pop g) → HasPlaced c.args.seat.now.me.0 c.loop-
 placed g c = (c.loop-pass.invariant.3 c.requires.copies.0 c.requires.copies.1).1
 
 by_now : (g : Over) (c : After-pop g) → generations_seen c.loop-pass.seat.me.0 ≡ generations_after_all (began g c) (places_of c.loop-pass.pass)
-by_now g c = placing_generations c.args.seat.now.me.0 c.loop-pass.seat.me.0 c.requires.copies.0 c.loop-pass.pass (placed g c)
+by_now g c = writes_generations _ _ _ (placed g c).writes
 
 current : (g : Over) (c : After-pop g) → (generations_seen c.loop-pass.seat.me.0).current ≡ (began g c).current
 current g c = ap (λ (x : Generations). x.current) (by_now g c) ∙ (places_current (began g c) c.loop-pass.pass).0
@@ -63,15 +57,19 @@ loop-pass-preserved g c =
     let inv = c.loop-pass.invariant in
     let v : View = c.args.seat.now.me.0 in
     let n : ℕ = c.loop-pass.pass in
-    let len = last_length c.loop-pass.copies.items c.pop.new.self.items c.pop.result c.in-Some.copy c.pop.ensures.items c.in-Some.is in (
+    let len = ap length (c.pop.ensures.items ∙ ap (λ o. c.pop.new.self.items ++ option_to_list o) c.in-Some.is) ∙ length-append c.pop.new.self.items _ in (
       c.place.ensures.seat.0 ∙ inv.0,
       c.place.ensures.seat.1,
       (let m = inv.2 in omega arith),
       λ x all. let h = inv.3 x all in let last = last_copy g.E.Edition.counted g.E.Edition.forest g.E.Edition.places c.args.next x c.loop-pass.copies.items
           c.pop.new.self.items c.pop.result c.in-Some.copy c.pop.ensures.items c.in-Some.is h.0 in (
             last.0,
-            placing_next v c.loop-pass.seat.me.0 c.place.new.seat.me.0 x n h.1 c.place.ensures.adds c.place.ensures.seat.2
-                (c.place.ensures.seat.3 ∙ last.1.1),
+            record {
+              writes = let one : suc n ≡ n + 1 = omega arith in subst (λ (m : ℕ). HasWritten v (places_of m) c.place.new.seat.me.0) one
+                  (writes_more v (places_of n) _ _ _ _ _ refl h.1.writes c.place.ensures.adds);
+              free = c.place.ensures.seat.2;
+              is_next = λ _. c.place.ensures.seat.3 ∙ last.1.1;
+            },
           ),
     )
 

@@ -1,11 +1,8 @@
-use Rattle.std.proofs.Common.{arith, ℕ, ◌<◌, length, get_or, refl, ap, ◌∙◌}
-use Rattle.mem_base.specs.machine.Generations.{PassTrack, known_after_sweep, known_of, nothing_known}
-use Rattle.epoch_rule.specs.declared.views.View.{View}
-use Rattle.mem_base.specs.machine.Passes.{pass_id}
-use Rattle.epoch_rule.specs.Rule.{generations_seen}
-use Rattle.epoch_rule.specs.Writing.{stored}
-use Rattle.epoch_rule.proofs.SweepLaws.{map_get, sweeping_current, sweeping_next}
+use Rattle.epoch_rule.proofs.Common.{arith, ℕ, ◌<◌, length, get_or, refl, ap, ◌∙◌, PassTrack, known_after_sweep, known_of, nothing_known, View, pass_id}
+use Rattle.epoch_rule.proofs.Common.{generations_seen, stored}
+use Rattle.epoch_rule.proofs.SweepLaws.{sweeping_current, sweeping_next}
 use Rattle.epoch_rule.proofs.steps.sweep_all.Goals as goal
+use Rattle.std.proofs.lemmas.List.{get_or-map}
 
 pub loop-pass-preserved : goal.loop-pass-preserved
 loop-pass-preserved g c =
@@ -25,6 +22,6 @@ loop-pass-preserved g c =
       c.sweep-word.ensures.seat.1 ∙ inv.1,
       sweeping_next v w c.sweep-word.new.seat.me.0 c.loop-pass.known.items _ n c.sweep-word.result c.found_after.result s c.sweep-word.ensures.adds
           c.sweep-word.ensures.seat.2 (c.found_after.ensures k
-          (i ∙ (ap (λ l. get_or l n c.index.result.now) s.is_known ∙ map_get stored (generations_seen w).passes n nothing_known c.index.result.now near))
+          (i ∙ (ap (λ l. get_or l n c.index.result.now) s.is_known ∙ get_or-map stored (generations_seen w).passes n nothing_known c.index.result.now near))
           ∙ ap (λ (x : ℕ). stored (known_after_sweep x k c.sweep-word.result)) c.requires.current) refl,
     )

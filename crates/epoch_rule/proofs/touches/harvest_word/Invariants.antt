@@ -1,5 +1,4 @@
-use Rattle.mem_base.specs.machine.Actors.{actor_of}
-use Rattle.epoch_rule.specs.Touches.{touch_at}
+use Rattle.epoch_rule.proofs.Common.{actor_of, touch_at}
 use Rattle.epoch_rule.proofs.touches.harvest_word.Given as goal
 
 abbrev pub ghosts-take_as : goal.ghosts-take_as

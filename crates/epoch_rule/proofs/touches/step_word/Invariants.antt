@@ -1,5 +1,4 @@
-use Rattle.mem_base.specs.machine.Actors.{actor_of}
-use Rattle.epoch_rule.specs.Touches.{touch_at}
+use Rattle.epoch_rule.proofs.Common.{actor_of, touch_at}
 use Rattle.epoch_rule.proofs.touches.step_word.Given as goal
 
 abbrev pub ghosts-load_as : goal.ghosts-load_as

@@ -24,6 +24,15 @@ meet_all-requires-clause-own g c = λ i d room.
     (still_all here c.hear_all.new.desk.seat.seen c.take_clerks.new.actors c.hear_all.new.actors c.hear_all.auto.actors of c.hear_all.ensures.told i d
     room).0
 
+pub meet_all-requires-clause-heard : goal.meet_all-requires-clause-heard
+meet_all-requires-clause-heard g c = λ i d room.
+    let here : TableId = c.closed-desk.result.0.seat.cabinet in
+    let of = of_all g.J.Naming.start.seat.cabinet here c.args.actors.now c.act_all.new.actors c.take_clerks.new.actors
+    c.closed-desk.ensures.later.grew.cabinet c.act_all.auto.actors c.take_clerks.auto.actors c.requires.ready c.act_all.ensures.acted
+    c.take_clerks.ensures.rest in
+    (still_all here c.hear_all.new.desk.seat.seen c.take_clerks.new.actors c.hear_all.new.actors c.hear_all.auto.actors of c.hear_all.ensures.told i d
+    room).1
+
 pub returns-clause-later : goal.returns-clause-later
 returns-clause-later g c =
     subst (λ (z : RecordState × RecordState). IsLater z.0 z.1) (λ i. (sym c.requires.start i, sym c.meet_all.ensures.same i))

@@ -1,10 +1,14 @@
-use Rattle.std.proofs.Common.{ℕ, ◌<◌, List, length, sym, subst, ◌∙◌}
+use Rattle.std.proofs.Common.{ℕ, ◌<◌, All, List, length, sym, subst, ◌∙◌}
 use Rattle.std.specs.Prelude.{slice_index_or}
 use Rattle.std.proofs.lemmas.List.{with_items_is}
 use Rattle.generation.specs.Published.{Published}
 use Rattle.epoch_rule.specs.Values.{PassValue}
-use Rattle.race_outside.specs.Levels.{HasMet}
+use Rattle.race_outside.specs.Levels.{HasMet, IsHeard}
 use Rattle.race_inside.proofs.blocks.meet.Goals as goal
+
+pub meet_all-requires-clause-heard : goal.meet_all-requires-clause-heard
+meet_all-requires-clause-heard c =
+    subst (λ (xs : List (PassValue Published)). All (IsHeard c.args.desk.now.seat.seen) xs) (sym c.as_mut_slice.ensures.value) c.requires.heard
 
 pub returns-clause-met : goal.returns-clause-met
 returns-clause-met c =

@@ -1,4 +1,4 @@
-use Rattle.std.proofs.Common.{rules, ◌≡◌, None, length, All, sym, subst, ◌∙◌}
+use Rattle.std.proofs.Common.{rules, ◌≡◌, None, length, All, option_to_list, ap, sym, subst, ◌∙◌}
 use Rattle.mem_base.specs.script.Race.{block}
 use Rattle.desk_lock.specs.Records.{RecordState}
 use Rattle.race_block.specs.Blocks.{CanAct}
@@ -6,10 +6,10 @@ use Rattle.race_outside.specs.Ready.{AreReady}
 use Rattle.race_outside.specs.Outside.{StopsIn}
 use Rattle.race_inside.specs.Ran.{HasRunBlock, known_after_block}
 use Rattle.race_inside.proofs.PhaseTextLaws.{blocks_may_stop, blocks_step_on}
-use Rattle.race_inside.specs.Seats.{IsKnown}
+use Rattle.race_inside.specs.Seats.{IsKnown, IsTold, names_then}
 use Rattle.race_inside.proofs.BackLaws.{all_heard, all_own, all_ready}
 use Rattle.race_inside.specs.Blocks.{HasRunAll}
-use Rattle.race_inside.proofs.BlockLaws.{came_back, has_run, known_is, known_list, parts, seated_can_all, steps_on}
+use Rattle.race_inside.proofs.BlockLaws.{came_back, has_run, is_told, known_is, known_list, names_same, parts, seated_can_all, steps_on}
 use Rattle.race_inside.proofs.blocks.run_in.Goals as goal
 
 pub run_actors-after-requires-clause-ready : goal.run_actors-after-requires-clause-ready
@@ -28,7 +28,7 @@ add_block-done-requires g c =
     let differs = c.run_actors-after.result.1 in
     let r : HasRunAll v w s.actors.items news clerks differs = c.run_actors-after.ensures in
     let same : c.as_slice.result.now ≡ news = c.as_slice.ensures.value in
-    subst (IsKnown s.known) (sym same) (parts c.requires.seated.0 lines v w s c.requires.seated.1 news clerks differs r).known
+    subst (IsKnown s.known.now) (sym same) (parts c.requires.seated.0 lines v w s c.requires.seated.1 news clerks differs r).known
 
 pub meet-requires-clause-own : goal.meet-requires-clause-own
 meet-requires-clause-own g c =
@@ -40,8 +40,8 @@ meet-requires-clause-own g c =
     let clerks = c.run_actors-after.new.clerks.items in
     let differs = c.run_actors-after.result.1 in
     let r : HasRunAll v w s.actors.items news clerks differs = c.run_actors-after.ensures in
-    let back = came_back c.requires.seated.0 lines v w s c.requires.seated.1 news clerks differs r c.unseat_passes.new.actors.items
-    c.unseat_passes.new.cpus.items c.unseat_passes.ensures.back in
+    let back = came_back c.requires.seated.0 lines v w s c.requires.seated.1 news clerks differs r c.as_slice-3.result.now c.unseat_passes.new.actors.items
+    c.unseat_passes.new.cpus.items c.as_slice-3.ensures.value c.unseat_passes.ensures.back in
     all_own lines v w c.unseat_passes.new.cpus.items r.later back.1
 
 pub meet-requires-clause-heard : goal.meet-requires-clause-heard
@@ -54,12 +54,12 @@ meet-requires-clause-heard g c =
     let clerks = c.run_actors-after.new.clerks.items in
     let differs = c.run_actors-after.result.1 in
     let r : HasRunAll v w s.actors.items news clerks differs = c.run_actors-after.ensures in
-    let back = came_back c.requires.seated.0 lines v w s c.requires.seated.1 news clerks differs r c.unseat_passes.new.actors.items
-    c.unseat_passes.new.cpus.items c.unseat_passes.ensures.back in
+    let back = came_back c.requires.seated.0 lines v w s c.requires.seated.1 news clerks differs r c.as_slice-3.result.now c.unseat_passes.new.actors.items
+    c.unseat_passes.new.cpus.items c.as_slice-3.ensures.value c.unseat_passes.ensures.back in
     all_heard lines v w c.unseat_passes.new.cpus.items r.later back.1
 
-pub known_after-known-requires : goal.known_after-known-requires
-known_after-known-requires g c =
+pub returns-clause-told : goal.returns-clause-told
+returns-clause-told g c =
     let v : RecordState = c.args.desk in
     let w : RecordState = c.run_actors-after.result.0 in
     let s = c.args.seated in
@@ -68,12 +68,13 @@ known_after-known-requires g c =
     let clerks = c.run_actors-after.new.clerks.items in
     let differs = c.run_actors-after.result.1 in
     let r : HasRunAll v w s.actors.items news clerks differs = c.run_actors-after.ensures in
-    let back = came_back c.requires.seated.0 lines v w s c.requires.seated.1 news clerks differs r c.unseat_passes.new.actors.items
-    c.unseat_passes.new.cpus.items c.unseat_passes.ensures.back in
+    let back = came_back c.requires.seated.0 lines v w s c.requires.seated.1 news clerks differs r c.as_slice-3.result.now c.unseat_passes.new.actors.items
+    c.unseat_passes.new.cpus.items c.as_slice-3.ensures.value c.unseat_passes.ensures.back in
     let p = parts c.requires.seated.0 lines v w s c.requires.seated.1 news clerks differs r in
     let none : c.pop.result ≡ None → length c.unseat_passes.new.actors.items ≡ 0 = search rules in
-    subst (IsKnown s.known) (sym (known_list c.requires.seated.0 lines v w s c.requires.seated.1 news clerks differs r c.unseat_passes.new.actors.items
-    c.pop.new.self.items c.pop.result back.0 c.pop.ensures.items none)) p.kept
+    subst (IsTold s.known.now) (sym c.desks_known-desks.ensures) (is_told s.known.now (option_to_list c.pop.result)
+    (subst (IsKnown s.known.now) (sym (known_list c.requires.seated.0 lines v w s c.requires.seated.1 news clerks differs r
+    c.unseat_passes.new.actors.items c.pop.new.self.items c.pop.result back.0 c.pop.ensures.items none)) p.kept))
 
 pub returns-clause-ready : goal.returns-clause-ready
 returns-clause-ready g c =
@@ -85,8 +86,8 @@ returns-clause-ready g c =
     let clerks = c.run_actors-after.new.clerks.items in
     let differs = c.run_actors-after.result.1 in
     let r : HasRunAll v w s.actors.items news clerks differs = c.run_actors-after.ensures in
-    let back = came_back c.requires.seated.0 lines v w s c.requires.seated.1 news clerks differs r c.unseat_passes.new.actors.items
-    c.unseat_passes.new.cpus.items c.unseat_passes.ensures.back in
+    let back = came_back c.requires.seated.0 lines v w s c.requires.seated.1 news clerks differs r c.as_slice-3.result.now c.unseat_passes.new.actors.items
+    c.unseat_passes.new.cpus.items c.as_slice-3.ensures.value c.unseat_passes.ensures.back in
     subst (λ (x : RecordState). AreReady x c.meet.new.cpus.items) (sym c.meet.ensures.same)
     (all_ready lines v w c.unseat_passes.new.cpus.items c.meet.new.cpus.items r.later back.1
     c.meet.ensures.count c.meet.ensures.met)
@@ -101,14 +102,16 @@ returns-clause-step g c = λ k h.
     let clerks = c.run_actors-after.new.clerks.items in
     let differs = c.run_actors-after.result.1 in
     let r : HasRunAll v w s.actors.items news clerks differs = c.run_actors-after.ensures in
-    let back = came_back k lines v w s h news clerks differs r c.unseat_passes.new.actors.items
-    c.unseat_passes.new.cpus.items c.unseat_passes.ensures.back in
+    let back = came_back k lines v w s h news clerks differs r c.as_slice-3.result.now c.unseat_passes.new.actors.items
+    c.unseat_passes.new.cpus.items c.as_slice-3.ensures.value c.unseat_passes.ensures.back in
     let whole : HasRunBlock k lines v w s.actors.items news clerks differs =
     has_run k lines v w s h news clerks differs r c.unseat_passes.new.cpus.items c.meet.new.cpus.items back.1 c.meet.ensures.met in
     let none : c.pop.result ≡ None → length c.unseat_passes.new.actors.items ≡ 0 = search rules in
-    let known : c.known_after-known.result ≡ known_after_block k news = c.known_after-known.ensures k
+    let known : names_then k s.known.now c.desks_known-desks.result ≡ known_after_block k news =
+    ap (names_then k s.known.now) c.desks_known-desks.ensures ∙ names_same k s.known.now (option_to_list c.pop.result)
     ∙ known_is k lines v w s h news clerks differs r c.unseat_passes.new.actors.items c.pop.new.self.items c.pop.result back.0 c.pop.ensures.items none in
-    steps_on k lines v w c.meet.new.desk s h news c.as_slice.result.now clerks c.as_slice-2.result.now differs r c.known_after-known.result
+    steps_on k lines v w c.meet.new.desk s h news c.as_slice.result.now clerks c.as_slice-2.result.now differs r
+    (names_then k s.known.now c.desks_known-desks.result)
     c.args.text.now c.add_block-done.new.text c.add_block-done.result c.as_slice.ensures.value c.as_slice-2.ensures.value c.meet.ensures.same known
     c.add_block-done.ensures.lasted c.add_block-done.ensures.text (blocks_step_on k lines v w s.actors.items news clerks differs whole)
 
@@ -122,8 +125,8 @@ returns-clause-stopped g c = λ k h.
     let clerks = c.run_actors-after.new.clerks.items in
     let differs = c.run_actors-after.result.1 in
     let r : HasRunAll v w s.actors.items news clerks differs = c.run_actors-after.ensures in
-    let back = came_back k lines v w s h news clerks differs r c.unseat_passes.new.actors.items
-    c.unseat_passes.new.cpus.items c.unseat_passes.ensures.back in
+    let back = came_back k lines v w s h news clerks differs r c.as_slice-3.result.now c.unseat_passes.new.actors.items
+    c.unseat_passes.new.cpus.items c.as_slice-3.ensures.value c.unseat_passes.ensures.back in
     subst (λ (x : RecordState). StopsIn v k (block lines) x) (sym c.meet.ensures.same)
     (blocks_may_stop k lines v w s.actors.items news clerks differs
     (has_run k lines v w s h news clerks differs r c.unseat_passes.new.cpus.items c.meet.new.cpus.items back.1 c.meet.ensures.met))

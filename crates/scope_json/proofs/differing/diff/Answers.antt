@@ -2,7 +2,7 @@ use Rattle.std.proofs.Common.{◌≡◌, List}
 use Rattle.std.proofs.lemmas.Result.{IfOk-weaker}
 use Rattle.serde_json.specs.Data.{Data}
 use Rattle.serde_json.specs.View.{view}
-use Rattle.scope_run.specs.Scripts.{OfScript, left_by}
+use Rattle.scope_run.specs.Scripts.{OfScript, told_by}
 use Rattle.scope_run.proofs.Facts.{if_err, of_state, second_fails, stops_on_first}
 use Rattle.scope_json.specs.Diffs.{TellsDiff, diff_data}
 use Rattle.scope_json.specs.Texts.{has_any}
@@ -10,8 +10,9 @@ use Rattle.scope_json.proofs.differing.diff.Goals as goal
 
 pub returns-in-Ok-clause-told : goal.returns-in-Ok-clause-told
 returns-in-Ok-clause-told c = IfOk-weaker c.diff_with.result _ _
-    (λ a t. of_state c.args.first.now c.in-Ok.map (λ s. OfScript c.args.second.now (λ new. (items : List Data) × TellsDiff s (left_by new) items
-    × (view a.value ≡ diff_data items) × (a.something ≡ has_any items))) c.in-Ok.ensures.map t) c.diff_with.ensures.told
+    (λ a t. of_state c.args.first.now c.in-Ok.map (λ s. OfScript c.args.second.now (λ new. (items : List Data)
+    × TellsDiff s (told_by c.args.second.now new) items × (view a.value ≡ diff_data items) ×
+    (a.something ≡ has_any items))) c.in-Ok.ensures.map t) c.diff_with.ensures.told
 
 pub returns-in-Ok-clause-fails : goal.returns-in-Ok-clause-fails
 returns-in-Ok-clause-fails c =

@@ -2,7 +2,6 @@ use Rattle.std.proofs.Common.{◌≡◌, List, sym, subst}
 use Rattle.std.proofs.lemmas.Result.{IfOk-weaker}
 use Rattle.serde_json.specs.Data.{Data}
 use Rattle.serde_json.specs.View.{view}
-use Rattle.script_map.specs.Left.{left_state}
 use Rattle.scope_run.specs.Scripts.{FailsOnSecond}
 use Rattle.scope_run.proofs.Facts.{if_err, of_state, stops_on_second}
 use Rattle.scope_json.specs.Diffs.{TellsDiff, diff_data}
@@ -12,7 +11,7 @@ use Rattle.scope_json.proofs.differing.diff_with.Goals as goal
 pub returns-in-Ok-clause-told : goal.returns-in-Ok-clause-told
 returns-in-Ok-clause-told c = IfOk-weaker c.diff_in.result _ _
     (λ a t. of_state c.args.second.now c.in-Ok.map
-    (λ s. (items : List Data) × TellsDiff (left_state c.args.first.now) s items × (view a.value ≡ diff_data items) × (a.something ≡ has_any items))
+    (λ s. (items : List Data) × TellsDiff c.args.first.now.state s items × (view a.value ≡ diff_data items) × (a.something ≡ has_any items))
     c.in-Ok.ensures.map t) c.diff_in.ensures.told
 
 pub returns-in-Ok-clause-fails : goal.returns-in-Ok-clause-fails

@@ -35,7 +35,8 @@ mended_bad text stop bad b is h e = subst (λ (m : Meaning). b ≡ explain_mends
 
 pub returns-in-Ok-clause-data : goal.returns-in-Ok-clause-data
 returns-in-Ok-clause-data c = IfOk-weaker c.explain_refused.result _ _
-    (λ t is. explained c.args.script.now c.in-Ok.map c.refused.result.now (view t.value) c.in-Ok.ensures.map c.refused.ensures is) c.explain_refused.ensures.data
+    (λ t is. explained c.args.script.now c.in-Ok.map c.refused.result.now
+    (view t.value) c.in-Ok.ensures.map c.refused.ensures is) c.explain_refused.ensures.data
 
 pub returns-in-Ok-clause-mends : goal.returns-in-Ok-clause-mends
 returns-in-Ok-clause-mends c = IfOk-weaker c.explain_refused.result _ _

@@ -1,12 +1,13 @@
 use Rattle.std.proofs.lemmas.Result.{IfOk-weaker}
 use Rattle.scope_run.specs.Diffs.{TellsDiff}
-use Rattle.scope_run.specs.Scripts.{OfScript, left_by}
+use Rattle.scope_run.specs.Scripts.{OfScript, told_by}
 use Rattle.scope_run.proofs.Facts.{if_err, of_state, second_fails, stops_on_first}
 use Rattle.scope_run.proofs.differing.diff.Goals as goal
 
 pub returns-in-Ok-clause-told : goal.returns-in-Ok-clause-told
 returns-in-Ok-clause-told c = IfOk-weaker c.diff_with.result _ _
-    (λ a t. of_state c.args.first.now c.in-Ok.map (λ s. OfScript c.args.second.now (λ new. TellsDiff s (left_by new) a.text)) c.in-Ok.ensures.map t)
+    (λ a t. of_state c.args.first.now c.in-Ok.map
+    (λ s. OfScript c.args.second.now (λ new. TellsDiff s (told_by c.args.second.now new) a.text)) c.in-Ok.ensures.map t)
     c.diff_with.ensures.told
 
 pub returns-in-Ok-clause-fails : goal.returns-in-Ok-clause-fails

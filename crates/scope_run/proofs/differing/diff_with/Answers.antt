@@ -1,5 +1,4 @@
 use Rattle.std.proofs.lemmas.Result.{IfOk-weaker}
-use Rattle.script_map.specs.Left.{left_state}
 use Rattle.scope_run.specs.Diffs.{TellsDiff}
 use Rattle.scope_run.specs.Scripts.{FailsOnSecond}
 use Rattle.std.proofs.Common.{subst, sym}
@@ -8,7 +7,7 @@ use Rattle.scope_run.proofs.differing.diff_with.Goals as goal
 
 pub returns-in-Ok-clause-told : goal.returns-in-Ok-clause-told
 returns-in-Ok-clause-told c = IfOk-weaker c.diff_in.result _ _
-    (λ a t. of_state c.args.second.now c.in-Ok.map (λ s. TellsDiff (left_state c.args.first.now) s a.text) c.in-Ok.ensures.map t) c.diff_in.ensures.told
+    (λ a t. of_state c.args.second.now c.in-Ok.map (λ s. TellsDiff c.args.first.now.state s a.text) c.in-Ok.ensures.map t) c.diff_in.ensures.told
 
 pub returns-in-Ok-clause-fails : goal.returns-in-Ok-clause-fails
 returns-in-Ok-clause-fails c =

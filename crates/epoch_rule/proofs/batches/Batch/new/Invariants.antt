@@ -1,6 +1,4 @@
-use Rattle.std.proofs.Common.{◌≡◌, length}
-use Rattle.std.specs.Arc.{arc_value}
-use Rattle.mem_base.specs.lists.Every.{Every}
+use Rattle.epoch_rule.proofs.Common.{◌≡◌, length, arc_value, Every}
 use Rattle.epoch_rule.proofs.batches.Batch.new.Given as goal
 
 abbrev pub invariant-loop : goal.invariant-loop

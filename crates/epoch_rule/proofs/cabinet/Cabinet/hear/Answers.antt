@@ -1,14 +1,9 @@
-use Rattle.std.proofs.Common.{arith, ◌≡◌, ◌+◌, get_or, false, sym, refl, ap, ◌∙◌, subst, append-nil}
-use Rattle.mem_base.specs.machine.Generations.{first_generations}
-use Rattle.mem_base.specs.machine.Actors.{own_entries, generations_after_all}
-use Rattle.epoch_rule.specs.Rule.{IsLegal}
-use Rattle.epoch_rule.specs.Plays.{met_view, IsSettled}
-use Rattle.epoch_rule.specs.Copies.{IsCopy}
-use Rattle.view_laws.proofs.Tests.{none_is_not_some}
+use Rattle.epoch_rule.proofs.Common.{arith, ◌≡◌, ◌+◌, get_or, false, sym, refl, ap, ◌∙◌, subst, first_generations, own_entries, generations_after_all, IsLegal}
+use Rattle.epoch_rule.proofs.Common.{met_view, IsSettled, IsCopy, generations_seen, Writer}
 use Rattle.epoch_rule.proofs.SeatSteps.{learns, settle}
-use Rattle.epoch_rule.proofs.TouchLaws.{writing_kept}
+use Rattle.epoch_rule.proofs.TouchLaws.{wrote_none}
+use Rattle.epoch_rule.proofs.SweepLaws.{writing_seat}
 use Rattle.epoch_rule.proofs.cabinet.Cabinet.hear.Given.{Over}
-use Rattle.epoch_rule.proofs.cabinet.Cabinet.hear.Goals.{After-load}
 use Rattle.epoch_rule.proofs.cabinet.Cabinet.hear.Goals as goal
 
 pub join_seat-requires : goal.join_seat-requires
@@ -30,27 +25,21 @@ load-requires g c =
     )
 
 -- the view that was met, after the look
-settled : (g : Over) (c : After-load g) → IsSettled 0 (met_view c.writer.inside.seat.me.0 c.note.inside.seat.me.0) c.load.new.seat.me.0
+settled : (g : Over) (c : goal.After-load g) → IsSettled 0 (met_view c.writer.inside.seat.me.0 c.note.inside.seat.me.0) c.load.new.seat.me.0
 settled g c = subst (λ m. IsSettled 0 m.0 c.load.new.seat.me.0) c.join_seat.ensures.2
     (c.load.ensures.2.1 0 (ap (λ m. m.0.role) c.join_seat.ensures.2 ∙ c.writer.invariant.role))
 
-seen : (g : Over) (c : After-load g) → c.load.new.seat.me.0.seen ≡ (met_view c.writer.inside.seat.me.0 c.note.inside.seat.me.0).seen
+seen : (g : Over) (c : goal.After-load g) → c.load.new.seat.me.0.seen ≡ (met_view c.writer.inside.seat.me.0 c.note.inside.seat.me.0).seen
 seen g c = ap (λ w. w.seen) (settled g c).same
 
 pub invariant_of-writer : goal.invariant_of-writer
 invariant_of-writer g c =
     let h = settled g c in
-    writing_kept _ _ c.writer.inside.seat.me c.load.new.seat.me _ _ _ (c.load.ensures.0 ∙ c.join_seat.ensures.0)
-    (c.load.ensures.2.0 ∙ ap (λ m. m.1) c.join_seat.ensures.2) (ap (λ w. w.held) h.same, ap (λ w. w.next) h.same)
-    record {
-      role = ap (λ w. w.role) h.same;
-      out = ap (λ w. w.out) h.same;
-      sizes = ap (λ w. w.sizes) h.same;
-      begins = (h.was.0, h.was.1 ∙ sym (seen g c));
-      lawful = λ l. subst (λ w. IsLegal w.sizes w.seen) (sym h.same) h.lawful;
-    }
-    ((λ i. generations_after_all (first_generations (h.same i).sizes.passes) (own_entries 0 (seen g c i)))
-    ∙ ap (generations_after_all (first_generations c.writer.inside.seat.me.0.sizes.passes)) (sym h.quiet)) c.writer.invariant
+    writing_seat _ _ c.writer.inside.seat.me c.load.new.seat.me _ _ _ _ (c.load.ensures.0 ∙ c.join_seat.ensures.0)
+    (c.load.ensures.2.0 ∙ ap (λ m. m.1) c.join_seat.ensures.2) (ap (λ w. w.role) h.same) (ap (λ w. w.held) h.same, ap (λ w. w.next) h.same)
+    (ap (λ w. w.sizes) h.same)
+    (ap generations_seen h.same ∙ ap (generations_after_all (first_generations c.writer.inside.seat.me.0.sizes.passes)) (sym h.quiet))
+    (subst (λ w. IsLegal w.sizes w.seen) (sym h.same) h.lawful) (c.writer.invariant.is_out ∙ sym (ap (λ w. w.out) h.same)) refl c.writer.invariant
 
 pub returns-clause-longer : goal.returns-clause-longer
 returns-clause-longer g c = rw (sym c.writer.view_is, sym c.note.view_is) (seen g c)
@@ -59,14 +48,7 @@ pub returns-clause-seen : goal.returns-clause-seen
 returns-clause-seen g c = rw (sym c.note.view_is) ((settled g c).told.0, (settled g c).told.1 ∙ sym (seen g c))
 
 pub returns-clause-wrote : goal.returns-clause-wrote
-returns-clause-wrote g c =
-    let h = settled g c in
-    rw (sym c.writer.view_is) record {
-      begins = (h.was.0, h.was.1 ∙ sym (seen g c));
-      lawful = subst (IsLegal c.writer.inside.seat.me.0.sizes) (sym (seen g c)) h.lawful;
-      events = ap (own_entries 0) (seen g c) ∙ (sym h.quiet ∙ sym (append-nil _));
-      ends = λ x none. none_is_not_some x none;
-    }
+returns-clause-wrote g c = rw (sym c.writer.view_is) (wrote_none Writer c.writer.inside.seat.me.0 _ _ refl refl (settled g c))
 
 pub returns-clause-same : goal.returns-clause-same
 returns-clause-same g c = rw (sym c.writer.view_is) (c.load.ensures.0 ∙ c.join_seat.ensures.0, ap (λ w. w.sizes) (settled g c).same, refl)

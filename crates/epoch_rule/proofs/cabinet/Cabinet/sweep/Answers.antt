@@ -1,16 +1,8 @@
-use Rattle.std.proofs.Common.{arith, ◌≡◌, ◌<◌, map, sym, refl, ap, ◌∙◌, ◌+◌, false, get_or}
-use Rattle.mem_base.specs.machine.Actors.{own_entries}
-use Rattle.mem_base.specs.machine.Generations.{least_lowest}
-use Rattle.mem_base.specs.machine.Passes.{pass_id}
-use Rattle.epoch_rule.specs.declared.views.Sizes.{Sizes}
-use Rattle.epoch_rule.specs.declared.views.View.{View}
-use Rattle.epoch_rule.specs.Rule.{generations_seen}
-use Rattle.epoch_rule.specs.Writing.{stored}
-use Rattle.epoch_rule.specs.Calls.{IsLeastPassAt, generations_in_seen, least_in, sweeps_of}
-use Rattle.epoch_rule.proofs.SweepLaws.{sweeping_current}
+use Rattle.epoch_rule.proofs.Common.{arith, ◌≡◌, ◌<◌, map, sym, refl, ap, ◌∙◌, ◌+◌, false, get_or, own_entries, least_lowest, pass_id, Sizes, View}
+use Rattle.epoch_rule.proofs.Common.{generations_seen, stored, IsLeastPassAt, generations_in_seen, least_in, sweeps_of}
+use Rattle.epoch_rule.proofs.SweepLaws.{sweeping_current, wrote_of, swept_writing, least_is}
 use Rattle.epoch_rule.proofs.LeastLaws.{swept_pass}
-use Rattle.epoch_rule.proofs.SizeLaws.{same_sizes}
-use Rattle.epoch_rule.proofs.PublishLaws.{wrote_of, swept_writing, least_is}
+use Rattle.epoch_rule.proofs.PassLaws.{same_sizes}
 use Rattle.epoch_rule.proofs.cabinet.Cabinet.sweep.Given.{Over}
 use Rattle.epoch_rule.proofs.cabinet.Cabinet.sweep.Goals.{After-first_at}
 use Rattle.epoch_rule.proofs.cabinet.Cabinet.sweep.Goals as goal
@@ -24,7 +16,6 @@ some : (g : Over) (c : After-first_at g) → 0 < c.writer.inside.seat.me.0.sizes
 some g c = let is = sizes g c in let most = c.self.invariant.some in omega arith
 
 -- the lowest number, and the first pass that has it
-
 low : (g : Over) (c : After-first_at g) → c.least-lowest.result
     ≡ least_lowest (generations_in_seen c.writer.inside.seat.me.0.sizes c.sweep_all.new.seat.me.0.seen).current
     (generations_in_seen c.writer.inside.seat.me.0.sizes c.sweep_all.new.seat.me.0.seen).passes

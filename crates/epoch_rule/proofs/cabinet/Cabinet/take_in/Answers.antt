@@ -1,19 +1,13 @@
-use Rattle.std.proofs.Common.{arith, ◌≡◌, ℕ, ◌+◌, ◌-◌, get_or, set, length-set, sym, ap, ◌∙◌, subst, append-nil, false, Option}
-use Rattle.std.specs.Prelude.{slice_set}
-use Rattle.std.specs.Option.{unwrap_or}
-use Rattle.mem_base.specs.machine.Generations.{first_generations}
-use Rattle.epoch_rule.specs.declared.views.View.{View}
-use Rattle.mem_base.specs.machine.Actors.{own_entries, generations_after_all}
-use Rattle.epoch_rule.specs.Rule.{IsLegal}
-use Rattle.epoch_rule.specs.Plays.{taken_in, IsSettled}
-use Rattle.epoch_rule.specs.Copies.{IsCopy}
-use Rattle.view_laws.proofs.Tests.{none_is_not_some}
-use Rattle.epoch_rule.proofs.SeatSteps.{less_one_more, set_false, set_free, takes_in, settle}
+use Rattle.epoch_rule.proofs.Common.{arith, ◌≡◌, ℕ, ◌+◌, ◌-◌, get_or, set, length-set, sym, ap, ◌∙◌, subst, false, Option, unwrap_or, first_generations, View}
+use Rattle.epoch_rule.proofs.Common.{own_entries, generations_after_all, IsLegal, taken_in, IsSettled, IsCopy, generations_seen, Writer, slice_set}
+use Rattle.epoch_rule.proofs.Common.{get_or-set_other, refl}
+use Rattle.epoch_rule.proofs.SeatSteps.{set_false, takes_in, settle}
 use Rattle.epoch_rule.proofs.PassLaws.{stands_out}
-use Rattle.epoch_rule.proofs.PublishLaws.{writing_seat}
+use Rattle.epoch_rule.proofs.SweepLaws.{writing_seat}
 use Rattle.epoch_rule.proofs.cabinet.Cabinet.take_in.Given.{Over}
 use Rattle.epoch_rule.proofs.cabinet.Cabinet.take_in.Goals.{After-load}
 use Rattle.epoch_rule.proofs.cabinet.Cabinet.take_in.Goals as goal
+use Rattle.epoch_rule.proofs.TouchLaws.{wrote_none}
 
 pub join_seat-requires : goal.join_seat-requires
 join_seat-requires g c =
@@ -46,10 +40,7 @@ seen g c = ap (λ w. w.seen) (settled g c).same
 
 -- the number of the pass, by its role
 number : (g : Over) (c : After-load g) → unwrap_or c.pass.inside.seat.me.0.role 0 - 1 ≡ c.pass.inside.number
-number g c = ap (λ r. unwrap_or r 0 - 1) c.pass.invariant.0 ∙ less_one_more c.pass.inside.number
-
-came : (g : Over) (c : After-load g) → (taken_in c.writer.inside.seat.me.0 c.pass.inside.seat.me.0).came ≡ c.pass.inside.number + 1
-came g c = ap (λ (r : Option ℕ). unwrap_or r 0) c.pass.invariant.0
+number g c = ap (λ r. unwrap_or r 0 - 1) c.pass.invariant.0 ∙ (let n : ℕ = c.pass.inside.number in let same : n + 1 - 1 ≡ n = omega arith in same)
 
 pub invariant_of-writer : goal.invariant_of-writer
 invariant_of-writer g c =
@@ -59,8 +50,7 @@ invariant_of-writer g c =
     writing_seat _ _ c.writer.inside.seat.me c.load.new.seat.me _ _ c.writer.inside.out.items _ (c.load.ensures.0 ∙ c.join_seat.ensures.0)
     (c.load.ensures.2.0 ∙ ap (λ m. m.1) c.join_seat.ensures.2) (ap (λ w. w.role) h.same) (ap (λ w. w.held) h.same, ap (λ w. w.next) h.same)
     (ap (λ w. w.sizes) h.same)
-    ((λ i. generations_after_all (first_generations (h.same i).sizes.passes) (own_entries 0 (seen g at i)))
-    ∙ ap (generations_after_all (first_generations c.writer.inside.seat.me.0.sizes.passes)) (sym h.quiet))
+    (ap generations_seen h.same ∙ ap (generations_after_all (first_generations c.writer.inside.seat.me.0.sizes.passes)) (sym h.quiet))
     (subst (λ w. IsLegal w.sizes w.seen) (sym h.same) h.lawful)
     ((λ i. slice_set (inv.is_out i) (sym (number g at) i) false) ∙ sym (ap (λ w. w.out) h.same))
     (length-set c.writer.inside.out.items c.pass.inside.number false) inv
@@ -75,14 +65,7 @@ returns-clause-seen g c =
 
 pub returns-clause-wrote : goal.returns-clause-wrote
 returns-clause-wrote g c =
-    let at = (goal.at.returns-clause-wrote g c).After-load in
-    let h = settled g at in
-    rw (sym c.writer.view_is) record {
-      begins = (h.was.0, h.was.1 ∙ sym (seen g at));
-      lawful = subst (IsLegal c.writer.inside.seat.me.0.sizes) (sym (seen g at)) h.lawful;
-      events = ap (own_entries 0) (seen g at) ∙ (sym h.quiet ∙ sym (append-nil _));
-      ends = λ x none. none_is_not_some x none;
-    }
+    rw (sym c.writer.view_is) (wrote_none Writer c.writer.inside.seat.me.0 _ _ refl refl (settled g (goal.at.returns-clause-wrote g c).After-load))
 
 pub returns-clause-same : goal.returns-clause-same
 returns-clause-same g c =
@@ -96,18 +79,19 @@ returns-clause-brought g c =
     let v : View = c.writer.inside.seat.me.0 in
     let free : get_or (taken_in v c.pass.inside.seat.me.0).out p false ≡ false =
     subst (λ (i : ℕ). get_or (set v.out i false) p false ≡ false) (sym (number g at)) (set_false v.out p) in
-    rw (sym c.pass.view_is) (ap (λ w. own_entries (p + 1) w.seen) h.same ∙ sym (h.brought c.writer.invariant.role p free (came g at)))
+    rw (sym c.pass.view_is) (ap (λ w. own_entries (p + 1) w.seen) h.same
+    ∙ sym (h.brought c.writer.invariant.role p free (ap (λ (r : Option ℕ). unwrap_or r 0) c.pass.invariant.0)))
 
 pub returns-clause-others : goal.returns-clause-others
 returns-clause-others g c q ne out =
     let at = (goal.at.returns-clause-others g c).After-load in
     let h = settled g at in
     let v : View = c.writer.inside.seat.me.0 in
-    let came : (taken_in v c.pass.inside.seat.me.0).came ≡ c.pass.inside.number + 1 = came g at in
+    let came : (taken_in v c.pass.inside.seat.me.0).came ≡ c.pass.inside.number + 1 = ap (λ (r : Option ℕ). unwrap_or r 0) c.pass.invariant.0 in
     let number : c.pass.inside.number ≡ c.args.pass.number = ap (λ w. w.number) c.pass.view_is in
     let before : get_or v.out q false ≡ false =
     ap (λ l. get_or l q false) (sym c.writer.invariant.is_out) ∙ (ap (λ w. get_or w.out q false) c.writer.view_is ∙ out) in
     let free : get_or (taken_in v c.pass.inside.seat.me.0).out q false ≡ false =
-    set_free v.out (unwrap_or c.pass.inside.seat.me.0.role 0 - 1) q false (λ e. ne (omega arith)) ∙ before in
+    get_or-set_other v.out (unwrap_or c.pass.inside.seat.me.0.role 0 - 1) q false false (λ e. ne (omega arith)) ∙ before in
     ap (λ w. own_entries (q + 1) w.seen) h.same
     ∙ (sym (h.stay c.writer.invariant.role q free (λ e. ne (omega arith))) ∙ ap (λ w. own_entries (q + 1) w.seen) c.writer.view_is)

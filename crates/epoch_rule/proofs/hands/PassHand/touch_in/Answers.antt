@@ -1,22 +1,12 @@
-use Rattle.std.proofs.Common.{arith, ◌≡◌, ℕ, ◌+◌, ◌<◌, ◌≤◌, sym, refl, ap, ◌∙◌, subst}
-use Rattle.atomic_table.specs.Seated.{TableId}
-use Rattle.mem_base.specs.declared.machine.events.Hand.TheVariants.{Pass}
-use Rattle.mem_base.specs.access.Places.{past}
-use Rattle.epoch_rule.specs.declared.views.Sizes.{Sizes}
-use Rattle.mem_base.specs.machine.Passes.{pass_id}
-use Rattle.epoch_rule.specs.Touches.{IsTouch}
-use Rattle.epoch_rule.specs.Copies.{IsEnteredIn, Suits, value_in}
-use Rattle.mem_base.specs.access.EditionPlaces.{IsEdition}
-use Rattle.view_laws.proofs.Tests.{same_some}
-use Rattle.epoch_rule.proofs.PassLaws.{entered_at, stands_still, suits_on}
-use Rattle.epoch_rule.proofs.SizeLaws.{near_in, same_sizes}
-use Rattle.epoch_rule.proofs.TouchLaws.{one_of, pass_inside, ready_pass, kept, pass_kept, shown}
+use Rattle.epoch_rule.proofs.Common.{arith, ◌≡◌, ℕ, ◌+◌, ◌<◌, ◌≤◌, sym, refl, ap, ◌∙◌, subst, TableId, past, Sizes, pass_id, IsTouch, IsEnteredIn, Suits}
+use Rattle.epoch_rule.proofs.Common.{value_in, IsEdition, same_some, Pass}
+use Rattle.epoch_rule.proofs.PassLaws.{entered_at, stands_still, suits_on, near_in, same_sizes}
+use Rattle.epoch_rule.proofs.TouchLaws.{one_of, reach_inside, fits_extent, ready_pass, kept, pass_kept, shown}
 use Rattle.epoch_rule.proofs.hands.PassHand.touch_in.Given.{Over}
 use Rattle.epoch_rule.proofs.hands.PassHand.touch_in.Goals.{After-number}
 use Rattle.epoch_rule.proofs.hands.PassHand.touch_in.Goals as goal
 
 -- the pass is entered in an edition, whose places are those of its forest
-
 entered : (g : Over) (c : After-number g) → IsEnteredIn g.E.Edition.counted g.E.Edition.forest g.E.Edition.places c.self.inside.number c.self.inside.seat.me.0
     c.requires.may.0
 entered g c = entered_at g.E.Edition.counted g.E.Edition.forest g.E.Edition.places c.self.inside.number c.self.inside.seat.me c.self.inside.edition
@@ -39,8 +29,8 @@ room g c t z same suits =
     let may = c.requires.may in
     let fits : past c.args.place.now ≤ c.self.inside.seat.me.0.sizes.words =
     one_of (λ q. past q ≤ c.self.inside.seat.me.0.sizes.words) c.args.place.now (g.E.Edition.places may.0) (entered g c).roomy may.2.0 in
-    let near = pass_inside (g.E.Edition.forest may.0) (g.E.Edition.places may.0) c.args.place.now c.self.inside.number c.args.word c.args.touch (law g c)
-    (kind g c) may.2 in
+    let near = reach_inside c.args.place.now c.self.inside.number c.args.word c.args.touch
+    (fits_extent (g.E.Edition.forest may.0) (g.E.Edition.places may.0) c.args.place.now (law g c) may.2.0) (kind g c) may.2.1 in
     omega arith
 
 pub touch_word-requires-clause-ready : goal.touch_word-requires-clause-ready

@@ -1,10 +1,8 @@
-use Rattle.std.proofs.Common.{arith, sym, refl, ap, ◌∙◌, subst, false, get_or}
-use Rattle.mem_base.specs.declared.machine.events.Hand.TheVariants.{Writer}
-use Rattle.epoch_rule.specs.declared.views.Sizes.{Sizes}
-use Rattle.epoch_rule.specs.Shown.{WriterMay}
-use Rattle.epoch_rule.proofs.SizeLaws.{same_sizes}
-use Rattle.epoch_rule.proofs.TouchLaws.{ready_writer, kept, generations_kept, shown, writing_kept, home_kept}
+use Rattle.epoch_rule.proofs.Common.{arith, sym, refl, ap, ◌∙◌, subst, false, get_or, Writer, Sizes, WriterMay}
+use Rattle.epoch_rule.proofs.PassLaws.{same_sizes}
+use Rattle.epoch_rule.proofs.TouchLaws.{ready_writer, kept, generations_kept, shown, home_kept}
 use Rattle.epoch_rule.proofs.hands.WriterSeatHand.touch_in.Goals as goal
+use Rattle.epoch_rule.proofs.SweepLaws.{writing_seat}
 
 pub touch_word-requires-clause-ready : goal.touch_word-requires-clause-ready
 touch_word-requires-clause-ready g c =
@@ -29,8 +27,8 @@ invariant_of-self g c =
     let k = kept Writer c.args.place.now c.args.word c.args.touch c.self.inside.seat.me.0 c.touch_word.result c.touch_word.new.seat.me.0 c.requires.kind told in
     let same = generations_kept c.args.place.now c.args.word c.args.touch c.self.inside.seat.me.0 c.touch_word.result c.touch_word.new.seat.me.0
     c.requires.kind told in
-    writing_kept _ _ c.self.inside.seat.me c.touch_word.new.seat.me _ _ _ c.touch_word.ensures.table c.touch_word.ensures.seat.0 c.touch_word.ensures.seat.1 k
-    same c.self.invariant
+    writing_seat _ _ c.self.inside.seat.me c.touch_word.new.seat.me _ _ _ _ c.touch_word.ensures.table c.touch_word.ensures.seat.0 k.role
+    c.touch_word.ensures.seat.1 k.sizes same (k.lawful c.self.invariant.lawful) (c.self.invariant.is_out ∙ sym k.out) refl c.self.invariant
 
 pub returns-clause-shown : goal.returns-clause-shown
 returns-clause-shown g c =

@@ -1,19 +1,15 @@
-use Rattle.std.proofs.Common.{rules, ◌≡◌, ◌<◌, ◌∙◌, true, length, arith}
-use Rattle.std.specs.Prelude.{slice_index_or}
-use Rattle.race_block.proofs.StepLaws.{underway_then}
+use Rattle.std.proofs.Common.{All, subst, sym, refl}
+use Rattle.race_block.specs.Lines.{FitsLine}
+use Rattle.race_block.proofs.ResolvingLaws.{has_run, none_run}
 use Rattle.race_block.proofs.passes.PassActor.run.Goals as goal
 
-pub loop-at-preserved : goal.loop-at-preserved
-loop-at-preserved g c =
-    let a = c.args.self in
-    let line = c.index-line.result.now in
-    let was = c.loop-at.invariant in
-    let done : c.do_line-next.result.2 ≡ true = search rules in
-    let room : c.loop-at.at < length a.lines.items = let t = c.loop-at-test.true in let e = was.3 in omega (arith, t, e) in
-    let is : slice_index_or a.lines.items c.loop-at.at line ≡ line = search rules in (
-      underway_then a.lines.items a.clerk a.vcpu c.loop-at.at c.loop-at.clerk c.do_line-next.new.clerk c.loop-at.vcpu c.do_line-next.result.0
-          c.loop-at.got.items c.do_line-next.new.got.items line was.0 room is (c.do_line-next.ensures.done done),
-      c.do_line-next.ensures.room ∙ was.1,
-      c.do_line-next.ensures.desk ∙ was.2,
-      was.3,
-    )
+pub run_lines-requires-clause-fits : goal.run_lines-requires-clause-fits
+run_lines-requires-clause-fits g c κs within =
+    subst (λ room. All (FitsLine room) c.in-Ok.lines.items) (sym c.requires.ready.room) c.in-Ok.ensures.fits
+
+pub returns-clause-run : goal.returns-clause-run
+returns-clause-run g c =
+    has_run c.args.self c.run_lines.result c.in-Ok.lines.items c.in-Ok.ensures.tasks c.run_lines.ensures.run
+
+pub returns-in_default-clause-run : goal.returns-in_default-clause-run
+returns-in_default-clause-run g c = none_run c.args.self _ c.requires.ready refl refl refl refl refl

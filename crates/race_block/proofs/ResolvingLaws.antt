@@ -1,0 +1,180 @@
+-- The tasks of a pass's lines: they are those of a pass, there is room for what they copy, and they are made one after another.
+use Rattle.std.proofs.Common.{◌≡◌, ℕ, ◌+◌, ◌<◌, ◌≤◌, zero, suc, true, List, [], ◌∷◌, ◌++◌, All, length, take, get_or, refl, sym, ap, subst, ◌∙◌, arith}
+use Rattle.std.proofs.Common.{Result, Ok, Err, inl, inr}
+use Rattle.std.proofs.lemmas.List.{map_push}
+use Rattle.std.proofs.lemmas.List.Elements.{All-push}
+use Rattle.mem_base.specs.declared.machine.records.DeskOrder.{DeskOrder}
+use Rattle.mem_base.specs.declared.machine.records.DeskOrder.TheVariants as orders
+use Rattle.mem_base.specs.declared.map.calls.Call.{Call}
+use Rattle.mem_base.specs.declared.script.commands.Command.{Command}
+use Rattle.mem_base.specs.declared.script.commands.Command.TheVariants as commands
+use Rattle.mem_base.specs.map.Limits.{most_passes}
+use Rattle.mem_base.specs.machine.Records.{FitsDeskOrder}
+use Rattle.mem_base.specs.script.Race.{actor_number}
+use Rattle.mem_base.specs.script.Scripts.{Line}
+use Rattle.mem_base.specs.script.Tasks.{Known, Resolved, Task, change_of, space, task_of, then_resolved}
+use Rattle.mem_base.specs.script.Tasks as tasks
+use Rattle.run_laws.specs.Fitting.{FitsCommand}
+use Rattle.race_laws.proofs.OutsideLaws.{orders_fit}
+use Rattle.desk_lock.specs.Receipts.{HasNotifier}
+use Rattle.race_lines.specs.declared.tasks.LineTask.{LineTask}
+use Rattle.race_lines.specs.declared.tasks.LineTask.TheVariants.{Idle, Ordered, Shown, Found, Watched, Unwatched, Entered, Left, Read, Written, Copied}
+use Rattle.race_lines.specs.declared.tasks.Refused.{Refused}
+use Rattle.race_lines.specs.LineTasks.{Resolves}
+use Rattle.race_block.specs.declared.tasks.PassTask.{PassTask}
+use Rattle.race_block.specs.declared.tasks.PassTask.TheVariants as passes
+use Rattle.race_block.specs.declared.tasks.BlockLine.{BlockLine}
+use Rattle.race_block.specs.declared.tasks.OwnLine.{OwnLine}
+use Rattle.race_block.specs.declared.passes.PassActor.{PassActor}
+use Rattle.race_block.specs.Desks.{line_meant, lines_meant}
+use Rattle.view_laws.proofs.Tests.{true_is_not_false}
+use Rattle.race_block.specs.declared.tasks.LineGot.{LineGot}
+use Rattle.race_block.specs.Lines.{FitsLine, FitsTask, HasRun, HasRunLines, HaveRun, IsReady}
+use Rattle.race_block.specs.Resolving.{AreTasksIn, AreTasksOf, IsOfPass, IsTaskOf, StandsFor, copy_room, tasks_in}
+
+-- a task of a pass, which copies no more than there is room for
+abbrev CanBeOfPass : Resolved Task → Type 0
+CanBeOfPass (Ok tasks.idle) = ⊥
+CanBeOfPass (Ok (tasks.shown s)) = ⊥
+CanBeOfPass (Ok (tasks.found s addr)) = ⊥
+CanBeOfPass (Ok (tasks.watched name r first last)) = ⊥
+CanBeOfPass (Ok (tasks.unwatched id)) = ⊥
+CanBeOfPass (Ok (tasks.copied from addr len to to_addr)) = len ≤ copy_room
+CanBeOfPass r = Unit {0}
+
+then_can : {X : Type 0} (r : Resolved X) (rest : X → Resolved Task) → ((x : X) → CanBeOfPass (rest x)) → CanBeOfPass (then_resolved r rest)
+then_can (Ok x) rest h = h x
+then_can (Err why) rest h = tt
+
+can_be : (k : Known) (c : Command) → FitsCommand c → actor_number c < most_passes → CanBeOfPass (task_of k c)
+can_be k (commands.Machine size) h l = absurd (omega (arith, l))
+can_be k (commands.RegionContainer name size) h l = absurd (omega (arith, l))
+can_be k (commands.RegionRam name size) h l = absurd (omega (arith, l))
+can_be k (commands.RegionRom name size) h l = absurd (omega (arith, l))
+can_be k (commands.RegionRomDevice name size device) h l = absurd (omega (arith, l))
+can_be k (commands.RegionIo name size device) h l = absurd (omega (arith, l))
+can_be k (commands.RegionIommu name size) h l = absurd (omega (arith, l))
+can_be k (commands.RegionAlias name size target offset) h l = absurd (omega (arith, l))
+can_be k (commands.RegionReserve name size) h l = absurd (omega (arith, l))
+can_be k (commands.Space name root) h l = absurd (omega (arith, l))
+can_be k (commands.Change change) h l = absurd (omega (arith, l))
+can_be k (commands.Load name offset bytes) h l = absurd (omega (arith, l))
+can_be k (commands.Drop name) h l = absurd (omega (arith, l))
+can_be k commands.Begin h l = absurd (omega (arith, l))
+can_be k commands.Commit h l = absurd (omega (arith, l))
+can_be k commands.Reap h l = absurd (omega (arith, l))
+can_be k (commands.Listen name to priority) h l = absurd (omega (arith, l))
+can_be k (commands.Unlisten name) h l = absurd (omega (arith, l))
+can_be k (commands.Watch name at first last) h l = absurd (omega (arith, l))
+can_be k (commands.Unwatch name) h l = absurd (omega (arith, l))
+can_be k (commands.Show name) h l = absurd (omega (arith, l))
+can_be k (commands.At name addr) h l = absurd (omega (arith, l))
+can_be k (commands.Notified number) h l = absurd (omega (arith, l))
+can_be k (commands.Dirty name client) h l = absurd (omega (arith, l))
+can_be k (commands.PassEnter pass) h l = tt
+can_be k (commands.PassLeave pass) h l = tt
+can_be k (commands.PassRead pass name addr len) h l = then_can (space k name) _ (λ s. tt)
+can_be k (commands.PassWrite pass name addr bytes) h l = then_can (space k name) _ (λ s. tt)
+can_be k (commands.PassDo pass change) h l = then_can (change_of k change) _ (λ call. tt)
+can_be k (commands.PassDma pass name addr len to_name to_addr) h l = then_can (space k name) _ (λ s. then_can (space k to_name) _ (λ t. h.1))
+can_be k commands.Par h l = absurd (omega (arith, l))
+can_be k commands.End h l = absurd (omega (arith, l))
+
+-- what the code resolved is a task of a pass
+pub is_of_pass : (k : Known) (c : Command) (task : Result LineTask Refused) → FitsCommand c → actor_number c < most_passes → Resolves k task (task_of k c)
+    → IsOfPass task
+is_of_pass k c (Err why) h l r = tt
+is_of_pass k c (Ok (Ordered order naming)) h l r = tt
+is_of_pass k c (Ok Entered) h l r = tt
+is_of_pass k c (Ok Left) h l r = tt
+is_of_pass k c (Ok (Read space addr len)) h l r = tt
+is_of_pass k c (Ok (Written space addr bytes)) h l r = tt
+is_of_pass k c (Ok (Copied space addr len to_space to_addr)) h l r = tt
+is_of_pass k c (Ok Idle) h l r = absurd (subst CanBeOfPass (sym r.is) (can_be k c h l))
+is_of_pass k c (Ok (Shown space)) h l r = absurd (subst CanBeOfPass (sym r.is) (can_be k c h l))
+is_of_pass k c (Ok (Found space addr)) h l r = absurd (subst CanBeOfPass (sym r.is) (can_be k c h l))
+is_of_pass k c (Ok (Watched name region first last)) h l r = absurd (subst CanBeOfPass (sym r.is) (can_be k c h l))
+is_of_pass k c (Ok (Unwatched name watcher)) h l r = absurd (subst CanBeOfPass (sym r.is) (can_be k c h l))
+
+has_notifier : (order : DeskOrder) → FitsDeskOrder order → HasNotifier order
+has_notifier orders.Begin h = tt
+has_notifier (orders.Call call) h = tt
+has_notifier orders.Commit h = tt
+has_notifier orders.Reap h = tt
+has_notifier (orders.Listen listener space priority) h = tt
+has_notifier (orders.Unlisten listener) h = tt
+has_notifier (orders.Load region offset bytes) h = tt
+has_notifier (orders.Harvest region client) h = tt
+has_notifier (orders.Notified number) h = h
+has_notifier orders.Look h = tt
+
+-- what a pass is asked for fits
+pub task_fits : (k : Known) (c : Command) (task : PassTask) → FitsCommand c → actor_number c < most_passes → StandsFor task (task_of k c)
+    → FitsTask copy_room task
+task_fits k c (passes.Refused why) h l s = tt
+task_fits k c (passes.Order order) h l s = has_notifier order (orders_fit k c order s.0 h s.1)
+task_fits k c passes.Enter h l s = tt
+task_fits k c passes.Leave h l s = tt
+task_fits k c (passes.Read space addr len) h l s = tt
+task_fits k c (passes.Write space addr bytes) h l s = tt
+task_fits k c (passes.Copy from addr len to to_addr) h l s = subst CanBeOfPass s (can_be k c h l)
+
+-- the tasks of lines, one after another
+
+pub no_tasks : (k : Known) (xs : List BlockLine) → xs ≡ [] → AreTasksOf k [] xs
+no_tasks k xs none = subst (λ (ys : List BlockLine). AreTasksOf k [] ys) (sym none) tt
+
+tasks_push : (k : Known) (lines : List Line) (xs : List BlockLine) (line : Line) (x : BlockLine) → AreTasksOf k lines xs → IsTaskOf k line x
+    → AreTasksOf k (lines ++ line ∷ []) (xs ++ x ∷ [])
+tasks_push k [] [] line x h t = (t.0, t.1, tt)
+tasks_push k (l ∷ lines) (y ∷ xs) line x h t = (h.0, h.1, tasks_push k lines xs line x h.2 t)
+tasks_push k [] (y ∷ xs) line x h t = absurd h
+tasks_push k (l ∷ lines) [] line x h t = absurd h
+
+take_more : (xs : List OwnLine) (i : ℕ) (x : OwnLine) → i < length xs → get_or xs i x ≡ x → take (i + 1) xs ≡ take i xs ++ x ∷ []
+take_more [] i x l is = absurd (omega (arith, l))
+take_more (y ∷ xs) zero x l is = ap (λ (z : OwnLine). z ∷ []) is
+take_more (y ∷ xs) (suc i) x l is =
+    let next : suc i + 1 ≡ suc (i + 1) = omega arith in
+    ap (λ (n : ℕ). take n (y ∷ xs)) next ∙ ap (λ (zs : List OwnLine). y ∷ zs) (take_more xs i x (omega (arith, l)) is)
+
+pub take_all : (xs : List OwnLine) (n : ℕ) → length xs ≤ n → take n xs ≡ xs
+take_all [] zero l = refl
+take_all [] (suc n) l = refl
+take_all (x ∷ xs) zero l = absurd (omega (arith, l))
+take_all (x ∷ xs) (suc n) l = ap (λ (zs : List OwnLine). x ∷ zs) (take_all xs n (omega (arith, l)))
+
+pub task_pushed : (k : Known) (lines : List OwnLine) (i : ℕ) (line : OwnLine) (xs more : List BlockLine) (x : BlockLine) → i < length lines
+    → get_or lines i line ≡ line → AreTasksOf k (lines_meant (take i lines)) xs × All (FitsLine copy_room) xs → IsTaskOf k (line_meant line) x
+    → FitsLine copy_room x → more ≡ xs ++ x ∷ [] → AreTasksOf k (lines_meant (take (i + 1) lines)) more × All (FitsLine copy_room) more
+task_pushed k lines i line xs more x room is h task fits put =
+    let meant : lines_meant (take (i + 1) lines) ≡ lines_meant (take i lines) ++ line_meant line ∷ [] =
+    ap lines_meant (take_more lines i line room is) ∙ map_push line_meant (take i lines) line in (
+      subst (λ (z : List Line × List BlockLine). AreTasksOf k z.0 z.1) (λ j. (sym meant j, sym put j))
+          (tasks_push k (lines_meant (take i lines)) xs (line_meant line) x h.0 task),
+      subst (All (FitsLine copy_room)) (sym put) (All-push (FitsLine copy_room) xs x h.1 fits),
+    )
+
+-- an actor that did its lines, or had no memory for their tasks
+
+pub has_run : (a b : PassActor) (xs : List BlockLine) → AreTasksIn a.lines xs → HasRunLines xs a.bounce a.clerk a.vcpu b → HasRun a b
+has_run a b xs tasks h = subst (λ (ys : List BlockLine). AreTasksIn a.lines ys → HasRunLines ys a.bounce a.clerk a.vcpu b → HasRun a b) h.lines
+    (λ these ran. record {
+      lines = inl these;
+      bounce = ran.bounce_is;
+      most = ran.most;
+      ran = ran.ran;
+      whole = ran.whole;
+    }) tasks h
+
+pub none_run : (a b : PassActor) → IsReady a → b.bounce ≡ a.bounce → b.clerk ≡ a.clerk → b.vcpu ≡ a.vcpu → b.got ≡ a.got → b.out_of_memory ≡ true
+    → HasRun a b
+none_run a b r bounce clerk vcpu got out =
+    let none : b.got.items ≡ [] = ap (λ g. g.items) got ∙ r.nothing in record {
+      lines = inr (out, none);
+      bounce = bounce;
+      most = subst (λ (gs : List LineGot). length gs ≤ length (tasks_in b.lines)) (sym none) (omega arith);
+      ran = subst (λ (gs : List LineGot). HaveRun (take (length gs) (tasks_in b.lines)) a.clerk a.vcpu gs b.clerk b.vcpu) (sym none)
+          (refl, clerk, vcpu);
+      whole = λ e. true_is_not_false b.out_of_memory out e;
+    }

@@ -1,6 +1,0 @@
-use Rattle.std.proofs.Common.{rules}
-use Rattle.race_lines.specs.LineTasks.{name_made}
-use Rattle.race_inside.proofs.tasks.pass_task.Goals as goal
-
-pub returns-in-Ok-Ordered : goal.returns-in-Ok-Ordered
-returns-in-Ok-Ordered c = (name_made c.in-Ok-Ordered.field-0-1, search rules)

@@ -1,8 +1,0 @@
-use Rattle.std.proofs.Common.{◌≡◌, ◌++◌, drop}
-use Rattle.std.specs.Prelude.{map}
-use Rattle.json_build.specs.Held.{values}
-use Rattle.scope_json.specs.Lints.{refused_data}
-use Rattle.scope_json.proofs.linting.refused_list.Given as goal
-
-abbrev pub invariant-loop-one : goal.invariant-loop-one
-invariant-loop-one l = values l.items ++ map refused_data (drop l.one-index l.refused) ≡ map refused_data l.refused

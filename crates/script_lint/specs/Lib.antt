@@ -1,0 +1,4 @@
+pub mod Names
+pub mod Refusals
+pub mod Transactions
+pub mod Blocks

@@ -1,0 +1,4 @@
+mod CommentLaws
+mod RegionLaws
+mod NameLaws
+mod AlikeLaws

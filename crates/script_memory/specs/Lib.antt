@@ -1,0 +1,4 @@
+pub mod Comments
+pub mod Regions
+pub mod Told
+pub mod Alike
