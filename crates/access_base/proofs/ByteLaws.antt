@@ -11,7 +11,8 @@ use Rattle.std.proofs.Math.Nat.{add-mul-mod_self_left, div-div-eq-div-mul, mod-a
 use Rattle.std.proofs.Math.Pow.{pow_mono}
 use Rattle.std.proofs.Math.Seq.{take-length}
 use Rattle.mem_base.specs.access.Words.{little_endian, number_of_bytes, bytes_from, byte_of, bytes_of}
-use Rattle.access_cut.proofs.Powers.{bytes_power, lowest_by_shift}
+use Rattle.access_cut.proofs.Powers.{lowest_by_shift}
+use Rattle.mem_base.proofs.WordLaws.{some_power, bytes_power}
 
 -- bytes of a word by shifts
 
@@ -39,10 +40,6 @@ little_endian_below (b ∷ bs) h =
     let rest : little_endian bs < 256 ^ length bs = little_endian_below bs (λ i. h (suc i)) in
     let power : 256 ^ suc (length bs) ≡ 256 * 256 ^ length bs = power_more (length bs) in
     omega (arith, first, rest, power)
-
-some_power : (n : ℕ) → 0 < 256 ^ n
-some_power zero = omega arith
-some_power (suc n) = let e = power_more n in let h = some_power n in omega (arith, e, h)
 
 -- of a number whose lowest byte is b, the lowest bytes, one more than p counts
 lowest_more : (b n p : ℕ) → b < 256 → 0 < p → (b + 256 * n) % (256 * p) ≡ b + 256 * (n % p)

@@ -1,12 +1,11 @@
 -- Laws of the pieces of an access to a device, and of the callbacks of a piece.
-use Rattle.std.proofs.Common.{◌≡◌, ℕ, zero, suc, ◌+◌, ◌-◌, ◌*◌, ◌/◌, ◌<◌, ◌≤◌, ◌==◌, ◌&&◌, ◌||◌, min, max, nat_le, Bool, true, false, List, [], ◌∷◌, ◌++◌}
+use Rattle.std.proofs.Common.{◌≡◌, ℕ, zero, suc, ◌+◌, ◌-◌, ◌*◌, ◌/◌, ◌<◌, ◌≤◌, ◌==◌, ◌&&◌, ◌||◌, min, max, nat_le, Bool, true, false, List, [], ◌∷◌}
 use Rattle.std.proofs.Common.{map, take, drop, ◌⊎◌, inl, inr, if◌then◌else◌, refl, sym, ap, subst, ◌∙◌, arith, ◌^◌}
 use Rattle.std.specs.List.{range_with_len}
 use Rattle.std.proofs.lemmas.Bool.{eqb-true, cases_lt}
 use Rattle.std.proofs.Math.Nat.{div-eq_of_lt}
 use Rattle.mem_base.specs.declared.map.kinds.Ops.{Ops}
 use Rattle.mem_base.specs.declared.access.accesses.Piece.{Piece}
-use Rattle.mem_base.specs.lists.Every.{Every}
 use Rattle.mem_base.specs.map.Devices.{is_access_size}
 use Rattle.mem_base.specs.access.Pieces.{aligned_size, callback_at, callback_count, callback_size, callbacks, piece_at, pieces}
 use Rattle.mem_base.specs.access.Pieces.{power_within, size_at}
@@ -184,11 +183,6 @@ no_more ops a zero good e = refl
 no_more ops a (suc m) good e =
     let first = next_piece ops a (suc m) (size_at ops a (suc m)) refl (size_some ops a (suc m)) (size_most ops a (suc m) (omega arith)) in
     let bad : piece_at ops a (suc m) ∷ pieces ops (a + size_at ops a (suc m)) (suc m - size_at ops a (suc m)) ≡ [] = sym first ∙ e in cc
-
--- what holds of each of two lists together
-pub every_split : {A : Type 0} (P : A → Type 0) (xs ys : List A) → Every P (xs ++ ys) → Every P xs × Every P ys
-every_split P [] ys h = (tt, h)
-every_split P (x ∷ xs) ys h = let t = every_split P xs ys h.1 in ((h.0, t.0), t.1)
 
 -- the part of the bytes that a callback writes
 pub callback_part : (piece : Piece) (o s done k : ℕ) (bytes : List ℕ) → o ≡ piece.offset + done → k ≡ done + min s piece.size - done

@@ -1,13 +1,10 @@
 -- The access sizes of a good device are good.
-use Rattle.std.proofs.Common.{◌≡◌, ◌&&◌, nat_le, Bool, true, false, refl}
+use Rattle.std.proofs.Common.{◌≡◌, ◌&&◌, nat_le, Bool, true}
 use Rattle.mem_base.specs.declared.map.kinds.Device.{Device}
 use Rattle.mem_base.specs.map.Limits.{most_registers}
 use Rattle.mem_base.specs.map.Devices.{is_access_size}
 use Rattle.access_cut.specs.Conditions.{AreGood, IsGood}
-
-left_of : (a b : Bool) → (a && b) ≡ true → a ≡ true
-left_of true b h = refl
-left_of false b h = h
+use Rattle.mem_base.proofs.BoolLaws.{left_of}
 
 -- all but the counts of registers
 abbrev sizes_of : Device → Bool

@@ -40,9 +40,7 @@ use Rattle.map_laws.proofs.SoundCallLaws.{IsClosedForest-made}
 use Rattle.access_cut.specs.Conditions.{IsGood}
 use Rattle.access_cut.proofs.Good.{some_registers}
 use Rattle.generation.specs.Published.{Published}
-
-same_region : (q r : RegionId) → q.0 ≡ r.0 → q ≡ r
-same_region q r e = (λ i. record { 0 = e i })
+use Rattle.view_laws.proofs.Tests.{same_region}
 
 -- what holds of each place holds of the one that is found, and it is of the region
 found_place : (P : Place → Type 0) (ps : List Place) (r : RegionId) (q : Place) → Every P ps → place_in ps r ≡ Some q → P q × (q.region ≡ r)
@@ -53,18 +51,6 @@ found_place P (p ∷ ps) r q h e = go (p.region.0 == r.0) refl e (found_place P 
         → (place_in ps r ≡ Some q → P q × (q.region ≡ r)) → P q × (q.region ≡ r)
     go true t e rest = let is : p ≡ q = cc in subst (λ x. P x × (x.region ≡ r)) is (h.0, same_region p.region r (eqb-true p.region.0 r.0 t))
     go false t e rest = rest e
-
--- a place of memory has all its bytes
-pub whole_bytes : (kind : Kind) (size : ℕ) → has_bytes kind ≡ true → (extent_of kind size).bytes ≡ size
-whole_bytes Ram size e = refl
-whole_bytes Rom size e = refl
-whole_bytes (RomDevice device) size e = refl
-whole_bytes Container size e = cc
-whole_bytes (Io device) size e = cc
-whole_bytes Iommu size e = cc
-whole_bytes (Alias target offset) size e = cc
-whole_bytes Reserve size e = cc
-whole_bytes Host size e = cc
 
 module _ (g : Published) (k : IsEdition g.forest g.places) where
   abbrev f : Forest

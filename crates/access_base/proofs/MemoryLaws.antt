@@ -1,7 +1,6 @@
 -- Laws of parts of bytes, and of the pages that an access to memory marks.
-use Rattle.std.proofs.Common.{◌≡◌, ℕ, zero, suc, ◌+◌, ◌-◌, ◌/◌, ◌%◌, ◌<◌, ◌≤◌, Bool, true, false, List, [], ◌∷◌, ◌++◌, length, take}
+use Rattle.std.proofs.Common.{◌≡◌, ℕ, zero, suc, ◌+◌, ◌-◌, ◌/◌, ◌%◌, ◌<◌, ◌≤◌, Bool, true, false, List, [], ◌∷◌, length, take}
 use Rattle.std.proofs.Common.{drop, map, subst, refl, Some, ◌∙◌, arith}
-use Rattle.std.specs.Prelude.{flat_map}
 use Rattle.std.proofs.lemmas.List.{length-take-le, length-drop}
 use Rattle.mem_base.specs.declared.map.kinds.Client.{Client}
 use Rattle.mem_base.specs.lists.Every.{Every}
@@ -9,6 +8,7 @@ use Rattle.mem_base.specs.lists.Runs.{Run, runs, put_before, is_in_unit, touched
 use Rattle.mem_base.specs.map.Limits.{page_size}
 use Rattle.mem_base.specs.access.Marks.{clients_of, marks_of}
 use Rattle.dirty_log.specs.MarksLeft.{first_of}
+use Rattle.mem_base.proofs.EveryLaws.{every_flat}
 
 -- how many bytes a part of a list has
 pub part_length : (done c n k : ℕ) (bs : List ℕ) → length bs ≡ n → done + c ≤ n → k ≡ done + c - done → length (take k (drop done bs)) ≡ c
@@ -20,15 +20,7 @@ part_length done c n k bs all most is =
 
 -- pages
 
-pub every_append : {A : Type 0} (P : A → Type 0) (xs ys : List A) → Every P xs → Every P ys → Every P (xs ++ ys)
-every_append P [] ys h k = k
-every_append P (x ∷ xs) ys h k = (h.0, every_append P xs ys h.1 k)
-
-every_flat_map : {A B : Type 0} (P : B → Type 0) (f : A → List B) (xs : List A) → Every (λ x. Every P (f x)) xs → Every P (flat_map f xs)
-every_flat_map P f [] h = tt
-every_flat_map P f (x ∷ xs) h = every_append P (f x) (flat_map f xs) h.0 (every_flat_map P f xs h.1)
-
-starts_below : (with_next : ℕ → Bool) (a n : ℕ) → Every (λ r. r.start < a + n) (runs with_next a n)
+pub starts_below : (with_next : ℕ → Bool) (a n : ℕ) → Every (λ r. r.start < a + n) (runs with_next a n)
 starts_below with_next a zero = tt
 starts_below with_next a (suc n) = put (with_next a) (runs with_next (a + 1) n) (starts_below with_next (a + 1) n)
   where
@@ -46,7 +38,7 @@ starts_below with_next a (suc n) = put (with_next a) (runs with_next (a + 1) n) 
 -- each page that is marked lies in the region
 pub marks_inside : (log offset n bytes : ℕ) → offset + n ≤ bytes → bytes % 4096 ≡ 0 → Every {A = ℕ × Client} (λ m. m.0 < bytes / 4096) (marks_of log offset n)
 marks_inside log offset n bytes most whole =
-    every_flat_map {B = ℕ × Client} (λ m. m.0 < bytes / 4096) on_page (touched page_size offset n)
+    every_flat {B = ℕ × Client} (λ m. m.0 < bytes / 4096) on_page (touched page_size offset n)
     (each (touched page_size offset n) (starts_below (is_in_unit page_size) offset n))
   where
     on_page : Run → List (ℕ × Client)

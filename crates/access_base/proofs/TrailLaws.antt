@@ -2,7 +2,7 @@
 use Rattle.std.proofs.Common.{◌≡◌, ℕ, zero, suc, ◌+◌, ◌<◌, ◌≤◌, ◌&&◌, ◌==◌, Bool, true, false, List, [], ◌∷◌, Option, Some, None}
 use Rattle.std.proofs.Common.{if◌then◌else◌, refl, sym, ap, subst, ◌∙◌, arith}
 use Rattle.std.specs.Prelude.{IsSomeAnd, IfSome}
-use Rattle.std.proofs.lemmas.Bool.{eqb-true}
+use Rattle.std.proofs.lemmas.Bool.{eqb-true, and_parts}
 use Rattle.mem_base.specs.declared.map.ids.SpaceId.{SpaceId}
 use Rattle.mem_base.specs.declared.map.forests.Node.{Node}
 use Rattle.mem_base.specs.declared.map.forests.Forest.{Forest}
@@ -29,7 +29,7 @@ use Rattle.access_base.proofs.FoundLaws.{shown_inside, shown_below}
 abbrev IsShown : Forest → Spot → Type 0
 IsShown f x = (s : SpaceId) × (a : ℕ) × (look f s a ≡ Some x)
 
-no_leaf : (x : Spot) → Unassigned ≡ Leaf x → ⊥
+pub no_leaf : (x : Spot) → Unassigned ≡ Leaf x → ⊥
 no_leaf x e = cc
 
 same_leaf : (x y : Spot) → Leaf x ≡ Leaf y → x ≡ y
@@ -45,7 +45,7 @@ last_spot (h ∷ k ∷ hs) = last_spot (k ∷ hs)
 abbrev EndsWell : Forest → Trail → Type 0
 EndsWell f t = (x : Spot) → t.target ≡ Leaf x → (last_spot t.hops ≡ Some x) × IsShown f x
 
-longer : (h : Hop) (hs : List Hop) (x : Spot) → last_spot hs ≡ Some x → last_spot (h ∷ hs) ≡ Some x
+pub longer : (h : Hop) (hs : List Hop) (x : Spot) → last_spot hs ≡ Some x → last_spot (h ∷ hs) ≡ Some x
 longer h [] x e = cc
 longer h (k ∷ hs) x e = e
 
@@ -83,24 +83,19 @@ ends_well f w (suc left) s a = go (found_at f s a) refl (ends_well f w left)
 
 -- neighbours
 
-both : (x y : Bool) → (x && y) ≡ true → (x ≡ true) × (y ≡ true)
-both true true e = (refl, refl)
-both true false e = cc
-both false y e = cc
-
 next_last : (xs ys : List Hop) (x : Spot) → are_next_hops xs ys ≡ true → last_spot xs ≡ Some x
     → (y : Spot) × (last_spot ys ≡ Some y) × (is_next_spot x y ≡ true)
 next_last [] ys x e l = cc
 next_last (h ∷ hs) [] x e l = cc
 next_last (h ∷ []) (k ∷ []) x e l =
-    let t = both (is_next_hop h k) true e in
+    let t = and_parts (is_next_hop h k) true e in
     let same : h.spot ≡ x = cc in
-    let u = both (is_next_spot h.spot k.spot && is_same_entry h.used k.used) _ t.0 in
-    (k.spot, refl, subst (λ (z : Spot). is_next_spot z k.spot ≡ true) same (both (is_next_spot h.spot k.spot) _ u.0).0)
-next_last (h ∷ []) (k ∷ m ∷ ks) x e l = let t = both (is_next_hop h k) false e in let bad : false ≡ true = t.1 in cc
-next_last (h ∷ i ∷ hs) (k ∷ []) x e l = let t = both (is_next_hop h k) false e in let bad : false ≡ true = t.1 in cc
+    let u = and_parts (is_next_spot h.spot k.spot && is_same_entry h.used k.used) _ t.0 in
+    (k.spot, refl, subst (λ (z : Spot). is_next_spot z k.spot ≡ true) same (and_parts (is_next_spot h.spot k.spot) _ u.0).0)
+next_last (h ∷ []) (k ∷ m ∷ ks) x e l = let t = and_parts (is_next_hop h k) false e in let bad : false ≡ true = t.1 in cc
+next_last (h ∷ i ∷ hs) (k ∷ []) x e l = let t = and_parts (is_next_hop h k) false e in let bad : false ≡ true = t.1 in cc
 next_last (h ∷ i ∷ hs) (k ∷ m ∷ ks) x e l =
-    let t = both (is_next_hop h k) (are_next_hops (i ∷ hs) (m ∷ ks)) e in next_last (i ∷ hs) (m ∷ ks) x t.1 l
+    let t = and_parts (is_next_hop h k) (are_next_hops (i ∷ hs) (m ∷ ks)) e in next_last (i ∷ hs) (m ∷ ks) x t.1 l
 
 -- the spot after another of one leaf
 pub record IsNext (x y : Spot) : Type 0 where
@@ -109,8 +104,8 @@ pub record IsNext (x y : Spot) : Type 0 where
 
 is_next : (x y : Spot) → is_next_spot x y ≡ true → IsNext x y
 is_next x y e =
-    let t = both ((x.leaf.0 == y.leaf.0) && same_attrs x.attrs y.attrs) (x.offset + 1 == y.offset) e in
-    let u = both (x.leaf.0 == y.leaf.0) (same_attrs x.attrs y.attrs) t.0 in
+    let t = and_parts ((x.leaf.0 == y.leaf.0) && same_attrs x.attrs y.attrs) (x.offset + 1 == y.offset) e in
+    let u = and_parts (x.leaf.0 == y.leaf.0) (same_attrs x.attrs y.attrs) t.0 in
     let id : y.leaf.0 ≡ x.leaf.0 = sym (eqb-true x.leaf.0 y.leaf.0 u.0) in
     record { leaf = (λ i. record { 0 = id i }); offset = sym (eqb-true (x.offset + 1) y.offset t.1) }
 
@@ -119,7 +114,7 @@ next_target : (f : Forest) (w : Bool) (s : SpaceId) (a : ℕ) (x : Spot) → sha
 next_target f w s a x e is =
     let t : Trail = trail_of f w s a in
     let u : Trail = trail_of f w s (a + 1) in
-    let p = both (are_next_hops t.hops u.hops) (bool_eq (is_leaf t.target) (is_leaf u.target)) e in
+    let p = and_parts (are_next_hops t.hops u.hops) (bool_eq (is_leaf t.target) (is_leaf u.target)) e in
     let l = ends_well f w most_translations s a x is in
     let n = next_last t.hops u.hops x p.0 l.0 in
     go u.target refl (subst (λ (z : Target). bool_eq (is_leaf z) (is_leaf u.target) ≡ true) is p.1) n.0 n.1 n.2

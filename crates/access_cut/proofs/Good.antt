@@ -1,19 +1,12 @@
 -- What good sizes are.
-use Rattle.std.proofs.Common.{◌≡◌, ◌≤◌, ◌&&◌, nat_le, Bool, true, false, refl, arith}
+use Rattle.std.proofs.Common.{◌≤◌, ◌&&◌, nat_le, Bool, arith}
 use Rattle.std.proofs.lemmas.Bool.{leb-true}
 use Rattle.std.proofs.lemmas.Bool.Decides.{nat_tests}
 use Rattle.mem_base.specs.declared.map.kinds.Ops.{Ops}
 use Rattle.mem_base.specs.declared.map.kinds.Device.{Device}
 use Rattle.mem_base.specs.map.Devices.{is_access_size}
 use Rattle.access_cut.specs.Conditions.{AreGood, IsGood}
-
-left_of : (a b : Bool) → (a && b) ≡ true → a ≡ true
-left_of true b h = refl
-left_of false b h = h
-
-right_of : (a b : Bool) → (a && b) ≡ true → b ≡ true
-right_of true b h = h
-right_of false b h = cc
+use Rattle.mem_base.proofs.BoolLaws.{left_of, right_of}
 
 pub some_valid : (ops : Ops) → AreGood ops → 1 ≤ ops.valid_max
 some_valid ops good = grind (arith, nat_tests)

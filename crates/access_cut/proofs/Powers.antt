@@ -1,15 +1,9 @@
 -- Bytes are shifted by eight bits each.
-use Rattle.std.proofs.Common.{◌≡◌, ◌<◌, ◌≤◌, ◌+◌, ◌*◌, ◌%◌, ◌^◌, ℕ, zero, suc, refl, sym, ap, ◌∙◌, arith}
-use Rattle.std.proofs.lemmas.Nat.{pow-add, pow_below}
+use Rattle.std.proofs.Common.{◌≡◌, ◌<◌, ◌≤◌, ◌*◌, ◌%◌, ◌^◌, ℕ, sym, ap, ◌∙◌, arith}
+use Rattle.std.proofs.lemmas.Nat.{pow_below}
 use Rattle.std.proofs.Math.Nat.{mod-eq_of_lt}
 use Rattle.std.proofs.Math.Pow.{pow_mono}
-
-pub bytes_power : (n : ℕ) → 2 ^ (8 * n) ≡ 256 ^ n
-bytes_power zero = refl
-bytes_power (suc n) =
-    let more : 8 * suc n ≡ 8 + 8 * n = omega arith in
-    let one : 1 + n ≡ suc n = omega arith in
-    ap (λ k. 2 ^ k) more ∙ pow-add 2 8 (8 * n) ∙ ap (λ x. 256 * x) (bytes_power n) ∙ sym (pow-add 256 1 n) ∙ ap (λ k. 256 ^ k) one
+use Rattle.mem_base.proofs.WordLaws.{bytes_power}
 
 -- the modulus of a number's lowest bytes, as a shift gives it
 pub modulus : (bytes : ℕ) → bytes < 8 → 1 * 2 ^ (8 * bytes) % (2 ^ 64) ≡ 256 ^ bytes

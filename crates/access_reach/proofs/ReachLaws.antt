@@ -1,5 +1,5 @@
 -- Laws of what a machine was asked: of what comes after one another, and of what is underway.
-use Rattle.std.proofs.Common.{◌≡◌, ℕ, ◌+◌, ◌||◌, Bool, true, false, List, [], ◌∷◌, ◌++◌, length, map, Some, None}
+use Rattle.std.proofs.Common.{◌≡◌, ℕ, ◌+◌, Bool, true, false, List, [], ◌∷◌, ◌++◌, length, map, Some, None}
 use Rattle.std.proofs.Common.{if◌then◌else◌, refl, sym, ap, subst, ◌∙◌, append_assoc, arith}
 use Rattle.std.specs.Prelude.{replicate}
 use Rattle.std.proofs.lemmas.List.{length-append, append-nil}
@@ -24,6 +24,7 @@ use Rattle.access_plan.specs.Answering.{IsAnswererBy}
 use Rattle.access_reach.specs.Asking.{reads, writes, sets, marks, taken, of_memory, Asked, asked_of, asked, Reply}
 use Rattle.access_reach.specs.Asking.{Outcome, outcome, followed_by, told, outcome_of}
 use Rattle.access_reach.specs.Reaching.{Asks, HasReached, IsUnderway}
+use Rattle.mem_base.proofs.BoolLaws.{or_nothing}
 
 -- what every bus keeps
 pub record AreBusLaws {S : Type 0} (asks : Asks S) (shows : S → Published) : Type 0 where
@@ -32,16 +33,12 @@ pub record AreBusLaws {S : Type 0} (asks : Asks S) (shows : S → Published) : T
       → asks x (es ++ fs) (rs ++ qs) z
   pub stays : (x y : S) (es : List Asked) (rs : List Reply) → asks x es rs y → shows y ≡ shows x
 
-either_assoc : (x y z : TxResult) → either (either x y) z ≡ either x (either y z)
+pub either_assoc : (x y z : TxResult) → either (either x y) z ≡ either x (either y z)
 either_assoc x y z = (λ i. tx (or_assoc x.error y.error z.error i) (or_assoc x.decode y.decode z.decode i))
-
-or_none : (b : Bool) → (b || false) ≡ b
-or_none true = refl
-or_none false = refl
 
 -- one result alone
 pub alone : (q : TxResult) → q ≡ either q (tx false false)
-alone q = sym (λ i. tx (or_none q.error i) (or_none q.decode i))
+alone q = sym (λ i. tx (or_nothing q.error i) (or_nothing q.decode i))
 
 followed_assoc : (x y z : Outcome) → followed_by (followed_by x y) z ≡ followed_by x (followed_by y z)
 followed_assoc x y z =

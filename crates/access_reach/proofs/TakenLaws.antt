@@ -2,9 +2,8 @@
 use Rattle.std.proofs.Common.{◌≡◌, List, [], ◌∷◌, ◌++◌, subst}
 use Rattle.std.proofs.lemmas.List.Elements.{filter_map-append}
 use Rattle.mem_base.specs.lists.Every.{Every}
-use Rattle.mem_base.proofs.EveryLaws.{weaker}
+use Rattle.mem_base.proofs.EveryLaws.{weaker, every_split}
 use Rattle.mem_base.specs.access.Plans.{Reached}
-use Rattle.access_base.proofs.DeviceLaws.{every_split}
 use Rattle.access_reach.specs.Asking.{Asked, asked_of, asked, Reply, Outcome}
 use Rattle.access_reach.specs.Reaching.{Asks, HasReached, AllTaken}
 

@@ -1,8 +1,8 @@
 -- Laws of what callbacks do to registers.
-use Rattle.std.proofs.Common.{◌≡◌, ℕ, zero, suc, ◌+◌, ◌*◌, ◌%◌, ◌^◌, ◌<◌, true, Some, ap, subst, ◌∙◌, arith}
+use Rattle.std.proofs.Common.{◌≡◌, ℕ, ◌+◌, ◌%◌, ◌^◌, ◌<◌, true, Some, subst, arith}
 use Rattle.std.specs.Prelude.{nat_lt, unwrap_or, option_map}
 use Rattle.std.proofs.lemmas.Bool.Decides.{nat_tests}
-use Rattle.std.proofs.lemmas.Nat.{mod_below, pow-add}
+use Rattle.std.proofs.lemmas.Nat.{mod_below}
 use Rattle.mem_base.specs.declared.map.kinds.Device.{Device}
 use Rattle.mem_base.specs.declared.map.kinds.DeviceKind.{DeviceKind}
 use Rattle.mem_base.specs.declared.map.kinds.DeviceKind.TheVariants.{Latch, Count, Bell, Fault}
@@ -13,6 +13,7 @@ use Rattle.mem_base.specs.access.Words.{in_word}
 use Rattle.mem_base.specs.access.Places.{data_words, is_data_or_register}
 use Rattle.mem_base.specs.access.DeviceAccess.{step_of, stores, sets, word_step, register_of}
 use Rattle.access_run.specs.Hands.{IsWriteStep}
+use Rattle.mem_base.proofs.WordLaws.{some_power}
 
 -- a register is one of the words that an access may reach
 pub register_reached : (p : Place) (word reg : ℕ) → word ≡ data_words p.bytes + reg → reg < p.regs → is_data_or_register p word ≡ true
@@ -21,19 +22,13 @@ register_reached p word reg is less = below word (data_words p.bytes + p.regs) (
     below : (m n : ℕ) → m < n → nat_lt m n ≡ true
     below m n l = grind (arith, nat_tests)
 
-power_some : (n : ℕ) → 0 < 256 ^ n
-power_some zero = omega arith
-power_some (suc n) =
-    let one : suc n ≡ 1 + n = omega arith in
-    let e : 256 ^ suc n ≡ 256 * 256 ^ n = ap (λ k. 256 ^ k) one ∙ pow-add 256 1 n in let h = power_some n in omega (arith, e, h)
-
 stores_bytes : (offset size value : ℕ) → 0 < size → IsWriteStep (stores offset size value)
 stores_bytes offset size value some =
     let first : ℕ = offset % 8 in
     let inside : first < 8 = mod_below offset 8 (omega arith) in (
       omega (arith, some, inside),
       omega (arith, inside),
-      mod_below value (256 ^ in_word first size) (power_some (in_word first size)),
+      mod_below value (256 ^ in_word first size) (some_power (in_word first size)),
     )
 
 same_step : (reg other : ℕ) (step found : WordStep) → Step reg step ≡ Step other found → step ≡ found

@@ -3,7 +3,6 @@ use Rattle.std.proofs.Common.{◌≡◌, ℕ, ◌+◌, false, List, [], ◌∷�
 use Rattle.std.specs.Prelude.{replicate}
 use Rattle.std.proofs.lemmas.List.{length-append, append-nil}
 use Rattle.std.proofs.lemmas.List.Elements.{filter_map-append}
-use Rattle.std.proofs.Math.Bool.{or_assoc}
 use Rattle.mem_base.specs.declared.map.ids.PassId.{PassId}
 use Rattle.mem_base.specs.declared.access.accesses.TxResult.{TxResult}
 use Rattle.mem_base.specs.declared.access.cells.WordStep.{WordStep}
@@ -13,6 +12,7 @@ use Rattle.mem_base.specs.access.AccessSteps.{shown_bytes, either, tx}
 use Rattle.mem_base.proofs.EveryLaws.{weaker}
 use Rattle.generation.specs.Published.{Published}
 use Rattle.access_run.specs.Runs.{Makes, HasDone, IsUnderway, TakesStep, TakesAll}
+use Rattle.access_reach.proofs.ReachLaws.{either_assoc}
 
 -- what every hand keeps
 pub record AreHandLaws {S : Type 0} (makes : Makes S) (pass : S → PassId) (shows : S → Published) : Type 0 where
@@ -22,9 +22,6 @@ pub record AreHandLaws {S : Type 0} (makes : Makes S) (pass : S → PassId) (sho
   pub stays : (x y : S) (es : List Event) (rs : List ℕ) → makes x es rs y → (pass y ≡ pass x) × (shows y ≡ shows x)
 
 -- results
-
-either_assoc : (x y z : TxResult) → either (either x y) z ≡ either x (either y z)
-either_assoc x y z = (λ i. tx (or_assoc x.error y.error z.error i) (or_assoc x.decode y.decode z.decode i))
 
 pub results_append : (ds es : List AccessStep) → result_of (ds ++ es) ≡ either (result_of ds) (result_of es)
 results_append [] es = refl

@@ -16,9 +16,10 @@ use Rattle.mem_base.specs.access.Access.{at_leaf}
 use Rattle.map_laws.proofs.SizeLaws.{size_whole}
 use Rattle.generation.specs.Published.{Published}
 use Rattle.access_base.specs.Leaves.{IsLeafRun}
-use Rattle.access_base.proofs.LeafLaws.{region, leaf_place, whole_bytes}
+use Rattle.access_base.proofs.LeafLaws.{region, leaf_place}
 use Rattle.access_run.specs.Hands.{IsPlaceOf}
 use Rattle.access_run.specs.Leaves.{IsMemoryAt}
+use Rattle.mem_base.proofs.NodeLaws.{whole_bytes}
 
 module _ (g : Published) (k : IsEdition g.forest g.places) (r : RegionId) (n : Node) (is : node_of g.forest.nodes r ≡ Some n) (spot : Spot)
     (here : spot.leaf ≡ r) (p : Place) (found : place_in g.places r ≡ Some p) where

@@ -19,8 +19,9 @@ use Rattle.mem_base.proofs.ForestLaws.{id_of}
 use Rattle.map_laws.proofs.SizeLaws.{size_whole}
 use Rattle.access_cut.proofs.Good.{some_registers}
 use Rattle.generation.specs.Published.{Published}
-use Rattle.access_base.proofs.LeafLaws.{region, bytes_words, good, leaf_has_place, leaf_place, notifiers_found, whole_bytes}
+use Rattle.access_base.proofs.LeafLaws.{region, bytes_words, good, leaf_has_place, leaf_place, notifiers_found}
 use Rattle.access_run.specs.RegionPlaces.{AreNotifiersOf, AreRegistersOf, IsMemoryOf}
+use Rattle.mem_base.proofs.NodeLaws.{whole_bytes}
 
 register_words : (kind : Kind) (device : Device) (size : ℕ) → device_of kind ≡ Some device → 1 ≤ device.regs → 0 < words_of (extent_of kind size)
 register_words (RomDevice d) device size e some =

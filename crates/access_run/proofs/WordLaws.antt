@@ -49,8 +49,6 @@ use Rattle.mem_base.specs.access.Plans.{answerer_at, answerer_in, answerer, nobo
 use Rattle.mem_base.specs.access.Plans.{in_device, reached, in_chunk, plan}
 use Rattle.mem_base.specs.access.PlanSteps.{by_register, by_kind, by_region, steps_of}
 use Rattle.plan_laws.proofs.PlanLaws.{access_is_planned}
-use Rattle.access_base.proofs.DeviceLaws.{every_split}
-use Rattle.access_base.proofs.MemoryLaws.{every_append}
 use Rattle.access_reach.specs.Asking.{Asked, asked, Reply, Outcome, outcome, followed_by, of_device, of_memory, told, outcome_of}
 use Rattle.access_reach.specs.Asking.{reads, writes, calls, sets, marks, taken}
 use Rattle.access_reach.specs.Reaching.{HasReached}
@@ -58,6 +56,7 @@ use Rattle.access_run.specs.Runs.{Makes, HasDone, TakesAll}
 use Rattle.access_run.specs.WordReplies.{as_reached, AsksWords, TakesAsked, number_told, word_reply, words_told, word_replies}
 use Rattle.access_run.proofs.HandLaws.{bytes_append, results_append}
 use Rattle.access_run.proofs.AnswerLaws.{words_read_fine, words_taken}
+use Rattle.mem_base.proofs.EveryLaws.{every_split, every_append}
 
 -- what holds of each thing that a plan reaches: a callback's region is a device, and no more bytes are shown than it has
 

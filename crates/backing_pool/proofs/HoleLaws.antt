@@ -1,12 +1,10 @@
 -- Laws of holes that are cut and joined.
 use Rattle.std.proofs.Common.{◌≡◌, ◌⊎◌, inl, inr, ℕ, ◌+◌, ◌-◌, ◌<◌, ◌≤◌, Bool, true, false, ◌==◌, List, [], ◌∷◌, ◌++◌, sym, refl, ap, subst}
-use Rattle.std.proofs.Common.{◌∙◌, arith, if◌then◌else◌, true≢false}
+use Rattle.std.proofs.Common.{◌∙◌, arith, if◌then◌else◌}
 use Rattle.std.proofs.lemmas.Bool.{cases_lt, eqb-true, eqb-false}
 use Rattle.mem_base.specs.lists.Every.{Every}
 use Rattle.backing_pool.specs.Holes.{end_of, Ascends, AreHoles, cut, next_joined, put_last}
-
-not_both : {A : Type 0} (b : Bool) → b ≡ true → b ≡ false → A
-not_both b t f = absurd (true≢false (sym t ∙ f))
+use Rattle.mem_base.proofs.BoolLaws.{true_is_not_false}
 
 module _ (f g : ℕ → Bool) where
   same_after : (low high : ℕ) (hs : List (ℕ × ℕ)) → AreHoles f low high hs → ((w : ℕ) → low ≤ w → g w ≡ f w) → AreHoles g low high hs
@@ -136,7 +134,7 @@ module _ (f g : ℕ → Bool) (start words high : ℕ) (some : 0 < words) (withi
       here w p q (inr r) = is w r q
 
       later : (k.0 < start + words) ⊎ (start + words ≤ k.0) → start + words ≤ k.0
-      later (inl p) = not_both (f k.0) (h.4 k.0 (omega arith) (omega (arith, h.1))) (taken k.0 h.0 p)
+      later (inl p) = true_is_not_false (f k.0) (h.4 k.0 (omega arith) (omega (arith, h.1))) (taken k.0 h.0 p)
       later (inr p) = p
 
       after : start + words ≤ k.0
@@ -198,7 +196,7 @@ module _ (f g : ℕ → Bool) (start words high : ℕ) (some : 0 < words) (withi
   put_in low (x ∷ []) ys h l near far = go (end_of x == start) refl
     where
       before : (start < end_of x) ⊎ (end_of x ≤ start) → end_of x ≤ start
-      before (inl p) = not_both (f start) (h.4 start (omega (arith, near.0)) p) (was start (omega arith) (omega (arith, some)))
+      before (inl p) = true_is_not_false (f start) (h.4 start (omega (arith, near.0)) p) (was start (omega arith) (omega (arith, some)))
       before (inr p) = p
 
       ends : end_of x ≤ start
@@ -242,7 +240,7 @@ first_after f last high (k ∷ hs) h none = (at (cases_lt last k.0), later hs h.
   where
     at : (last < k.0) ⊎ (k.0 ≤ last) → last < k.0
     at (inl l) = l
-    at (inr l) = not_both (f last) (h.4 last l (omega (arith, h.0, h.1))) (none (omega (arith, h.0, h.1, h.2)))
+    at (inr l) = true_is_not_false (f last) (h.4 last l (omega (arith, h.0, h.1))) (none (omega (arith, h.0, h.1, h.2)))
 
     beyond : (from : ℕ) → last < from → (hs : List (ℕ × ℕ)) → AreHoles f from high hs → Every (λ k. last < k.0) hs
     beyond from l [] h = tt

@@ -15,6 +15,7 @@ use Rattle.mem_base.specs.access.PlacesByRegion.{place_in}
 use Rattle.mem_base.specs.access.EditionPlaces.{ArePlacesApart}
 use Rattle.mem_base.specs.access.Places.{past, is_free}
 use Rattle.backing_pool.specs.Backing.{IsBacked}
+use Rattle.mem_base.proofs.SortingLaws.{pairs_filter}
 
 -- a place is found by its region
 
@@ -133,18 +134,6 @@ pair_push {A = A} R (y ∷ ys) x h e = (push ys h.0, pair_push R ys x h.1 e.1)
     push : (ys : List A) → Every (R y) ys → Every (R y) (ys ++ x ∷ [])
     push [] k = (e.0, tt)
     push (z ∷ zs) k = (k.0, push zs k.1)
-
-pub pair_filter : {A : Type 0} (R : A → A → Type 0) (test : A → Bool) (xs : List A) → EveryPair R xs → EveryPair R (filter test xs)
-pair_filter R test [] h = tt
-pair_filter R test (x ∷ xs) h = go (test x) (pair_filter R test xs h.1)
-  where
-    each : (ys : List _) → Every (R x) ys → Every (R x) (filter test ys)
-    each [] k = tt
-    each (y ∷ ys) k = at (test y) (each ys k.1)
-      where
-        at : (b : Bool) → Every (R x) (filter test ys) → Every (R x) (if b then y ∷ filter test ys else filter test ys)
-        at true rest = (k.0, rest)
-        at false rest = rest
 
     go : (b : Bool) → EveryPair R (filter test xs) → EveryPair R (if b then x ∷ filter test xs else filter test xs)
     go true rest = (each xs h.0, rest)

@@ -24,7 +24,8 @@ use Rattle.backing_pool.specs.Backing.{Backing, IsBacked, AreBacked}
 use Rattle.backing_pool.proofs.HoleLaws.{cut_in, put_in, holes_end}
 use Rattle.backing_pool.proofs.RunLaws.{holes_of}
 use Rattle.backing_pool.proofs.PlaceLaws.{found_region, removed_at, without, was_taken, given_inside, given_below, given_above}
-use Rattle.backing_pool.proofs.PlaceLaws.{found_backed, pair_filter, pair_push, new_apart, taken_below, taken_inside, taken_above}
+use Rattle.backing_pool.proofs.PlaceLaws.{found_backed, pair_push, new_apart, taken_below, taken_inside, taken_above}
+use Rattle.mem_base.proofs.SortingLaws.{pairs_filter}
 
 abbrev pub backing : ℕ → List Place → Backing
 backing pool_words places = record { pool_words = pool_words; places = places }
@@ -67,7 +68,7 @@ module _ (pool_words : ℕ) (places : List Place) (hs : List (ℕ × ℕ)) (back
     pub given_backed : AreBacked (backing pool_words (without region places))
     given_backed = record {
       each = every_filter (IsBacked pool_words) (λ q. not (q.region.0 == region.0)) places backed.each;
-      apart = pair_filter ArePlacesApart (λ q. not (q.region.0 == region.0)) places backed.apart;
+      apart = pairs_filter ArePlacesApart (λ q. not (q.region.0 == region.0)) places backed.apart;
     }
 
     pub place_end : p.start + p.words ≤ pool_words

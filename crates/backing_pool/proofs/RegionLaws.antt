@@ -1,5 +1,5 @@
 -- The place of a region among places that stand by ascending region.
-use Rattle.std.proofs.Common.{◌≡◌, ◌≢◌, ℕ, zero, suc, ◌<◌, ◌≤◌, ◌==◌, false, true, eq-eqb, List, [], ◌∷◌, length, get_or, ne_eqb, None, Err}
+use Rattle.std.proofs.Common.{◌≡◌, ℕ, zero, suc, ◌<◌, ◌≤◌, ◌==◌, false, true, eq-eqb, List, [], ◌∷◌, length, get_or, ne_eqb, None, Err}
 use Rattle.std.proofs.Common.{refl, sym, ap, arith}
 use Rattle.std.specs.List.{slice_get}
 use Rattle.std.specs.List.Sorted.{IsBinarySearchResult, IsNonDecreasingBy}
@@ -13,6 +13,7 @@ use Rattle.mem_base.specs.lists.Every.{Every}
 use Rattle.mem_base.proofs.EveryLaws.{every_at}
 use Rattle.mem_base.specs.access.PlacesByRegion.{place_in}
 use Rattle.backing_pool.specs.Backing.{RegionsAscend}
+use Rattle.mem_base.proofs.PlaceLaws.{missing}
 
 regions_rise : (places : List Place) (i j : ℕ) (d : Place) → RegionsAscend places → i < j → j < length places
     → (get_or places i d).region.0 < (get_or places j d).region.0
@@ -29,12 +30,6 @@ there (p ∷ ps) (suc i) d r l h e =
     let below : p.region.0 < (get_or ps i d).region.0 = every_at (λ q. p.region.0 < q.region.0) ps i d (omega arith) h.0 in
     let no : (p.region.0 == r.0) ≡ false = ne_eqb _ _ (λ same. absurd (omega (arith, below, e, same))) in
     rw no (there ps i d r (omega arith) h.1 e)
-
-missing : (places : List Place) (r : RegionId) → ((k : ℕ) (d : Place) → k < length places → (get_or places k d).region.0 ≢ r.0) → place_in places r ≡ None
-missing [] r h = refl
-missing (p ∷ ps) r h =
-    let no : (p.region.0 == r.0) ≡ false = ne_eqb _ _ (h 0 p (omega arith)) in
-    rw no (missing ps r (λ k d l. h (suc k) d (omega arith)))
 
 module _ (places : List Place) (ascending : RegionsAscend places) (r : RegionId) where
   comparisons_rise : IsNonDecreasingBy (λ (p : Place). ordering_index (nat_cmp p.region.0 r.0)) places

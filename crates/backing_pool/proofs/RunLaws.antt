@@ -6,12 +6,7 @@ use Rattle.mem_base.specs.lists.Booleans.{bool_eq}
 use Rattle.mem_base.specs.lists.Runs.{Run, run, put_before, runs}
 use Rattle.mem_base.specs.access.Places.{is_free, holes}
 use Rattle.backing_pool.specs.Holes.{hole_of, AreHoles}
-
--- put before runs, a number makes a run that starts with it
-starts_at : (b : Bool) (a : ℕ) (rs : List Run) → (r : Run) × (qs : List Run) × (put_before b a rs ≡ r ∷ qs) × (r.start ≡ a)
-starts_at true a (r ∷ rs) = (run a (r.length + 1), rs, refl, refl)
-starts_at true a [] = (run a 1, [], refl, refl)
-starts_at false a rs = (run a 1, rs, refl, refl)
+use Rattle.mem_base.proofs.PlaceLaws.{starts_at}
 
 module _ (f : ℕ → Bool) where
   abbrev alike : ℕ → Bool

@@ -38,10 +38,6 @@ ended_prefix : (e : Bool) (v w : PassValue Published) (number : ℕ) → HasEnde
 ended_prefix true v w number n = subst (λ (x : PassValue Published). IsPrefix v.seen x.seen) (sym (n.same refl)) (prefix_refl v.seen)
 ended_prefix false v w number n = (n.left refl).0.wrote.begins
 
-pub ended_cabinet : (e : Bool) (v w : PassValue Published) (number : ℕ) → HasEnded e v number w → w.cabinet ≡ v.cabinet
-ended_cabinet true v w number n = ap (λ x. x.cabinet) (n.same refl)
-ended_cabinet false v w number n = (n.left refl).0.cabinet
-
 begun_number : (e : Bool) (u v : PassValue Published) → HasBegun e u v → v.number ≡ u.number
 begun_number true u v b = ap (λ x. x.number) (b.same refl)
 begun_number false u v b = (b.came refl).1.number

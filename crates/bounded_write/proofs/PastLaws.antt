@@ -21,10 +21,10 @@ use Rattle.access_run.proofs.AccessLaws.{write_past}
 use Rattle.vcpu_pass.specs.Steps.{HasMade, generation_in}
 use Rattle.io_window.specs.Calls.{Does}
 use Rattle.io_window.specs.Whole.{HasRun}
-use Rattle.io_window.proofs.WholeLaws.{hand_laws}
 use Rattle.bounded_write.specs.declared.chunks.Part.{Part}
 use Rattle.bounded_write.specs.Writes.{HasStopped}
 use Rattle.bounded_write.proofs.RunLaws.{stop_first}
+use Rattle.vcpu_pass.proofs.LoadLaws.{hand_laws}
 
 -- a run among some numbers
 abbrev pub IsAmong : ℕ → ℕ → Run → Type 0

@@ -16,7 +16,6 @@ use Rattle.mem_base.specs.access.MemoryAccess.{on_words, marked}
 use Rattle.mem_base.specs.access.Access.{access}
 use Rattle.mem_base.specs.access.Trails.{chunks, first_length}
 use Rattle.mem_base.specs.machine.Passes.{pass_id}
-use Rattle.view_laws.proofs.Tests.{true_is_not_false}
 use Rattle.mem_base.specs.access.Windows.{window_start, is_direct, target_at, chunk_length, part_steps, mark_steps}
 use Rattle.generation.specs.Published.{Published}
 use Rattle.epoch_rule.specs.Values.{PassValue}
@@ -33,6 +32,7 @@ use Rattle.bounded_write.specs.declared.devices.Came.{Came}
 use Rattle.bounded_write.specs.Tries.{HasTried, WasContended}
 use Rattle.bounded_write.specs.Writes.{HasCome, HasMadeFirst, HasStopped, IsDirectChunk, WasHeldUp}
 use Rattle.bounded_write.proofs.CutLaws.{chunk_inside, direct_is, IsCutAt}
+use Rattle.mem_base.proofs.BoolLaws.{true_is_not_false}
 
 -- the forest of a pass that did something
 pub same_forest : (v w : PassValue Published) (ds : List AccessStep) → Does v ds [] w → (generation_in w).forest ≡ (generation_in v).forest

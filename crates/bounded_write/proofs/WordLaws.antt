@@ -1,5 +1,5 @@
 -- Laws of words that are written one after another, and of those that are tried.
-use Rattle.std.proofs.Common.{◌≡◌, ℕ, zero, suc, ◌+◌, ◌-◌, ◌*◌, ◌/◌, ◌%◌, ◌<◌, ◌≤◌, ◌⊎◌, inl, inr, min, Bool, true, false, List, [], ◌∷◌, ◌++◌}
+use Rattle.std.proofs.Common.{◌≡◌, ℕ, ◌+◌, ◌-◌, ◌*◌, ◌/◌, ◌%◌, ◌<◌, ◌≤◌, ◌⊎◌, inl, inr, min, Bool, true, false, List, [], ◌∷◌, ◌++◌}
 use Rattle.std.proofs.Common.{length, map, take, drop, refl, sym, ap, subst, ◌∙◌, arith, append_assoc, ne_eqb, ◌==◌}
 use Rattle.std.specs.Prelude.{MatchBool}
 use Rattle.std.proofs.Math.Seq.{take-length}
@@ -24,25 +24,15 @@ use Rattle.epoch_rule.specs.Wrote.{WordWas, WroteStep}
 use Rattle.access_run.specs.Hands.{IsPlaceOf, word_event}
 use Rattle.access_base.proofs.RunLaws.{first_word, whole_words}
 use Rattle.vcpu_pass.specs.Steps.{HasMade, generation_in}
-use Rattle.bounded_write.proofs.HandLaws.{Stays, made_word}
+use Rattle.bounded_write.proofs.HandLaws.{Stays}
 use Rattle.io_window.specs.Calls.{Does}
 use Rattle.io_window.proofs.WholeLaws.{does_then}
 use Rattle.bounded_write.specs.Tries.{FoundChanged, IsContended, WasContended}
 use Rattle.bounded_write.proofs.PastLaws.{IsAmong, runs_among}
+use Rattle.vcpu_pass.proofs.LoadLaws.{cut_at_word}
+use Rattle.vcpu_pass.proofs.HandLaws.{made_word}
 
 -- words
-
--- bytes up to the begin of a word, and those after them
-cut_at_word : (offset first n : ℕ) → first ≡ (8 - offset % 8) % 8 → touched 8 offset (first + n) ≡ touched 8 offset first ++ touched 8 (offset + first) n
-cut_at_word offset zero n is = let here : offset ≡ offset + 0 = omega arith in let none : 0 + n ≡ n = omega arith in λ i. touched 8 (here i) (none i)
-cut_at_word offset (suc k) n is =
-    let first : ℕ = suc k in
-    let all = first_word offset first (first + n) (omega arith) (omega (arith, is)) in
-    let these = first_word offset first first (omega arith) (omega (arith, is)) in
-    let left : first + n - first ≡ n = omega arith in
-    let none : first - first ≡ 0 = omega arith in
-    all ∙ (λ i. run offset first ∷ touched 8 (offset + first) (left i))
-    ∙ ap (λ l. l ++ touched 8 (offset + first) n) (sym (these ∙ ap (λ m. run offset first ∷ touched 8 (offset + first) m) none))
 
 -- the words of some bytes that end where a word does, and those of the bytes after them
 pub words_cut : (offset k m : ℕ) → (k ≡ 0) ⊎ ((offset + k) % 8 ≡ 0) → touched 8 offset (k + m) ≡ touched 8 offset k ++ touched 8 (offset + k) m

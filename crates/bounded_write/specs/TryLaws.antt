@@ -3,12 +3,12 @@ use Rattle.std.proofs.Common.{◌≡◌, ℕ, ◌+◌, Bool, true, false, ◌||�
 use Rattle.std.proofs.lemmas.List.{length-append}
 use Rattle.std.proofs.Math.Bool.{or_assoc, or-false}
 use Rattle.mem_base.specs.declared.machine.events.Event.{Event}
-use Rattle.view_laws.proofs.Tests.{true_is_not_false}
 use Rattle.generation.specs.Published.{Published}
 use Rattle.epoch_rule.specs.Values.{PassValue}
 use Rattle.vcpu_pass.specs.Steps.{HasMade}
 use Rattle.vcpu_pass.specs.StepLaws.{made_none, made_then}
 use Rattle.bounded_write.specs.Tries.{HasTried, WasContended, has_some}
+use Rattle.mem_base.proofs.BoolLaws.{true_is_not_false}
 
 some_append : (xs ys : List Event) → has_some (xs ++ ys) ≡ (has_some xs || has_some ys)
 some_append [] ys = refl

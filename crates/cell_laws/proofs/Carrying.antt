@@ -33,7 +33,7 @@ use Rattle.mem_base.specs.machine.PassTurns.{carried_among, entries_of}
 use Rattle.mem_base.specs.machine.Turns.{replies_of, Answered, entries_of_turn, history_entry, is_writers, last_writer, turns, writers_of}
 use Rattle.mem_base.specs.machine.JoinedHistory.{joined_history}
 use Rattle.mem_base.proofs.EveryLaws.{weaker, every_element, every_taken}
-use Rattle.view_laws.proofs.Tests.{both, none_is_not_some, or_right, same_region, same_some}
+use Rattle.view_laws.proofs.Tests.{none_is_not_some, same_region}
 use Rattle.history_laws.specs.BackedForests.{ShowsOwnPlaces}
 use Rattle.history_laws.proofs.ShownLaws.{generations_show_places}
 use Rattle.turn_laws.proofs.Coupled.{Coupled, Follows, seen}
@@ -57,6 +57,8 @@ use Rattle.end_laws.proofs.EndLaws.{ends, leads}
 use Rattle.cell_laws.proofs.Following.{shared_join}
 use Rattle.history_laws.proofs.PureAppends.{events_of_run}
 use Rattle.mem_base.proofs.PassTurnLaws.{events_are}
+use Rattle.std.proofs.lemmas.Bool.{and_from, or_right}
+use Rattle.std.proofs.lemmas.Option.{same_Some}
 
 -- an event of a pass is possible on the running machine, with what it carries among these places
 pub record MayCarry (places : List Place) (w : World) (e : Event) : Type 0 where
@@ -111,12 +113,12 @@ carries_found [] r p e = none_is_not_some p e
 carries_found (q ∷ qs) r p e = go (q.region.0 == r.0) e (carries_found qs r p)
   where
     itself : (p : Place) → is_same_place p p ≡ true
-    itself p = both _ _ (both _ _ (both _ _ (both _ _ (eq-eqb p.region.0 p.region.0 refl) (eq-eqb p.start p.start refl)) (eq-eqb p.words p.words refl))
+    itself p = and_from _ _ (and_from _ _ (and_from _ _ (and_from _ _ (eq-eqb p.region.0 p.region.0 refl) (eq-eqb p.start p.start refl)) (eq-eqb p.words p.words refl))
         (eq-eqb p.bytes p.bytes refl)) (eq-eqb p.regs p.regs refl)
 
     go : (b : Bool) → (if b then Some q else place_in qs r) ≡ Some p → (place_in qs r ≡ Some p → list_any (is_same_place p) qs ≡ true)
         → (is_same_place p q || list_any (is_same_place p) qs) ≡ true
-    go true e rest = ap (λ (z : Place). is_same_place p z || list_any (is_same_place p) qs) (same_some q p e)
+    go true e rest = ap (λ (z : Place). is_same_place p z || list_any (is_same_place p) qs) (same_Some q p e)
         ∙ ap (λ (b : Bool). b || list_any (is_same_place p) qs) (itself p)
     go false e rest = or_right (is_same_place p q) (list_any (is_same_place p) qs) (rest e)
 
@@ -145,7 +147,7 @@ module _ (v : PassId) (x : Generation) where
           mine = refl;
           may = λ words. (λ i. running.shared_possible (seen w words) (events.Word (hands.Pass v) c step) (at_place (here i)))
               ∙ (λ i. ((p.region.0 == c.region.0) && may_reach (is i) p c) && running.carries (is i) p)
-              ∙ both _ _ (both _ _ (eq-eqb p.region.0 c.region.0 (its_region x.places c.region p here)) reach) (carries_found x.places c.region p here);
+              ∙ and_from _ _ (and_from _ _ (eq-eqb p.region.0 c.region.0 (its_region x.places c.region p here)) reach) (carries_found x.places c.region p here);
         },
         carry_steps ds (world_after w (events.Word (hands.Pass v) c step)) is all h.1 l.2,
       )
@@ -158,7 +160,7 @@ module _ (v : PassId) (x : Generation) where
           mine = refl;
           may = λ words. (λ i. running.shared_possible (seen w words) (events.Mark v region client page) (at_place (here i)))
               ∙ (λ i. ((p.region.0 == region.0) && may_mark (is i) p region page) && running.carries (is i) p)
-              ∙ both _ _ (both _ _ (eq-eqb p.region.0 region.0 (its_region x.places region p here)) reach) (carries_found x.places region p here);
+              ∙ and_from _ _ (and_from _ _ (eq-eqb p.region.0 region.0 (its_region x.places region p here)) reach) (carries_found x.places region p here);
         },
         carry_steps ds (world_after w (events.Mark v region client page)) is all h.1 l.2,
       )

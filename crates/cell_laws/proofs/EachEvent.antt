@@ -3,7 +3,7 @@ use Rattle.std.proofs.Common.{◌≡◌, ◌⊎◌, inl, inr, ⊎_elim, ℕ, zer
 use Rattle.std.proofs.Common.{refl, sym, ap, subst, ◌∙◌, arith, ne_eqb, eq-eqb, if◌then◌else◌, Option, Some, None, get_or-set_same, get_or-set_other}
 use Rattle.std.specs.Prelude.{◌==◌, ◌&&◌, ◌||◌, not, slice_index, option_and_then, replicate}
 use Rattle.std.specs.List.{list_any}
-use Rattle.std.proofs.lemmas.Bool.{eqb-true}
+use Rattle.std.proofs.lemmas.Bool.{eqb-true, not_from_false}
 use mathlib.Core.Logic.{dite}
 use native.Mathlib.Decide.{ℕ_discrete}
 use Rattle.mem_base.specs.declared.map.ids.RegionId.{RegionId}
@@ -23,7 +23,7 @@ use Rattle.mem_base.specs.machine.Desk.{Desk, places_of, cells_of}
 use Rattle.mem_base.specs.machine.Reaps.{released, is_among, is_named, reaped}
 use Rattle.mem_base.specs.machine.Configs.{configured}
 use Rattle.mem_base.specs.machine.World.{World, possible, world_after, reply, number_in, touched_blocks, touch_at, place_in_world}
-use Rattle.view_laws.proofs.Tests.{none_is_not_some, not_of_false, same_place, same_region, true_is_not_false}
+use Rattle.view_laws.proofs.Tests.{none_is_not_some, same_place, same_region}
 use Rattle.history_laws.proofs.DroppedLaws.{Dropped, IsGone, dropped_after}
 use Rattle.turn_laws.proofs.Backed.{waits}
 use Rattle.turn_laws.proofs.NewPlace.{between_new, others_rest}
@@ -32,6 +32,7 @@ use Rattle.world_laws.proofs.Keeping.{Holds, holds_after}
 use Rattle.mem_base.specs.machine.CellHistories.{releases, step_by, step_on, stepped, cell_value}
 use Rattle.cell_laws.specs.CellHistory.{IsFilled}
 use Rattle.cell_laws.proofs.PlaceKeeping.{configured_grows}
+use Rattle.mem_base.proofs.BoolLaws.{true_is_not_false}
 
 -- a step on one cell, as each other cell sees it
 
@@ -193,7 +194,7 @@ module _ (w : World) (k : Sure w) where
   place_stays (events.Harvest s client index) r p here stay = here
   place_stays (events.Fill c) r p here stay = here
   place_stays (events.Config c) r p here stay = config_kept c r p here
-  place_stays events.Reap r p here stay = stays_kept r (not_of_false _ stay) ∙ here
+  place_stays events.Reap r p here stay = stays_kept r (not_from_false _ stay) ∙ here
 
   -- a place after an event was there before, or it is new
   pub record IsNewPlace (e : Event) (r : RegionId) : Type 0 where

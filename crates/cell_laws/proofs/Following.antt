@@ -3,7 +3,7 @@ use Rattle.std.proofs.Common.{◌≡◌, ⊎_elim, ℕ, zero, suc, ◌+◌, ◌<
 use Rattle.std.proofs.Common.{refl, sym, ap, subst, ◌∙◌, arith, eq-eqb, if◌then◌else◌, Option, Some, None}
 use Rattle.std.specs.Prelude.{◌==◌, ◌&&◌, ◌/◌, ◌*◌, flat_map, nat_lt}
 use Rattle.std.specs.List.{range_with_len}
-use Rattle.std.proofs.lemmas.Bool.{le-leb, lt-ltb, ltb-true, eqb-true}
+use Rattle.std.proofs.lemmas.Bool.{le-leb, lt-ltb, ltb-true, eqb-true, and_from, and_parts}
 use Rattle.mem_base.specs.declared.map.ids.RegionId.{RegionId}
 use Rattle.mem_base.specs.declared.map.kinds.Client.{Client}
 use Rattle.mem_base.specs.declared.map.calls.Config.{Config}
@@ -36,7 +36,6 @@ use Rattle.cell_laws.proofs.EachEvent.{no_place}
 use Rattle.mem_base.specs.machine.Composites.{numbers_of}
 use Rattle.mem_base.specs.machine.Turns.{Answered, after_private, entries_of_turn, history_entry, last_writer, played, turn, turns, writers_of}
 use Rattle.mem_base.specs.machine.JoinedHistory.{joined_history}
-use Rattle.view_laws.proofs.Tests.{both, both_of}
 use Rattle.history_laws.proofs.Idles.{Idle, IsSoundDesk}
 use Rattle.turn_laws.proofs.Coupled.{Coupled, IsWhole, seen}
 use Rattle.turn_laws.proofs.NewPlace.{found_new}
@@ -72,8 +71,8 @@ module _ (w : World) (words : List ℕ) (k : Coupled w words) where
       → ((p.region.0 == r.0) && running.is_within (seen w words) p word) ≡ true
   within p r word here near =
       let inside : p.start + p.words ≤ length words = k.backed.inside r p here in
-      both _ _ (eq-eqb p.region.0 r.0 (its_region (places_of w.writer.desk) r p here))
-      (both _ _ (lt-ltb word p.words near) (le-leb (past p) (length words) inside))
+      and_from _ _ (eq-eqb p.region.0 r.0 (its_region (places_of w.writer.desk) r p here))
+      (and_from _ _ (lt-ltb word p.words near) (le-leb (past p) (length words) inside))
 
   first_page : (index n : ℕ) → index < (n + 63) / 64 → (64 * index < n) × (64 * index / 64 ≡ index)
   first_page index n l = (omega (arith, l), omega arith)
@@ -102,9 +101,9 @@ module _ (w : World) (words : List ℕ) (k : Coupled w words) where
       → running.shared_possible (seen w words) e (carried_by w.writer.desk e) ≡ true
   may_shared (events.Sweep v) may r f = may
   may_shared (events.Place v) may r f =
-      let t = both_of _ _ may in let near = k.order.each v (ltb-true _ _ (both_of _ _ t.1).0) in
-      both _ _ (le-leb _ _ (near.due_near t.0)) t.1
-  may_shared events.Publish may r f = (both_of _ _ may).1
+      let t = and_parts _ _ may in let near = k.order.each v (ltb-true _ _ (and_parts _ _ t.1).0) in
+      and_from _ _ (le-leb _ _ (near.due_near t.0)) t.1
+  may_shared events.Publish may r f = (and_parts _ _ may).1
   may_shared (events.Word hands.Writer c step) may r f = by_word c step (place_in (places_of w.writer.desk) c.region) refl may
   may_shared (events.Harvest s client index) may r f = by_harvest s client index (place_in (places_of w.writer.desk) s) refl may
   may_shared (events.Fill c) may r f = by_fill c f.0 f.1 f.2
@@ -210,7 +209,7 @@ module _ (u : World) (c : Config) (sound : IsSoundDesk u.writer.desk) (rest : is
   nothing (x ∷ xs) h = absurd (omega (arith, eqb-true _ _ h))
 
   filled : d.unfilled ≡ []
-  filled = nothing d.unfilled (both_of _ _ rest).1
+  filled = nothing d.unfilled (and_parts _ _ rest).1
 
   unplaced : (r : RegionId) → d.forest.made ≡ r.0 → place_in (places_of d) r ≡ None
   unplaced r e = go (place_in (places_of d) r) refl
@@ -274,7 +273,7 @@ module _ (end : Writer) (w : World) (words : List ℕ) (k : Order) (c : Coupled 
       IsSoundDesk u.writer.desk → IsLegalFrom u ((run_events u (private_of k)).entries ++ (run_events m (events_after m.writer k)).entries)
       → AllPlaced m (events_after m.writer k))
   placed (configure x) sound l = let u : World = (run_events w (events_before w.writer (configure x))).world in
-      after_config u x sound (both_of _ _ l.0).0 (world_after u (events.Config x)).writer.desk.due
+      after_config u x sound (and_parts _ _ l.0).0 (world_after u (events.Config x)).writer.desk.due
   placed reap sound l = tt
   placed (load region offset bytes) sound l = no_fills _ w (go (load_refusal w.writer.desk.forest region offset (length bytes)))
     where

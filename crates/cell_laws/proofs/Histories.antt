@@ -2,7 +2,7 @@
 use Rattle.std.proofs.Common.{◌≡◌, ◌⊎◌, inl, inr, ⊎_elim, ℕ, zero, suc, ◌+◌, ◌<◌, ◌≤◌, Bool, true, false, List, [], ◌∷◌, ◌++◌}
 use Rattle.std.proofs.Common.{refl, sym, ap, subst, ◌∙◌, arith, eq-eqb, if◌then◌else◌, Option, Some, None}
 use Rattle.std.specs.Prelude.{◌==◌, ◌&&◌, ◌||◌, ◌%◌, ◌^◌, ◌/◌, nat_lt, Ok, option_and_then, replicate, slice_index}
-use Rattle.std.proofs.lemmas.Bool.{ltb-true}
+use Rattle.std.proofs.lemmas.Bool.{ltb-true, and_parts}
 use Rattle.mem_base.specs.declared.map.ids.RegionId.{RegionId}
 use Rattle.mem_base.specs.declared.map.ids.PassId.{PassId}
 use Rattle.mem_base.specs.declared.map.kinds.Client.{Client}
@@ -25,7 +25,7 @@ use Rattle.mem_base.specs.machine.Desk.{places_of}
 use Rattle.mem_base.specs.machine.World.{World, opening, possible, world_after, after_telling, reply, number_in, place_in_world, if_placed, old_value, old_at}
 use Rattle.mem_base.specs.machine.History.{PureEntry, after_entry, after_entries, IsLegal, IsLegalFrom}
 use Rattle.mem_base.specs.views.Naming.{names}
-use Rattle.view_laws.proofs.Tests.{both_of, none_is_not_some, same_region}
+use Rattle.view_laws.proofs.Tests.{none_is_not_some, same_region}
 use Rattle.turn_laws.proofs.Coupled.{IsWhole}
 use Rattle.turn_laws.proofs.Replaced.{its_region}
 use Rattle.world_laws.proofs.Keeping.{holds_at_first}
@@ -113,10 +113,10 @@ module _ (w : World) (k : Sure w) (c : Cell) (step : WordStep) where
   reached (Some x) p same s h = go (names x.forest c.region && is_data_or_register p c.word) refl h
     where
       go : (b : Bool) → (names x.forest c.region && is_data_or_register p c.word) ≡ b → (b || is_notifier c) ≡ true → c.word < p.words
-      go true e h = let t = both_of (names x.forest c.region) (is_data_or_register p c.word) e in
+      go true e h = let t = and_parts (names x.forest c.region) (is_data_or_register p c.word) e in
           let l : c.word < data_words p.bytes + p.regs = ltb-true c.word (data_words p.bytes + p.regs) t.1 in
           let m = s.wide in omega (arith, l, m)
-      go false e h = let t = both_of _ _ h in let l : c.word < notifier_count = ltb-true c.word notifier_count t.1 in
+      go false e h = let t = and_parts _ _ h in let l : c.word < notifier_count = ltb-true c.word notifier_count t.1 in
           let m : p.words ≡ notifier_count =
           s.notifiers (subst (λ (z : RegionId). is_notifiers z ≡ true) (sym (same_region p.region c.region same)) t.0) in omega (arith, l, m)
 
@@ -242,7 +242,7 @@ in_pages w pass r client page p here may = by (entered_generation w.writer.gener
   where
     by : (o : Option Generation) → may_mark o p r page ≡ true → page < pages_in p
     by None h = absurd (grind arith)
-    by (Some x) h = ltb-true page (pages_in p) (both_of _ _ h).1
+    by (Some x) h = ltb-true page (pages_in p) (and_parts _ _ h).1
 
 mark_step : (w : World) (pass : PassId) (r : RegionId) (client : Client) (page : ℕ) (p : Place) → place_in_world w r ≡ Some p → p.region ≡ r
     → step_on w (events.Mark pass r client page) p.region (word_of_page p client page) ≡ Some (Or (bit_of_page page))

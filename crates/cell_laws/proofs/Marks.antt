@@ -1,7 +1,7 @@
 -- What keeps a mark, and what tells it.
 use Rattle.std.proofs.Common.{◌≡◌, ℕ, zero, suc, ◌+◌, ◌<◌, Bool, true, false, refl, sym, ap, subst, ◌∙◌, arith, eq-eqb, if◌then◌else◌, Option, Some, None}
 use Rattle.std.specs.Prelude.{◌==◌, ◌&&◌, ◌||◌, ◌/◌, ◌%◌, ◌^◌, bit_or, option_and_then}
-use Rattle.std.proofs.lemmas.Bool.{eqb-true, ltb-true}
+use Rattle.std.proofs.lemmas.Bool.{eqb-true, ltb-true, and_parts}
 use Rattle.std.proofs.lemmas.Nat.{or_shr, or_mod, mod_below}
 use Rattle.mem_base.specs.declared.map.ids.RegionId.{RegionId}
 use Rattle.mem_base.specs.declared.map.ids.PassId.{PassId}
@@ -22,9 +22,10 @@ use Rattle.mem_base.specs.machine.Guards.{is_notifier, may_reach}
 use Rattle.mem_base.specs.machine.Desk.{is_unfilled}
 use Rattle.mem_base.specs.machine.World.{World, old_at, possible, reply, number_in, touch_at, place_in_world, if_placed}
 use Rattle.mem_base.specs.views.Naming.{names}
-use Rattle.view_laws.proofs.Tests.{both_of, same_place, same_region, true_is_not_false}
+use Rattle.view_laws.proofs.Tests.{same_place, same_region}
 use Rattle.mem_base.specs.machine.CellHistories.{HasMark, step_by, step_on, stepped, takes_mark, cell_value}
 use Rattle.cell_laws.specs.CellHistory.{IsFilled, IsOnData}
+use Rattle.mem_base.proofs.BoolLaws.{true_is_not_false}
 
 -- bits of a word
 
@@ -105,8 +106,8 @@ module _ (w : World) (p : Place) (client : Client) (page : ℕ) (here : place_in
   reached (Some x) c q e h = go (names x.forest c.region && is_data_or_register q c.word) refl h
     where
       go : (b : Bool) → (names x.forest c.region && is_data_or_register q c.word) ≡ b → (b || is_notifier c) ≡ true → is_data_or_register q c.word ≡ true
-      go true f h = (both_of _ _ f).1
-      go false f h = absurd (plain (sym e ∙ eqb-true c.region.0 4294967295 (both_of _ _ h).0))
+      go true f h = (and_parts _ _ f).1
+      go false f h = absurd (plain (sym e ∙ eqb-true c.region.0 4294967295 (and_parts _ _ h).0))
 
   by_pass : (v : PassId) (c : Cell) (step : WordStep) (o : Option Place) → place_in_world w c.region ≡ o
       → if_placed o (λ q. may_reach (entered_generation w.writer.generations w.passes v) q c) ≡ true
@@ -180,7 +181,7 @@ module _ (w : World) (p : Place) (client : Client) (page : ℕ) (here : place_in
   harvest_tells : (s : RegionId) (other : Client) (index : ℕ) → takes_mark p client page (events.Harvest s other index) ≡ true
       → number_in (reply w (events.Harvest s other index)) ≡ cell_value w r i
   harvest_tells s other index taking =
-      let t = both_of (s.0 == r.0) (mark_word p other index == i) taking in
+      let t = and_parts (s.0 == r.0) (mark_word p other index == i) taking in
       let e : s ≡ r = same_region s r (eqb-true s.0 r.0 t.0) in
       let f : mark_word p other index ≡ i = eqb-true (mark_word p other index) i t.1 in
       ap (λ (z : RegionId). number_in (reply w (events.Harvest z other index))) e

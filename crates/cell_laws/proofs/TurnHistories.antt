@@ -2,12 +2,10 @@
 use Rattle.std.proofs.Common.{◌≡◌, ◌⊎◌, inl, inr, ℕ, ◌+◌, ◌<◌, true, false, List, [], ◌∷◌, ◌++◌, replicate, append_assoc}
 use Rattle.std.proofs.Common.{refl, sym, ap, subst, ◌∙◌, arith, Option, Some}
 use Rattle.std.specs.Prelude.{flat_map, nat_lt, ◌/◌, is_some}
-use Rattle.std.proofs.lemmas.Bool.{eqb-true, lt-ltb}
+use Rattle.std.proofs.lemmas.Bool.{eqb-true, lt-ltb, and_parts}
 use Rattle.mem_base.specs.declared.map.ids.RegionId.{RegionId}
 use Rattle.mem_base.specs.declared.map.ids.PassId.{PassId}
 use Rattle.mem_base.specs.declared.map.kinds.Client.{Client}
-use Rattle.mem_base.specs.declared.map.kinds.Kind.{Kind}
-use Rattle.mem_base.specs.declared.map.kinds.Kind.TheVariants.{Container, Ram, Rom, RomDevice, Io, Iommu, Alias, Reserve, Host}
 use Rattle.mem_base.specs.declared.map.forests.Node.{Node}
 use Rattle.mem_base.specs.declared.access.cells.Place.{Place}
 use Rattle.mem_base.specs.declared.access.cells.Cell.{Cell}
@@ -19,7 +17,6 @@ use Rattle.mem_base.specs.declared.machine.events.Carried.{Carried}
 use Rattle.mem_base.specs.declared.machine.events.Carried.TheVariants.{Nothing, Edition, At}
 use Rattle.mem_base.specs.lists.Every.{Every}
 use Rattle.mem_base.specs.map.Limits.{notifier_count}
-use Rattle.mem_base.specs.map.Kinds.{has_bytes}
 use Rattle.mem_base.specs.map.Region.{node_of}
 use Rattle.mem_base.specs.access.Places.{extent_of, is_data_or_register, notifiers_place, place_from}
 use Rattle.mem_base.specs.machine.Desk.{Desk, places_of}
@@ -30,7 +27,7 @@ use Rattle.mem_base.specs.machine.SharedHistory as running
 use Rattle.mem_base.specs.machine.Turns.{Answered, turns, entries_of_turn, is_writers, last_writer, writers_of}
 use Rattle.mem_base.specs.machine.JoinedHistory.{joined_history, read, row_of}
 use Rattle.mem_base.proofs.ForestLaws.{known_below}
-use Rattle.view_laws.proofs.Tests.{both_of, same_place, same_region}
+use Rattle.view_laws.proofs.Tests.{same_place, same_region}
 use Rattle.history_laws.specs.BackedForests.{ShowsOwnPlaces}
 use Rattle.history_laws.proofs.Idles.{opens_idle}
 use Rattle.history_laws.proofs.ShownLaws.{generations_show_places}
@@ -53,6 +50,7 @@ use Rattle.cell_laws.proofs.Histories.{marks_are_kept, steps_tell_last, words_ar
 use Rattle.cell_laws.specs.TurnCells.{HasFittingCall, ReusesReleased}
 use Rattle.cell_laws.proofs.DataSteps.{IsOfData, ReadyOnData, StepsOnData, turns_on_data}
 use Rattle.history_laws.proofs.PureAppends.{after_both, legal_parts}
+use Rattle.mem_base.proofs.NodeLaws.{whole_bytes}
 
 -- what holds of each entry where it stands
 
@@ -96,7 +94,7 @@ filled_by : (w : World) (words : List ℕ) → Coupled w words → (v : PassId) 
 filled_by w words k v r client page Nothing h = absurd (grind arith)
 filled_by w words k v r client page (Edition f places) h = absurd (grind arith)
 filled_by w words k v r client page (At p) h =
-    let a = both_of _ _ h in let b = both_of _ _ a.0 in
+    let a = and_parts _ _ h in let b = and_parts _ _ a.0 in
     let t = transaction w words k v p a.1 in
     subst (λ (z : RegionId). IsFilled w.writer.desk z) (same_region p.region r (eqb-true p.region.0 r.0 b.0)) t.place.filled
 
@@ -115,17 +113,6 @@ on_pass w words k y is may = go y.event is may
     go e is may = absurd (grind arith)
 
 -- a step on data of a region that has memory is one on data of its place
-
-bytes_of : (kind : Kind) (size : ℕ) → has_bytes kind ≡ true → (extent_of kind size).bytes ≡ size
-bytes_of Ram size e = refl
-bytes_of Rom size e = refl
-bytes_of (RomDevice d) size e = refl
-bytes_of Container size e = absurd (grind arith)
-bytes_of (Io d) size e = absurd (grind arith)
-bytes_of Iommu size e = absurd (grind arith)
-bytes_of (Alias target offset) size e = absurd (grind arith)
-bytes_of Reserve size e = absurd (grind arith)
-bytes_of Host size e = absurd (grind arith)
 
 module _ (pool_words : ℕ) (w : World) (k : Holds w) (shown : ShowsOwnPlaces pool_words w.writer) where
   abbrev d : Desk
@@ -156,7 +143,7 @@ module _ (pool_words : ℕ) (w : World) (k : Holds w) (shown : ShowsOwnPlaces po
       let its : p.region ≡ c.region = same_region p.region c.region (its_region (places_of d) c.region p here) in
       let fits : p ≡ place_from p.region p.start (extent_of m.node.kind m.node.size) =
       found_has Fits (places_of d) c.region p all_fit here m.node (ap (node_of d.forest.nodes) its ∙ m.there) in
-      let bytes : p.bytes ≡ m.node.size = ap (λ (q : Place). q.bytes) fits ∙ bytes_of m.node.kind m.node.size m.memory in
+      let bytes : p.bytes ≡ m.node.size = ap (λ (q : Place). q.bytes) fits ∙ whole_bytes m.node.kind m.node.size m.memory in
       at p.bytes m.node.size p.regs c.word bytes m.inside
     where
       at : (bytes size regs word : ℕ) → bytes ≡ size → word < size / 8 → nat_lt word (bytes / 8 + regs) ≡ true

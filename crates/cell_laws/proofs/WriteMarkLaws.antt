@@ -24,9 +24,9 @@ use Rattle.mem_base.specs.access.Places.{number_of_client}
 use Rattle.mem_base.specs.access.MemoryAccess.{in_memory, marked, on_word, on_words}
 use Rattle.mem_base.specs.access.Access.{access, at_leaf, at_target, in_chunk}
 use Rattle.mem_base.proofs.EveryLaws.{every_append, every_flat, every_map, every_one, every_rest, weaker}
-use Rattle.view_laws.proofs.Tests.{true_is_not_false}
 use Rattle.cell_laws.specs.WriteMarks.{HasMarkedChunk, IsBefore, IsMarked, IsOnRegion, IsTouchedPage, Mark, is_logging}
-use Rattle.map_laws.proofs.PairLaws.{pairs_filter}
+use Rattle.mem_base.proofs.BoolLaws.{true_is_not_false}
+use Rattle.mem_base.proofs.SortingLaws.{pairs_filter}
 
 -- Pages that are touched
 

@@ -1,5 +1,5 @@
 -- A region looks like itself.
-use Rattle.std.proofs.Common.{◌≡◌, ℕ, Bool, true, false, eqb, eq-eqb, Option, Some, None, refl}
+use Rattle.std.proofs.Common.{◌≡◌, true, Option, Some, None, refl}
 use Rattle.std.proofs.lemmas.Cmp.{int_cmp_total, tied_itself}
 use Rattle.mem_base.specs.declared.map.ids.RegionId.{RegionId}
 use Rattle.mem_base.specs.declared.map.forests.Node.{Node}
@@ -9,15 +9,8 @@ use Rattle.mem_base.specs.declared.map.kinds.Device.{Device}
 use Rattle.mem_base.specs.declared.map.kinds.DeviceKind.{DeviceKind}
 use Rattle.mem_base.specs.declared.map.kinds.DeviceKind.TheVariants.{Latch, Count, Bell, Fault}
 use Rattle.mem_base.specs.declared.map.kinds.Ops.{Ops}
-use Rattle.mem_base.specs.lists.Booleans.{bool_eq}
 use Rattle.mem_base.specs.map.Touched.{is_same_region, is_same_device_kind, is_same_ops, is_same_device, is_same_kind, looks_alike, stays_alike}
-
-bool_itself : (b : Bool) → bool_eq b b ≡ true
-bool_itself true = refl
-bool_itself false = refl
-
-number_itself : (n : ℕ) → eqb n n ≡ true
-number_itself n = eq-eqb n n refl
+use Rattle.mem_base.proofs.BoolLaws.{bool_itself, number_itself}
 
 device_kind_itself : (k : DeviceKind) → is_same_device_kind k k ≡ true
 device_kind_itself Latch = refl

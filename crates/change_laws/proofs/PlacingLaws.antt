@@ -19,7 +19,8 @@ use Rattle.mem_base.proofs.ForestLaws.{node_of-itself, every_child}
 use Rattle.change_laws.specs.Meeting.{is_among, Meeting, OthersStay}
 use Rattle.change_laws.specs.Upward.{is_open}
 use Rattle.change_laws.specs.Placing.{placed_child, placed_inside, placed_at, placed_in, placed_from, meets_placed, inner, DiffersInPlace, ChangesPlaces}
-use Rattle.change_laws.proofs.MeetingLaws.{or_parts, and_second, others, child_finds, same_children}
+use Rattle.change_laws.proofs.MeetingLaws.{and_second, others, child_finds, same_children}
+use Rattle.std.proofs.lemmas.Bool.{or_parts}
 
 -- nothing is found in a region that is not open
 closed_none : (f : Forest) (d : ℕ) (c : Node) (a : ℕ) → node_of f.nodes c.id ≡ Some c → is_open c a ≡ false → found_in f d c.id a ≡ None

@@ -7,8 +7,7 @@ use Rattle.mem_base.specs.declared.map.ids.RegionId.{RegionId}
 use Rattle.mem_base.specs.declared.map.ids.SpaceId.{SpaceId}
 use Rattle.mem_base.specs.declared.map.forests.Node.{Node}
 use Rattle.mem_base.specs.declared.map.forests.Forest.{Forest}
-use Rattle.mem_base.specs.declared.map.kinds.Kind.{Kind}
-use Rattle.mem_base.specs.declared.map.kinds.Kind.TheVariants.{Container, Ram, Rom, RomDevice, Io, Iommu, Alias, Reserve, Host}
+use Rattle.mem_base.specs.declared.map.kinds.Kind.TheVariants.{Container}
 use Rattle.mem_base.specs.lists.Every.{Every}
 use Rattle.mem_base.specs.map.Kinds.{target_of}
 use Rattle.mem_base.specs.map.Region.{IsAscending, node_of, is_in, is_child_of}
@@ -17,17 +16,14 @@ use Rattle.mem_base.specs.map.Steps.{steps_of, steps_from, steps_at, reaches_by,
 use Rattle.mem_base.specs.map.Search.{root_of}
 use Rattle.mem_base.specs.map.Touched.{is_reached, is_reached_from, reached}
 use Rattle.mem_base.proofs.ForestLaws.{id_of, node_of-itself}
-use Rattle.view_laws.proofs.Tests.{none_is_not_some, same_some}
 use Rattle.view_laws.proofs.LiveLaws.{In, every_in}
 use Rattle.view_laws.proofs.SortedLaws.{filter_in, filter_out, map_in, map_out, sorted_in, sorted_out, any_in, any_found}
 use Rattle.view_laws.proofs.TouchedLaws.{found_in_list, unique}
 use Rattle.change_laws.specs.Meeting.{is_among}
 use Rattle.change_laws.specs.Reaching.{HasSameWays, KeepsWays}
-
-pub both_ways : (x y : Bool) → (x ≡ true → y ≡ true) → (y ≡ true → x ≡ true) → x ≡ y
-both_ways true y f g = sym (f refl)
-both_ways false true f g = g refl
-both_ways false false f g = refl
+use Rattle.mem_base.proofs.BoolLaws.{both_ways}
+use Rattle.mem_base.proofs.NodeLaws.{steps_to_children, steps_to_target}
+use Rattle.std.proofs.lemmas.Option.{same_Some}
 
 ways_same : (o p : Option Node) → o ≡ p → HasSameWays o p
 ways_same o p e = subst (HasSameWays o) e (itself o)
@@ -68,33 +64,18 @@ child_there f g up all q p h =
         (sorted_out trial_order m (filter (is_child_of q) g.nodes) (filter_out (is_child_of q) m g.nodes (found_in_list g.nodes c.id m e) child)))
         (ap p id ∙ h)
 
-steps_plain : (nodes : List Node) (k : Kind) (n : Node) → target_of k ≡ None → steps_at nodes k n ≡ ids_of (children_of nodes n.id)
-steps_plain nodes (Alias target offset) n h = none_is_not_some target (sym h)
-steps_plain nodes k n h = refl
-
-steps_alias : (nodes : List Node) (k : Kind) (n : Node) (t : RegionId) → target_of k ≡ Some t → steps_at nodes k n ≡ t ∷ []
-steps_alias nodes (Alias target offset) n t h = ap (λ (r : RegionId). r ∷ []) (same_some target t h)
-steps_alias nodes Container n t h = none_is_not_some t h
-steps_alias nodes Ram n t h = none_is_not_some t h
-steps_alias nodes Rom n t h = none_is_not_some t h
-steps_alias nodes (RomDevice d) n t h = none_is_not_some t h
-steps_alias nodes (Io d) n t h = none_is_not_some t h
-steps_alias nodes Iommu n t h = none_is_not_some t h
-steps_alias nodes Reserve n t h = none_is_not_some t h
-steps_alias nodes Host n t h = none_is_not_some t h
-
 module _ (f g : Forest) (up : IsAscending f.nodes) (vp : IsAscending g.nodes) (all : AllKept f g) where
   any_step : (p : RegionId → Bool) (r : RegionId) → list_any p (steps_of f.nodes r) ≡ list_any p (steps_of g.nodes r)
   any_step p r = go (node_of f.nodes r) (node_of g.nodes r) refl refl (all r)
     where
       target : (n m : Node) → node_of f.nodes r ≡ Some n → node_of g.nodes r ≡ Some m → (o : Option RegionId) → target_of n.kind ≡ o → target_of m.kind ≡ o
           → list_any p (steps_at f.nodes n.kind n) ≡ list_any p (steps_at g.nodes m.kind m)
-      target n m e h (Some t) i j = ap (list_any p) (steps_alias f.nodes n.kind n t i ∙ sym (steps_alias g.nodes m.kind m t j))
+      target n m e h (Some t) i j = ap (list_any p) (steps_to_target f.nodes n.kind n t i ∙ sym (steps_to_target g.nodes m.kind m t j))
       target n m e h None i j =
           let same : n.id ≡ m.id = id_of f.nodes r n e ∙ sym (id_of g.nodes r m h) in
-          ap (list_any p) (steps_plain f.nodes n.kind n i)
+          ap (list_any p) (steps_to_children f.nodes n.kind n i)
           ∙ both_ways _ _ (child_there f g up all n.id p) (child_there g f vp (λ q. ways_back (node_of f.nodes q) (node_of g.nodes q) (all q)) n.id p)
-          ∙ ap (λ (q : RegionId). list_any p (ids_of (children_of g.nodes q))) same ∙ ap (list_any p) (sym (steps_plain g.nodes m.kind m j))
+          ∙ ap (λ (q : RegionId). list_any p (ids_of (children_of g.nodes q))) same ∙ ap (list_any p) (sym (steps_to_children g.nodes m.kind m j))
 
       go : (x y : Option Node) → node_of f.nodes r ≡ x → node_of g.nodes r ≡ y → HasSameWays x y
           → list_any p (steps_from f.nodes x) ≡ list_any p (steps_from g.nodes y)

@@ -1,22 +1,22 @@
 -- What tests on two states of a region tell.
 use Rattle.std.proofs.Common.{◌≡◌, Bool, true, false, ◌&&◌, List, [], ◌∷◌, Option, Some, None, refl, sym, ap, subst, ◌∙◌, arith}
-use Rattle.std.proofs.lemmas.Bool.{eqb-true}
+use Rattle.std.proofs.lemmas.Bool.{eqb-true, and_parts}
 use Rattle.mem_base.specs.declared.map.ids.RegionId.{RegionId}
 use Rattle.mem_base.specs.declared.map.forests.Node.{Node}
 use Rattle.mem_base.specs.lists.Every.{Every}
 use Rattle.mem_base.specs.map.Kinds.{target_of}
 use Rattle.mem_base.specs.map.Region.{node_of}
 use Rattle.mem_base.proofs.ForestLaws.{id_of}
-use Rattle.view_laws.proofs.Tests.{both_of}
-use Rattle.view_laws.proofs.TouchedLaws.{bool_same, kind_same, region_same}
+use Rattle.view_laws.proofs.TouchedLaws.{kind_same, region_same}
 use Rattle.change_laws.specs.Placing.{DiffersInPlace}
 use Rattle.change_laws.specs.Reaching.{HasSameWays}
 use Rattle.change_spans.specs.Alike.{is_moved_alone, moves_alone, has_same_ways, keeps_ways}
+use Rattle.mem_base.proofs.BoolLaws.{bool_same}
 
 moved_alone : (n m : Node) → n.id ≡ m.id → is_moved_alone n m ≡ true → DiffersInPlace (Some n) (Some m)
 moved_alone n m same h =
-    let p = both_of _ _ h in let q = both_of _ _ p.0 in let f = both_of _ _ p.1 in let e = both_of _ _ f.0 in let d = both_of _ _ e.0 in
-    let c = both_of _ _ d.0 in let b = both_of _ _ c.0 in
+    let p = and_parts _ _ h in let q = and_parts _ _ p.0 in let f = and_parts _ _ p.1 in let e = and_parts _ _ f.0 in let d = and_parts _ _ e.0 in
+    let c = and_parts _ _ d.0 in let b = and_parts _ _ c.0 in
     let kind = kind_same n.kind m.kind q.0 in let size = eqb-true n.size m.size q.1 in
     let enabled = bool_same n.enabled m.enabled b.0 in let readonly = bool_same n.readonly m.readonly b.1 in
     let nonvolatile = bool_same n.nonvolatile m.nonvolatile c.1 in let romd = bool_same n.romd m.romd d.1 in
@@ -51,6 +51,6 @@ differs_in_place xs ys r h = go (node_of xs r) (node_of ys r) refl refl h
 pub same_ways : (o p : Option Node) → keeps_ways o p ≡ true → HasSameWays o p
 same_ways None None h = tt
 same_ways (Some n) (Some m) h =
-    let p = both_of _ _ h in (region_same n.parent m.parent p.0, region_same (target_of n.kind) (target_of m.kind) p.1)
+    let p = and_parts _ _ h in (region_same n.parent m.parent p.0, region_same (target_of n.kind) (target_of m.kind) p.1)
 same_ways None (Some m) h = absurd (grind arith)
 same_ways (Some n) None h = absurd (grind arith)

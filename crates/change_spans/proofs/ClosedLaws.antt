@@ -2,7 +2,7 @@
 -- them alone.
 use Rattle.std.proofs.Common.{◌≡◌, ℕ, ◌+◌, ◌-◌, ◌^◌, ◌<◌, ◌≤◌, Bool, true, false, eqb, eq-eqb, List, Option, Some, None, refl, sym, ap, subst, ◌∙◌, arith}
 use Rattle.std.specs.Prelude.{nat_lt, IfSome, IsSome, filter, map}
-use Rattle.std.proofs.lemmas.Bool.{eqb-true}
+use Rattle.std.proofs.lemmas.Bool.{eqb-true, and_parts}
 use Rattle.std.proofs.lemmas.Bool.Decides.{nat_tests}
 use Rattle.mem_base.specs.declared.map.ids.RegionId.{RegionId}
 use Rattle.mem_base.specs.declared.map.ids.SpaceId.{SpaceId}
@@ -17,7 +17,7 @@ use Rattle.mem_base.specs.map.Refusals.{targets}
 use Rattle.mem_base.specs.map.Region.{IsAscending, node_of, is_in, is_child_of}
 use Rattle.mem_base.specs.map.Search.{root_of, found_at}
 use Rattle.mem_base.specs.map.Forest.{IsClosedForest, IsRegion, HasTarget}
-use Rattle.view_laws.proofs.Tests.{both_of, same_region, none_is_not_some, true_is_not_false}
+use Rattle.view_laws.proofs.Tests.{same_region, none_is_not_some}
 use Rattle.view_laws.proofs.LiveLaws.{In, every_in}
 use Rattle.view_laws.proofs.SortedLaws.{any_found, filter_out, map_out}
 use Rattle.view_laws.proofs.TouchedLaws.{found_in_list}
@@ -34,6 +34,7 @@ use Rattle.change_spans.specs.Alike.{moves_alone}
 use Rattle.change_spans.specs.Reaches.{has_in, HasThrough, HasAbove, Keeps, KeepsIn, KeepsSpan, ShowsWithin}
 use Rattle.change_spans.proofs.AlikeLaws.{differs_in_place}
 use Rattle.change_spans.proofs.ReachLaws.{has_one}
+use Rattle.mem_base.proofs.BoolLaws.{true_is_not_false}
 
 in_container : (r : RegionId) (o : Option RegionId) → is_in r o ≡ true → o ≡ Some r
 in_container r None h = absurd (grind arith)
@@ -43,7 +44,7 @@ in_container r (Some p) h = ap (λ (q : RegionId). Some q) (same_region p r (eqb
 small : (f : Forest) → IsClosedForest f → (n : Node) (a : ℕ) → node_of f.nodes n.id ≡ Some n → is_open n a ≡ true → a < 2 ^ 64
 small f sound n a e o =
     let size : n.size ≤ 2 ^ 64 = (every_in (IsRegion f.nodes) n f.nodes sound.regions (found_in_list f.nodes n.id n e)).size in
-    let inside : nat_lt a n.size ≡ true = (both_of n.enabled (nat_lt a n.size) o).1 in
+    let inside : nat_lt a n.size ≡ true = (and_parts n.enabled (nat_lt a n.size) o).1 in
     grind (arith, nat_tests, inside, size)
 
 -- what holds of each of some regions holds of one that is among them

@@ -1,17 +1,14 @@
 -- One turn more, the first part, and what the laws of turns say.
-use Rattle.std.proofs.Common.{◌≡◌, ℕ, zero, suc, ◌+◌, false, List, [], ◌∷◌, ◌++◌, map, Ok}
-use Rattle.std.proofs.Common.{Err, Some, Option, refl, sym, ap, subst, ◌∙◌, append_assoc, append-nil, inl, inr}
-use Rattle.std.specs.Prelude.{flat_map, replicate, Result, ◌⊎◌}
-use Rattle.mem_base.specs.declared.map.calls.Call.{Call}
-use Rattle.mem_base.specs.declared.map.calls.Applied.{Applied}
+use Rattle.std.proofs.Common.{◌≡◌, ℕ, zero, suc, ◌+◌, false, List, [], ◌∷◌, ◌++◌, map}
+use Rattle.std.proofs.Common.{Some, refl, sym, ap, subst, ◌∙◌, inl, inr}
+use Rattle.std.specs.Prelude.{flat_map, replicate, ◌⊎◌}
 use Rattle.mem_base.specs.declared.map.calls.Config.TheVariants as configs
-use Rattle.mem_base.specs.declared.map.refusals.Refusal.{Refusal}
 use Rattle.mem_base.specs.declared.machine.events.HistoryEntry.{HistoryEntry}
 use Rattle.mem_base.specs.map.Limits.{notifier_count}
 use Rattle.mem_base.specs.views.Replay.{replay}
 use Rattle.mem_base.specs.views.Listening.{calls_to}
 use Rattle.mem_base.specs.machine.Actors.{own_entries, generations_after_all}
-use Rattle.mem_base.specs.machine.Answers.{Answer, call_answer}
+use Rattle.mem_base.specs.machine.Answers.{Answer}
 use Rattle.mem_base.specs.machine.Generations.{Generations, first_generations, nothing_known}
 use Rattle.mem_base.specs.machine.JoinedHistory.{TurnsJoin}
 use Rattle.mem_base.specs.machine.ListenerReplay.{listener_of, heard_of, told_forest}
@@ -33,23 +30,11 @@ use Rattle.writer_desk.specs.declared.idle.IdleDesk.{IdleDesk}
 use Rattle.writer_desk.specs.Writers.{WriterState, first_state, desk_of}
 use Rattle.writer_desk.specs.Listened.{resting}
 use Rattle.writer_run.specs.Parts.{AreParts, idle_writer}
-use Rattle.writer_run.specs.Turns.{IsTurn, answer_by}
+use Rattle.writer_run.specs.Turns.{IsTurn}
 use Rattle.seat_run.specs.Written.{HasWritten}
 use Rattle.config_desk.specs.Configs.{ConfigState, IsOfTurns, IsConfig, part_at}
 use Rattle.config_desk.specs.SeenLaws.{IsSeenLegal, KeepsMarks, ReplaysToListeners, ReusesWords}
-
-turns_snoc : (w : Writer) (os : List Answered) (o : Answered) → turns w (os ++ o ∷ []) ≡ turns w os ++ turn (last_writer w (turns w os)) o.0 o.1 ∷ []
-turns_snoc w [] o = refl
-turns_snoc w (p ∷ os) o = ap (λ (ts : List WriterCall). turn w p.0 p.1 ∷ ts) (turns_snoc (turn w p.0 p.1).writer os o)
-
-last_snoc : (w : Writer) (ts : List WriterCall) (t : WriterCall) → last_writer w (ts ++ t ∷ []) ≡ t.writer
-last_snoc w [] t = refl
-last_snoc w (u ∷ ts) t = last_snoc u.writer ts t
-
-entries_snoc : (ts : List WriterCall) (t : WriterCall) → flat_map entries_of_turn (ts ++ t ∷ []) ≡ flat_map entries_of_turn ts ++ entries_of_turn t
-entries_snoc [] t = append-nil (entries_of_turn t)
-entries_snoc (u ∷ ts) t = ap (λ (xs : List HistoryEntry). entries_of_turn u ++ xs) (entries_snoc ts t)
-    ∙ sym (append_assoc (entries_of_turn u) (flat_map entries_of_turn ts) (entries_of_turn t))
+use Rattle.turn_laws.proofs.TurnLists.{turns_push, last_push, entries_push}
 
 -- one turn more
 one_more : (v u : WriterValue) (w x : Writer) (k : Order) (answer : Answer) → FitsOrder k → IsOfTurns v w → IsTurn w k (λ xs. HasWritten v xs u) answer x
@@ -59,7 +44,7 @@ one_more v u w x k answer fits h t =
     let o : Answered = (k, t.replies) in
     let before : List WriterCall = turns first h.orders in
     let all : turns first (h.orders ++ o ∷ []) ≡ before ++ turn w k t.replies ∷ [] =
-    turns_snoc first h.orders o ∙ ap (λ (y : Writer). before ++ turn y k t.replies ∷ []) (sym h.last) in record {
+    turns_push first h.orders o ∙ ap (λ (y : Writer). before ++ turn y k t.replies ∷ []) (sym h.last) in record {
       pool_words = h.pool_words;
       passes = h.passes;
       orders = h.orders ++ o ∷ [];
@@ -67,8 +52,8 @@ one_more v u w x k answer fits h t =
       counts = ap (λ s. s.passes) t.made.sizes ∙ h.counts;
       fitting = every_push HasFittingCall h.orders o h.fitting fits;
       entries = t.made.adds.events ∙ ap (λ (xs : List HistoryEntry). xs ++ entries_of_turn (turn w k t.replies)) h.entries
-          ∙ sym (entries_snoc before (turn w k t.replies)) ∙ ap (λ (ts : List WriterCall). flat_map entries_of_turn ts) (sym all);
-      last = t.writer ∙ sym (last_snoc first before (turn w k t.replies)) ∙ ap (λ (ts : List WriterCall). last_writer first ts) (sym all);
+          ∙ sym (entries_push before (turn w k t.replies)) ∙ ap (λ (ts : List WriterCall). flat_map entries_of_turn ts) (sym all);
+      last = t.writer ∙ sym (last_push first before (turn w k t.replies)) ∙ ap (λ (ts : List WriterCall). last_writer first ts) (sym all);
     }
 
 -- at first
@@ -110,11 +95,6 @@ module _ (d : IdleDesk) (v : WriterValue) (pool_words passes : ℕ) (first : res
       last = opens;
     };
   }
-
--- an answer of a call as the machine states it
-pub call_answered : (call : Call) (r : Result (Applied × Option ℕ) Refusal) → answer_by (configs.Call call) r ≡ call_answer r
-call_answered call (Ok x) = refl
-call_answered call (Err why) = refl
 
 -- after a call it is a configuration still: the call was a turn, or nothing has happened
 pub still_config : (d : IdleDesk) (v : WriterValue) → IsConfig d v → (e : IdleDesk) (u : WriterValue)

@@ -39,13 +39,14 @@ use Rattle.mem_base.specs.machine.Reaps.{Writer, is_named}
 use Rattle.mem_base.specs.access.PlacesByRegion.{place_in}
 use Rattle.mem_base.specs.machine.Records.{told}
 use Rattle.mem_base.specs.machine.Turns.{after_private, played, replies_of}
-use Rattle.view_laws.proofs.Tests.{none_is_not_some, same_some}
+use Rattle.view_laws.proofs.Tests.{none_is_not_some}
 use Rattle.map_laws.proofs.PairLaws.{length-filter}
 use Rattle.writer_run.proofs.HarvestLaws.{pages_few}
 use Rattle.desk_lock.specs.Copied.{most_pages, most_regions, pages_in, regions_in}
 use Rattle.desk_lock.specs.Receipts.{IsAnswerTo, IsAppliedTo, IsNew, MayBeRefused}
 use Rattle.desk_lock.specs.Turned.{turn_of}
 use Rattle.desk_lock.proofs.PublishedLaws.{sweeps_keep}
+use Rattle.std.proofs.lemmas.Option.{same_Some}
 
 -- what a call answers
 
@@ -185,7 +186,7 @@ other_where test why n None e = none_is_not_some refusals.Memory e
 other_where test why n (Some x) e = go (test x) e
   where
     go : (b : Bool) → (if b then Some why else None) ≡ Some refusals.Memory → ⊥
-    go true e = n (same_some why refusals.Memory e)
+    go true e = n (same_Some why refusals.Memory e)
     go false e = none_is_not_some refusals.Memory e
 
 other_unknown : (f : Forest) (region : RegionId) → unknown_region f region ≢ Some refusals.Memory

@@ -2,7 +2,7 @@
 use Rattle.std.proofs.Common.{◌≡◌, ℕ, ◌+◌, ◌-◌, eqb, Bool, true, false, List, [], ◌∷◌, ◌++◌, map, drop, Some, None, Option, Result, Err}
 use Rattle.std.proofs.Common.{refl, sym, subst, ◌∙◌, not, if◌then◌else◌, ◌&&◌}
 use Rattle.std.specs.Prelude.{is_ok}
-use Rattle.std.proofs.lemmas.Bool.{eqb-true}
+use Rattle.std.proofs.lemmas.Bool.{eqb-true, not-true, and_parts}
 use Rattle.mem_base.specs.declared.map.ids.PassId.{PassId}
 use Rattle.mem_base.specs.declared.map.forests.Forest.{Forest}
 use Rattle.mem_base.specs.declared.map.calls.Call.{Call}
@@ -28,7 +28,6 @@ use Rattle.mem_base.specs.machine.Publishing.{Settled, current_forest, held_up, 
 use Rattle.mem_base.specs.machine.Reaps.{Writer, writer}
 use Rattle.mem_base.specs.machine.Records.{told}
 use Rattle.mem_base.specs.machine.Turns.{played}
-use Rattle.view_laws.proofs.Tests.{both_of}
 use Rattle.desk_lock.specs.Turned.{turn_of}
 
 -- Sweeps leave the desk, but for which passes were swept, and the current number
@@ -85,16 +84,12 @@ ok_accepted : (o : Option Refusal) (f : Forest) → is_ok (or_refused o f) ≡ t
 ok_accepted None f e = refl
 ok_accepted (Some why) f e = cc
 
-not_not : (b : Bool) → not b ≡ true → b ≡ false
-not_not true e = cc
-not_not false e = refl
-
 pub is_loud : (d : Desk) (call : Call) → would_publish d (configs.Call call) ≡ true → IsLoud d call
 is_loud d call e =
-    let one = both_of (eqb d.depth 0) (not (is_quiet call) && is_ok (after d.forest call)) e in
-    let two = both_of (not (is_quiet call)) (is_ok (after d.forest call)) one.1 in record {
+    let one = and_parts (eqb d.depth 0) (not (is_quiet call) && is_ok (after d.forest call)) e in
+    let two = and_parts (not (is_quiet call)) (is_ok (after d.forest call)) one.1 in record {
       outside = one.0;
-      loud = not_not (is_quiet call) two.0;
+      loud = not-true (is_quiet call) two.0;
       accepted = ok_accepted (refusal_of d.forest call) (counted (changed d.forest call)) two.1;
     }
 
@@ -108,7 +103,7 @@ call_settles g d call h =
 
 commit_settles : (g : Generations) (d : Desk) → would_publish d configs.Commit ≡ true → configured g d configs.Commit ≡ publishing g d d.forest Done
 commit_settles g d e =
-    let both = both_of (eqb d.depth 1) d.pending e in
+    let both = and_parts (eqb d.depth 1) d.pending e in
     let one : d.depth ≡ 1 = eqb-true d.depth 1 both.0 in
     (λ i. if eqb (one i) 0 then refused_desk d refusals.NoTransaction
     else if e i then publishing g d d.forest Done else settled (record d { depth = d.depth - 1 }) Done)

@@ -23,7 +23,7 @@ use Rattle.mem_base.specs.machine.Records.{call_of, told}
 use Rattle.generation.specs.Published.{Published}
 use Rattle.epoch_rule.specs.Copies.{value_in}
 use Rattle.epoch_rule.specs.Rule.{IsLegal}
-use Rattle.view_laws.proofs.Tests.{none_is_not_some, same_some}
+use Rattle.view_laws.proofs.Tests.{none_is_not_some}
 use Rattle.writer_run.specs.Turns as writer_turns
 use Rattle.config_desk.specs.Configs.{ConfigState, IsOfTurns, IsTurnOf}
 use Rattle.desk_lock.specs.declared.orders.Receipt.{Receipt}
@@ -35,6 +35,7 @@ use Rattle.desk_lock.proofs.AnswerLaws.{answer_right, pages_bounded, regions_bou
 use Rattle.desk_lock.proofs.PublishedLaws.{IsPublished, call_published, commit_published, is_loud}
 use Rattle.desk_lock.proofs.SeenLaws.{current_shown, published_seen}
 use Rattle.desk_lock.proofs.ShownCalls.{call_shown}
+use Rattle.std.proofs.lemmas.Option.{same_Some}
 
 -- a turn of the writer's desk, by what is told of its answer
 pub asked_as : (v w : ConfigState) (order : DeskOrder) (a : Answer) (answer : DeskAnswer) → IsTurnOf v (call_of order) a w → answer ≡ told a
@@ -64,7 +65,7 @@ tells_publish : (w : Writer) (k : Config) (number : ℕ) → Some number ≡ wri
 tells_publish w k number e = go (would_publish w.desk k) e
   where
     go : (b : Bool) → Some number ≡ (if b then Some (w.generations.current + 1) else None) → (b ≡ true) × (number ≡ w.generations.current + 1)
-    go true h = (refl, same_some number (w.generations.current + 1) h)
+    go true h = (refl, same_Some number (w.generations.current + 1) h)
     go false h = none_is_not_some number (sym h)
 
 -- an answer of another sort tells no number

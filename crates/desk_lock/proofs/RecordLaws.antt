@@ -200,7 +200,7 @@ heard_later c d entries cabinet sizes out home wrote part = record {
 }
 
 -- what follows of a record that grew
-append_cancel : (xs ys zs : List HistoryEntry) → xs ++ ys ≡ xs ++ zs → ys ≡ zs
+pub append_cancel : (xs ys zs : List HistoryEntry) → xs ++ ys ≡ xs ++ zs → ys ≡ zs
 append_cancel [] ys zs e = e
 append_cancel (x ∷ xs) ys zs e = append_cancel xs ys zs (ap (drop 1) e)
 

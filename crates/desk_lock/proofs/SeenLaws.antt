@@ -1,7 +1,7 @@
 -- What the writer's seat has seen published.
 use Rattle.std.proofs.Common.{◌≡◌, ℕ, ◌+◌, ◌-◌, ◌<◌, ◌≤◌, List, [], ◌∷◌, length, Some, sym, ap, subst, ◌∙◌, arith, flat_map}
 use Rattle.std.specs.Prelude.{slice_get}
-use Rattle.std.proofs.lemmas.Option.{slice_get-get_or}
+use Rattle.std.proofs.lemmas.Option.{slice_get-get_or, same_Some}
 use Rattle.mem_base.specs.map.Limits.{notifier_count}
 use Rattle.mem_base.specs.machine.Actors.{first_generation, generation_published, generations_published}
 use Rattle.mem_base.specs.machine.Generations.{Generation, Generations}
@@ -9,7 +9,7 @@ use Rattle.mem_base.specs.machine.Publishing.{current_forest, forest_in}
 use Rattle.mem_base.specs.machine.Reaps.{Writer, first_writer}
 use Rattle.mem_base.specs.machine.SharedHistory.{IsSharedLegal, after_shared_entries, shared_opening}
 use Rattle.mem_base.specs.machine.Turns.{entries_of_turn, turns, writers_of}
-use Rattle.view_laws.proofs.Tests.{none_is_not_some, same_some}
+use Rattle.view_laws.proofs.Tests.{none_is_not_some}
 use Rattle.history_laws.specs.Numbers.{HasSoundNumbers}
 use Rattle.history_laws.proofs.NumberLaws.{sound}
 use Rattle.history_laws.proofs.OwnLaws.{own_writers}
@@ -22,7 +22,7 @@ use Rattle.desk_lock.specs.Receipts.{HasSeenPublished}
 -- the first of these generations
 first_of : (gs : List Generation) (x : Generation) → slice_get gs 0 ≡ Some x → forest_in gs ≡ x.forest
 first_of [] x e = none_is_not_some x e
-first_of (g ∷ gs) x e = ap (λ (y : Generation). y.forest) (same_some g x e)
+first_of (g ∷ gs) x e = ap (λ (y : Generation). y.forest) (same_Some g x e)
 
 module _ (c : ConfigState) (legal : IsLegal c.seat.sizes c.seat.seen) (t : IsOfTurns c.seat c.part) where
   shared : IsSharedLegal (t.pool_words + notifier_count) t.passes c.seat.seen

@@ -38,15 +38,9 @@ use Rattle.mem_base.specs.map.Search.{is_space, root_of}
 use Rattle.mem_base.specs.map.TableRefusals.{no_more_calls}
 use Rattle.mem_base.proofs.JoinLaws.{node_of-changed_at}
 use Rattle.map_laws.proofs.RefusalLaws.{each_none, known_node, refuse_if-none, refuse_where-none}
-
--- a region that is found has the id
-found_id : (nodes : List Node) (r : RegionId) (n : Node) → node_of nodes r ≡ Some n → has_id r n ≡ true
-found_id [] r n e = cc
-found_id (m ∷ ms) r n e = go (has_id r m) refl e (found_id ms r n)
-  where
-    go : (b : Bool) → has_id r m ≡ b → cond b (Some m) (node_of ms r) ≡ Some n → (node_of ms r ≡ Some n → has_id r n ≡ true) → has_id r n ≡ true
-    go true is h rest = let same : m ≡ n = cc in ap (has_id r) (sym same) ∙ is
-    go false is h rest = rest h
+use Rattle.mem_base.proofs.NodeLaws.{found_id}
+use Rattle.mem_base.proofs.OptionLaws.{none_of}
+use Rattle.map_laws.proofs.MoveLaws.{moved_id}
 
 -- after a change of one region, that region is the changed one
 module _ (f : Forest) (r : RegionId) (g : Node → Node) (same : (n : Node) → (g n).id ≡ n.id) (n : Node) (there : node_of f.nodes r ≡ Some n) where
@@ -127,10 +121,6 @@ none_any : {A : Type 0} (p : A → Bool) (xs : List A) → Every (λ x. p x ≡ 
 none_any p [] h = refl
 none_any p (x ∷ xs) h = rw h.0 (none_any p xs h.1)
 
-not_some : {A : Type 0} (o : Option A) → is_some o ≡ false → o ≡ None
-not_some None e = refl
-not_some (Some x) e = cc
-
 -- a space that is made has its root
 made_space : (f : Forest) (space : SpaceId) (root : RegionId) → root_of f space ≡ None → root_of (changed f (calls.Space space root)) space ≡ Some root
 made_space f space root none =
@@ -155,13 +145,6 @@ alias_shown offset kinds.Iommu e = cc
 alias_shown offset kinds.Reserve e = cc
 alias_shown offset kinds.Host e = cc
 
-moved_id : (offset placing : ℕ) (n : Node) → (moved offset placing n).id ≡ n.id
-moved_id offset placing n = go (eqb n.offset offset)
-  where
-    go : (b : Bool) → (cond b n (record n { offset = offset; placing = placing })).id ≡ n.id
-    go true = refl
-    go false = refl
-
 moved_shown : (offset placing : ℕ) (n : Node) → (moved offset placing n).offset ≡ offset
 moved_shown offset placing n = go (eqb n.offset offset) refl
   where
@@ -174,7 +157,7 @@ pub call_shown : (f : Forest) (call : Call) → is_quiet call ≡ false → refu
 call_shown f (calls.Region kind size) loud e = cc
 call_shown f (calls.Space space root) loud e =
     let each = each_none (refusals f (calls.Space space root) ++ no_more_calls f ∷ []) e in
-    made_space f space root (not_some (root_of f space) (refuse_if-none (is_some (root_of f space)) (NameTaken (what.Space space)) each.1.0))
+    made_space f space root (none_of (root_of f space) (refuse_if-none (is_some (root_of f space)) (NameTaken (what.Space space)) each.1.0))
 call_shown f (calls.Add parent offset child priority) loud e =
     let each = each_none (refusals f (calls.Add parent offset child priority) ++ no_more_calls f ∷ []) e in
     edited f child (placed parent offset priority f.placings) (λ n. refl) each.1.0

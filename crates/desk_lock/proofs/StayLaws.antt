@@ -21,16 +21,13 @@ use Rattle.history_laws.proofs.AppendLaws.{generation_stays, published_more}
 use Rattle.desk_lock.specs.Laws.{ClosesOneWay, FirstIsEmpty, IsNoNewer, LaterMakesTurns, ReceiptsStay, RecordsGrow}
 use Rattle.desk_lock.specs.Receipts.{HasSeenTold, ShowsOrder, number_told}
 use Rattle.desk_lock.proofs.RecordLaws.{grew_none, grew_on, later_one, makes_turns}
+use Rattle.race_laws.proofs.EnterLaws.{some_published}
 
 pub records_grow : RecordsGrow
 records_grow = record { same = grew_none; joins = grew_on; takes = later_one }
 
 pub later_makes_turns : LaterMakesTurns
 later_makes_turns = makes_turns
-
--- at least generation 0 was published
-some_published : (seen : List HistoryEntry) → 0 < length (generations_published seen)
-some_published seen = published_more [] seen (seen, refl) 0 (omega arith)
 
 pub first_is_empty : FirstIsEmpty
 first_is_empty seen = ap (λ (g : Generation). g.forest) (generation_stays [] seen (seen, refl) 0 (omega arith))

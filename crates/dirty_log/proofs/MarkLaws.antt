@@ -6,10 +6,11 @@ use Rattle.std.proofs.lemmas.Bool.{eqb-true, eqb-false}
 use Rattle.std.proofs.lemmas.Nat.{div-add-mod', mod_below}
 use Rattle.mem_base.specs.declared.map.kinds.Client.{Client}
 use Rattle.mem_base.specs.declared.map.kinds.Client.TheVariants.{Vga, Code, Migration}
-use Rattle.mem_base.specs.lists.Runs.{Run, run, put_before, is_in_unit, touched}
+use Rattle.mem_base.specs.lists.Runs.{Run, put_before, is_in_unit, touched}
 use Rattle.mem_base.specs.map.Limits.{page_size}
 use Rattle.mem_base.specs.access.Marks.{clients_of, marks_of}
 use Rattle.dirty_log.specs.MarksLeft.{has, clients_after, all_clients, first_of, marks_on, marks_from, marks_left}
+use Rattle.mem_base.proofs.PlaceLaws.{starts_at}
 
 -- the clients of a mask, one after another
 
@@ -106,12 +107,6 @@ next_below : (a count : ℕ) → is_in_unit page_size a ≡ false → a / page_s
 next_below a count e =
     let f : (a + 1) / 4096 ≡ a / 4096 + 1 = next_unit a e in
     omega (arith, f, div-add-mod' (a + 1) 4096, div-add-mod' (a + suc count) 4096, mod_below (a + suc count) 4096 (omega arith))
-
--- put before runs, a number makes a run that starts with it
-starts_at : (b : Bool) (a : ℕ) (rs : List Run) → (r : Run) × (qs : List Run) × (put_before b a rs ≡ r ∷ qs) × (r.start ≡ a)
-starts_at true a (r ∷ rs) = (run a (r.length + 1), rs, refl, refl)
-starts_at true a [] = (run a 1, [], refl, refl)
-starts_at false a rs = (run a 1, rs, refl, refl)
 
 module _ (clients : List Client) where
   abbrev marked : List Run → List (ℕ × Client)

@@ -6,9 +6,9 @@ use Rattle.epoch_rule.proofs.Common.{Generation, Generations, PassTrack, known_o
 use Rattle.epoch_rule.proofs.Common.{shared_possible, shared_reply, after_shared_entry, Sizes, Picked, View, history_entry, generations_published}
 use Rattle.epoch_rule.proofs.Common.{generation_published, first_generation, state_of, IsLegal, generation_of_pick, carried_pick, pass_seen, generations_seen}
 use Rattle.epoch_rule.proofs.Common.{WordsShow, PlacesFit, PassSlots, SlotsOfPass, AllSlots, SeatKnows, IsRuled, ComesNext, arc_value, Arc, Forest, Place}
-use Rattle.epoch_rule.proofs.Common.{IsCopy, picked, none_is_no_number, same_number, both, published_append, none_placed, append-nil, with_known}
+use Rattle.epoch_rule.proofs.Common.{IsCopy, picked, none_is_no_number, same_number, and_from, published_append, none_placed, append-nil, with_known}
 use Rattle.epoch_rule.proofs.Common.{published_with, actor_of, Event, State, is_some, is_none, not, step, takes, gives, looks, announces, enters, leaves}
-use Rattle.epoch_rule.proofs.Common.{sweeps, reaches, places, publishes, placed_as, all_of, every_at, every_push, same_some, sound, nothing_known}
+use Rattle.epoch_rule.proofs.Common.{sweeps, reaches, places, publishes, placed_as, all_of, every_at, every_push, same_Some, sound, nothing_known}
 use mathlib.Core.Option as maybe
 use Rattle.mem_base.specs.declared.machine.events.Event.TheVariants as events
 use Rattle.epoch_rule.proofs.EntrySteps.{grown, knows_generations, inside, shows_moved, slots_moved, slots_known, makes, loaded, seats_set, knows_still}
@@ -52,7 +52,7 @@ module _ {S : Type 0} (Copy : ℕ → Generation → S → Type 0) (z : Sizes) w
       let r : ℕ = get_or s.words 0 0 in
       let knows = pass_known z k.log p me.0 near ((k.seats id me.0 at).all (p + 1) role) in
       let may : shared_possible st (events.Look (pass_id p)) Nothing ≡ true =
-      both _ _ (lt-ltb p (length st.passes) (inside Copy z s k id me.0 at p near)) (ap (λ (h : PassState). is_none h.announced) knows ∙ ap is_none out) in
+      and_from _ _ (lt-ltb p (length st.passes) (inside Copy z s k id me.0 at p near)) (ap (λ (h : PassState). is_none h.announced) knows ∙ ap is_none out) in
       let did = moves s k id me.0 at p near role events.Look r (record (pass_of st.passes (pass_id p)) { looked = Some r }) (get_or s.words (8 * (p + 1)) 0)
       s.homes refl may k.shown.current refl refl (k.shown.pins p near) refl (λ v j other l. refl) (k.slots.each p near) in
       let ruled = loaded Copy z _ s.words s.homes _ 0 (set-get_or s.words (8 * (p + 1)) 0) did.0 in
@@ -67,7 +67,7 @@ module _ {S : Type 0} (Copy : ℕ → Generation → S → Type 0) (z : Sizes) w
       let was : PassState = pass_of st.passes (pass_id p) in
       let knows = pass_known z k.log p me.0 near ((k.seats id me.0 at).all (p + 1) role) in
       let may : shared_possible st (events.Announce (pass_id p)) Nothing ≡ true =
-      both _ _ (both _ _ (lt-ltb p (length st.passes) (inside Copy z s k id me.0 at p near))
+      and_from _ _ (and_from _ _ (lt-ltb p (length st.passes) (inside Copy z s k id me.0 at p near))
       (ap (λ (h : PassState). is_some h.looked) knows ∙ ap is_some there)) (ap (λ (h : PassState). is_none h.announced) knows ∙ ap is_none out) in
       let did = moves s k id me.0 at p near role events.Announce 0 (record was { announced = was.looked }) (q + 1) s.homes refl may refl refl refl
       (ap pin_word (sym (ap (λ (h : PassState). h.looked) knows ∙ there))) refl (λ v j other l. refl) (k.slots.each p near) in
@@ -84,7 +84,7 @@ module _ {S : Type 0} (Copy : ℕ → Generation → S → Type 0) (z : Sizes) w
       let ok = sound z.words z.passes k.log k.lawful in
       let knows = pass_known z k.log p me.0 near ((k.seats id me.0 at).all (p + 1) role) in
       let may : shared_possible st (events.Enter (pass_id p)) Nothing ≡ true =
-      both _ _ (both _ _ (lt-ltb p (length st.passes) (inside Copy z s k id me.0 at p near))
+      and_from _ _ (and_from _ _ (lt-ltb p (length st.passes) (inside Copy z s k id me.0 at p near))
       (ap (λ (h : PassState). is_some h.announced) knows ∙ ap is_some there)) (ap (λ (h : PassState). is_none h.entered) knows ∙ ap is_none out) in
       let is : r ≡ shared_reply st (events.Enter (pass_id p)) Nothing = k.shown.current in
       let low = (ok.each p near).low in
@@ -126,7 +126,7 @@ module _ {S : Type 0} (Copy : ℕ → Generation → S → Type 0) (z : Sizes) w
       let gs : List Generation = generations_published k.log in
       let c : ℕ = st.generations.current in
       let knows = pass_known z k.log p me.0 near ((k.seats id me.0 at).all (p + 1) role) in
-      let may : shared_possible st (events.Leave (pass_id p)) Nothing ≡ true = both _ _ (lt-ltb p (length st.passes) (inside Copy z s k id me.0 at p near))
+      let may : shared_possible st (events.Leave (pass_id p)) Nothing ≡ true = and_from _ _ (lt-ltb p (length st.passes) (inside Copy z s k id me.0 at p near))
       (ap (λ (h : PassState). is_some h.entered) knows ∙ ap is_some there) in
       let busy : (pass_of st.passes (pass_id p)).entered ≡ Some g = ap (λ (h : PassState). h.entered) knows ∙ there in
       let numbers = (sound z.words z.passes k.log k.lawful).each p near in
@@ -269,7 +269,7 @@ module _ {S : Type 0} (Copy : ℕ → Generation → S → Type 0) (z : Sizes) w
       subst (λ (h : ℕ). SlotsOfPass Copy st gs h next s.homes p) here_held (k.slots.each p near) in
       let clear = mine_slots.clear refl in
       let may : shared_possible st (events.Place (pass_id p)) Nothing ≡ true =
-      both _ _ (le-leb _ _ clear.0) (both _ _ (lt-ltb p (length st.passes) (inside Copy z s k id me.0 at p near)) (ap not clear.1)) in
+      and_from _ _ (le-leb _ _ clear.0) (and_from _ _ (lt-ltb p (length st.passes) (inside Copy z s k id me.0 at p near)) (ap not clear.1)) in
       let i : ℕ = 16 * p + (c + 1) % 8 in
       let room : 16 * p + 8 ≤ length s.homes = omega arith in
       let did = tracks s k id me.0 at p near role events.Place 0 (with_placed true was) (set s.homes i (some y)) 0 m 0 m refl may refl refl refl
@@ -333,5 +333,5 @@ place_as {E} {Y} number forest places z slots id me p a near wide role holding c
     (a, refl, num, refl) alike s k deep at small in
     let same : (i : ℕ) (b : Arc E Y) → me.1 ≡ (i, Some b) ∷ [] → picked forest places (arc_value a) ≡ picked forest places (arc_value b) =
     λ i b is. ap (λ x. picked forest places (arc_value x))
-    (same_some a b (ap (λ (l : List (ℕ × Option (Arc E Y))). (get_or l 0 (0, Some a)).1) (sym carries ∙ is))) in
+    (same_Some a b (ap (λ (l : List (ℕ × Option (Arc E Y))). (get_or l 0 (0, Some a)).1) (sym carries ∙ is))) in
     (did.0, did.1, did.2, did.3, λ i b is. (did.4.0, did.4.1, did.4.2 ∙ same i b is, did.4.3))

@@ -2,7 +2,7 @@
 pub use Rattle.std.proofs.Common.{◌≡◌, ℕ, List, [], ◌∷◌, ◌++◌, length, refl, sym, ap, ◌∙◌, append_assoc, append-nil, arith, ◌+◌, ◌*◌, false, subst}
 pub use Rattle.std.proofs.Common.{length-append, ◌⊎◌, ◌<◌, ◌≤◌, eqb, Bool, true, ⊎_elim, inl, inr, Option, Some, None, ◌&&◌, ◌-◌, get_or, set, zero, suc, max}
 pub use Rattle.std.proofs.Common.{ne_eqb, map, length-set, if◌then◌else◌, get_or-set_other, get_or-set_same, ◌≢◌, drop, ◌%◌, replicate, Global, take}
-pub use Rattle.std.proofs.lemmas.Bool.{lt-ltb, ltb-true, le-leb, eqb-true, eq-eqb, both_ways, leb-false, ltb-false}
+pub use Rattle.std.proofs.lemmas.Bool.{lt-ltb, ltb-true, le-leb, eqb-true, eq-eqb, both_ways, leb-false, ltb-false, and_from, and_parts, or_left, or_right}
 pub use Rattle.std.proofs.lemmas.List.{map-set, append_cancel_left, get_or_push, drop_all, length-take-le}
 pub use Rattle.std.specs.Arc.{arc_value}
 pub use Rattle.std.specs.Option.{option_to_list, unwrap_or}
@@ -46,7 +46,8 @@ pub use Rattle.mem_base.specs.machine.Publishing.{holds_up, held_up, held_at, he
 pub use Rattle.mem_base.specs.machine.SharedHistory.{Shared, shared_possible, is_same_place, shared, shared_reply, after_shared_entry, PoolTouch, pool_after}
 pub use Rattle.mem_base.specs.machine.SharedHistory.{old_in, shared_opening, IsSharedLegal}
 pub use Rattle.mem_base.specs.machine.Turns.{history_entry}
-pub use Rattle.view_laws.proofs.Tests.{none_is_not_some, both, both_of, or_left, or_right, none_is_no_number, same_number, same_some}
+pub use Rattle.view_laws.proofs.Tests.{none_is_not_some, none_is_no_number, same_number}
+pub use Rattle.std.proofs.lemmas.Option.{same_Some}
 pub use Rattle.history_laws.proofs.AppendLaws.{generation_stays, generations_by_append, own_append, legal_start, published_append, generations_own}
 pub use Rattle.history_laws.proofs.AppendLaws.{after_append, legal_snoc, own_other, pass_by_append, last_reply, published_more, pass_owns, published_longer}
 pub use Rattle.history_laws.proofs.NumberLaws.{sound, none_placed, all_of}

@@ -5,7 +5,7 @@ use Rattle.epoch_rule.proofs.Common.{Nothing, HistoryEntry, PassState, idle, pas
 use Rattle.epoch_rule.proofs.Common.{history_entry, actor_of, own_entries, pass_after_all, generations_after_all, generations_published, generation_published}
 use Rattle.epoch_rule.proofs.Common.{first_generation, state_of, IsLegal, pass_seen, generations_seen, PlacesFit, ComesNext, Suits, shown_by, IsCopy}
 use Rattle.epoch_rule.proofs.Common.{IsEnteredIn, HasItsEdition, value_in, own_append, generations_by_append, published_append, legal_start, last_of, EndsWith}
-use Rattle.epoch_rule.proofs.Common.{sound, generation_stays, none_is_not_some, same_some, generations_after, pass_by_append, last_reply, published_more}
+use Rattle.epoch_rule.proofs.Common.{sound, generation_stays, none_is_not_some, same_Some, generations_after, pass_by_append, last_reply, published_more}
 use Rattle.epoch_rule.proofs.Common.{arith, Wrote, pass_of, length-replicate, get_or-replicate, pass_owns}
 use Rattle.std.proofs.Common.{eq-eqb}
 use Rattle.mem_base.specs.declared.machine.events.Event.TheVariants as events
@@ -88,7 +88,7 @@ module _ {E Z : Type 0} (number : E → ℕ) (forest : E → Forest) (places : E
       → HasItsEdition number forest places p me o
   stands_in p r me None inside carries low copy roomy = none_is_not_some _ copy.1
   stands_in p r me (Some a) inside carries low copy roomy =
-      let same : a ≡ copy.0 = same_some a copy.0 copy.1 in
+      let same : a ≡ copy.0 = same_Some a copy.0 copy.1 in
       let is : number (arc_value a) ≡ r = ap (λ (x : Arc E Z). number (arc_value x)) same ∙ copy.2 in
       let shows : shown_by forest places (arc_value a) ≡ generation_published me.0.seen r = ap (λ (x : Arc E Z). shown_by forest places (arc_value x)) same
       ∙ copy.3 in (
@@ -104,7 +104,7 @@ module _ {E Z : Type 0} (number : E → ℕ) (forest : E → Forest) (places : E
   pub entered_at : (p : ℕ) (me : Me (Option (Arc E Z)) View) (o : Option (Arc E Z)) (e : E) → value_in o ≡ Some e → HasItsEdition number forest places p me o
       → IsEnteredIn number forest places p me.0 e
   entered_at p me None e is s = none_is_not_some _ is
-  entered_at p me (Some a) e is s = subst (IsEnteredIn number forest places p me.0) (same_some _ _ is) s.0
+  entered_at p me (Some a) e is s = subst (IsEnteredIn number forest places p me.0) (same_Some _ _ is) s.0
 
 pub suits_on : (t u : TableId) (z y : Sizes) → t ≡ u → z ≡ y → Suits t z → Suits u y
 suits_on t u z y a b h = subst (λ (x : TableId × Sizes). Suits x.0 x.1) (λ i. (a i, b i)) h

@@ -5,7 +5,7 @@ use Rattle.epoch_rule.proofs.Common.{get_or-set_same, both_ways, arc_value, Arc,
 use Rattle.epoch_rule.proofs.Common.{Nothing, HistoryEntry, Generations, PassTrack, nothing_known, known_of, known_after_sweep, pin_word, number_pinned}
 use Rattle.epoch_rule.proofs.Common.{first_generations, with_known, with_placed, all_placed, Sizes, View, Found, pass_id, history_entry, actor_of, own_entries}
 use Rattle.epoch_rule.proofs.Common.{generations_after_all, IsLegal, generations_seen, KeepsSlot, ComesNext, stored, Every, holds_up, Picked, sweeps_of}
-use Rattle.epoch_rule.proofs.Common.{places_of, HasWritten, HasSwept, AreCopies, held_in, none_is_no_number, same_number, none_is_not_some, both}
+use Rattle.epoch_rule.proofs.Common.{places_of, HasWritten, HasSwept, AreCopies, held_in, none_is_no_number, same_number, none_is_not_some, and_from}
 use Rattle.epoch_rule.proofs.Common.{generations_by_append, EndsWith, leb-false, option_to_list, map-set, every_first, every_rest, length-map, TableId, Me}
 use Rattle.epoch_rule.proofs.Common.{least_lowest, held_up, carried_pick, Wrote, IsWriting, HasPlaced, least_in, refusal_of, none_placed, number_seen, min}
 use Rattle.epoch_rule.proofs.Common.{option_map, nat_le, held_at, held_from}
@@ -202,7 +202,7 @@ unplaced_stored (k ∷ ks) = ap (λ l. stored k ∷ l) (unplaced_stored ks)
 
 pub all_from : (ks : List PassTrack) → ((u : ℕ) → u < length ks → (get_or ks u nothing_known).placed ≡ true) → all_placed ks ≡ true
 all_from [] h = refl
-all_from (k ∷ ks) h = both _ _ (h 0 (omega arith)) (all_from ks (λ u l. h (suc u) (omega arith)))
+all_from (k ∷ ks) h = and_from _ _ (h 0 (omega arith)) (all_from ks (λ u l. h (suc u) (omega arith)))
 
 -- a pass that has its copy had it, or got it by now
 pub places_placed : (g : Generations) (n u : ℕ) → (known_of (generations_after_all g (places_of n)) (pass_id u)).placed ≡ true

@@ -4,10 +4,10 @@ use Rattle.epoch_rule.proofs.Common.{append-nil, arith, Option, Some, None, Matc
 use Rattle.epoch_rule.proofs.Common.{Hand, Place, Event, At, HistoryEntry, Every, IsEdition, past, cell, PassState, pass_after, pass_id, Generation}
 use Rattle.epoch_rule.proofs.Common.{generation, entered_generation, Shared, shared_possible, is_same_place, Sizes, View, history_entry, actor_of}
 use Rattle.epoch_rule.proofs.Common.{actor_of_hand, own_entries, state_of, IsLegal, pass_seen, generations_seen, ComesNext, shown_by, IsEnteredIn, TouchesWord}
-use Rattle.epoch_rule.proofs.Common.{IsReady, IsTouch, touch_at, Wrote, WriterMay, both, generation_stays, sound, Carried, none_is_not_some, IsSettled}
+use Rattle.epoch_rule.proofs.Common.{IsReady, IsTouch, touch_at, Wrote, WriterMay, and_from, generation_stays, sound, Carried, none_is_not_some, IsSettled}
 use Rattle.epoch_rule.proofs.Common.{ToldStep, Told, event_of, ◌&&◌, IsSomeAnd, IsRegionPlace, IsNotifiersPlace, extent, extent_of, words_of, place_from}
 use Rattle.epoch_rule.proofs.Common.{pages_in, is_data_or_register, word_of_page, notifiers_place, is_notifiers, KeepsHome, IsReach, PassMay, ShowsStep}
-use Rattle.epoch_rule.proofs.Common.{ShowsTouch, both_of, or_left, or_right}
+use Rattle.epoch_rule.proofs.Common.{ShowsTouch, and_parts, or_left, or_right}
 use Rattle.std.specs.List.{list_any}
 use Rattle.mem_base.specs.declared.access.cells.WordStep.{WordStep}
 use Rattle.mem_base.specs.declared.map.forests.Node.{Node}
@@ -28,7 +28,7 @@ use Rattle.view_laws.proofs.LiveLaws.{every_in}
 
 all_same : (p q : Place) → is_same_place p q ≡ true → q ≡ p
 all_same p q h =
-    let a = both_of _ _ h in let b = both_of _ _ a.0 in let c = both_of _ _ b.0 in let d = both_of _ _ c.0 in
+    let a = and_parts _ _ h in let b = and_parts _ _ a.0 in let c = and_parts _ _ b.0 in let d = and_parts _ _ c.0 in
     let e0 : q.region.0 ≡ p.region.0 = sym (eqb-true _ _ d.0) in
     let e1 : q.start ≡ p.start = sym (eqb-true _ _ d.1) in
     let e2 : q.words ≡ p.words = sym (eqb-true _ _ c.1) in
@@ -44,9 +44,9 @@ reaches : (f : Forest) (ps : List Place) (p : Place) (word : ℕ) → IsEdition 
     → may_reach (Some (generation f ps)) p (cell p.region word) ≡ true
 reaches f ps p word k there inside = ⊎_elim
     (λ (h : IsRegionPlace k.pool_words f p). or_left (names f p.region && is_data_or_register p word) (is_notifier (cell p.region word))
-    (both _ _ h.named inside))
+    (and_from _ _ h.named inside))
     (λ (h : IsNotifiersPlace k.pool_words f p). or_right (names f p.region && is_data_or_register p word) (is_notifier (cell p.region word))
-    (both _ _ (ap (λ (q : Place). is_notifiers q.region) h.1) (notified h.1)))
+    (and_from _ _ (ap (λ (q : Place). is_notifiers q.region) h.1) (notified h.1)))
     (one_of (λ q. IsRegionPlace k.pool_words f q ⊎ IsNotifiersPlace k.pool_words f q) p ps k.places_of.each there)
   where
     notified : p ≡ notifiers_place k.pool_words → nat_lt word 64 ≡ true
@@ -55,7 +55,7 @@ reaches f ps p word k there inside = ⊎_elim
 marks : (f : Forest) (ps : List Place) (p : Place) (page : ℕ) → IsEdition f ps → list_any (is_same_place p) ps ≡ true → page < pages_in p
     → may_mark (Some (generation f ps)) p p.region page ≡ true
 marks f ps p page k there near = ⊎_elim
-    (λ (h : IsRegionPlace k.pool_words f p). both _ _ h.named (lt-ltb _ _ near))
+    (λ (h : IsRegionPlace k.pool_words f p). and_from _ _ h.named (lt-ltb _ _ near))
     (λ (h : IsNotifiersPlace k.pool_words f p). absurd (let z : pages_in p ≡ 0 = ap pages_in h.1 in omega arith))
     (one_of (λ q. IsRegionPlace k.pool_words f q ⊎ IsNotifiersPlace k.pool_words f q) p ps k.places_of.each there)
 
@@ -91,14 +91,14 @@ pass_steps : (s : Shared) (v : ℕ) (f : Forest) (ps : List Place) (p : Place) (
     → entered_generation s.generations s.passes (pass_id v) ≡ Some (generation f ps) → IsTouch (hands.Pass (pass_id v)) p word touch
     → PassMay ps p word touch → shared_possible s (event_of (hands.Pass (pass_id v)) p word touch) (At p) ≡ true
 pass_steps s v f ps p word touches.Look k is kind may =
-    rw is (both _ _ (both _ _ (eq-eqb _ _ refl) (reaches f ps p word k may.0 may.1)) may.0)
+    rw is (and_from _ _ (and_from _ _ (eq-eqb _ _ refl) (reaches f ps p word k may.0 may.1)) may.0)
 pass_steps s v f ps p word (touches.Step step) k is kind may =
-    rw is (both _ _ (both _ _ (eq-eqb _ _ refl) (reaches f ps p word k may.0 may.1)) may.0)
+    rw is (and_from _ _ (and_from _ _ (eq-eqb _ _ refl) (reaches f ps p word k may.0 may.1)) may.0)
 pass_steps s v f ps p word (touches.Try old first bytes value) k is kind may =
-    rw is (both _ _ (both _ _ (eq-eqb _ _ refl) (reaches f ps p word k may.0 may.1)) may.0)
+    rw is (and_from _ _ (and_from _ _ (eq-eqb _ _ refl) (reaches f ps p word k may.0 may.1)) may.0)
 pass_steps s v f ps p word touches.Fill k is kind may = absurd kind
 pass_steps s v f ps p word (touches.Mark client page) k is kind may =
-    rw is (both _ _ (both _ _ (eq-eqb _ _ refl) (marks f ps p page k may.0 may.1)) may.0)
+    rw is (and_from _ _ (and_from _ _ (eq-eqb _ _ refl) (marks f ps p page k may.0 may.1)) may.0)
 pass_steps s v f ps p word (touches.Harvest client index) k is kind may = absurd kind.0
 
 -- the kind of a touch
@@ -146,13 +146,13 @@ ready_pass number forest places z p v e at word touch law role near s room kind 
 -- the writer is ready
 writer_steps : (s : Shared) (p : Place) (word : ℕ) (touch : Touch) → IsTouch hands.Writer p word touch → word < p.words → past p ≤ length s.words
     → shared_possible s (event_of hands.Writer p word touch) (At p) ≡ true
-writer_steps s p word touches.Look kind l m = both _ _ (eq-eqb _ _ refl) (both _ _ (lt-ltb _ _ l) (le-leb _ _ m))
-writer_steps s p word (touches.Step step) kind l m = both _ _ (eq-eqb _ _ refl) (both _ _ (lt-ltb _ _ l) (le-leb _ _ m))
-writer_steps s p word (touches.Try old first bytes value) kind l m = both _ _ (eq-eqb _ _ refl) (both _ _ (lt-ltb _ _ l) (le-leb _ _ m))
-writer_steps s p word touches.Fill kind l m = both _ _ (eq-eqb _ _ refl) (both _ _ (lt-ltb _ _ l) (le-leb _ _ m))
+writer_steps s p word touches.Look kind l m = and_from _ _ (eq-eqb _ _ refl) (and_from _ _ (lt-ltb _ _ l) (le-leb _ _ m))
+writer_steps s p word (touches.Step step) kind l m = and_from _ _ (eq-eqb _ _ refl) (and_from _ _ (lt-ltb _ _ l) (le-leb _ _ m))
+writer_steps s p word (touches.Try old first bytes value) kind l m = and_from _ _ (eq-eqb _ _ refl) (and_from _ _ (lt-ltb _ _ l) (le-leb _ _ m))
+writer_steps s p word touches.Fill kind l m = and_from _ _ (eq-eqb _ _ refl) (and_from _ _ (lt-ltb _ _ l) (le-leb _ _ m))
 writer_steps s p word (touches.Mark client page) kind l m = absurd kind.0
 writer_steps s p word (touches.Harvest client index) kind l m =
-    both _ _ (eq-eqb _ _ refl) (both _ _ (lt-ltb _ _ (subst (λ (n : ℕ). n < p.words) kind.1 l)) (le-leb _ _ m))
+    and_from _ _ (eq-eqb _ _ refl) (and_from _ _ (lt-ltb _ _ (subst (λ (n : ℕ). n < p.words) kind.1 l)) (le-leb _ _ m))
 
 pub ready_writer : (z : Sizes) (v : View) (at : Place) (word : ℕ) (touch : Touch) → v.role ≡ Some 0 → IsTouch hands.Writer at word touch → WriterMay z at word
     → IsReady z v hands.Writer at word touch

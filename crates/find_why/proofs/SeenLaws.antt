@@ -27,6 +27,9 @@ use Rattle.find_why.specs.Reasons.{Place, place_in, places, IsSo, AreTried, is_a
 use Rattle.find_why.specs.Looked.{Some_of, IsLook, IsFollowed, IsLooked, AreLooked, answering}
 use Rattle.find_why.specs.Seen.{Went, Sees, SeesAmong, tried_in, unless, came_of, later, places_of, IsShallow}
 use Rattle.find_why.proofs.LookedLaws.{some_last, covers_grown, all_followed_in, grows_not, grows_on, one_more, answering_one}
+use Rattle.std.proofs.lemmas.Bool.{and_right}
+use Rattle.mem_base.proofs.NodeLaws.{inside-own}
+use Rattle.mem_base.proofs.BoolLaws.{or_joins}
 
 abbrev pub sight : Outcome → Option Spot → Sight
 sight o s = record { outcome = o; spot = s }
@@ -62,16 +65,12 @@ no_step f (suc depth) n a e t =
     found_in_step f (suc depth) depth n.id a n next e
     ∙ ap (λ b. cond b (option_map (passed n) (inside f (found_in f depth) n.kind n a)) None) t
 
-second_false : (b c : Bool) → c ≡ false → (b && c) ≡ false
-second_false true c e = e
-second_false false c e = refl
-
 -- a region that ends before the offset
 pub ends_before : (f : Forest) (depth : ℕ) (n : Node) (a : ℕ) (looks : List Look) → node_of f.nodes n.id ≡ Some n → n.size ≤ a → AreLooked f looks →
     Sees f false (n.id, Some a) (found_in f depth n.id a) looks looks (sight EndsBefore None)
 ends_before f depth n a looks e l h =
     let out : nat_lt a n.size ≡ false = grind (arith, nat_tests) in
-    not_looked f false (n.id, Some a) _ looks EndsBefore (no_step f depth n a e (second_false n.enabled (nat_lt a n.size) out)) refl
+    not_looked f false (n.id, Some a) _ looks EndsBefore (no_step f depth n a e (and_right n.enabled (nat_lt a n.size) out)) refl
     (a, refl, (n, e, l)) tt h
 
 -- a region that is disabled
@@ -198,11 +197,6 @@ plain_places : (nodes : List Node) (k : Kind) (n : Node) (a : ℕ) → ((target 
 plain_places nodes (Alias target offset) n a h = absurd (h target offset refl)
 plain_places nodes _ n a h = refl
 
-plain_inside : (f : Forest) (below : Search) (k : Kind) (n : Node) (a : ℕ) → ((target : RegionId) (offset : ℕ) → k ≡ Alias target offset → ⊥) →
-    inside f below k n a ≡ option_or (first_of_children below (children_of f.nodes n.id) a) (itself f.global n.kind n a)
-plain_inside f below (Alias target offset) n a h = absurd (h target offset refl)
-plain_inside f below _ n a h = refl
-
 -- a region that is no alias was looked into by its children, and then by itself
 pub with_own : (f : Forest) (below : Search) (k : Kind) (n : Node) (a : ℕ) (old new : List Look) (ts : List Tried) (spot own : Option Spot) →
     ((target : RegionId) (offset : ℕ) → k ≡ Alias target offset → ⊥) →
@@ -211,7 +205,7 @@ pub with_own : (f : Forest) (below : Search) (k : Kind) (n : Node) (a : ℕ) (ol
 with_own f below k n a old new ts spot own no_alias h e =
     let x = first_of_children below (children_of f.nodes n.id) a in
     let whole : inside f below k n a ≡ option_or x (option_map (λ (s : Spot). let y : Found = (s, []) in y) own) =
-    plain_inside f below k n a no_alias ∙ ap (option_or x) e in
+    inside-own f below k n a no_alias ∙ ap (option_or x) e in
     record {
       found = spot_or x spot own h.found ∙ ap spot_of (sym whole);
       so = subst (λ ps. AreTried f false ps ts) (sym (plain_places f.nodes k n a no_alias)) h.so;
@@ -225,10 +219,6 @@ with_own f below k n a old new ts spot own no_alias h e =
 
 -- the children one after another
 
-or_both : (b c d : Bool) → (b || (c || d)) ≡ ((b || c) || d)
-or_both true c d = refl
-or_both false c d = refl
-
 tried_push : (f : Forest) (b : Bool) (ps : List Place) (ts : List Tried) (p : Place) (o : Outcome) → AreTried f b ps ts →
     IsSo f (b || list_any (λ t. is_answer t.outcome) ts) p o → AreTried f b (ps ++ p ∷ []) (ts ++ tried p.0 o ∷ [])
 tried_push f b [] [] p o h s = (refl, subst (λ c. IsSo f c p o) (or_false b) s, tt) where
@@ -241,7 +231,7 @@ tried_push f b (q ∷ ps) (t ∷ ts) p o h s = (
   h.0,
   h.1,
   tried_push f (b || is_answer t.outcome) ps ts p o h.2
-      (subst (λ c. IsSo f c p o) (or_both b (is_answer t.outcome) (list_any (λ t. is_answer t.outcome) ts)) s),
+      (subst (λ c. IsSo f c p o) (or_joins b (is_answer t.outcome) (list_any (λ t. is_answer t.outcome) ts)) s),
 )
 
 any_push : (ts : List Tried) (t : Tried) → list_any (λ t. is_answer t.outcome) (ts ++ t ∷ []) ≡ (list_any (λ t. is_answer t.outcome) ts || is_answer t.outcome)
@@ -250,7 +240,7 @@ any_push [] t = one (is_answer t.outcome) where
   one true = refl
   one false = refl
 any_push (x ∷ xs) t = ap (λ b. is_answer x.outcome || b) (any_push xs t)
-    ∙ or_both (is_answer x.outcome) (list_any (λ t. is_answer t.outcome) xs) (is_answer t.outcome)
+    ∙ or_joins (is_answer x.outcome) (list_any (λ t. is_answer t.outcome) xs) (is_answer t.outcome)
 
 first_push : (below : Search) (cs : List Node) (c : Node) (a : ℕ) →
     first_of_children below (cs ++ c ∷ []) a ≡ option_or (first_of_children below cs a) (tried_in below c a)

@@ -15,7 +15,7 @@ use Rattle.mem_base.specs.map.Order.{children_of}
 use Rattle.mem_base.specs.map.Search.{root_of, is_space}
 use Rattle.mem_base.specs.map.Forest.{IsMade, IsRegion, HasTarget}
 use Rattle.mem_base.proofs.EveryLaws.{weaker, both}
-use Rattle.mem_base.proofs.ForestLaws.{every_child, every_node_of, node_of-itself, id_of}
+use Rattle.mem_base.proofs.ForestLaws.{every_child, every_node_of, node_of-itself}
 use Rattle.mem_base.proofs.JoinLaws.{within_most_depth}
 use Rattle.child_lists.specs.declared.siblings.Sibling.{Sibling}
 use Rattle.child_lists.specs.Siblings.{siblings_of}
@@ -104,7 +104,3 @@ next_at f depth r items i d made e l h =
     let here = child_at (IsNext f depth) cs i d (subst (λ (xs : List Sibling). i < length xs) e l)
     (both (λ c. node_of f.nodes c.id ≡ Some c) (λ c. IsShallow f depth c.id) cs (children_there f r made) h) in
     (here.0, ap (λ (xs : List Sibling). (get_or xs i d).id) e ∙ here.1, here.2, here.3)
-
--- a region that was found by an id is found by its own
-pub found_itself : (nodes : List Node) (r : RegionId) (n : Node) → Some n ≡ node_of nodes r → node_of nodes n.id ≡ Some n
-found_itself nodes r n e = ap (node_of nodes) (id_of nodes r n (sym e)) ∙ sym e

@@ -1,6 +1,5 @@
-use Rattle.std.proofs.Common.{true, false, ◌≡◌, ℕ, ◌+◌, ◌-◌, ◌^◌, ◌<◌, ◌≤◌, List, [], ◌∷◌, ◌++◌, Option, Some, None, refl, sym, ap, subst}
-use Rattle.std.proofs.Common.{◌∙◌, arith, ⊎_elim, zero, suc, length, get_or, set, take, drop, drop_of_length-le, add-one}
-use Rattle.std.proofs.Math.Seq.{drop-cons}
+use Rattle.std.proofs.Common.{true, false, ◌≡◌, ℕ, ◌+◌, ◌-◌, ◌^◌, ◌<◌, ◌≤◌, List, [], ◌∷◌, ◌++◌, Some, refl, sym, ap, subst}
+use Rattle.std.proofs.Common.{◌∙◌, arith, ⊎_elim, zero, suc, length, get_or, set, take, drop, drop_of_length-le}
 use Rattle.std.proofs.lemmas.Bool.{cases_lt}
 use Rattle.std.proofs.lemmas.List.{drop-set-lt}
 use Rattle.std.specs.Option.{option_or}
@@ -18,10 +17,8 @@ use Rattle.mem_base.specs.views.View.{seen, shown, IsRanges, PathAt, IsOnOnePath
 use Rattle.mem_base.proofs.SliceLaws.{IsToldOn, told_on, ranges_of-slices_of, Tells-agrees}
 use Rattle.mem_base.proofs.EveryLaws.{every_push}
 use Rattle.mem_base.proofs.ViewLaws.{spot_at, seen-before, seen-after, seen-within, IsMerged-same, IsOnOnePath-same, shown-injective}
-
-or_assoc : {A : Type 0} (x y z : Option A) → option_or (option_or x y) z ≡ option_or x (option_or y z)
-or_assoc None y z = refl
-or_assoc (Some x) y z = refl
+use Rattle.mem_base.proofs.OptionLaws.{or_assoc, or_none}
+use Rattle.mem_base.proofs.ListLaws.{drop_next}
 
 -- what stands in for a range that is not there
 abbrev pub no_range : FlatRange
@@ -68,10 +65,6 @@ seen-merged path r q a m l k =
     (cases_lt r.last a))
     (cases_lt q.last a))
     (cases_lt a r.start)
-
-or_none : {A : Type 0} (x : Option A) → option_or x None ≡ x
-or_none None = refl
-or_none (Some x) = refl
 
 shown-push : (rs : List FlatRange) (r : FlatRange) (a : ℕ) → shown (rs ++ r ∷ []) a ≡ option_or (shown rs a) (seen r a)
 shown-push [] r a = or_none (seen r a)
@@ -194,9 +187,6 @@ merging_next path all done c q here p rest ps h m = record {
       ∙ or_assoc (shown (done ++ c ∷ []) a) (seen q a) (shown rest a)
       ∙ h.same a;
 }
-
-drop_next : {A : Type 0} (rs : List A) (i : ℕ) (d : A) → i < length rs → drop i rs ≡ get_or rs i d ∷ drop (i + 1) rs
-drop_next rs i d l = subst (λ j. drop i rs ≡ get_or rs i d ∷ drop j rs) (sym (add-one i)) (drop-cons rs i d l)
 
 -- the next range and its path are looked at
 next_ahead : (path : PathAt) (all done : List FlatRange) (c : FlatRange) (here : List RegionId) (now : List FlatRange) (paths : List (List RegionId)) (i : ℕ)

@@ -1,5 +1,5 @@
 -- The place of a region, among places in order.
-use Rattle.std.proofs.Common.{◌≡◌, ◌≢◌, ℕ, zero, suc, ◌<◌, ◌≤◌, true, false, eqb, List, [], ◌∷◌, length, get_or, Some, None, Err, refl, sym, ap, arith}
+use Rattle.std.proofs.Common.{◌≡◌, ℕ, zero, suc, ◌<◌, ◌≤◌, true, false, eqb, List, [], ◌∷◌, length, get_or, Some, None, Err, refl, sym, ap, arith}
 use Rattle.std.specs.List.Sorted.{IsBinarySearchResult, IsNonDecreasingBy}
 use Rattle.std.specs.declared.cmp.Ordering.TheVariants.{Equal}
 use Rattle.std.specs.Ordering.{nat_cmp, ordering_index}
@@ -10,6 +10,7 @@ use Rattle.mem_base.specs.declared.access.cells.Place.{Place}
 use Rattle.mem_base.specs.access.PlacesByRegion.{place_in}
 use Rattle.mem_base.proofs.EveryLaws.{every_at}
 use Rattle.generation.specs.Published.{AscendByRegion}
+use Rattle.mem_base.proofs.PlaceLaws.{missing}
 
 ids_rise : (places : List Place) (i j : ℕ) (d : Place) → AscendByRegion places → i < j → j < length places
     → (get_or places i d).region.0 < (get_or places j d).region.0
@@ -27,14 +28,6 @@ found_there (p ∷ ps) (suc i) d r l h e =
     let less : p.region.0 < (get_or ps i d).region.0 = every_at (λ q. p.region.0 < q.region.0) ps i d (omega arith) h.0 in
     let t : eqb p.region.0 r.0 ≡ false = grind (arith, nat_tests, e, less) in
     rw t (found_there ps i d r (omega arith) h.1 e)
-
--- a region whose id stands nowhere has no place
-missing : (places : List Place) (r : RegionId) → ((k : ℕ) (d : Place) → k < length places → (get_or places k d).region.0 ≢ r.0) → place_in places r ≡ None
-missing [] r h = refl
-missing (p ∷ ps) r h =
-    let first = h 0 p (omega arith) in
-    let t : eqb p.region.0 r.0 ≡ false = grind (arith, nat_tests) in
-    rw t (missing ps r (λ k d l. h (suc k) d (omega arith)))
 
 module _ (places : List Place) (ascending : AscendByRegion places) (r : RegionId) where
   comparisons_rise : IsNonDecreasingBy (λ (p : Place). ordering_index (nat_cmp p.region.0 r.0)) places

@@ -1,5 +1,5 @@
 -- The tables of IOMMU regions.
-use Rattle.std.proofs.Common.{◌≡◌, ◌+◌, ◌||◌, Bool, true, false, cond, List, [], ◌∷◌, Some, None, refl, sym, ap, ◌∙◌, subst}
+use Rattle.std.proofs.Common.{◌≡◌, ◌+◌, Bool, true, false, cond, List, [], ◌∷◌, Some, None, refl, sym, ap, ◌∙◌, subst}
 use Rattle.std.specs.List.{list_any}
 use Rattle.std.specs.Prelude.{unwrap_or, option_map}
 use Rattle.mem_base.specs.declared.map.ids.RegionId.{RegionId}
@@ -12,15 +12,12 @@ use Rattle.mem_base.specs.map.Region.{has_id, node_of, of_region}
 use Rattle.mem_base.specs.map.TableRefusals.{bad_page}
 use Rattle.mem_base.specs.access.Translations.{translates}
 use Rattle.map_laws.proofs.SoundCallLaws.{IsClosedForest-made}
-
-or_false : (a b : Bool) → a || b ≡ false → (a ≡ false) × (b ≡ false)
-or_false true b e = cc
-or_false false b e = (refl, e)
+use Rattle.std.proofs.lemmas.Bool.{or_parts}
 
 none_there : (nodes : List Node) (r : RegionId) → list_any (λ n. is_iommu n.kind) nodes ≡ false → of_region nodes r false (λ n. is_iommu n.kind) ≡ false
 none_there [] r h = refl
 none_there (x ∷ xs) r h =
-    let k = or_false (is_iommu x.kind) (list_any (λ n. is_iommu n.kind) xs) h in
+    let k = or_parts (is_iommu x.kind) (list_any (λ n. is_iommu n.kind) xs) h in
     by (has_id r x) refl k.0 (none_there xs r k.1)
   where
     by : (b : Bool) → has_id r x ≡ b → is_iommu x.kind ≡ false → of_region xs r false (λ n. is_iommu n.kind) ≡ false → of_region (x ∷ xs) r false (λ n. is_iommu n.kind) ≡ false

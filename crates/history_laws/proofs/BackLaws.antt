@@ -2,7 +2,7 @@
 use Rattle.std.proofs.Common.{◌≡◌, ◌⊎◌, ℕ, ◌+◌, ◌<◌, ◌≤◌, ne_eqb, eq-eqb, Bool, true, false, ◌&&◌, cond, List, [], ◌∷◌, ◌++◌, sym, refl, ap}
 use Rattle.std.proofs.Common.{◌∙◌, subst, inl, inr, arith, if◌then◌else◌, Option, Some, None}
 use Rattle.std.specs.Prelude.{◌==◌, ◌^◌, ◌-◌, not, filter, option_map, is_some, IsSome, Result, Ok, Err}
-use Rattle.std.proofs.lemmas.Bool.{eqb-true, eqb-false}
+use Rattle.std.proofs.lemmas.Bool.{eqb-true, eqb-false, and_parts, not-true, not_from_false}
 use mathlib.Core.Logic.{dite}
 use native.Mathlib.Decide.{ℕ_discrete}
 use Rattle.mem_base.specs.declared.map.ids.RegionId.{RegionId}
@@ -43,11 +43,11 @@ use Rattle.mem_base.specs.machine.Configs.{configured, made, backed, kept_back, 
 use Rattle.mem_base.proofs.EveryLaws.{weaker, every_push, every_filter}
 use Rattle.mem_base.proofs.ForestLaws.{known_below, id_of}
 use Rattle.mem_base.proofs.JoinLaws.{node_of-changed_at}
-use Rattle.map_laws.proofs.PairLaws.{pairs_push, pairs_filter}
+use Rattle.map_laws.proofs.PairLaws.{pairs_push}
 use Rattle.map_laws.proofs.DropLaws.{node_of-without, node_of-dropped}
 use Rattle.map_laws.proofs.RefusalLaws.{each_none, refuse_if-none}
 use Rattle.map_laws.proofs.CallLaws.{after-accepted}
-use Rattle.view_laws.proofs.Tests.{both_of, not_true, not_of_false, none_is_not_some, same_some, same_region, true_is_not_false}
+use Rattle.view_laws.proofs.Tests.{none_is_not_some, same_region}
 use Rattle.view_laws.proofs.LiveLaws.{In, every_in}
 use Rattle.view_laws.proofs.SortedLaws.{each_in, append_right, filter_in, filter_out, any_found}
 use Rattle.history_laws.specs.BackedForests.{BacksForest}
@@ -55,6 +55,10 @@ use Rattle.history_laws.proofs.FitLaws.{Fits, fits, clear}
 use Rattle.history_laws.proofs.Idles.{IsSoundDesk}
 use Rattle.history_laws.proofs.DroppedLaws.{Dropped}
 use Rattle.history_laws.proofs.PlaceLaws.{place_some, place_of_region, some_is}
+use Rattle.map_laws.proofs.MoveLaws.{moved_id}
+use Rattle.mem_base.proofs.SortingLaws.{pairs_filter}
+use Rattle.std.proofs.lemmas.Option.{same_Some}
+use Rattle.mem_base.proofs.BoolLaws.{true_is_not_false}
 
 abbrev pub extent_at : Node → Extent
 extent_at n = extent_of n.kind n.size
@@ -82,14 +86,7 @@ changed_keeps nodes r h id same q m e = go (node_of nodes q) refl (sym (node_of-
     go : (o : Option Node) → node_of nodes q ≡ o → option_map (λ n. cond (has_id r n) (h n) n) o ≡ Some m
         → (n : Node) × (node_of nodes q ≡ Some n) × (extent_at m ≡ extent_at n)
     go None d e = none_is_not_some m e
-    go (Some n) d e = (n, d, at n d (has_id r n) refl (same_some (cond (has_id r n) (h n) n) m e))
-
-moved_id : (offset placing : ℕ) (n : Node) → (moved offset placing n).id ≡ n.id
-moved_id offset placing n = go (n.offset == offset)
-  where
-    go : (b : Bool) → (if b then n else record n { offset = offset; placing = placing }).id ≡ n.id
-    go true = refl
-    go false = refl
+    go (Some n) d e = (n, d, at n d (has_id r n) refl (same_Some (cond (has_id r n) (h n) n) m e))
 
 moved_extent : (offset placing : ℕ) (n : Node) → extent_at (moved offset placing n) ≡ extent_at n
 moved_extent offset placing n = go (n.offset == offset)
@@ -188,7 +185,7 @@ node_last : (nodes : List Node) (x m : Node) (q : RegionId) → node_of (nodes +
 node_last [] x m q e = go (has_id q x) refl e
   where
     go : (b : Bool) → has_id q x ≡ b → (if b then Some x else None) ≡ Some m → (None ≡ Some m) ⊎ ((m ≡ x) × (q ≡ x.id))
-    go true t e = inr (sym (same_some x m e), sym (same_region x.id q (eqb-true _ _ t)))
+    go true t e = inr (sym (same_Some x m e), sym (same_region x.id q (eqb-true _ _ t)))
     go false t e = none_is_not_some m e
 node_last (n ∷ ns) x m q e = go (has_id q n) e (node_last ns x m q)
   where
@@ -359,7 +356,7 @@ module _ (pool_words : ℕ) (g : Generations) (d : Desk) (sound : IsSoundDesk d)
     where
       plain : (b : Bool) → makes call ≡ b → ((d.depth == 0) && not (is_quiet call)) ≡ true → makes call ≡ false
       plain false h t = h
-      plain true h t = true_is_not_false (is_quiet call) (is_made_quiet call h) (not_true (is_quiet call) (both_of _ _ t).1)
+      plain true h t = true_is_not_false (is_quiet call) (is_made_quiet call h) (not-true (is_quiet call) (and_parts _ _ t).1)
 
       at : (f : Forest) → forest_after d.forest call ≡ Ok f → (b : Bool) → ((d.depth == 0) && not (is_quiet call)) ≡ b
           → Backs pool_words (if b then publishing g d f (answer_of d.forest call) else kept_back d call f).desk
@@ -430,7 +427,7 @@ reap_backs pool_words h gone k = (
 
     -- a region that is there is not among the dropped ones
     there : (r : RegionId) (n : Node) → node_of h.desk.forest.nodes r ≡ Some n → not (is_among (released h) r) ≡ true
-    there r n e = not_of_false _ (go (is_among (released h) r) refl)
+    there r n e = not_from_false _ (go (is_among (released h) r) refl)
       where
         go : (b : Bool) → is_among (released h) r ≡ b → is_among (released h) r ≡ false
         go false t = t

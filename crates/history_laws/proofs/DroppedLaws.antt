@@ -5,7 +5,7 @@ use Rattle.std.specs.Prelude.{filter, not, nat_lt, ◌==◌, is_some, Result, Ok
 use Rattle.std.specs.declared.cmp.Ordering.{Ordering}
 use Rattle.std.specs.declared.cmp.Ordering.TheVariants.{Less, Equal, Greater}
 use Rattle.std.specs.Ordering.{is_lt, nat_cmp}
-use Rattle.std.proofs.lemmas.Bool.{lt-ltb, ltb-true}
+use Rattle.std.proofs.lemmas.Bool.{ltb-true}
 use mathlib.Core.Logic.{dite}
 use native.Mathlib.Decide.{ℕ_discrete}
 use Rattle.mem_base.specs.declared.map.ids.RegionId.{RegionId}
@@ -42,24 +42,21 @@ use Rattle.mem_base.specs.machine.World.{World, after_telling, number_in, openin
 use Rattle.mem_base.specs.machine.History.{PureEntry, after_entry, after_entries, IsLegalFrom, IsLegal}
 use Rattle.mem_base.proofs.EveryLaws.{weaker, every_filter}
 use Rattle.map_laws.proofs.RefusalLaws.{each_none, is_known}
-use Rattle.mem_base.proofs.ForestLaws.{known_below}
+use Rattle.mem_base.proofs.ForestLaws.{known_below, every_put}
 use Rattle.mem_base.proofs.JoinLaws.{node_of-changed_at}
 use Rattle.map_laws.proofs.DropLaws.{node_of-without, node_of-dropped}
 use Rattle.map_laws.proofs.CallLaws.{after-accepted}
 use Rattle.history_laws.specs.Released.{DropsOnce}
-use Rattle.view_laws.proofs.Tests.{true_is_not_false}
 use Rattle.history_laws.proofs.Idles.{IsSoundDesk, opens_idle}
-use Rattle.view_laws.proofs.SortedLaws.{every_put}
 use Rattle.history_laws.proofs.ReplayedLaws.{find_push}
 use Rattle.history_laws.proofs.PublishedLaws.{sound_after}
+use Rattle.mem_base.proofs.EntryLaws.{before_is}
+use Rattle.mem_base.proofs.BoolLaws.{true_is_not_false}
 
 -- a list that is put in order
 
 abbrev Other : RegionId → RegionId → Type 0
 Other x y = x.0 ≢ y.0
-
-less_of : (a b : ℕ) → a < b → nat_cmp a b ≡ Less
-less_of a b l = rw (lt-ltb a b l) refl
 
 of_less : (a b : ℕ) → nat_cmp a b ≡ Less → a < b
 of_less a b e = go (nat_lt a b) refl
@@ -77,10 +74,10 @@ put_rising x [] h k = (tt, tt)
 put_rising x (y ∷ ys) h k = go (nat_cmp x.0 y.0) refl (put_rising x ys h.1 k.1)
   where
     larger : y.0 < x.0 → Every (λ z. region_order y z ≡ Less) (put_by region_order x ys)
-    larger l = every_put (λ z. region_order y z ≡ Less) region_order x ys (less_of y.0 x.0 l) k.0
+    larger l = every_put (λ z. region_order y z ≡ Less) region_order x ys (before_is y.0 x.0 l) k.0
 
     more : (o : Ordering) → nat_cmp x.0 y.0 ≡ o → (o ≡ Less → ⊥) → y.0 < x.0
-    more o e ne = let far : x.0 < y.0 → ⊥ = (λ l. ne (sym e ∙ less_of x.0 y.0 l)) in let other = h.0 in grind (arith, far, other)
+    more o e ne = let far : x.0 < y.0 → ⊥ = (λ l. ne (sym e ∙ before_is x.0 y.0 l)) in let other = h.0 in grind (arith, far, other)
 
     go : (o : Ordering) → nat_cmp x.0 y.0 ≡ o → IsRising region_order (put_by region_order x ys)
         → IsRising region_order (if is_lt o then x ∷ y ∷ ys else y ∷ put_by region_order x ys)
@@ -88,7 +85,7 @@ put_rising x (y ∷ ys) h k = go (nat_cmp x.0 y.0) refl (put_rising x ys h.1 k.1
       (
         e,
         weaker (λ z. region_order y z ≡ Less) (λ z. region_order x z ≡ Less) (λ z t. let l = of_less x.0 y.0 e in
-            let m = of_less y.0 z.0 t in less_of x.0 z.0 (omega arith)) ys k.0,
+            let m = of_less y.0 z.0 t in before_is x.0 z.0 (omega arith)) ys k.0,
       ),
       k,
     )

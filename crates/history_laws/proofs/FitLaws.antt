@@ -3,7 +3,7 @@ use Rattle.std.proofs.Common.{◌≡◌, ◌⊎◌, ℕ, zero, suc, ◌+◌, ◌
 use Rattle.std.proofs.Common.{inl, inr, arith, if◌then◌else◌, Some, None, ⊎_elim}
 use Rattle.std.specs.Prelude.{find, option_map, nat_le, nat_lt, ◌==◌}
 use Rattle.std.specs.List.{list_any}
-use Rattle.std.proofs.lemmas.Bool.{cases_lt, leb-true, le-leb, lt-ltb}
+use Rattle.std.proofs.lemmas.Bool.{cases_lt, leb-true, le-leb, lt-ltb, not-true, and_from}
 use Rattle.mem_base.specs.declared.map.ids.RegionId.{RegionId}
 use Rattle.mem_base.specs.declared.access.cells.Place.{Place}
 use Rattle.mem_base.specs.lists.Booleans.{bool_eq}
@@ -13,9 +13,10 @@ use Rattle.mem_base.specs.lists.Runs.{Run, runs, put_before}
 use Rattle.mem_base.specs.access.Places.{past, is_free, is_as_free, holes, first_fit, notifiers_place}
 use Rattle.mem_base.proofs.EveryLaws.{both as both_each}
 use Rattle.view_laws.specs.Cuts.{IsRun, AreRuns}
-use Rattle.view_laws.proofs.Tests.{true_is_not_false, none_is_not_some, same_number, not_true, both, same_place}
+use Rattle.view_laws.proofs.Tests.{none_is_not_some, same_number, same_place}
 use Rattle.view_laws.proofs.CutLaws.{Begins, begins, longest}
 use Rattle.view_laws.proofs.SortedLaws.{every_filter}
+use Rattle.mem_base.proofs.BoolLaws.{true_is_not_false}
 
 -- runs end where the numbers do
 
@@ -103,7 +104,7 @@ no_overlap s n p some m free = ⊎_elim
     (cases_lt s p.start)
   where
     at : (i : ℕ) → p.start ≤ s + i → s + i < p.start + p.words → is_at p (s + i) ≡ true
-    at i l m = both _ _ (le-leb p.start (s + i) l) (lt-ltb (s + i) (p.start + p.words) m)
+    at i l m = and_from _ _ (le-leb p.start (s + i) l) (lt-ltb (s + i) (p.start + p.words) m)
 
 none_of_any : {A : Type 0} (test : A → Bool) (x : A) (xs : List A) → list_any test (x ∷ xs) ≡ false → (test x ≡ false) × (list_any test xs ≡ false)
 none_of_any test x xs h = go (test x) refl h
@@ -132,4 +133,4 @@ clear_of pool_words n s (p ∷ ps) some l free k r q is =
 -- the first fit is clear of all places
 pub clear : (pool_words n s : ℕ) (places : List Place) → 0 < n → Fits pool_words n s places → Every (λ p. 0 < p.words) places
     → (r : RegionId) (q : Place) → place_in (places ++ notifiers_place pool_words ∷ []) r ≡ Some q → (s + n ≤ q.start) ⊎ (q.start + q.words ≤ s)
-clear pool_words n s places some f k r q is = clear_of pool_words n s places some f.inside (λ i l. not_true _ (f.free i l)) k r q is
+clear pool_words n s places some f k r q is = clear_of pool_words n s places some f.inside (λ i l. not-true _ (f.free i l)) k r q is

@@ -3,14 +3,13 @@ use Rattle.std.proofs.Common.{◌≡◌, ℕ, zero, suc, ◌+◌, ◌-◌, ◌<�
 use Rattle.std.proofs.Common.{refl, subst, arith, length-take, if◌then◌else◌, None}
 use Rattle.std.specs.Prelude.{slice_get, nat_le, ◌==◌, IsSome}
 use Rattle.std.specs.List.{list_any}
-use Rattle.std.proofs.lemmas.Bool.{leb-true, le-leb, eqb-true}
+use Rattle.std.proofs.lemmas.Bool.{leb-true, le-leb, eqb-true, and_parts}
 use Rattle.mem_base.specs.declared.map.ids.PassId.{PassId}
 use Rattle.mem_base.specs.map.Limits.{most_generations}
 use Rattle.mem_base.specs.machine.Generations.{Generations, PassTrack, nothing_known, is_held, generation_of, least_lowest}
 use Rattle.mem_base.specs.machine.World.{World}
 use Rattle.mem_base.specs.machine.History.{IsOrderly}
 use Rattle.history_laws.specs.Histories.{KeepsHeld}
-use Rattle.view_laws.proofs.Tests.{both_of}
 
 pub get_there : {A : Type 0} (xs : List A) (i : ℕ) → i < length xs → IsSome (slice_get xs i)
 get_there [] i l = absurd (omega arith)
@@ -35,7 +34,7 @@ near_held g n near h = go (n == g.current) refl h
     go : (b : Bool) → (n == g.current) ≡ b → (b || nat_le n g.current && list_any (λ k. nat_le k.lowest n) g.passes) ≡ true
         → (n ≤ g.current) × (g.current ≤ n + 7)
     go true e h = let s = eqb-true n g.current e in (omega arith, omega arith)
-    go false e h = let p = both_of _ _ h in (leb-true _ _ p.0, near_one g.current n g.passes near p.1)
+    go false e h = let p = and_parts _ _ h in (leb-true _ _ p.0, near_one g.current n g.passes near p.1)
 
 there_when_near : (g : Generations) (n : ℕ) → length g.kept ≡ min (g.current + 1) most_generations → n ≤ g.current → g.current ≤ n + 7
     → IsSome (generation_of g n)

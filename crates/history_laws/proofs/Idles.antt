@@ -52,7 +52,7 @@ pub record Idle (h : Writer) : Type 0 where
   pub flagged : length h.desk.swept ≡ length h.generations.passes
   pub sound : IsSoundDesk h.desk
 
-first_none : (x y : Option Refusal) → option_or x y ≡ None → x ≡ None
+pub first_none : (x y : Option Refusal) → option_or x y ≡ None → x ≡ None
 first_none None y e = refl
 first_none (Some why) y e = none_is_not_some why (sym e)
 

@@ -3,7 +3,7 @@ use Rattle.std.proofs.Common.{◌≡◌, ℕ, zero, suc, ◌+◌, ◌-◌, ◌<�
 use Rattle.std.proofs.Common.{sym, refl, ap, ◌∙◌, subst, arith, length-set, length-append, map, take, get_or-set_other, get_or-set_same}
 use Rattle.std.proofs.Common.{Option, Some, None}
 use Rattle.std.specs.Prelude.{is_some, slice_get}
-use Rattle.std.proofs.lemmas.Bool.{ltb-true, leb-true}
+use Rattle.std.proofs.lemmas.Bool.{ltb-true, leb-true, and_parts}
 use mathlib.Core.Logic.{dite}
 use native.Mathlib.Decide.{ℕ_discrete}
 use lib.ListN.{length-replicate, get_or-replicate, length-map}
@@ -20,7 +20,7 @@ use Rattle.mem_base.specs.machine.SharedHistory.{after_shared_entry, after_share
 use Rattle.mem_base.specs.machine.Actors.{published_with, published_from, first_generation}
 use Rattle.mem_base.specs.machine.Turns.{history_entry}
 use Rattle.history_laws.specs.Numbers.{InNumbers, HasSoundNumbers, SharedHistoriesAreSound}
-use Rattle.view_laws.proofs.Tests.{none_is_no_number, same_number, both_of, none_of}
+use Rattle.view_laws.proofs.Tests.{none_is_no_number, same_number, none_of}
 
 -- one pass, by each kind of event
 
@@ -110,8 +110,8 @@ publishes c k p all ok = let d = ok.placed all in record {
 
 pub all_of : (ks : List PassTrack) (v : ℕ) → all_placed ks ≡ true → v < length ks → (get_or ks v nothing_known).placed ≡ true
 all_of [] v e l = absurd (omega arith)
-all_of (k ∷ ks) zero e l = (both_of _ _ e).0
-all_of (k ∷ ks) (suc v) e l = all_of ks v (both_of _ _ e).1 (omega arith)
+all_of (k ∷ ks) zero e l = (and_parts _ _ e).0
+all_of (k ∷ ks) (suc v) e l = all_of ks v (and_parts _ _ e).1 (omega arith)
 
 pub none_placed : (ks : List PassTrack) (v : ℕ) → get_or (map (with_placed false) ks) v nothing_known ≡ with_placed false (get_or ks v nothing_known)
 none_placed [] v = refl
@@ -184,23 +184,23 @@ module _ (words passes : ℕ) (gs : List Generation) (s : Shared) (k : HasSoundN
 
   pub sound_after : (e : Event) (x : Carried) (r : ℕ) → shared_possible s e x ≡ true → r ≡ shared_reply s e x → HasSoundNumbers words passes
       (published_with gs e x) (after_shared_entry s (history_entry e x r))
-  sound_after (events.Look u) Nothing r may is = let m = both_of _ _ may in let near = inside u.0 (ltb-true _ _ m.0) in
+  sound_after (events.Look u) Nothing r may is = let m = and_parts _ _ may in let near = inside u.0 (ltb-true _ _ m.0) in
       subst (λ (z : ℕ). HasSoundNumbers words passes gs
       (shared s.generations (with_pass s.passes u (record (pass_of s.passes u) { looked = Some z })) s.words)) (sym is)
       (moves u.0 _ near (looks _ _ _ (k.each u.0 near)))
-  sound_after (events.Announce u) Nothing r may is = let m = both_of _ _ may in let near = inside u.0 (ltb-true _ _ (both_of _ _ m.0).0) in
+  sound_after (events.Announce u) Nothing r may is = let m = and_parts _ _ may in let near = inside u.0 (ltb-true _ _ (and_parts _ _ m.0).0) in
       moves u.0 _ near (announces _ _ _ (none_of _ m.1) (k.each u.0 near))
-  sound_after (events.Enter u) Nothing r may is = let m = both_of _ _ may in let a = both_of _ _ m.0 in let near = inside u.0 (ltb-true _ _ a.0) in
+  sound_after (events.Enter u) Nothing r may is = let m = and_parts _ _ may in let a = and_parts _ _ m.0 in let near = inside u.0 (ltb-true _ _ a.0) in
       subst (λ (z : ℕ). HasSoundNumbers words passes gs
       (shared s.generations (with_pass s.passes u (record (pass_of s.passes u) { entered = Some z })) s.words)) (sym is)
       (moves u.0 _ near (enters _ _ _ a.1 (k.each u.0 near)))
-  sound_after (events.Leave u) Nothing r may is = let m = both_of _ _ may in let near = inside u.0 (ltb-true _ _ m.0) in
+  sound_after (events.Leave u) Nothing r may is = let m = and_parts _ _ may in let near = inside u.0 (ltb-true _ _ m.0) in
       moves u.0 _ near (leaves _ _ _ (k.each u.0 near))
   sound_after (events.Sweep u) Nothing r may is = let near = inside u.0 (ltb-true _ _ may) in
       subst (λ (z : ℕ). HasSoundNumbers words passes gs
       (shared (with_known s.generations u (known_after_sweep s.generations.current (known_of s.generations u) z)) s.passes s.words)) (sym is)
       (knows u.0 _ near (sweeps _ _ _ (k.each u.0 near)))
-  sound_after (events.Place u) Nothing r may is = let m = both_of _ _ may in let near = inside u.0 (ltb-true _ _ (both_of _ _ m.1).0) in
+  sound_after (events.Place u) Nothing r may is = let m = and_parts _ _ may in let near = inside u.0 (ltb-true _ _ (and_parts _ _ m.1).0) in
       knows u.0 _ near (places _ _ _ (leb-true _ _ m.0) (k.each u.0 near))
   sound_after events.Publish (Edition forest ps) r may is = record {
     wide = k.wide;

@@ -4,7 +4,7 @@ use Rattle.std.proofs.Common.{take, get_or, set, sym, refl, ap, ◌∙◌, subst
 use Rattle.std.proofs.Common.{get_or-set_same, if◌then◌else◌, Option, Some, None}
 use Rattle.std.specs.Prelude.{is_some, not, nat_le, Ok, Err, Result, ◌==◌}
 use Rattle.std.specs.List.{list_all}
-use Rattle.std.proofs.lemmas.Bool.{ltb-true, leb-false}
+use Rattle.std.proofs.lemmas.Bool.{ltb-true, leb-false, and_parts, not-true}
 use mathlib.Core.Logic.{dite}
 use native.Mathlib.Decide.{ℕ_discrete}
 use lib.ListN.{length-replicate, get_or-replicate}
@@ -34,7 +34,10 @@ use Rattle.mem_base.specs.machine.Publishing.{settled, refused_desk, unless_refu
 use Rattle.mem_base.specs.machine.Configs.{configured, made, backed, kept_back, after_call, begun, committed, without_listener}
 use Rattle.mem_base.specs.machine.World.{World, possible, reply, after_telling, number_in, opening}
 use Rattle.mem_base.specs.machine.History.{PureEntry, after_entry, after_entries, IsLegalFrom, IsLegal, IsInOrder, is_swept, AllInOrder, IsOrderly}
-use Rattle.view_laws.proofs.Tests.{none_is_no_number, same_number, none_is_not_some, both_of, not_true, holds_where, none_of, all_at, none_set, length_map}
+use Rattle.view_laws.proofs.Tests.{none_is_no_number, same_number, none_is_not_some, none_of, all_at, none_set}
+use Rattle.history_laws.proofs.NumberLaws.{none_placed}
+use Rattle.mem_base.proofs.BoolLaws.{holds_where}
+use Rattle.mem_base.proofs.ListLaws.{length_map}
 
 -- one pass that looks, announces, enters, leaves
 
@@ -279,7 +282,7 @@ called_settles g d call off = go (forest_after d.forest call) refl
         at : (b : Bool) → ((d.depth == 0) && not (is_quiet call)) ≡ b → Settles g d (configs.Call call)
             (if b then publishing g d f (answer_of d.forest call) else kept_back d call f).desk
         at true h = publishing_settles g d (configs.Call call) f (answer_of d.forest call) off
-            (let p = both_of (d.depth == 0) (not (is_quiet call)) h in rw (p.0, p.1, e) refl)
+            (let p = and_parts (d.depth == 0) (not (is_quiet call)) h in rw (p.0, p.1, e) refl)
         at false h = settles_where g d (configs.Call call) _ off (kept_back_stays d call f)
 
 committed_settles : (g : Generations) (d : Desk) → d.due ≡ false → Settles g d configs.Commit (committed g d).desk
@@ -355,11 +358,6 @@ places_all due sw g ps k u near = let new = with_placed true (known_of g u) in r
       (sym (get_or-set_other g.passes u.0 v.0 new nothing_known other)) (k.each v l));
 }
 
-not_placed : (ks : List PassTrack) (v : ℕ) → get_or (map (with_placed false) ks) v nothing_known ≡ with_placed false (get_or ks v nothing_known)
-not_placed [] v = refl
-not_placed (k ∷ ks) zero = refl
-not_placed (k ∷ ks) (suc v) = not_placed ks v
-
 one_more_kept : {A : Type 0} (c : ℕ) (x : A) (xs : List A) → length xs ≡ min (c + 1) 8 → length (x ∷ take 7 xs) ≡ min (c + 1 + 1) 8
 one_more_kept c x xs e = let l = length-take 7 xs in omega arith
 
@@ -369,7 +367,7 @@ publishes_all sw g ps x k = record {
   all_known = length_map (with_placed false) g.passes ∙ k.all_known;
   all_flagged = k.all_flagged;
   kept = one_more_kept g.current x g.kept k.kept;
-  each = λ v l. subst (λ (f : PassTrack). IsInOrder (g.current + 1) false (is_swept sw v) f (pass_of ps v)) (sym (not_placed g.passes v.0))
+  each = λ v l. subst (λ (f : PassTrack). IsInOrder (g.current + 1) false (is_swept sw v) f (pass_of ps v)) (sym (none_placed g.passes v.0))
       (publishes g.current (is_swept sw v) (known_of g v) (pass_of ps v) (k.each v l));
 }
 
@@ -394,41 +392,41 @@ privates_all due sw bs g ps k same ready = record {
 
 -- each event keeps the facts
 pub order_after : (w : World) → IsOrderly w → (e : Event) (n : ℕ) → possible w e ≡ true → number_in (reply w e) ≡ n → IsOrderly (after_telling w e n)
-order_after w k (events.Look v) n may is = let d = w.writer.desk in let g = w.writer.generations in let near = ltb-true _ _ (both_of _ _ may).0 in
+order_after w k (events.Look v) n may is = let d = w.writer.desk in let g = w.writer.generations in let near = ltb-true _ _ (and_parts _ _ may).0 in
     subst (λ (z : ℕ). AllInOrder d.due d.swept g (with_pass w.passes v (record (pass_of w.passes v) { looked = Some z }))) is
     (moves d.due d.swept g w.passes k v _ near (looks g.current d.due (is_swept d.swept v) (known_of g v) (pass_of w.passes v) (k.each v near)))
-order_after w k (events.Announce v) n may is = let d = w.writer.desk in let g = w.writer.generations in let m = both_of _ _ may in
-    let near = ltb-true _ _ (both_of _ _ m.0).0 in
+order_after w k (events.Announce v) n may is = let d = w.writer.desk in let g = w.writer.generations in let m = and_parts _ _ may in
+    let near = ltb-true _ _ (and_parts _ _ m.0).0 in
     moves d.due d.swept g w.passes k v _ near (announces g.current d.due (is_swept d.swept v) (known_of g v) (pass_of w.passes v) (none_of _ m.1)
     (k.each v near))
-order_after w k (events.Enter v) n may is = let d = w.writer.desk in let g = w.writer.generations in let m = both_of _ _ may in
-    let a = both_of _ _ m.0 in let near = ltb-true _ _ a.0 in
+order_after w k (events.Enter v) n may is = let d = w.writer.desk in let g = w.writer.generations in let m = and_parts _ _ may in
+    let a = and_parts _ _ m.0 in let near = ltb-true _ _ a.0 in
     subst (λ (z : ℕ). AllInOrder d.due d.swept g (with_pass w.passes v (record (pass_of w.passes v) { entered = Some z }))) is
     (moves d.due d.swept g w.passes k v _ near (enters g.current d.due (is_swept d.swept v) (known_of g v) (pass_of w.passes v) a.1 (k.each v near)))
-order_after w k (events.Leave v) n may is = let d = w.writer.desk in let g = w.writer.generations in let near = ltb-true _ _ (both_of _ _ may).0 in
+order_after w k (events.Leave v) n may is = let d = w.writer.desk in let g = w.writer.generations in let near = ltb-true _ _ (and_parts _ _ may).0 in
     moves d.due d.swept g w.passes k v _ near (leaves g.current d.due (is_swept d.swept v) (known_of g v) (pass_of w.passes v) (k.each v near))
 order_after w k (events.Sweep v) n may is = let d = w.writer.desk in let g = w.writer.generations in
     subst (λ (z : ℕ). AllInOrder d.due (set d.swept v.0 true)
     (record g { passes = set g.passes v.0 (known_after_sweep g.current (known_of g v) z) }) w.passes) is
     (sweeps_all d.due d.swept g w.passes k v (ltb-true _ _ may))
 order_after w k (events.Place v) n may is = let d = w.writer.desk in let g = w.writer.generations in
-    places_all d.due d.swept g w.passes k v (ltb-true _ _ (both_of _ _ (both_of _ _ may).1).0)
+    places_all d.due d.swept g w.passes k v (ltb-true _ _ (and_parts _ _ (and_parts _ _ may).1).0)
 order_after w k events.Publish n may is = let d = w.writer.desk in let g = w.writer.generations in
-    publishes_all d.swept g w.passes _ (subst (λ (b : Bool). AllInOrder b d.swept g w.passes) (both_of _ _ may).0 k)
+    publishes_all d.swept g w.passes _ (subst (λ (b : Bool). AllInOrder b d.swept g w.passes) (and_parts _ _ may).0 k)
 order_after w k (events.Word h c step) n may is = k
 order_after w k (events.Mark v region client page) n may is = k
 order_after w k (events.Harvest region client index) n may is = k
 order_after w k (events.Fill c) n may is = k
 order_after w k (events.Config c) n may is = let d = w.writer.desk in let g = w.writer.generations in
-    let m = both_of _ _ may in
-    let off = not_true d.due (both_of _ _ m.0).0 in
+    let m = and_parts _ _ may in
+    let off = not-true d.due (and_parts _ _ m.0).0 in
     let s = settles g d c off in
     privates_all (configured g d c).desk.due d.swept (configured g d c).desk.swept g w.passes (subst (λ (b : Bool). AllInOrder b d.swept g w.passes) off k)
     (ap (λ (z : List Bool). length z) s.swept)
     (λ on. let t = s.due on in (holds_where _ _ m.1 t.0, t.1))
 order_after w k events.Reap n may is = let d = w.writer.desk in let g = w.writer.generations in
-    let m = both_of _ _ may in
-    let off = not_true d.due (both_of _ _ m.0).0 in
+    let m = and_parts _ _ may in
+    let off = not-true d.due (and_parts _ _ m.0).0 in
     privates_all d.due d.swept d.swept g w.passes (subst (λ (b : Bool). AllInOrder b d.swept g w.passes) off k) refl
     (λ on. not_due d off on)
 

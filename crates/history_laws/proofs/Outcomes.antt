@@ -3,7 +3,7 @@ use Rattle.std.proofs.Common.{◌≡◌, ℕ, zero, suc, ◌+◌, ◌-◌, ◌<�
 use Rattle.std.proofs.Common.{length, map, sym, refl, ap, ◌∙◌, subst, arith, if◌then◌else◌, Option, Some, None}
 use Rattle.std.specs.Prelude.{not, ◌==◌, Ok, Err, Result, is_ok}
 use Rattle.std.specs.List.{range_with_len}
-use Rattle.std.proofs.lemmas.Bool.{eqb-true, eqb-false}
+use Rattle.std.proofs.lemmas.Bool.{eqb-true, eqb-false, and_parts}
 use Rattle.mem_base.specs.declared.map.ids.RegionId.{RegionId}
 use Rattle.mem_base.specs.declared.map.ids.ListenerId.{ListenerId}
 use Rattle.mem_base.specs.declared.map.forests.Forest.{Forest}
@@ -38,8 +38,8 @@ use Rattle.mem_base.proofs.EveryLaws.{weaker, every_push}
 use Rattle.mem_base.specs.declared.machine.events.Event.TheVariants as events
 use Rattle.mem_base.specs.machine.JoinedHistory.{accepted_one}
 use Rattle.map_laws.proofs.CallLaws.{IsOrderedForest-after, after-accepted}
-use Rattle.view_laws.proofs.Tests.{both_of, true_is_not_false}
 use Rattle.history_laws.proofs.Idles.{IsSoundDesk, made_after}
+use Rattle.mem_base.proofs.BoolLaws.{true_is_not_false}
 
 -- no cell stands twice
 abbrev pub Distinct : List Cell → Type 0
@@ -233,7 +233,7 @@ module _ (g : Generations) (d : Desk) (k : IsSoundDesk d) (off : d.due ≡ false
     where
       at : (f : Forest) → forest_after d.forest call ≡ Ok f → (b : Bool) → ((d.depth == 0) && not (is_quiet call)) ≡ b → Outcome d (configs.Call call)
           (if b then publishing g d f (answer_of d.forest call) else kept_back d call f)
-      at f e true h = let t = both_of _ _ h in let zero_deep = is_zero d.depth t.0 in
+      at f e true h = let t = and_parts _ _ h in let zero_deep = is_zero d.depth t.0 in
           publish_outcome (configs.Call call) f (answer_of d.forest call) (sound_after call f e)
           ((λ i. transaction f (sym zero_deep i) (not (sym t.0 i) && (d.pending || not (is_quiet call)))) ∙ call_stands call f e)
           (sym h ∙ call_commits call f e)
@@ -274,7 +274,7 @@ module _ (g : Generations) (d : Desk) (k : IsSoundDesk d) (off : d.due ≡ false
 
       inner : (d.depth == 0) ≡ false → (b : Bool) → ((d.depth == 1) && d.pending) ≡ b → Outcome d configs.Commit
           (if b then publishing g d d.forest Done else settled (record d { depth = d.depth - 1 }) Done)
-      inner some true h = let t = both_of _ _ h in let one = eqb-true d.depth 1 t.0 in
+      inner some true h = let t = and_parts _ _ h in let one = eqb-true d.depth 1 t.0 in
           publish_outcome configs.Commit d.forest Done (k.forest, (let l : d.forest.made ≤ d.forest.made = omega arith in l), k.few)
           (λ i. transaction d.forest ((let e : 0 ≡ d.depth - 1 = omega arith in e) i) (not (sym t.0 i) && d.pending)) (sym h)
       inner some false h = accepting configs.Commit (record d { depth = d.depth - 1 }) Done

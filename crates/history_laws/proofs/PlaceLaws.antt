@@ -20,12 +20,15 @@ use Rattle.mem_base.specs.access.EditionPlaces.{IsRegionPlace, IsNotifiersPlace,
 use Rattle.mem_base.specs.views.Naming.{names, shows_events}
 use Rattle.mem_base.specs.machine.Desk.{is_shown_place, shown_places}
 use Rattle.mem_base.proofs.ForestLaws.{id_of, node_of-itself}
-use Rattle.map_laws.proofs.PairLaws.{pairs_push, pairs_filter}
-use Rattle.view_laws.proofs.Tests.{none_is_not_some, same_some, same_region, true_is_not_false}
+use Rattle.map_laws.proofs.PairLaws.{pairs_push}
+use Rattle.view_laws.proofs.Tests.{none_is_not_some, same_region}
 use Rattle.view_laws.proofs.LiveLaws.{In, every_in}
 use Rattle.view_laws.proofs.SortedLaws.{each_in, append_in, append_left, append_right, filter_in, filter_out}
 use Rattle.view_laws.proofs.NamingLaws.{names_leaves}
 use Rattle.history_laws.specs.BackedForests.{BacksForest}
+use Rattle.mem_base.proofs.SortingLaws.{pairs_filter}
+use Rattle.std.proofs.lemmas.Option.{same_Some}
+use Rattle.mem_base.proofs.BoolLaws.{true_is_not_false}
 
 -- the leaf of what a search finds is a region of the forest
 
@@ -121,7 +124,7 @@ place_of_region (p ∷ ps) r q e = go (p.region.0 == r.0) refl e (place_of_regio
   where
     go : (b : Bool) → (p.region.0 == r.0) ≡ b → (if b then Some p else place_in ps r) ≡ Some q → (place_in ps r ≡ Some q → In q ps × (q.region ≡ r))
         → In q (p ∷ ps) × (q.region ≡ r)
-    go true h e rest = let same = same_some p q e in
+    go true h e rest = let same = same_Some p q e in
         (inl (sym same), subst (λ (x : Place). x.region ≡ r) same (same_region p.region r (eqb-true _ _ h)))
     go false h e rest = let t = rest e in (inr t.0, t.1)
 

@@ -3,7 +3,7 @@ use Rattle.std.proofs.Common.{◌≡◌, ℕ, zero, suc, ◌+◌, ◌-◌, ◌<�
 use Rattle.std.proofs.Common.{sym, refl, ap, ◌∙◌, subst, arith, if◌then◌else◌, Some, None}
 use Rattle.std.proofs.lemmas.List.{append-nil}
 use Rattle.std.specs.Prelude.{slice_get, nat_le, Result}
-use Rattle.std.proofs.lemmas.Bool.{leb-true, le-leb, eqb-true}
+use Rattle.std.proofs.lemmas.Bool.{leb-true, le-leb, eqb-true, and_parts, not-true}
 use Rattle.mem_base.specs.declared.map.forests.Forest.{Forest}
 use Rattle.mem_base.specs.declared.map.refusals.Refusal.{Refusal}
 use Rattle.mem_base.specs.declared.map.calls.Config.{Config}
@@ -22,10 +22,12 @@ use Rattle.mem_base.specs.machine.World.{World, possible, reply, after_telling, 
 use Rattle.mem_base.specs.machine.History.{PureEntry, after_entry, after_entries, IsLegalFrom, IsLegal}
 use Rattle.mem_base.specs.machine.JoinedHistory.{accepted, accepted_one}
 use Rattle.history_laws.specs.Published.{CarriesForests, forest_at, forests_published, forest_due}
-use Rattle.view_laws.proofs.Tests.{both_of, not_true, none_is_not_some, same_some, true_is_not_false}
+use Rattle.view_laws.proofs.Tests.{none_is_not_some}
 use Rattle.view_laws.proofs.SortedLaws.{every_filter}
 use Rattle.history_laws.proofs.Idles.{IsSoundDesk, opens_idle}
 use Rattle.history_laws.proofs.Outcomes.{outcome, stands, due_forests, told_commits}
+use Rattle.std.proofs.lemmas.Option.{same_Some}
+use Rattle.mem_base.proofs.BoolLaws.{true_is_not_false}
 
 -- lists read at a number
 
@@ -86,7 +88,7 @@ published_next h ps fs due k m current kept undue = record {
   where
     go : (number : ℕ) (x : Generation) (i : ℕ) → h.generations.current + 1 - number ≡ i → number ≤ h.generations.current + 1
         → slice_get (generation h.desk.forest ps ∷ take 7 h.generations.kept) i ≡ Some x → slice_get fs number ≡ Some x.forest
-    go number x zero is low e = let same = same_some (generation h.desk.forest ps) x e in
+    go number x zero is low e = let same = same_Some (generation h.desk.forest ps) x e in
         let top : h.generations.current + 1 ≡ number = omega arith in
         subst (λ (n : ℕ). slice_get fs n ≡ Some x.forest) top (k.waiting due ∙ ap (λ (z : Generation). Some z.forest) same)
     go number x (suc i) is low e = let d : i ≡ h.generations.current - number = omega arith in
@@ -151,8 +153,8 @@ sound_after w (events.Mark v region client page) n may k = k
 sound_after w (events.Harvest region client index) n may k = k
 sound_after w (events.Fill c) n may k = record { forest = k.forest; few = k.few; places = k.places; pending = k.pending }
 sound_after w (events.Config c) n may k =
-    let d = w.writer.desk in let rest = both_of _ _ (both_of _ _ may).0 in
-    let o = outcome w.writer.generations d k (not_true d.due rest.0) (filled_none d rest.1) c in
+    let d = w.writer.desk in let rest = and_parts _ _ (and_parts _ _ may).0 in
+    let o = outcome w.writer.generations d k (not-true d.due rest.0) (filled_none d rest.1) c in
     record { forest = o.sound.forest; few = o.sound.few; places = o.sound.places; pending = o.sound.pending }
 sound_after w events.Reap n may k = record {
   forest = k.forest;
@@ -170,15 +172,15 @@ next w fs ks (events.Enter v) n r may is s k = (fs, k, refl)
 next w fs ks (events.Leave v) n r may is s k = (fs, k, refl)
 next w fs ks (events.Sweep v) n r may is s k = (fs, steady w.writer _ fs refl refl refl refl k, refl)
 next w fs ks (events.Place v) n r may is s k = (fs, steady w.writer _ fs refl refl refl refl k, refl)
-next w fs ks events.Publish n r may is s k = (fs, published_next w.writer _ fs (both_of _ _ may).0 k _ refl refl refl, refl)
+next w fs ks events.Publish n r may is s k = (fs, published_next w.writer _ fs (and_parts _ _ may).0 k _ refl refl refl, refl)
 next w fs ks (events.Word h c step) n r may is s k = (fs, k, refl)
 next w fs ks (events.Mark v region client page) n r may is s k = (fs, k, refl)
 next w fs ks (events.Harvest region client index) n r may is s k = (fs, k, refl)
 next w fs ks (events.Fill c) n r may is s k = (fs, steady w.writer _ fs refl refl refl refl k, refl)
 next w fs ks (events.Config c) n r may is s k =
     let d = w.writer.desk in let g = w.writer.generations in
-    let rest = both_of _ _ (both_of _ _ may).0 in
-    let off = not_true d.due rest.0 in
+    let rest = and_parts _ _ (and_parts _ _ may).0 in
+    let off = not-true d.due rest.0 in
     let m = configured g d c in let o = outcome g d s off (filled_none d rest.1) c in (
       fs ++ due_forests m.desk.due m.desk.forest,
       configured_next w.writer _ fs off k refl,
@@ -204,7 +206,7 @@ opens_empty pool_words passes = record {
 }
   where
     go : (number : ℕ) (x : Generation) → number ≤ 0 → slice_get (generation empty [] ∷ []) (0 - number) ≡ Some x → slice_get (empty ∷ []) number ≡ Some x.forest
-    go zero x l e = ap (λ (z : Generation). Some z.forest) (same_some (generation empty []) x e)
+    go zero x l e = ap (λ (z : Generation). Some z.forest) (same_Some (generation empty []) x e)
     go (suc n) x l e = absurd (omega arith)
 
 pub generations_are_committed : (pool_words passes : ℕ) (xs : List PureEntry) → IsLegal pool_words passes xs
@@ -224,15 +226,15 @@ commits_next w ks (events.Leave v) n r may is s = refl
 commits_next w ks (events.Sweep v) n r may is s = refl
 commits_next w ks (events.Place v) n r may is s = refl
 commits_next w ks events.Publish n r may is s = let d = w.writer.desk in
-    ap (λ (b : Bool). due_forests b d.forest ++ committed_from (stands d) ks) (both_of _ _ may).0
+    ap (λ (b : Bool). due_forests b d.forest ++ committed_from (stands d) ks) (and_parts _ _ may).0
 commits_next w ks (events.Word h c step) n r may is s = refl
 commits_next w ks (events.Mark v region client page) n r may is s = refl
 commits_next w ks (events.Harvest region client index) n r may is s = refl
 commits_next w ks (events.Fill c) n r may is s = refl
 commits_next w ks (events.Config c) n r may is s =
     let d = w.writer.desk in let g = w.writer.generations in
-    let rest = both_of _ _ (both_of _ _ may).0 in
-    let off = not_true d.due rest.0 in
+    let rest = and_parts _ _ (and_parts _ _ may).0 in
+    let off = not-true d.due rest.0 in
     let m = configured g d c in let o = outcome g d s off (filled_none d rest.1) c in
     ap (λ (b : Bool). due_forests b d.forest ++ committed_from (stands d) (accepted_one (events.Config c) r ++ ks)) off
     ∙ ap (λ (r : Result Reply Refusal). committed_from (stands d) (accepted_one (events.Config c) r ++ ks)) is

@@ -4,7 +4,7 @@ use Rattle.std.proofs.Common.{take, get_or, set, map, sym, refl, ap, ◌∙◌, 
 use Rattle.std.proofs.Common.{get_or-set_same, Option, Some, None}
 use Rattle.std.specs.Prelude.{slice_get, nat_le, not, ◌==◌, Contains, IsSomeAnd}
 use Rattle.std.specs.List.{list_any, range_with_len}
-use Rattle.std.proofs.lemmas.Bool.{leb-true, le-leb, leb-false, eqb-true}
+use Rattle.std.proofs.lemmas.Bool.{leb-true, le-leb, leb-false, eqb-true, and_parts, and_from, or_left, or_right, not-true, not_from_false}
 use mathlib.Core.Logic.{dite}
 use native.Mathlib.Decide.{ℕ_discrete}
 use Rattle.mem_base.specs.declared.map.ids.RegionId.{RegionId}
@@ -25,11 +25,14 @@ use Rattle.mem_base.specs.machine.History.{PureEntry, after_entries, run_events,
 use Rattle.view_laws.proofs.SortedLaws.{filter_out, filter_in}
 use Rattle.view_laws.specs.Named.{Names}
 use Rattle.history_laws.specs.Released.{HeldNames, ReleasesUnnamed, AreFoundFree}
-use Rattle.view_laws.proofs.Tests.{both_of, both, or_left, or_right, not_true, not_of_false, none_is_not_some, same_some, true_is_not_false}
+use Rattle.view_laws.proofs.Tests.{none_is_not_some}
 use Rattle.view_laws.proofs.LiveLaws.{In}
 use Rattle.view_laws.proofs.LiveMembers.{contained, one_of}
 use Rattle.view_laws.proofs.NamingLaws.{names_leaves}
 use Rattle.history_laws.proofs.OrderLaws.{order}
+use Rattle.mem_base.proofs.PassTurnLaws.{least_within}
+use Rattle.std.proofs.lemmas.Option.{same_Some}
+use Rattle.mem_base.proofs.BoolLaws.{true_is_not_false}
 
 -- a test that holds of one of the first elements of a list
 
@@ -53,14 +56,10 @@ any_there : {A : Type 0} (test : A → Bool) (m : ℕ) (xs : List A) (i : ℕ) (
     → list_any test (take m xs) ≡ true
 any_there test zero xs i x l e h = absurd (omega arith)
 any_there test (suc m) [] i x l e h = none_is_not_some x e
-any_there test (suc m) (z ∷ xs) zero x l e h = or_left (test z) _ (subst (λ y. test y ≡ true) (sym (same_some z x e)) h)
+any_there test (suc m) (z ∷ xs) zero x l e h = or_left (test z) _ (subst (λ y. test y ≡ true) (sym (same_Some z x e)) h)
 any_there test (suc m) (z ∷ xs) (suc i) x l e h = or_right (test z) _ (any_there test m xs i x (omega arith) e h)
 
 -- the numbers that are held go from the least lowest one to the current one
-
-least_below : (c : ℕ) (ks : List PassTrack) → least_lowest c ks ≤ c
-least_below c [] = omega arith
-least_below c (k ∷ ks) = let l = least_below c ks in omega arith
 
 least_reached : (c n : ℕ) (ks : List PassTrack) → list_any (λ k. nat_le k.lowest n) ks ≡ true → least_lowest c ks ≤ n
 least_reached c n [] h = absurd (grind arith)
@@ -85,15 +84,15 @@ held_near g n h = go (n == g.current) refl h
   where
     go : (b : Bool) → (n == g.current) ≡ b → (b || nat_le n g.current && list_any (λ k. nat_le k.lowest n) g.passes) ≡ true
         → (n ≤ g.current) × (least_lowest g.current g.passes ≤ n)
-    go true e h = let s = eqb-true n g.current e in let l = least_below g.current g.passes in (omega arith, omega arith)
-    go false e h = let p = both_of _ _ h in (leb-true _ _ p.0, least_reached g.current n g.passes p.1)
+    go true e h = let s = eqb-true n g.current e in let l = least_within g.current g.passes in (omega arith, omega arith)
+    go false e h = let p = and_parts _ _ h in (leb-true _ _ p.0, least_reached g.current n g.passes p.1)
 
 near_held : (g : Generations) (n : ℕ) → n ≤ g.current → least_lowest g.current g.passes ≤ n → is_held g n ≡ true
 near_held g n l m = go (n == g.current) refl
   where
     go : (b : Bool) → (n == g.current) ≡ b → (b || nat_le n g.current && list_any (λ k. nat_le k.lowest n) g.passes) ≡ true
     go true e = refl
-    go false e = both _ _ (le-leb n g.current l) (reached_least g.current n g.passes m (lower e))
+    go false e = and_from _ _ (le-leb n g.current l) (reached_least g.current n g.passes m (lower e))
       where
         lower : (n == g.current) ≡ false → n < g.current
         lower e = dite (ℕ_discrete n g.current) (λ same. true_is_not_false (n == g.current) (itself same) e) (λ other. omega arith)
@@ -106,7 +105,7 @@ generation_at g n l = rw (le-leb n g.current l) refl
 
 pub held_named : (g : Generations) (region : RegionId) → is_named g region ≡ true → HeldNames g region
 held_named g region h =
-    let low = least_below g.current g.passes in
+    let low = least_within g.current g.passes in
     let t = found (λ (x : Generation). names x.forest region) (g.current + 1 - least_lowest g.current g.passes) g.kept h in
     let b = t.below in let n = g.current - t.at in
     let back : g.current - n ≡ t.at = omega arith in
@@ -137,9 +136,9 @@ released_by_test : (h : Writer) (region : RegionId)
 released_by_test h region =
     let test : RegionId → Bool = λ r. not (is_named h.generations r) in (
       λ c. let t = filter_in test region h.desk.dropped (in_of region (released h) c) in
-          (contained region h.desk.dropped t.0, not_true (is_named h.generations region) t.1),
+          (contained region h.desk.dropped t.0, not-true (is_named h.generations region) t.1),
       λ c. contained region (released h)
-          (filter_out test region h.desk.dropped (in_of region h.desk.dropped c.0) (not_of_false (is_named h.generations region) c.1)),
+          (filter_out test region h.desk.dropped (in_of region h.desk.dropped c.0) (not_from_false (is_named h.generations region) c.1)),
     )
 
 -- the test whether a region is among some
@@ -185,11 +184,11 @@ releases_unnamed h = let g = h.generations in record {
     λ c. let t = filter_in test p h.desk.places (in_of p (reaped h).places c) in (
       contained p h.desk.places t.0,
       λ k. true_is_not_false (is_among (released h) p.region)
-          (among_region (released h) p.region (in_of p.region (released h) k)) (not_true (is_among (released h) p.region) t.1),
+          (among_region (released h) p.region (in_of p.region (released h) k)) (not-true (is_among (released h) p.region) t.1),
     ),
     λ k. contained p (reaped h).places
         (filter_out test p h.desk.places (in_of p h.desk.places k.0)
-        (not_of_false (is_among (released h) p.region) (among_not (released h) p.region (λ m. k.1 (contained p.region (released h) m))))),
+        (not_from_false (is_among (released h) p.region) (among_not (released h) p.region (λ m. k.1 (contained p.region (released h) m))))),
   );
 }
 

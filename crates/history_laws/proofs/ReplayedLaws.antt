@@ -3,7 +3,7 @@ use Rattle.std.proofs.Common.{◌≡◌, ℕ, ◌+◌, ◌-◌, ◌≤◌, ne_eq
 use Rattle.std.proofs.Common.{append_assoc, length-append, sym, refl, ap, ◌∙◌, subst, arith, if◌then◌else◌, Option, Some, None}
 use Rattle.std.specs.Prelude.{filter, find, not, nat_le, is_some, is_none, ◌==◌, Result, Ok, Err, option_map}
 use Rattle.std.specs.List.{list_any}
-use Rattle.std.proofs.lemmas.Bool.{eqb-true, eqb-false}
+use Rattle.std.proofs.lemmas.Bool.{eqb-true, eqb-false, and_parts, not-true}
 use lib.ListN.{take-append-drop}
 use Rattle.std.proofs.lemmas.List.{append-nil, take-append-le, take_at}
 use Rattle.mem_base.specs.declared.map.ids.RegionId.{RegionId}
@@ -48,12 +48,15 @@ use Rattle.mem_base.proofs.EveryLaws.{every_push}
 use Rattle.map_laws.proofs.RefusalLaws.{each_none, refuse_if-none, find-none}
 use Rattle.map_laws.proofs.CallLaws.{after-accepted}
 use Rattle.mem_base.specs.machine.ListenerReplay.{listener_of, shown_to, heard_of, told_forest, joins_by, joined_at}
-use Rattle.view_laws.proofs.Tests.{both_of, not_true, none_is_not_some, same_some, true_is_not_false}
+use Rattle.view_laws.proofs.Tests.{none_is_not_some}
 use Rattle.view_laws.proofs.SwitchLaws.{heard_both, joining_replays, leaving_replays, change_replays}
 use Rattle.view_laws.proofs.ViewRanges.{view_apart}
 use Rattle.view_laws.proofs.LiveMembers.{lists_live}
 use Rattle.view_laws.proofs.Projections.{calls_both, calls_mine, calls_others, one, AtMost, told_change, IsKnownTo, publish_tells}
 use Rattle.history_laws.proofs.PureAppends.{after_both, legal_parts}
+use Rattle.map_laws.proofs.SoundCallLaws.{some_found}
+use Rattle.std.proofs.lemmas.Option.{same_Some}
+use Rattle.mem_base.proofs.BoolLaws.{true_is_not_false}
 
 -- the spaces of a forest after a call: the old ones, and one that is new
 
@@ -82,16 +85,12 @@ others_push : (s : SpaceId) (r : RegionId) (ps : Spaces) → Every (λ p. is_spa
 others_push s r [] h k = (tt, tt)
 others_push s r (p ∷ ps) h k = (every_push (AreOtherSpaces p) ps (s, r) k.0 (eqb-false _ _ h.0), others_push s r ps h.1 k.1)
 
-none_found : (o : Option (SpaceId × RegionId)) → is_some (option_map (λ p. p.1) o) ≡ false → o ≡ None
-none_found None e = refl
-none_found (Some p) e = absurd (grind arith)
-
 grown_by : (f g : Forest) (call : Call) → forest_after f call ≡ Ok g → EveryPair AreOtherSpaces f.spaces → Grown f g
 grown_by f g (calls.Space space root) e h =
     let ok = after-accepted f g (calls.Space space root) e in
     let each = each_none (refusals f (calls.Space space root) ++ no_more_calls f ∷ []) ok.0 in
     let free = find-none (is_space space) f.spaces
-    (none_found (find (is_space space) f.spaces) (refuse_if-none (is_some (root_of f space)) (NameTaken (what.Space space)) each.1.0)) in
+    (some_found (find (is_space space) f.spaces) (refuse_if-none (is_some (root_of f space)) (NameTaken (what.Space space)) each.1.0)) in
     subst (λ (z : Forest). Grown f z) (sym ok.1) record {
       apart = others_push space root f.spaces free h;
       more = λ s k. found_before s f.spaces ((space, root) ∷ []) k;
@@ -454,7 +453,7 @@ module _ (g : Generations) (d : Desk) (off : d.due ≡ false) (k : IsTold d.fore
       go : (b : Bool) → (if b then Some x else find (is_listener id) xs) ≡ Some l
           → (find (is_listener id) xs ≡ Some l → without_listener xs id g d ≡ leaver id l)
           → (if b then leaver id x else without_listener xs id g d) ≡ leaver id l
-      go true e rest = ap (leaver id) (same_some x l e)
+      go true e rest = ap (leaver id) (same_Some x l e)
       go false e rest = rest e
 
   none_leaves : (ls : List Listener) (id : ListenerId) → find (is_listener id) ls ≡ None → without_listener ls id g d ≡ d
@@ -531,14 +530,14 @@ goes w (events.Sweep v) n r may is k = leaves_them w _ (events.Sweep v) r k refl
 goes w (events.Place v) n r may is k = leaves_them w _ (events.Place v) r k refl (λ id. refl)
 goes w events.Publish n r may is k = leaves_them w _ events.Publish r
     (subst (λ (b : Bool). IsTold w.writer.desk.forest w.writer.desk.listening
-    (if b then w.writer.desk.forest else current_forest w.writer.generations)) (both_of _ _ may).0 k) refl (λ id. refl)
+    (if b then w.writer.desk.forest else current_forest w.writer.generations)) (and_parts _ _ may).0 k) refl (λ id. refl)
 goes w (events.Word h c step) n r may is k = leaves_them w _ (events.Word h c step) r k refl (λ id. refl)
 goes w (events.Mark v region client page) n r may is k = leaves_them w _ (events.Mark v region client page) r k refl (λ id. refl)
 goes w (events.Harvest region client index) n r may is k = leaves_them w _ (events.Harvest region client index) r k refl (λ id. refl)
 goes w (events.Fill c) n r may is k = leaves_them w _ (events.Fill c) r k refl (λ id. refl)
 goes w (events.Config c) n r may is k =
     let d = w.writer.desk in let g = w.writer.generations in
-    let off = not_true d.due (both_of _ _ (both_of _ _ may).0).0 in
+    let off = not-true d.due (and_parts _ _ (and_parts _ _ may).0).0 in
     let s = step g d off (subst (λ (b : Bool). IsTold d.forest d.listening (if b then d.forest else current_forest g)) off k) c in record {
       told = s.told;
       goes_on = subst (λ (r : Result Reply Refusal). GoesOn d.listening (configured g d c).desk.listening (λ id. joins_by id (events.Config c) r))

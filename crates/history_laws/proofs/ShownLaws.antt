@@ -1,5 +1,5 @@
 -- After every legal history each generation that is kept shows just the places of its forest.
-use Rattle.std.proofs.Common.{◌≡◌, ℕ, zero, suc, ◌-◌, true, List, [], ◌∷◌, ◌++◌, take, sym, refl, subst, arith}
+use Rattle.std.proofs.Common.{◌≡◌, ℕ, ◌-◌, true, List, [], ◌∷◌, ◌++◌, sym, refl, subst, arith}
 use Rattle.mem_base.specs.declared.machine.events.Event.{Event}
 use Rattle.mem_base.specs.declared.machine.events.Event.TheVariants as events
 use Rattle.mem_base.specs.lists.Every.{Every}
@@ -16,11 +16,7 @@ use Rattle.history_laws.proofs.PublishedLaws.{sound_after}
 use Rattle.history_laws.proofs.DroppedLaws.{Dropped, dropped_after}
 use Rattle.history_laws.proofs.PlaceLaws.{shown_are_its_own}
 use Rattle.history_laws.proofs.BackLaws.{Backs, configured_backs, reap_backs}
-
-every_take : {A : Type 0} (P : A → Type 0) (n : ℕ) (xs : List A) → Every P xs → Every P (take n xs)
-every_take P zero xs h = tt
-every_take P (suc n) [] h = tt
-every_take P (suc n) (x ∷ xs) h = (h.0, every_take P n xs h.1)
+use Rattle.mem_base.proofs.EveryLaws.{every_taken}
 
 abbrev Shown : ℕ → Generation → Type 0
 Shown pool_words x = ArePlacesOf pool_words x.forest x.places
@@ -50,7 +46,7 @@ module _ (pool_words : ℕ) (w : World) (k : KeepsPlaces pool_words w) where
   backs_shows (events.Leave v) n = (k.backs, k.shown)
   backs_shows (events.Sweep v) n = (k.backs, k.shown)
   backs_shows (events.Place v) n = (k.backs, k.shown)
-  backs_shows events.Publish n = (k.backs, (carried, every_take (Shown pool_words) (most_generations - 1) w.writer.generations.kept k.shown))
+  backs_shows events.Publish n = (k.backs, (carried, every_taken (Shown pool_words) (most_generations - 1) w.writer.generations.kept k.shown))
   backs_shows (events.Word h c step) n = (k.backs, k.shown)
   backs_shows (events.Mark v region client page) n = (k.backs, k.shown)
   backs_shows (events.Harvest region client index) n = (k.backs, k.shown)

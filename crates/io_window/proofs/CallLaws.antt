@@ -7,7 +7,6 @@ use Rattle.mem_base.specs.declared.access.accesses.TxResult.{TxResult}
 use Rattle.mem_base.specs.access.AccessSteps.{Transfer, reading, writing, AccessStep, result_of, tx}
 use Rattle.mem_base.specs.access.MemoryAccess.{on_words}
 use Rattle.mem_base.specs.machine.Generations.{Generation}
-use Rattle.view_laws.proofs.Tests.{true_is_not_false}
 use Rattle.generation.specs.Published.{Published}
 use Rattle.epoch_rule.specs.Values.{PassValue}
 use Rattle.epoch_rule.specs.Copies.{ShowsPublished}
@@ -22,6 +21,7 @@ use Rattle.mem_base.specs.access.Windows.{target_at, is_direct, chunk_length, pa
 use Rattle.io_window.specs.Windows.{WindowValue, IsMemoryOf, IsBacked, forest_of, number_of, held_in, room_of}
 use Rattle.io_window.specs.Calls.{Does, IsOpened, HasNoBounceBy, HasNoBounce, HasGot, HasPut, HasClosed, with_pass, with_put, put_in}
 use Rattle.io_window.proofs.WholeLaws.{does_nothing, same_generation}
+use Rattle.mem_base.proofs.BoolLaws.{true_is_not_false}
 
 -- a part of a direct window
 pub part_of : (g : Published) (s : WindowStart) (len : ℕ) (memory : Option Memory) (buffer : Option (List ℕ)) (m : Memory) → memory ≡ Some m

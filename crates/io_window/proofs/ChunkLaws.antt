@@ -1,5 +1,5 @@
 -- An access that is one chunk of memory is the steps of its words, and the marks.
-use Rattle.std.proofs.Common.{◌≡◌, ℕ, ◌+◌, ◌-◌, ◌<◌, ◌&&◌, not, Bool, true, false, List, [], ◌∷◌, ◌++◌, length, take, drop, Option, Some, None}
+use Rattle.std.proofs.Common.{◌≡◌, ℕ, ◌+◌, ◌-◌, ◌<◌, ◌&&◌, Bool, true, false, List, [], ◌∷◌, ◌++◌, length, take, drop, Option, Some, None}
 use Rattle.std.proofs.Common.{refl, sym, ap, subst, ◌∙◌, if◌then◌else◌, arith, append-nil}
 use Rattle.std.specs.Prelude.{flat_map, unwrap_or, option_map}
 use Rattle.std.proofs.Math.Seq.{take-length}
@@ -23,6 +23,7 @@ use Rattle.access_base.proofs.RunLaws.{first_run}
 use Rattle.access_base.proofs.TrailLaws.{together}
 use Rattle.access_run.proofs.AnswerLaws.{words_read_fine, words_written_fine}
 use Rattle.mem_base.specs.access.Windows.{window_start, is_direct_kind, is_direct_node, is_direct_target, is_direct, target_at, chunk_length, part_steps, mark_steps}
+use Rattle.std.proofs.lemmas.Bool.{not-true}
 
 -- the first chunk of some addresses, alone, is one chunk
 pub one_chunk : (share : ℕ → Bool) (a n c : ℕ) → c ≡ first_length (runs share a n) → 0 < c → runs share a c ≡ run a c ∷ []
@@ -53,13 +54,9 @@ direct_target f (Leaf spot) t e = (spot, refl, go (node_of f.nodes spot.leaf) e)
     go None e = cc
     go (Some n) e = direct_kind n.kind n spot t e
 
-not_true : (b : Bool) → not b ≡ true → b ≡ false
-not_true true e = cc
-not_true false e = refl
-
 -- what is written directly is not read-only
 written_kind : (k : Kind) (spot : Spot) → is_direct_kind k true spot.attrs ≡ true → spot.attrs.readonly ≡ false
-written_kind Ram spot e = not_true spot.attrs.readonly e
+written_kind Ram spot e = not-true spot.attrs.readonly e
 written_kind Rom spot e = cc
 written_kind (RomDevice device) spot e = go spot.attrs.romd e
   where

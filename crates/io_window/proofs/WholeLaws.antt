@@ -10,9 +10,9 @@ use Rattle.mem_base.specs.access.Access.{access}
 use Rattle.mem_base.specs.machine.Passes.{pass_id}
 use Rattle.generation.specs.Published.{Published}
 use Rattle.epoch_rule.specs.Values.{PassValue}
-use Rattle.access_run.proofs.HandLaws.{AreHandLaws, done_then}
+use Rattle.access_run.proofs.HandLaws.{done_then}
 use Rattle.vcpu_pass.specs.Steps.{HasMade, generation_shown, generation_in}
-use Rattle.vcpu_pass.specs.StepLaws.{made_none, made_then}
+use Rattle.vcpu_pass.specs.StepLaws.{made_none}
 use Rattle.vcpu_pass.specs.Around.{HasBegun, HasEnded}
 use Rattle.vcpu_pass.specs.Calls.{is_entered, HasAccessed}
 use Rattle.vcpu_pass.proofs.CallLaws.{accessed}
@@ -20,13 +20,7 @@ use Rattle.mem_base.specs.declared.access.accesses.WindowStart.{WindowStart}
 use Rattle.mem_base.specs.access.Windows.{is_direct, chunk_length, window_length}
 use Rattle.io_window.specs.Calls.{Does}
 use Rattle.io_window.specs.Whole.{access_answer, HasRun}
-
-pub hand_laws : AreHandLaws HasMade (λ v. pass_id v.number) generation_in
-hand_laws = record {
-  begins = made_none;
-  goes_on = λ x y z es fs rs qs l m n. made_then x y z es fs rs qs l m n;
-  stays = λ x y es rs m. (ap pass_id m.number, ap generation_shown m.edition);
-}
+use Rattle.vcpu_pass.proofs.LoadLaws.{hand_laws}
 
 -- some steps and others after them
 pub does_then : (x y z : PassValue Published) (ds es : List AccessStep) (bs cs : List ℕ) → Does x ds bs y → Does y es cs z → Does x (ds ++ es) (bs ++ cs) z

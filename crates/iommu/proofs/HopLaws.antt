@@ -52,7 +52,7 @@ pub record IsUsed (es : List Entry) (w : Bool) (o : ℕ) (e : Entry) : Type 0 wh
   pub low : e.iova ≤ o
   pub high : o ≤ e.iova + e.mask
 
-no_some : (x : Entry) → None ≡ Some x → ⊥
+pub no_some : (x : Entry) → None ≡ Some x → ⊥
 no_some x t = cc
 
 pub is_used : (es : List Entry) (w : Bool) (o : ℕ) (e : Entry) → ArePages es → if_permitted w (translation_at es o) ≡ Some e → IsUsed es w o e

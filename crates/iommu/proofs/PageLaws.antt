@@ -1,10 +1,10 @@
 -- Pages of translations: each is as large as a power of two, it covers the offsets from its iova to its end, and they go on at
 -- addresses in a row.
-use Rattle.std.proofs.Common.{◌≡◌, ◌≢◌, ℕ, zero, suc, ◌+◌, ◌-◌, ◌*◌, ◌/◌, ◌%◌, ◌^◌, ◌<◌, ◌≤◌, Bool, true, false, not, ◌||◌, eqb, List, [], ◌∷◌, None}
-use Rattle.std.proofs.Common.{◌⊎◌, inl, inr, count_ones, sym, refl, ap, ◌∙◌, arith}
+use Rattle.std.proofs.Common.{◌≡◌, ℕ, zero, suc, ◌+◌, ◌-◌, ◌*◌, ◌/◌, ◌%◌, ◌^◌, ◌<◌, ◌≤◌, Bool, true, false, not, eqb, List, [], ◌∷◌, None}
+use Rattle.std.proofs.Common.{count_ones, sym, refl, ap, ◌∙◌, arith}
 use Rattle.std.specs.Prelude.{bit_and, bit_or}
 use Rattle.std.proofs.lemmas.Bool.Decides.{nat_tests}
-use Rattle.std.proofs.lemmas.Nat.{ones_cat, zero_from_ones, ones_le_self, pow-add, and_mask, or_shifted, div-mul-add, mod-mul-add, div-add-mod', mod_below}
+use Rattle.std.proofs.lemmas.Nat.{ones_le_self, and_mask, or_shifted, div-mul-add, mod-mul-add, div-add-mod', mod_below}
 use Rattle.mem_base.specs.declared.map.translations.Entry.{Entry}
 use Rattle.mem_base.specs.access.Translations.{without_mask, covers, translated_address}
 use Rattle.mem_base.specs.lists.Every.{Every}
@@ -12,34 +12,14 @@ use Rattle.mem_base.specs.map.TableRefusals.{bad_page}
 use Rattle.mem_base.specs.declared.map.refusals.Refusal.TheVariants.{BadPage}
 use Rattle.map_laws.proofs.RefusalLaws.{refuse_if-none}
 use Rattle.iommu.specs.Pages.{ArePages}
+use Rattle.std.proofs.lemmas.Bool.{or_parts, not-false}
+use Rattle.map_laws.proofs.PageLaws.{last_digit, doubled}
 
 -- the page's size is a power of two, and it begins at a multiple of it
 pub record IsPage (e : Entry) : Type 0 where
   pub power : ℕ
   pub size : e.mask + 1 ≡ 2 ^ power
   pub whole : e.iova % (2 ^ power) ≡ 0
-
-one_has : count_ones 1 ≢ 0
-one_has e = let z = zero_from_ones 1 e in omega arith
-
--- the one digit of a number is its lowest, or stands further up
-last_digit : (q r : ℕ) → r < 2 → count_ones (q * 2 + r) ≡ 1 → ((r ≡ 1) × (q ≡ 0)) ⊎ ((r ≡ 0) × (count_ones q ≡ 1))
-last_digit q zero l e = let h = ones_cat 1 q 0 (omega arith) in let z = ones_le_self 0 in inr (refl, omega arith)
-last_digit q (suc zero) l e =
-    let h = ones_cat 1 q 1 (omega arith) in
-    let some = one_has in
-    let none : count_ones q ≡ 0 = omega arith in
-    inl (refl, zero_from_ones q none)
-last_digit q (suc (suc r)) l e = absurd (omega arith)
-
-doubled : (n q r : ℕ) → q * 2 + r ≡ n → ((n' : ℕ) → n' ≡ q → count_ones n' ≡ 1 → (k : ℕ) × (n' ≡ 2 ^ k))
-    → ((r ≡ 1) × (q ≡ 0)) ⊎ ((r ≡ 0) × (count_ones q ≡ 1)) → (k : ℕ) × (n ≡ 2 ^ k)
-doubled n q r is up (inl (one, none)) = (0, omega arith)
-doubled n q r is up (inr (even, rest)) =
-    let h = up q refl rest in
-    let e = h.1 in
-    let p = pow-add 2 h.0 1 in
-    (h.0 + 1, omega arith)
 
 -- a number with one digit in base two is a power of two
 one_digit : (most n : ℕ) → n ≤ most → count_ones n ≡ 1 → (k : ℕ) × (n ≡ 2 ^ k)
@@ -53,19 +33,11 @@ one_digit (suc most) n l e =
     let low : n % 2 < 2 = mod_below n 2 (omega arith) in
     doubled n (n / 2) (n % 2) split (λ q is ones. one_digit most q (omega arith) ones) (last_digit (n / 2) (n % 2) low (ap count_ones split ∙ e))
 
-or_false : (a b : Bool) → a || b ≡ false → (a ≡ false) × (b ≡ false)
-or_false true b e = cc
-or_false false b e = (refl, e)
-
-not_false : (b : Bool) → not b ≡ false → b ≡ true
-not_false true e = refl
-not_false false e = cc
-
 is_page : (e : Entry) → bad_page e.iova (e.mask + 1) ≡ None → IsPage e
 is_page e h =
-    let tests = or_false (not (eqb (count_ones (e.mask + 1)) 1)) (not (eqb (e.iova % (e.mask + 1)) 0)) (refuse_if-none _ BadPage h) in
-    let one_bit = not_false (eqb (count_ones (e.mask + 1)) 1) tests.0 in
-    let multiple = not_false (eqb (e.iova % (e.mask + 1)) 0) tests.1 in
+    let tests = or_parts (not (eqb (count_ones (e.mask + 1)) 1)) (not (eqb (e.iova % (e.mask + 1)) 0)) (refuse_if-none _ BadPage h) in
+    let one_bit = not-false (eqb (count_ones (e.mask + 1)) 1) tests.0 in
+    let multiple = not-false (eqb (e.iova % (e.mask + 1)) 0) tests.1 in
     let ones : count_ones (e.mask + 1) ≡ 1 = grind (arith, nat_tests) in
     let whole : e.iova % (e.mask + 1) ≡ 0 = grind (arith, nat_tests) in
     let p = one_digit (e.mask + 1) (e.mask + 1) (omega arith) ones in

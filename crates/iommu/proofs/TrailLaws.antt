@@ -2,7 +2,7 @@
 use Rattle.std.proofs.Common.{◌≡◌, ℕ, zero, suc, ◌+◌, ◌<◌, Bool, true, false, not, ◌&&◌, ◌||◌, List, [], ◌∷◌, Option, Some, None}
 use Rattle.std.proofs.Common.{sym, refl, ap, ◌∙◌, cond, arith}
 use Rattle.std.specs.Prelude.{option_map}
-use Rattle.std.proofs.lemmas.Bool.{false≢true}
+use Rattle.std.proofs.lemmas.Bool.{false≢true, and_parts}
 use Rattle.mem_base.specs.declared.map.ids.SpaceId.{SpaceId}
 use Rattle.mem_base.specs.declared.map.forests.Forest.{Forest}
 use Rattle.mem_base.specs.declared.map.spots.Spot.{Spot}
@@ -16,7 +16,8 @@ use Rattle.mem_base.specs.access.Translations.{translates, used_at, translated_a
 use Rattle.mem_base.specs.access.Trails.{Hop, hop, Trail, trail, Onward, begins_with, through, trail_at, trail_within, is_next_spot, is_next_hop}
 use Rattle.mem_base.specs.access.Trails.{is_same_entry, is_leaf, is_next_trail}
 use Rattle.iommu.specs.Ways.{further, is_next_found, joins, IsStretch, shares_within}
-use Rattle.iommu.proofs.FoundLaws.{both, nat_same, some_found}
+use Rattle.iommu.proofs.FoundLaws.{some_found}
+use Rattle.mem_base.proofs.BoolLaws.{number_itself}
 
 -- how a trail goes on from a translation, where `left` of them may still be used
 abbrev pub onward : Forest → Bool → ℕ → Option Onward
@@ -42,7 +43,7 @@ apart_three false b c e = refl
 -- two hops that find a spot and the byte after it are neighbours where they use the same
 next_hop : (x y : Found) (u v : Option Entry) → is_next_found x y ≡ true → is_next_hop (hop x u) (hop y v) ≡ is_same_entry u v
 next_hop x y u v e =
-    let k = both (is_next_spot x.0 y.0) (not x.0.attrs.unmergeable || same_path x.1 y.1) e in
+    let k = and_parts (is_next_spot x.0 y.0) (not x.0.attrs.unmergeable || same_path x.1 y.1) e in
     three (is_next_spot x.0 y.0) (is_same_entry u v) (not x.0.attrs.unmergeable || same_path x.1 y.1) k.0 k.1
 
 apart_hop : (x y : Found) (u v : Option Entry) → is_next_found x y ≡ false → is_next_hop (hop x u) (hop y v) ≡ false
@@ -102,7 +103,7 @@ same_ends x y t u p q = let h = next_hop x y None None p in rw (h, q) refl
 -- the same translation on the way of two neighbours
 pub same_on : (x y : Found) (e : Entry) (t u : Trail) → is_next_found x y ≡ true
     → is_next_trail (begins_with (hop x (Some e)) t) (begins_with (hop y (Some e)) u) ≡ is_next_trail t u
-same_on x y e t u p = let h = next_hop x y (Some e) (Some e) p ∙ nat_same e.iova in rw h refl
+same_on x y e t u p = let h = next_hop x y (Some e) (Some e) p ∙ number_itself e.iova in rw h refl
 
 through_hops : (o : Onward) (x : Found) (u : Option Entry) → (rest : List Hop) × ((through (Some o) x u).hops ≡ hop x u ∷ rest)
 through_hops o x None = ([], refl)

@@ -1,5 +1,5 @@
 -- Parts of a table in order: their places by the first offset, and those that a table gives.
-use Rattle.std.proofs.Common.{◌≡◌, ℕ, suc, ◌+◌, ◌<◌, ◌≤◌, Bool, true, false, ◌||◌, cond, eqb, ltb}
+use Rattle.std.proofs.Common.{◌≡◌, ℕ, suc, ◌+◌, ◌<◌, ◌≤◌, true, false, cond, eqb}
 use Rattle.std.proofs.Common.{List, [], ◌∷◌, ◌++◌, length, get_or, drop}
 use Rattle.std.proofs.Common.{map, filter, Result, Ok, Err, refl, sym, ap, ◌∙◌, arith}
 use Rattle.std.specs.List.{list_any}
@@ -18,16 +18,14 @@ use Rattle.mem_base.specs.lists.Sorting.{IsRising, place_at, place_of}
 use Rattle.mem_base.specs.map.Entries.{AreEntries}
 use Rattle.mem_base.specs.access.Parts.{meets_offsets, part_of, parts_of, is_same_part, part_order}
 use Rattle.mem_base.proofs.EveryLaws.{weaker}
-use Rattle.mem_base.proofs.EntryLaws.{nat_is}
+use Rattle.mem_base.proofs.EntryLaws.{nat_is, before_is}
 use Rattle.mem_base.proofs.PlaceLaws.{Rises, Rises-rising}
 use Rattle.iommu_notify.specs.PartLists.{AreParts}
+use Rattle.mem_base.proofs.BoolLaws.{number_swap, or_false}
 
 -- how a part stands to a first offset
 abbrev pub from_cmp : ℕ → Part → Ordering
 from_cmp from p = nat_cmp p.from from
-
-before_is : (a b : ℕ) → a < b → nat_cmp a b ≡ Less
-before_is a b l = let t : ltb a b ≡ true = grind (arith, nat_tests) in rw t refl
 
 rising_parts : (ps : List Part) → AreParts ps → IsRising part_order ps
 rising_parts [] h = tt
@@ -46,22 +44,15 @@ at_from from = record { from = from; to = 0; space = record { 0 = 0 }; addr = 0;
 pub rises_parts : (from : ℕ) (ps : List Part) → AreParts ps → Rises (from_cmp from) ps
 rises_parts from ps h = Rises-rising part_order part_total (at_from from) ps (rising_parts ps h)
 
-eq_swap : (a b : ℕ) → eqb a b ≡ eqb b a
-eq_swap a b = grind (arith, nat_tests)
-
 -- parts that begin at two offsets differ
 other_part : (p q : Part) (o : Ordering) → from_cmp p.from q ≡ o → is_eq o ≡ false → is_same_part p q ≡ false
 other_part p q o e unlike =
-    let differs : eqb p.from q.from ≡ false = eq_swap p.from q.from ∙ nat_is q.from p.from ∙ ap is_eq e ∙ unlike in
+    let differs : eqb p.from q.from ≡ false = number_swap p.from q.from ∙ nat_is q.from p.from ∙ ap is_eq e ∙ unlike in
     rw differs refl
 
 none_same : (p : Part) (qs : List Part) → Every (λ q. from_cmp p.from q ≡ Greater) qs → list_any (is_same_part p) qs ≡ false
 none_same p [] h = refl
 none_same p (q ∷ qs) h = let differs = other_part p q Greater h.0 refl in rw differs (none_same p qs h.1)
-
-or_none : (a b : Bool) → b ≡ false → a || b ≡ a
-or_none true b e = refl
-or_none false b e = e
 
 one_later-ok : (r : Result ℕ ℕ) (i : ℕ) → place_at Less r ≡ Ok i → (j : ℕ) × (r ≡ Ok j) × (i ≡ suc j)
 one_later-ok (Ok j) i e = let q : j + 1 ≡ i = cc in (j, refl, omega arith)
@@ -85,7 +76,7 @@ same_at p (q ∷ qs) i d h e =
           rw (at, differs) (same_at p qs next.0 d h.1 next.1)
       | Equal ↦ λ o w.
           let z : i ≡ 0 = cc in
-          rw z (or_none (is_same_part p q) (list_any (is_same_part p) qs) (none_same p qs (h.0 (λ k. cc))))
+          rw z (or_false (is_same_part p q) (list_any (is_same_part p) qs) (none_same p qs (h.0 (λ k. cc))))
       | Greater ↦ λ o w. cc
     ] refl e
 

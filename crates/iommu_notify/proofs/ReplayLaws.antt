@@ -5,8 +5,7 @@ use Rattle.std.proofs.Common.{Option, Some, refl, sym, ap, subst, ◌∙◌, ari
 use Rattle.std.specs.Prelude.{nat_lt, option_and_then}
 use Rattle.std.specs.List.{list_any}
 use Rattle.std.proofs.lemmas.Bool.Decides.{nat_tests}
-use Rattle.std.specs.declared.cmp.Ordering.TheVariants.{Less, Equal, Greater}
-use Rattle.std.specs.Ordering.{nat_cmp, is_lt}
+use Rattle.std.specs.Ordering.{is_lt}
 use Rattle.mem_base.specs.declared.map.translations.Perm.{Perm}
 use Rattle.mem_base.specs.declared.map.translations.Perm.TheVariants.{Nothing, Read, Write, Both}
 use Rattle.mem_base.specs.declared.access.notices.Part.{Part}
@@ -19,19 +18,13 @@ use Rattle.mem_base.specs.access.Parts.{is_same_part, is_same_perm, meets_part, 
 use Rattle.mem_base.specs.access.Parts.{parts_after_all, parts_without}
 use Rattle.mem_base.proofs.EveryLaws.{weaker, every_filter, every_push}
 use Rattle.iommu_notify.specs.PartLists.{AreParts}
+use Rattle.mem_base.proofs.BoolLaws.{left_of, number_itself, number_swap, right_of}
+use Rattle.std.proofs.lemmas.Bool.{eqb-true}
+use Rattle.mem_base.proofs.EntryLaws.{lt_number}
 
 -- those of the first parts that are among the second
 abbrev pub kept : List Part → List Part → List Part
 kept ps qs = filter (λ p. list_any (is_same_part p) qs) ps
-
-eqb_same : (n : ℕ) → eqb n n ≡ true
-eqb_same n = grind (arith, nat_tests)
-
-is_number : (a b : ℕ) → eqb a b ≡ true → a ≡ b
-is_number a b e = grind (arith, nat_tests)
-
-eq_swap : (a b : ℕ) → eqb a b ≡ eqb b a
-eq_swap a b = grind (arith, nat_tests)
 
 same_perm : (p : Perm) → is_same_perm p p ≡ true
 same_perm Nothing = refl
@@ -59,17 +52,9 @@ is_perm Both Both e = refl
 
 same_self : (p : Part) → is_same_part p p ≡ true
 same_self p =
-    let a = eqb_same p.from in let b = eqb_same p.to in let c = eqb_same p.space.0 in let d = eqb_same p.addr in let e = same_perm
+    let a = number_itself p.from in let b = number_itself p.to in let c = number_itself p.space.0 in let d = number_itself p.addr in let e = same_perm
     p.perm in
     rw (a, b, c, d, e) refl
-
-and_left : (a b : Bool) → a && b ≡ true → a ≡ true
-and_left true b e = refl
-and_left false b e = e
-
-and_right : (a b : Bool) → a && b ≡ true → b ≡ true
-and_right true b e = e
-and_right false b e = absurd (let x : false ≡ true = e in cc)
 
 abbrev part : ℕ → ℕ → ℕ → ℕ → Perm → Part
 part from to space addr perm = record { from = from; to = to; space = record { 0 = space }; addr = addr; perm = perm }
@@ -81,17 +66,17 @@ same_fields from to space addr perm q a b c d e = rw (a, b, c, d, e) refl
 
 is_part : (p q : Part) → is_same_part p q ≡ true → p ≡ q
 is_part p q e =
-    let four = and_left ((eqb p.from q.from) && (eqb p.to q.to) && (eqb p.space.0 q.space.0) && (eqb p.addr q.addr))
+    let four = left_of ((eqb p.from q.from) && (eqb p.to q.to) && (eqb p.space.0 q.space.0) && (eqb p.addr q.addr))
     (is_same_perm p.perm q.perm) e in
-    let three = and_left ((eqb p.from q.from) && (eqb p.to q.to) && (eqb p.space.0 q.space.0)) (eqb p.addr q.addr) four in
-    let two = and_left ((eqb p.from q.from) && (eqb p.to q.to)) (eqb p.space.0 q.space.0) three in
+    let three = left_of ((eqb p.from q.from) && (eqb p.to q.to) && (eqb p.space.0 q.space.0)) (eqb p.addr q.addr) four in
+    let two = left_of ((eqb p.from q.from) && (eqb p.to q.to)) (eqb p.space.0 q.space.0) three in
     same_fields p.from p.to p.space.0 p.addr p.perm q
-    (is_number p.from q.from (and_left (eqb p.from q.from) (eqb p.to q.to) two))
-    (is_number p.to q.to (and_right (eqb p.from q.from) (eqb p.to q.to) two))
-    (is_number p.space.0 q.space.0 (and_right ((eqb p.from q.from) && (eqb p.to q.to)) (eqb p.space.0 q.space.0) three))
-    (is_number p.addr q.addr (and_right ((eqb p.from q.from) && (eqb p.to q.to) && (eqb p.space.0 q.space.0)) (eqb p.addr q.addr)
+    (eqb-true p.from q.from (left_of (eqb p.from q.from) (eqb p.to q.to) two))
+    (eqb-true p.to q.to (right_of (eqb p.from q.from) (eqb p.to q.to) two))
+    (eqb-true p.space.0 q.space.0 (right_of ((eqb p.from q.from) && (eqb p.to q.to)) (eqb p.space.0 q.space.0) three))
+    (eqb-true p.addr q.addr (right_of ((eqb p.from q.from) && (eqb p.to q.to) && (eqb p.space.0 q.space.0)) (eqb p.addr q.addr)
     four))
-    (is_perm p.perm q.perm (and_right ((eqb p.from q.from) && (eqb p.to q.to) && (eqb p.space.0 q.space.0) && (eqb p.addr q.addr))
+    (is_perm p.perm q.perm (right_of ((eqb p.from q.from) && (eqb p.to q.to) && (eqb p.space.0 q.space.0) && (eqb p.addr q.addr))
     (is_same_perm p.perm q.perm) e))
 
 -- parts that begin at two offsets differ
@@ -194,20 +179,16 @@ none_met q (x ∷ xs) ks l h k = let rest = none_met q xs ks l h.1 k in misses (
     misses true e = e
     misses false e = let past : nat_lt x.to q.from ≡ true = (let w = h.0.1 in grind (arith, nat_tests)) in rw past e
 
-lt_is : (a b : ℕ) → is_lt (nat_cmp a b) ≡ ltb a b
-lt_is a b = elim (ltb a b) as (λ t. is_lt (cond t Less (cond (eqb a b) Equal Greater)) ≡ t)
-    [ true ↦ refl | false ↦ elim (eqb a b) as (λ e. is_lt (cond e Equal Greater) ≡ false) [ true ↦ refl | false ↦ refl ] ]
-
 put_middle : (q : Part) (front ks : List Part) → q.from ≤ q.to → Every (IsBeforeOne q) front → Every (λ x. q.to < x.from) ks
     → put_by part_order q (front ++ ks) ≡ front ++ q ∷ ks
 put_middle q [] [] l h k = refl
 put_middle q [] (x ∷ xs) l h k =
     let before : ltb q.from x.from ≡ true = (let w = k.0 in grind (arith, nat_tests)) in
-    let less : is_lt (part_order q x) ≡ true = lt_is q.from x.from ∙ before in
+    let less : is_lt (part_order q x) ≡ true = lt_number q.from x.from ∙ before in
     rw less refl
 put_middle q (x ∷ xs) ks l h k =
     let after : ltb q.from x.from ≡ false = (let v = h.0.0 in let w = h.0.1 in grind (arith, nat_tests)) in
-    let less : is_lt (part_order q x) ≡ false = lt_is q.from x.from ∙ after in
+    let less : is_lt (part_order q x) ≡ false = lt_number q.from x.from ∙ after in
     rw less (ap (λ r. x ∷ r) (put_middle q xs ks l h.1 k))
 
 map_one : (q : Part) (front ks : List Part) → q.from ≤ q.to → Every (IsBeforeOne q) front → Every (λ x. q.to < x.from) ks
@@ -266,7 +247,7 @@ order_of : (a b : ℕ) → Order a b
 order_of a b = elim (ltb a b) as (λ t. ltb a b ≡ t → Order a b) [
   | true ↦ λ t. less (grind (arith, nat_tests))
   | false ↦ λ t. elim (eqb a b) as (λ e. eqb a b ≡ e → Order a b)
-      [ true ↦ λ e. same (is_number a b e) | false ↦ λ e. more (grind (arith, nat_tests)) ] refl
+      [ true ↦ λ e. same (eqb-true a b e) | false ↦ λ e. more (grind (arith, nat_tests)) ] refl
 ] refl
 
 not_back : (p q : Part) → is_same_part p q ≡ false → is_same_part q p ≡ false

@@ -1,9 +1,10 @@
 -- Laws of sweeps.
-use Rattle.std.proofs.Common.{◌≡◌, ℕ, zero, suc, ◌+◌, ◌<◌, ◌≤◌, List, [], ◌∷◌, length, get_or, set, Option, Some, None, refl, ap, ◌∙◌, arith}
+use Rattle.std.proofs.Common.{◌≡◌, ℕ, zero, suc, ◌+◌, ◌<◌, ◌≤◌, List, [], ◌∷◌, length, get_or, set, refl, ap, ◌∙◌, arith}
 use Rattle.mem_base.specs.machine.Passes.{PassState}
-use Rattle.mem_base.specs.machine.Generations.{PassTrack, pin_word, number_pinned, least_lowest}
+use Rattle.mem_base.specs.machine.Generations.{PassTrack}
 use Rattle.mem_base.specs.machine.Publishing.{held_from}
 use Rattle.kept_generations.specs.Sweeping.{swept_track, swept_tracks, announced_from}
+use Rattle.mem_base.proofs.PassTurnLaws.{pinned}
 
 -- the first tracks swept, and the rest as they are
 abbrev pub swept_to : ℕ → ℕ → List PassTrack → List PassState → List PassTrack
@@ -43,14 +44,6 @@ swept_step current n ks ys ps p y z e l f is made =
 pub swept_done : (current n : ℕ) (ks ys : List PassTrack) (ps : List PassState) → ys ≡ swept_to current n ks ps → length ps ≤ n
     → length ps ≡ length ks → ys ≡ swept_tracks current ks ps
 swept_done current n ks ys ps e l f = e ∙ swept_whole current n ks ps f l
-
-pub least_within : (current : ℕ) (ks : List PassTrack) → least_lowest current ks ≤ current
-least_within current [] = omega arith
-least_within current (k ∷ ks) = let within = least_within current ks in omega arith
-
-pub pinned : (o : Option ℕ) → number_pinned (pin_word o) ≡ o
-pinned None = refl
-pinned (Some n) = grind arith
 
 -- what holds a publish up after a sweep of every pass is what the passes announced
 pub held_swept : (current first : ℕ) (ks : List PassTrack) (ps : List PassState) → length ps ≡ length ks

@@ -3,14 +3,14 @@ use Rattle.std.proofs.Common.{◌≡◌, ℕ, ◌+◌, ◌*◌, Bool, true, fals
 use Rattle.std.specs.Prelude.{flat_map, filter, Option, Some, None, SomeIff, IfSome, reverse}
 use Rattle.std.proofs.lemmas.List.{length-reverse, length-map}
 use Rattle.std.specs.declared.cmp.Ordering.{Ordering}
-use Rattle.std.specs.Ordering.{is_lt}
 use Rattle.mem_base.specs.declared.views.listening.Change.{Change}
 use Rattle.mem_base.specs.declared.views.listening.Listener.{Listener}
 use Rattle.mem_base.specs.declared.views.listening.ListenerEvent.{ListenerEvent}
 use Rattle.mem_base.specs.declared.views.listening.ListenerEvent.TheVariants.{Begin, Range, Commit}
-use Rattle.mem_base.specs.lists.Sorting.{put_by, sorted_by}
+use Rattle.mem_base.specs.lists.Sorting.{sorted_by}
 use Rattle.mem_base.specs.views.Listening.{switch, switch_order, switches, switched, goes_down, hears, calls_of, deliver_each}
 use Rattle.mem_base.specs.views.Listening.{deliveries_of, deliveries_of_changes}
+use Rattle.mem_base.proofs.SortingLaws.{length-put_by}
 
 length_directed : (down : Bool) (ls : List Listener) → length (if down then reverse ls else ls) ≡ length ls
 length_directed true ls = length-reverse ls
@@ -27,17 +27,9 @@ length_told ls (e ∷ es) =
     let both = length-append (deliver_each ls e) (flat_map (deliver_each ls) es) in
     grind arith
 
-length_put : {K : Type 0} (R : K → K → Ordering) (x : K) (xs : List K) → length (put_by R x xs) ≡ length xs + 1
-length_put R x [] = refl
-length_put R x (y ∷ ys) = go (is_lt (R x y)) (length_put R x ys)
-  where
-    go : (b : Bool) → length (put_by R x ys) ≡ length ys + 1 → length (if b then x ∷ y ∷ ys else y ∷ put_by R x ys) ≡ length (y ∷ ys) + 1
-    go true e = omega arith
-    go false e = omega arith
-
 length_sorted : {K : Type 0} (R : K → K → Ordering) (xs : List K) → length (sorted_by R xs) ≡ length xs
 length_sorted R [] = refl
-length_sorted R (x ∷ xs) = let first = length_put R x (sorted_by R xs) in let rest = length_sorted R xs in omega arith
+length_sorted R (x ∷ xs) = let first = length-put_by R x (sorted_by R xs) in let rest = length_sorted R xs in omega arith
 
 -- of one space: the steps of its walk, and its ioeventfds
 pub length_calls : (c : Change) → length (calls_of c) ≡ length c.walk + (length c.lost + length c.gained)

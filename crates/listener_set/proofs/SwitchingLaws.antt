@@ -14,13 +14,13 @@ use Rattle.mem_base.specs.lists.Every.{Every}
 use Rattle.mem_base.specs.lists.Sorting.{IsRising, put_by, sorted_by}
 use Rattle.mem_base.specs.views.LiveEvents.{live_order}
 use Rattle.mem_base.specs.views.Listening.{Delivery, Switch, switch, switch_order, switches, switched, deliver_each, deliveries_of, deliveries_of_changes}
-use Rattle.mem_base.proofs.EveryLaws.{weaker, every_map}
+use Rattle.mem_base.proofs.EveryLaws.{weaker, every_map, every_append}
 use Rattle.view_laws.proofs.LiveLaws.{order_total}
-use Rattle.view_laws.proofs.SortedLaws.{every_sorted}
 use Rattle.listener_set.specs.Sets.{is_told}
 use Rattle.listener_set.specs.Switches.{first_live, lesser, next_of, told_all}
 use Rattle.listener_set.specs.declared.switching.NextSwitch.{NextSwitch}
 use Rattle.listener_set.specs.declared.switching.NextSwitch.TheVariants.{Lost, Gained}
+use Rattle.mem_base.proofs.ForestLaws.{every_sorted}
 
 -- one that is less than all others stands first
 put_first : (x : Switch) (xs : List Switch) → Every (λ y. switch_order x y ≡ Less) xs → put_by switch_order x xs ≡ x ∷ xs
@@ -35,10 +35,6 @@ sorted_among : (x : Switch) (xs ys : List Switch) → Every (λ y. switch_order 
     → sorted_by switch_order (xs ++ x ∷ ys) ≡ x ∷ sorted_by switch_order (xs ++ ys)
 sorted_among x [] ys h k = sorted_first x ys k
 sorted_among x (z ∷ zs) ys h k = ap (put_by switch_order z) (sorted_among x zs ys h.1 k) ∙ rw h.0 refl
-
-every_append : {A : Type 0} (P : A → Type 0) (xs ys : List A) → Every P xs → Every P ys → Every P (xs ++ ys)
-every_append P [] ys h k = k
-every_append P (x ∷ xs) ys h k = (h.0, every_append P xs ys h.1 k)
 
 -- the least of the lost ones, where no gained one is less
 

@@ -11,16 +11,13 @@ use Rattle.mem_base.specs.map.Forest.{IsOrderedForest}
 use Rattle.mem_base.proofs.StepLaws.{IsWithin}
 use Rattle.mem_base.proofs.JoinLaws.{within_forest}
 use Rattle.mem_base.proofs.SamePaths.{same_region}
-
-every_of_both : {A : Type 0} (P Q : A → Type 0) → ((x : A) → P x → Q x) → (xs : List A) → Every P xs → Every Q xs
-every_of_both P Q f [] h = tt
-every_of_both P Q f (x ∷ xs) h = (f x h.0, every_of_both P Q f xs h.1)
+use Rattle.mem_base.proofs.EveryLaws.{weaker}
 
 -- more paths may be looked at
 IsWithin-longer : (s : Steps) (most : ℕ) (r : RegionId) → IsWithin s most r → IsWithin s (suc most) r
 unfolding IsWithin
 IsWithin-longer s zero r h = absurd h
-IsWithin-longer s (suc most) r h = every_of_both (IsWithin s most) (IsWithin s (suc most)) (IsWithin-longer s most) (s r) h
+IsWithin-longer s (suc most) r h = weaker (IsWithin s most) (IsWithin s (suc most)) (IsWithin-longer s most) (s r) h
 
 -- measures of some regions, each by one function
 measured : {together : List ℕ → ℕ} {steps : Steps} (g : RegionId → ℕ) (rs : List RegionId) → Every (λ q. Measures together steps q (g q)) rs →
@@ -33,14 +30,14 @@ unfolding depth_by IsWithin
 HasDepth-depth_by s zero r h = absurd h
 HasDepth-depth_by s (suc most) r h =
     above (map (depth_by s most) (s r)) (measured (depth_by s most) (s r)
-    (every_of_both (IsWithin s most) (λ q. HasDepth s q (depth_by s most q)) (HasDepth-depth_by s most) (s r) h)) refl
+    (weaker (IsWithin s most) (λ q. HasDepth s q (depth_by s most q)) (HasDepth-depth_by s most) (s r) h)) refl
 
 HasWeight-weight_by : (s : Steps) (most : ℕ) (r : RegionId) → IsWithin s most r → HasWeight s r (weight_by s most r)
 unfolding weight_by IsWithin
 HasWeight-weight_by s zero r h = absurd h
 HasWeight-weight_by s (suc most) r h =
     above (map (weight_by s most) (s r)) (measured (weight_by s most) (s r)
-    (every_of_both (IsWithin s most) (λ q. HasWeight s q (weight_by s most q)) (HasWeight-weight_by s most) (s r) h)) refl
+    (weaker (IsWithin s most) (λ q. HasWeight s q (weight_by s most q)) (HasWeight-weight_by s most) (s r) h)) refl
 
 any_of : (g : RegionId → Bool) (qs : List RegionId) (q : RegionId) → HasElement qs q → g q ≡ true → list_any g qs ≡ true
 any_of g [] q h t = absurd h

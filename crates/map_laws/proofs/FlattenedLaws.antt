@@ -1,7 +1,7 @@
 -- The ranges that are made address by address are the one view.
 use Rattle.std.proofs.Common.{◌≡◌, ℕ, zero, suc, ◌+◌, ◌-◌, ◌^◌, ◌<◌, ◌≤◌, ◌==◌, ◌&&◌, ◌||◌, not, Bool, true, false, cond, List, [], ◌∷◌}
 use Rattle.std.proofs.Common.{Option, Some, None, refl, sym, ap, subst, ◌∙◌, arith, ⊎_elim, eqb-true, option_and_then}
-use Rattle.std.proofs.lemmas.Bool.{cases_lt}
+use Rattle.std.proofs.lemmas.Bool.{cases_lt, and_parts}
 use Rattle.std.proofs.lemmas.Bool.Decides.{nat_tests}
 use Rattle.mem_base.specs.declared.map.forests.Forest.{Forest}
 use Rattle.mem_base.specs.declared.map.ids.RegionId.{RegionId}
@@ -16,7 +16,8 @@ use Rattle.mem_base.specs.map.Search.{look, path_at, root_of, found_in, spot_of}
 use Rattle.mem_base.specs.views.View.{shown, IsRanges, PathAt, IsOnOnePath, Merges, MergesNot, IsMerged, IsView}
 use Rattle.mem_base.specs.views.Flattened.{lone, same_path, goes_on, put_before, ranges_from, view_of}
 use Rattle.mem_base.specs.map.Attributes.{same_attrs}
-use Rattle.mem_base.proofs.ViewLaws.{shown-before, shown-first, shown-later, IsView-unique}
+use Rattle.mem_base.proofs.ViewLaws.{shown-before, shown-first, shown-later, IsView-unique, IsRanges-from, some_same}
+use Rattle.mem_base.proofs.BoolLaws.{bool_same, bool_itself, holds_where, holds_if}
 
 -- what the ranges of the addresses from `a` to `end` are
 record Flattens (found : ℕ → Option Spot) (path : PathAt) (a end : ℕ) (rs : List FlatRange) : Type 0 where
@@ -24,21 +25,6 @@ record Flattens (found : ℕ → Option Spot) (path : PathAt) (a end : ℕ) (rs 
   shows : (x : ℕ) → a ≤ x → x < end → shown rs x ≡ found x
   merged : IsMerged path rs
   paths : Every (IsOnOnePath path) rs
-
-both : (x y : Bool) → x && y ≡ true → (x ≡ true) × (y ≡ true)
-both true true e = (refl, refl)
-both true false e = cc
-both false y e = cc
-
-bool_eq-is : (x y : Bool) → bool_eq x y ≡ true → x ≡ y
-bool_eq-is true true e = refl
-bool_eq-is true false e = cc
-bool_eq-is false true e = cc
-bool_eq-is false false e = refl
-
-bool_eq-same : (x : Bool) → bool_eq x x ≡ true
-bool_eq-same true = refl
-bool_eq-same false = refl
 
 abbrev attrs_of : Bool → Bool → Bool → Bool → ℕ → Attrs
 attrs_of readonly nonvolatile romd unmergeable log =
@@ -50,58 +36,50 @@ region_of n = record { 0 = n }
 abbrev the_spot : RegionId → ℕ → Attrs → Spot
 the_spot leaf offset attrs = record { leaf = leaf; offset = offset; attrs = attrs }
 
-same_attrs-is : (x y : Attrs) → same_attrs x y ≡ true → x ≡ y
+pub same_attrs-is : (x y : Attrs) → same_attrs x y ≡ true → x ≡ y
 same_attrs-is x y e =
-    let p = both (bool_eq x.readonly y.readonly && bool_eq x.nonvolatile y.nonvolatile && bool_eq x.romd y.romd && bool_eq x.unmergeable y.unmergeable)
+    let p = and_parts (bool_eq x.readonly y.readonly && bool_eq x.nonvolatile y.nonvolatile && bool_eq x.romd y.romd && bool_eq x.unmergeable y.unmergeable)
     (x.log == y.log) e in
-    let o = both (bool_eq x.readonly y.readonly && bool_eq x.nonvolatile y.nonvolatile && bool_eq x.romd y.romd) (bool_eq x.unmergeable y.unmergeable) p.0 in
-    let u : x.unmergeable ≡ y.unmergeable = bool_eq-is x.unmergeable y.unmergeable o.1 in
-    let q = both (bool_eq x.readonly y.readonly && bool_eq x.nonvolatile y.nonvolatile) (bool_eq x.romd y.romd) o.0 in
-    let r = both (bool_eq x.readonly y.readonly) (bool_eq x.nonvolatile y.nonvolatile) q.0 in
-    let a : x.readonly ≡ y.readonly = bool_eq-is x.readonly y.readonly r.0 in
-    let b : x.nonvolatile ≡ y.nonvolatile = bool_eq-is x.nonvolatile y.nonvolatile r.1 in
-    let c : x.romd ≡ y.romd = bool_eq-is x.romd y.romd q.1 in
+    let o = and_parts (bool_eq x.readonly y.readonly && bool_eq x.nonvolatile y.nonvolatile && bool_eq x.romd y.romd) (bool_eq x.unmergeable y.unmergeable) p.0 in
+    let u : x.unmergeable ≡ y.unmergeable = bool_same x.unmergeable y.unmergeable o.1 in
+    let q = and_parts (bool_eq x.readonly y.readonly && bool_eq x.nonvolatile y.nonvolatile) (bool_eq x.romd y.romd) o.0 in
+    let r = and_parts (bool_eq x.readonly y.readonly) (bool_eq x.nonvolatile y.nonvolatile) q.0 in
+    let a : x.readonly ≡ y.readonly = bool_same x.readonly y.readonly r.0 in
+    let b : x.nonvolatile ≡ y.nonvolatile = bool_same x.nonvolatile y.nonvolatile r.1 in
+    let c : x.romd ≡ y.romd = bool_same x.romd y.romd q.1 in
     let d : x.log ≡ y.log = eqb-true x.log y.log p.1 in
     let parts : attrs_of x.readonly x.nonvolatile x.romd x.unmergeable x.log ≡ attrs_of y.readonly y.nonvolatile y.romd y.unmergeable y.log = cc in parts
 
-same_attrs-same : (x : Attrs) → same_attrs x x ≡ true
+pub same_attrs-same : (x : Attrs) → same_attrs x x ≡ true
 same_attrs-same x = let log : (x.log == x.log) ≡ true = grind (arith, nat_tests) in
-    rw (bool_eq-same x.readonly, bool_eq-same x.nonvolatile, bool_eq-same x.romd, bool_eq-same x.unmergeable, log) refl
+    rw (bool_itself x.readonly, bool_itself x.nonvolatile, bool_itself x.romd, bool_itself x.unmergeable, log) refl
 
-same_path-is : (ps qs : List RegionId) → same_path ps qs ≡ true → ps ≡ qs
+pub same_path-is : (ps qs : List RegionId) → same_path ps qs ≡ true → ps ≡ qs
 same_path-is [] [] e = refl
 same_path-is [] (q ∷ qs) e = cc
 same_path-is (p ∷ ps) [] e = cc
 same_path-is (p ∷ ps) (q ∷ qs) e =
-    let w = both (p.0 == q.0) (same_path ps qs) e in
+    let w = and_parts (p.0 == q.0) (same_path ps qs) e in
     let first : region_of p.0 ≡ region_of q.0 = ap region_of (eqb-true p.0 q.0 w.0) in
     let rest = same_path-is ps qs w.1 in cc
 
-same_path-same : (ps : List RegionId) → same_path ps ps ≡ true
+pub same_path-same : (ps : List RegionId) → same_path ps ps ≡ true
 same_path-same [] = refl
 same_path-same (p ∷ ps) = let first : (p.0 == p.0) ≡ true = grind (arith, nat_tests) in rw (first, same_path-same ps) refl
-
-unless_apart : (u b : Bool) → (not u || b) ≡ true → u ≡ true → b ≡ true
-unless_apart true b e t = e
-unless_apart false b e t = cc
 
 -- the range goes on where the address ends exactly where the two merge
 goes_on-merges : (path : PathAt) (a : ℕ) (s : Spot) (r : FlatRange) → goes_on path a s r ≡ true → Merges path (lone a s) r
 goes_on-merges path a s r e =
-    let w = both ((r.start == a + 1) && (r.leaf.0 == s.leaf.0) && (r.offset == s.offset + 1) && same_attrs r.attrs s.attrs)
+    let w = and_parts ((r.start == a + 1) && (r.leaf.0 == s.leaf.0) && (r.offset == s.offset + 1) && same_attrs r.attrs s.attrs)
     (not s.attrs.unmergeable || same_path (path r.start) (path a)) e in
-    let p = both ((r.start == a + 1) && (r.leaf.0 == s.leaf.0) && (r.offset == s.offset + 1)) (same_attrs r.attrs s.attrs) w.0 in
-    let q = both ((r.start == a + 1) && (r.leaf.0 == s.leaf.0)) (r.offset == s.offset + 1) p.0 in
-    let t = both (r.start == a + 1) (r.leaf.0 == s.leaf.0) q.0 in
+    let p = and_parts ((r.start == a + 1) && (r.leaf.0 == s.leaf.0) && (r.offset == s.offset + 1)) (same_attrs r.attrs s.attrs) w.0 in
+    let q = and_parts ((r.start == a + 1) && (r.leaf.0 == s.leaf.0)) (r.offset == s.offset + 1) p.0 in
+    let t = and_parts (r.start == a + 1) (r.leaf.0 == s.leaf.0) q.0 in
     let start : r.start ≡ a + 1 = eqb-true r.start (a + 1) t.0 in
     let offset : r.offset ≡ s.offset + 1 = eqb-true r.offset (s.offset + 1) q.1 in (
       (start, ap region_of (eqb-true r.leaf.0 s.leaf.0 t.1), omega arith, same_attrs-is r.attrs s.attrs p.1),
-      λ u. same_path-is (path r.start) (path a) (unless_apart s.attrs.unmergeable (same_path (path r.start) (path a)) w.1 u),
+      λ u. same_path-is (path r.start) (path a) (holds_where s.attrs.unmergeable (same_path (path r.start) (path a)) w.1 u),
     )
-
-apart_or : (u b : Bool) → (u ≡ true → b ≡ true) → (not u || b) ≡ true
-apart_or true b h = h refl
-apart_or false b h = refl
 
 merges-goes_on : (path : PathAt) (a : ℕ) (s : Spot) (r : FlatRange) → Merges path (lone a s) r → goes_on path a s r ≡ true
 merges-goes_on path a s r m =
@@ -110,13 +88,9 @@ merges-goes_on path a s r m =
     let offset : (r.offset == s.offset + 1) ≡ true = let e = m.0.0 in let f = m.0.2 in grind (arith, nat_tests) in
     let attrs : same_attrs r.attrs s.attrs ≡ true = subst (λ t. same_attrs r.attrs t ≡ true) m.0.3 (same_attrs-same r.attrs) in
     let path : (not s.attrs.unmergeable || same_path (path r.start) (path a)) ≡ true
-    = apart_or s.attrs.unmergeable (same_path (path r.start) (path a))
+    = holds_if s.attrs.unmergeable (same_path (path r.start) (path a))
     (λ u. subst (λ ps. same_path (path r.start) ps ≡ true) (m.1 u) (same_path-same (path r.start))) in
     rw (start, leaf, offset, attrs, path) refl
-
-IsRanges-from : (low from end : ℕ) (rs : List FlatRange) → low ≤ from → IsRanges from end rs → IsRanges low end rs
-IsRanges-from low from end [] l h = omega (arith, h)
-IsRanges-from low from end (r ∷ rs) l h = (let k = h.0 in omega arith, h.1, h.2, h.3)
 
 -- the first address is found in the first range, the others in the others
 shows_first : (found : ℕ → Option Spot) (path : PathAt) (a end : ℕ) (s : Spot) (rs : List FlatRange) → found a ≡ Some s → Flattens found path (a + 1) end rs
@@ -221,9 +195,6 @@ flattens found path end b a zero e = record { ranges = omega arith; shows = λ x
 flattens found path end b a (suc n) e =
     put_one found path a end (found a) (ranges_from found path (a + 1) n) refl (omega arith) (λ s is. b a s (omega arith) is)
     (flattens found path end b (a + 1) n (omega arith))
-
-some_same : (x y : Spot) → Some x ≡ Some y → x ≡ y
-some_same x y e = cc
 
 -- what ranges show has offsets below 2^64
 shown-below : (from end : ℕ) (rs : List FlatRange) → IsRanges from end rs → (x : ℕ) (s : Spot) → shown rs x ≡ Some s → s.offset < 2 ^ 64

@@ -9,18 +9,15 @@ use Rattle.mem_base.specs.map.Kinds.{target_of}
 use Rattle.mem_base.specs.map.Region.{has_id, node_of, is_in, is_child_of}
 use Rattle.mem_base.specs.map.Order.{trial_order, children_of}
 use Rattle.mem_base.specs.map.Changes.{changed_at}
-use Rattle.mem_base.specs.map.Steps.{steps_of, steps_from, steps_at, greatest, total, depth_of, weight_of, greatest_depth, greatest_weight}
+use Rattle.mem_base.specs.map.Steps.{steps_of, steps_from, steps_at, greatest, depth_of, weight_of, greatest_depth, greatest_weight}
 use Rattle.mem_base.proofs.StepLaws.{Alike, alike-sorted_by, map_agree, every_of, depth_by-alike, weight_by-alike}
-use Rattle.mem_base.proofs.JoinLaws.{node_of-changed_at, map_ids-changed_at, steps_seen}
+use Rattle.mem_base.proofs.JoinLaws.{node_of-changed_at, map_ids-changed_at, steps_seen, alike_of}
 
 -- a change of one region that keeps its id, its container and its target
 pub record KeepsSteps (g : Node → Node) : Type 0 where
   pub id : (n : Node) → (g n).id ≡ n.id
   pub parent : (n : Node) → (g n).parent ≡ n.parent
   pub target : (n : Node) → target_of (g n).kind ≡ target_of n.kind
-
-alike_by : {xs ys : List RegionId} → xs ≡ ys → Alike xs ys
-alike_by e g = (ap (λ l. greatest (map g l)) e, ap (λ l. total (map g l)) e)
 
 alike_trans : (xs ys zs : List RegionId) → Alike xs ys → Alike ys zs → Alike xs zs
 alike_trans xs ys zs h k g = ((h g).0 ∙ (k g).0, (h g).1 ∙ (k g).1)
@@ -56,7 +53,7 @@ module _ (r : RegionId) (g : Node → Node) (keeps : KeepsSteps g) where
       let new = filter (is_child_of q) (changed_at r g nodes) in
       let old = filter (is_child_of q) nodes in
       alike_trans _ _ _ (alike-sorted_by trial_order new)
-      (alike_trans _ _ _ (alike_by (ids_kept q nodes)) (alike_back _ _ (alike-sorted_by trial_order old)))
+      (alike_trans _ _ _ (alike_of (ids_kept q nodes)) (alike_back _ _ (alike-sorted_by trial_order old)))
 
   steps_at_alike : (nodes : List Node) (k : Kind) (n : Node) → Alike (steps_at (changed_at r g nodes) k n) (steps_at nodes k n)
   steps_at_alike nodes (Alias target offset) n w = (refl, refl)
@@ -70,7 +67,7 @@ module _ (r : RegionId) (g : Node → Node) (keeps : KeepsSteps g) where
   pub steps_alike_kept : (nodes : List Node) (q : RegionId) → Alike (steps_of (changed_at r g nodes) q) (steps_of nodes q)
   steps_alike_kept nodes q =
       alike_trans _ _ _
-      (alike_by (ap (steps_from (changed_at r g nodes)) (node_of-changed_at r g keeps.id nodes q)
+      (alike_of (ap (steps_from (changed_at r g nodes)) (node_of-changed_at r g keeps.id nodes q)
       ∙ steps_seen (changed_at r g nodes) r g keeps.id keeps.target (node_of nodes q)))
       (steps_from_alike nodes (node_of nodes q))
 

@@ -64,7 +64,7 @@ changed_at-twice r g h k (n ∷ ns) =
       | false ↦ λ t. rw t (ap (λ l. n ∷ l) ih)
     ] refl
 
-moved_id : (offset placing : ℕ) (n : Node) → (moved offset placing n).id ≡ n.id
+pub moved_id : (offset placing : ℕ) (n : Node) → (moved offset placing n).id ≡ n.id
 moved_id offset placing n = elim (eqb n.offset offset) as
     (λ b. (cond b n (record n { offset = offset; placing = placing })).id ≡ n.id) [ true ↦ refl | false ↦ refl ]
 

@@ -23,6 +23,7 @@ use Rattle.mem_base.specs.views.Flattened.{view_of}
 use Rattle.mem_base.proofs.ForestLaws.{every_node_of}
 use Rattle.map_laws.proofs.FlattenedLaws.{IsView-view_of}
 use Rattle.map_laws.proofs.SoundCallLaws.{IsClosedForest-made}
+use Rattle.mem_base.proofs.BoolLaws.{right_of}
 
 -- what is found, if anything, has an offset below 2^64
 abbrev IsBelow : Option Found → Type 0
@@ -64,10 +65,6 @@ inside_below f below h _ n a l =
     or_below (first_of_children below (children_of f.nodes n.id) a) (itself f.global n.kind n a) (children_below below h (children_of f.nodes n.id) a)
     (itself_below n f.global n.kind a l)
 
-and_second : (x y : Bool) → x && y ≡ true → y ≡ true
-and_second true y e = e
-and_second false y e = cc
-
 -- no region is larger than the whole space
 abbrev IsSmall : Option Node → Type 0
 IsSmall None = Unit {0}
@@ -77,7 +74,7 @@ node_below : (f : Forest) (below : Search) → ((r : RegionId) (b : ℕ) → IsB
     IsBelow (option_and_then (λ n. at_node f below n a) o)
 node_below f below h None a s = tt
 node_below f below h (Some n) a s = go (n.enabled && nat_lt a n.size)
-    (λ t. let u : nat_lt a n.size ≡ true = and_second n.enabled (nat_lt a n.size) t in grind (arith, nat_tests)) where
+    (λ t. let u : nat_lt a n.size ≡ true = right_of n.enabled (nat_lt a n.size) t in grind (arith, nat_tests)) where
       go : (b : Bool) → (b ≡ true → a < n.size) → IsBelow (cond b (option_map (passed n) (inside f below n.kind n a)) None)
       go true l = let k = l refl in passed_below n (inside f below n.kind n a) (inside_below f below h n.kind n a (omega (arith, s)))
       go false l = tt

@@ -1,24 +1,25 @@
 -- Laws of pages: a page whose size is a power of two, and which begins at a multiple of it, ends in the range of
 -- addresses.
-use Rattle.std.proofs.Common.{◌≡◌, ◌≢◌, ℕ, zero, suc, ◌+◌, ◌-◌, ◌*◌, ◌/◌, ◌%◌, ◌^◌, ◌<◌, ◌≤◌, Bool, true, false, not, ◌||◌, eqb, ltb, ◌⊎◌}
+use Rattle.std.proofs.Common.{◌≡◌, ◌≢◌, ℕ, zero, suc, ◌+◌, ◌-◌, ◌*◌, ◌/◌, ◌%◌, ◌^◌, ◌<◌, ◌≤◌, true, false, not, eqb, ltb, ◌⊎◌}
 use Rattle.std.proofs.Common.{inl, inr, None, count_ones, refl, sym, ap, ◌∙◌, arith}
 use Rattle.std.proofs.lemmas.Bool.Decides.{nat_tests}
 use Rattle.std.proofs.lemmas.Nat.{ones_cat, zero_from_ones, pow-add, pow_below, div-add-mod', mod_below, mul-le, ones_le_self}
 use Rattle.mem_base.specs.declared.map.refusals.Refusal.TheVariants.{BadPage}
 use Rattle.mem_base.specs.map.TableRefusals.{bad_page}
 use Rattle.map_laws.proofs.RefusalLaws.{refuse_if-none}
+use Rattle.std.proofs.lemmas.Bool.{or_parts, not-false}
 
-one_has : count_ones 1 ≢ 0
+pub one_has : count_ones 1 ≢ 0
 one_has e = let z = zero_from_ones 1 e in omega arith
 
 -- the one digit of a number is its lowest, or stands further up
-last_digit : (q r : ℕ) → r < 2 → count_ones (q * 2 + r) ≡ 1 → ((r ≡ 1) × (q ≡ 0)) ⊎ ((r ≡ 0) × (count_ones q ≡ 1))
+pub last_digit : (q r : ℕ) → r < 2 → count_ones (q * 2 + r) ≡ 1 → ((r ≡ 1) × (q ≡ 0)) ⊎ ((r ≡ 0) × (count_ones q ≡ 1))
 last_digit q zero l e = let h = ones_cat 1 q 0 (omega arith) in let z = ones_le_self 0 in inr (refl, omega arith)
 last_digit q (suc zero) l e = let h = ones_cat 1 q 1 (omega arith) in let some = one_has in let none : count_ones q ≡ 0 = omega arith in
     inl (refl, zero_from_ones q none)
 last_digit q (suc (suc r)) l e = absurd (omega arith)
 
-doubled : (n q r : ℕ) → q * 2 + r ≡ n → ((n' : ℕ) → n' ≡ q → count_ones n' ≡ 1 → (k : ℕ) × (n' ≡ 2 ^ k)) → ((r ≡ 1) × (q ≡ 0))
+pub doubled : (n q r : ℕ) → q * 2 + r ≡ n → ((n' : ℕ) → n' ≡ q → count_ones n' ≡ 1 → (k : ℕ) × (n' ≡ 2 ^ k)) → ((r ≡ 1) × (q ≡ 0))
     ⊎ ((r ≡ 0) × (count_ones q ≡ 1)) → (k : ℕ) × (n ≡ 2 ^ k)
 doubled n q r is up (inl (one, none)) = (0, omega arith)
 doubled n q r is up (inr (even, rest)) =
@@ -27,7 +28,7 @@ doubled n q r is up (inr (even, rest)) =
     let p = pow-add 2 h.0 1 in
     (h.0 + 1, omega arith)
 
-power : (most n : ℕ) → n ≤ most → count_ones n ≡ 1 → (k : ℕ) × (n ≡ 2 ^ k)
+pub power : (most n : ℕ) → n ≤ most → count_ones n ≡ 1 → (k : ℕ) × (n ≡ 2 ^ k)
 power zero n l e = let z : n ≡ 0 = omega arith in let q : count_ones n ≡ count_ones 0 = ap count_ones z in let h = ones_le_self 0 in absurd (omega arith)
 power (suc most) n l e =
     let split = div-add-mod' n 2 in
@@ -61,14 +62,6 @@ page_ends iova size ones whole l s =
     let h = next_multiple (iova / size) top.0 size (omega arith) in
     omega arith
 
-or_false : (a b : Bool) → a || b ≡ false → (a ≡ false) × (b ≡ false)
-or_false true b e = cc
-or_false false b e = (refl, e)
-
-not_false : (b : Bool) → not b ≡ false → b ≡ true
-not_false true e = refl
-not_false false e = cc
-
 -- a page that a Map may have
 pub record IsPage (iova size : ℕ) : Type 0 where
   pub some : 0 < size
@@ -77,9 +70,9 @@ pub record IsPage (iova size : ℕ) : Type 0 where
 
 pub bad_page-none : (iova size : ℕ) → bad_page iova size ≡ None → iova < 2 ^ 64 → size ≤ 2 ^ 64 → IsPage iova size
 bad_page-none iova size e l s =
-    let tests = or_false (not (eqb (count_ones size) 1)) (not (eqb (iova % size) 0)) (refuse_if-none _ BadPage e) in
-    let one_bit = not_false (eqb (count_ones size) 1) tests.0 in
-    let multiple = not_false (eqb (iova % size) 0) tests.1 in
+    let tests = or_parts (not (eqb (count_ones size) 1)) (not (eqb (iova % size) 0)) (refuse_if-none _ BadPage e) in
+    let one_bit = not-false (eqb (count_ones size) 1) tests.0 in
+    let multiple = not-false (eqb (iova % size) 0) tests.1 in
     let ones : count_ones size ≡ 1 = grind (arith, nat_tests) in
     let whole : iova % size ≡ 0 = grind (arith, nat_tests) in
     let ends = page_ends iova size ones whole l s in

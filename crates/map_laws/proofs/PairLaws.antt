@@ -1,17 +1,13 @@
 -- Laws of what holds between each two elements of a list, and of the regions that a change leaves.
 use Rattle.std.proofs.Common.{◌≡◌, ◌+◌, ◌≤◌, Bool, true, false, cond, List, [], ◌∷◌, ◌++◌, length, filter, Some, refl, sym, subst, arith}
-use Rattle.std.specs.declared.cmp.Ordering.{Ordering}
-use Rattle.std.specs.Ordering.{is_lt}
 use Rattle.mem_base.specs.declared.map.ids.RegionId.{RegionId}
 use Rattle.mem_base.specs.declared.map.forests.Node.{Node}
 use Rattle.mem_base.specs.lists.Every.{Every, EveryPair}
 use Rattle.mem_base.specs.map.Region.{has_id, node_of, IsAscending}
-use Rattle.mem_base.specs.lists.Sorting.{put_by}
 use Rattle.mem_base.specs.map.Changes.{changed_at}
 use Rattle.mem_base.proofs.EveryLaws.{weaker, every_push}
 use Rattle.mem_base.proofs.ForestLaws.{changed_at-absent, absent_after, every_changed_at}
 use Rattle.map_laws.proofs.MoveLaws.{every_changed_one}
-use Rattle.mem_base.proofs.EveryLaws.{every_filter}
 
 -- a change that a relation does not see
 pub pairs_changed : (R : Node → Node → Type 0) (r : RegionId) (g : Node → Node) → ((x y : Node) → R x y → R (g x) y) → ((x y : Node) → R x y → R x (g y)) →
@@ -46,12 +42,6 @@ pub pairs_push : {A : Type 0} (R : A → A → Type 0) (xs : List A) (y : A) →
 pairs_push R [] y e h = (tt, tt)
 pairs_push R (x ∷ xs) y e h = (every_push (R x) xs y h.0 e.0, pairs_push R xs y e.1 h.1)
 
-pub pairs_filter : {A : Type 0} (R : A → A → Type 0) (p : A → Bool) (xs : List A) → EveryPair R xs → EveryPair R (filter p xs)
-pairs_filter R p [] h = tt
-pairs_filter R p (x ∷ xs) h =
-    let rest = pairs_filter R p xs h.1 in
-    elim (p x) as (λ b. EveryPair R (cond b (x ∷ filter p xs) (filter p xs))) [ true ↦ (every_filter (R x) p xs h.0, rest) | false ↦ rest ]
-
 pub length-push : {A : Type 0} (xs : List A) (y : A) → length (xs ++ y ∷ []) ≡ length xs + 1
 length-push [] y = omega arith
 length-push (x ∷ xs) y = let h = length-push xs y in omega arith
@@ -60,11 +50,6 @@ pub length-filter : {A : Type 0} (p : A → Bool) (xs : List A) → length (filt
 length-filter p [] = omega arith
 length-filter p (x ∷ xs) = let h = length-filter p xs in
     elim (p x) as (λ b. length (cond b (x ∷ filter p xs) (filter p xs)) ≤ length (x ∷ xs)) [ true ↦ omega arith | false ↦ omega arith ]
-
-pub length-put_by : {A : Type 0} (R : A → A → Ordering) (x : A) (l : List A) → length (put_by R x l) ≡ length l + 1
-length-put_by R x [] = omega arith
-length-put_by R x (y ∷ ys) = let h = length-put_by R x ys in
-    elim (is_lt (R x y)) as (λ b. length (cond b (x ∷ y ∷ ys) (y ∷ put_by R x ys)) ≡ length (y ∷ ys) + 1) [ true ↦ omega arith | false ↦ omega arith ]
 
 pub length-changed_at : (r : RegionId) (g : Node → Node) (nodes : List Node) → length (changed_at r g nodes) ≡ length nodes
 length-changed_at r g [] = refl

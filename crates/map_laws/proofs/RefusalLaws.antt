@@ -22,7 +22,7 @@ use Rattle.mem_base.specs.map.Refusals.{too_deep, too_wide}
 use Rattle.mem_base.specs.map.Steps.{greatest_depth, greatest_weight}
 use Rattle.mem_base.proofs.ForestLaws.{known_below}
 
-first_none : (x y : Option Refusal) → option_or x y ≡ None → (x ≡ None) × (y ≡ None)
+pub first_none : (x y : Option Refusal) → option_or x y ≡ None → (x ≡ None) × (y ≡ None)
 first_none None y e = (refl, e)
 first_none (Some why) y e = cc
 
@@ -40,7 +40,7 @@ pub refuse_where-none : (test : Node → Bool) (why : Refusal) (o : Option Node)
 refuse_where-none test why None n e h = cc
 refuse_where-none test why (Some m) n e h = let same : m ≡ n = cc in ap test (let back : n ≡ m = cc in back) ∙ refuse_if-none (test m) why h
 
-some_of : (o : Option Node) → is_some o ≡ true → (n : Node) × (o ≡ Some n)
+pub some_of : (o : Option Node) → is_some o ≡ true → (n : Node) × (o ≡ Some n)
 some_of None e = cc
 some_of (Some n) e = (n, refl)
 

@@ -26,14 +26,15 @@ use Rattle.mem_base.specs.map.Entries.{least_met, entry_order}
 use Rattle.mem_base.specs.map.Changes.{changed_at, moved}
 use Rattle.mem_base.specs.map.Edits.{retargeted}
 use Rattle.mem_base.specs.map.Clients.{bit_of, logged}
-use Rattle.mem_base.proofs.DelLaws.{every_put_by}
 use Rattle.map_laws.proofs.DropLaws.{without, node_of-without}
 use Rattle.mem_base.proofs.JoinLaws.{node_of-changed_at}
 use Rattle.mem_base.proofs.EveryLaws.{every_filter}
 use Rattle.mem_base.proofs.EntryLaws.{entries-filter, entries-added}
 use Rattle.mem_base.proofs.EventLaws.{events-put}
 use Rattle.mem_base.proofs.PlaceLaws.{rising-filter}
-use Rattle.map_laws.proofs.PairLaws.{length-filter, length-put_by, node_of-more}
+use Rattle.map_laws.proofs.PairLaws.{length-filter, node_of-more}
+use Rattle.mem_base.proofs.ForestLaws.{every_put}
+use Rattle.mem_base.proofs.SortingLaws.{length-put_by}
 
 -- a region among others that have what it names
 pub region_among : (old new : List Node) (n : Node) → (HasPlainContainer old n.parent → HasPlainContainer new n.parent) →
@@ -285,7 +286,7 @@ module _ (nodes : List Node) (n : Node) (h : IsRegion nodes n) where
         log = h.log;
         entries =
             entries-added e n.entries ends free h.entries;
-        pages = every_put_by (λ x. bad_page x.iova (x.mask + 1) ≡ None) entry_order e n.entries page h.pages;
+        pages = every_put (λ x. bad_page x.iova (x.mask + 1) ≡ None) entry_order e n.entries page h.pages;
         few_entries = let l = length-put_by entry_order e n.entries in
             omega arith;
         events = h.events;
@@ -337,7 +338,7 @@ module _ (nodes : List Node) (n : Node) (h : IsRegion nodes n) where
         few_entries = h.few_entries;
         events = events-put e n.events free h.events;
         good_events =
-            every_put_by (λ x. bad_event x ≡ None) event_order e n.events good h.good_events;
+            every_put (λ x. bad_event x ≡ None) event_order e n.events good h.good_events;
         few_events = let l = length-put_by event_order e n.events in
             omega arith;
         untranslated = h.untranslated;

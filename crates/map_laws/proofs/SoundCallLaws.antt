@@ -2,7 +2,6 @@
 use Rattle.std.proofs.Common.{◌≡◌, ◌≢◌, ℕ, ◌+◌, ◌-◌, ◌<◌, ◌≤◌, ◌^◌, Bool, true, false, not, ◌&&◌, ◌||◌, cond, eqb, ℤ, List, [], ◌∷◌, ◌++◌}
 use Rattle.std.proofs.Common.{length, filter, find, Option, Some, None, IsSome, is_some, Ok, Err, refl, sym, ap, subst, ◌∙◌, arith}
 use Rattle.std.specs.Prelude.{option_map, option_and_then, nat_lt, is_none, ◌%◌}
-use Rattle.std.specs.Option.{option_or}
 use Rattle.std.proofs.lemmas.Bool.Decides.{nat_tests}
 use Rattle.mem_base.specs.declared.map.ids.RegionId.{RegionId}
 use Rattle.mem_base.specs.declared.map.ids.SpaceId.{SpaceId}
@@ -36,34 +35,28 @@ use Rattle.mem_base.specs.map.Edits.{retargeted}
 use Rattle.mem_base.specs.map.Clients.{logged}
 use Rattle.mem_base.specs.map.Calls.{refusals, refusal_of, counted, after, left_by, after_all, empty}
 use Rattle.mem_base.proofs.EveryLaws.{weaker, both, every_push, every_filter}
-use Rattle.mem_base.proofs.DelLaws.{every_put_by}
 use Rattle.map_laws.proofs.MoveLaws.{moved_keeps, moved_kind, unmoved}
 use Rattle.map_laws.proofs.DropLaws.{without, every_without}
 use Rattle.map_laws.proofs.SizeLaws.{plain_bytes}
-use Rattle.map_laws.proofs.RefusalLaws.{each_none, refuse_if-none, refuse_where-none, is_known, known_node, find-none, in_use-none}
+use Rattle.map_laws.proofs.RefusalLaws.{each_none, refuse_if-none, refuse_where-none, is_known, known_node, find-none, in_use-none, first_none}
 use Rattle.map_laws.proofs.PageLaws.{bad_page-none}
-use Rattle.map_laws.proofs.PairLaws.{pairs_push, pairs_filter, length-push, length-filter}
+use Rattle.map_laws.proofs.PairLaws.{pairs_push, length-push, length-filter}
 use Rattle.map_laws.proofs.RegionLaws.{container_changed, there_more, target_more, region_more, there_without, region_without, region_at}
 use Rattle.map_laws.proofs.RegionLaws.{region_moved, region_resized, region_romd, region_logged, region_retargeted, region_mapped}
 use Rattle.map_laws.proofs.RegionLaws.{region_unmapped, region_with_event, region_without_event}
 use Rattle.map_laws.proofs.CallLaws.{IsOrderedForest-left_by, IsOrderedForest-empty, after-accepted}
 use Rattle.map_laws.proofs.SoundLaws.{at_limit-none, few_calls_yet, count-none, with_nodes, one_changed, field_changed, fresh_placing}
+use Rattle.std.proofs.lemmas.Bool.{not-false}
+use Rattle.mem_base.proofs.ForestLaws.{every_put}
+use Rattle.mem_base.proofs.SortingLaws.{pairs_filter}
 
 -- what refusals that do not stand say
-
-not_false : (b : Bool) → not b ≡ false → b ≡ true
-not_false true e = refl
-not_false false e = cc
-
-or_none : (x y : Option Refusal) → option_or x y ≡ None → (x ≡ None) × (y ≡ None)
-or_none None y e = (refl, e)
-or_none (Some why) y e = cc
 
 plain_of : (o : Option Node) (n : Node) → o ≡ Some n → is_alias n.kind ≡ false → IsPlainRegion o
 plain_of None n e a = cc
 plain_of (Some m) n e a = let same : n ≡ m = cc in subst (λ (x : Node). is_alias x.kind ≡ false) same a
 
-not_met : (o : Option ℕ) → option_map (λ met. PageOverlap met) o ≡ None → o ≡ None
+pub not_met : (o : Option ℕ) → option_map (λ met. PageOverlap met) o ≡ None → o ≡ None
 not_met None e = refl
 not_met (Some met) e = cc
 
@@ -77,7 +70,7 @@ some_node : (o : Option Node) (n : Node) → o ≡ Some n → IsSome o
 some_node None n e = cc
 some_node (Some m) n e = refl
 
-some_found : (o : Option (SpaceId × RegionId)) → is_some (option_map (λ p. p.1) o) ≡ false → o ≡ None
+pub some_found : (o : Option (SpaceId × RegionId)) → is_some (option_map (λ p. p.1) o) ≡ false → o ≡ None
 some_found None e = refl
 some_found (Some p) e = cc
 
@@ -136,7 +129,7 @@ module _ (f : Forest) (h : IsOrderedForest f) (s : IsClosedForest f) where
       let each = each_none (no_calls f (calls.Region kind size)) e in
       let r = made_region (record { 0 = f.made }) kind size in
       let new = f.nodes ++ r ∷ [] in
-      let limits = or_none _ _ each.1.1.1.1.0 in
+      let limits = first_none _ _ each.1.1.1.1.0 in
       let made = at_limit-none which.Made most_made f.made limits.0 in
       let regions = at_limit-none which.Regions most_regions (length f.nodes) limits.1 in
       let made_one : IsRegion new r = record {
@@ -299,7 +292,7 @@ module _ (f : Forest) (h : IsOrderedForest f) (s : IsClosedForest f) where
       let m = known_node f region each.0 in
       let wrong = refuse_where-none (λ n. not (is_rom_device n.kind)) (WrongKind region) (node_of f.nodes region) m.0 m.1 each.1.0 in
       field_sound region m.0 m.1 (calls.Romd region on) e (λ n. record n { romd = on }) (λ n. refl) (λ n. refl) (λ n. (refl, refl))
-      (λ w. region_romd (changed_at region (λ n. record n { romd = on }) f.nodes) m.0 w on (not_false (is_rom_device m.0.kind) wrong)) (λ w. w)
+      (λ w. region_romd (changed_at region (λ n. record n { romd = on }) f.nodes) m.0 w on (not-false (is_rom_device m.0.kind) wrong)) (λ w. w)
 
   log_sound : (region : RegionId) (client : Client) (on : Bool) → refusal_of f (calls.Log region client on) ≡ None →
       IsClosedForest (counted (changed f (calls.Log region client on)))
@@ -309,7 +302,7 @@ module _ (f : Forest) (h : IsOrderedForest f) (s : IsClosedForest f) where
       let wrong = refuse_where-none (λ n. not (is_memory n.kind)) (WrongKind region) (node_of f.nodes region) m.0 m.1 each.1.0 in
       field_sound region m.0 m.1 (calls.Log region client on) e (λ n. record n { log = logged client on n.log }) (λ n. refl) (λ n. refl) (λ n. (refl, refl))
       (λ w. region_logged (changed_at region (λ n. record n { log = logged client on n.log }) f.nodes) m.0 w client on
-      (not_false (is_memory m.0.kind) wrong)) (λ w. w)
+      (not-false (is_memory m.0.kind) wrong)) (λ w. w)
 
   map_sound : (region : RegionId) (iova size : ℕ) (space : SpaceId) (translated : ℕ) (perm : Perm) → iova < 2 ^ 64 → size ≤ 2 ^ 64 →
       refusal_of f (calls.Map region iova size space translated perm) ≡ None →
@@ -328,8 +321,8 @@ module _ (f : Forest) (h : IsOrderedForest f) (s : IsClosedForest f) where
       let few = count-none (λ n. n.entries) which.Entries most_entries (node_of f.nodes region) m.0 m.1 each.1.1.1.1.1.0 in
       field_sound region m.0 m.1 call e (λ n. record n { entries = put_by entry_order entry n.entries }) (λ n. refl) (λ n. refl) (λ n. (refl, refl))
       (λ w. region_mapped (changed_at region (λ n. record n { entries = put_by entry_order entry n.entries }) f.nodes) m.0 w entry
-      (not_false (is_iommu m.0.kind) wrong) page.ends good free few)
-      (λ w. every_put_by (λ x. IsSome (root_of f x.space)) entry_order entry m.0.entries there w)
+      (not-false (is_iommu m.0.kind) wrong) page.ends good free few)
+      (λ w. every_put (λ x. IsSome (root_of f x.space)) entry_order entry m.0.entries there w)
 
   unmap_sound : (region : RegionId) (iova : ℕ) → refusal_of f (calls.Unmap region iova) ≡ None → IsClosedForest (counted (changed f (calls.Unmap region iova)))
   unmap_sound region iova e =
@@ -351,7 +344,7 @@ module _ (f : Forest) (h : IsOrderedForest f) (s : IsClosedForest f) where
       field_sound region m.0 m.1 (calls.Event region event) e (λ n. record n { events = put_by event_order event n.events }) (λ n. refl) (λ n. refl)
       (λ n. (refl, refl))
       (λ w. region_with_event (changed_at region (λ n. record n { events = put_by event_order event n.events }) f.nodes) m.0 w event
-      (not_false (takes_events m.0.kind) wrong) each.1.1.0 free few) (λ w. w)
+      (not-false (takes_events m.0.kind) wrong) each.1.1.0 free few) (λ w. w)
 
   unevent_sound : (region : RegionId) (offset size : ℕ) (matched : Bool) (value : ℕ) → refusal_of f (calls.Unevent region offset size matched value) ≡ None →
       IsClosedForest (counted (changed f (calls.Unevent region offset size matched value)))

@@ -13,6 +13,7 @@ use Rattle.mem_base.proofs.ForestLaws.{every_child, node_of-itself}
 use Rattle.child_lists.specs.declared.siblings.Sibling.{Sibling}
 use Rattle.child_lists.specs.Siblings.{siblings_of}
 use Rattle.std.proofs.lemmas.List.{append_assoc, append-nil, take_more}
+use Rattle.mem_base.proofs.ListLaws.{drop_past}
 
 -- five lists one after another
 pub joined : {A : Type 0} (xs a b c d e : List A) → xs ++ a ++ b ++ c ++ d ++ e ≡ xs ++ (a ++ b ++ c ++ d ++ e)
@@ -82,12 +83,6 @@ listed_next f nodes r items i d done x ascending e l found h =
     let here = next_at nodes r items i d ascending e l in
     let same : f x ≡ here.0 = same_Some (f x) here.0 (found ∙ ap (node_of nodes) here.1 ∙ here.3) in
     pushed f done x (drop (i + 1) cs) ∙ ap (λ y. map f done ++ (y ∷ drop (i + 1) cs)) same ∙ ap (λ ys. map f done ++ ys) (sym here.2) ∙ h
-
-drop_past : {A : Type 0} (xs : List A) (i : ℕ) → length xs ≤ i → drop i xs ≡ []
-drop_past [] zero l = refl
-drop_past [] (suc i) l = refl
-drop_past (x ∷ xs) zero l = absurd (omega (arith, l))
-drop_past (x ∷ xs) (suc i) l = drop_past xs i (omega (arith, l))
 
 as_many : (cs : List Node) → length (siblings_of cs) ≡ length cs
 as_many [] = refl

@@ -18,19 +18,15 @@ use Rattle.mem_base.specs.map.Changes.{changed_at}
 use Rattle.mem_base.specs.map.Steps.{steps_of, steps_from, steps_at, greatest, total, depth_of, weight_of, greatest_depth, greatest_weight}
 use Rattle.mem_base.proofs.EveryLaws.{weaker}
 use Rattle.mem_base.proofs.StepLaws.{Fewer, depth_by-fewer, weight_by-fewer}
-use Rattle.mem_base.proofs.ForestLaws.{trial_total}
+use Rattle.mem_base.proofs.ForestLaws.{trial_total, every_put}
 use Rattle.mem_base.proofs.JoinLaws.{node_of-changed_at, steps_seen, map_ids-changed_at}
-
-is_less : (o : Ordering) → is_lt o ≡ true → o ≡ Less
-is_less Less e = refl
-is_less Equal e = cc
-is_less Greater e = cc
+use Rattle.mem_base.proofs.SortingLaws.{lt_less}
 
 -- what is before one is before each that is not before that one
 before_all : {K : Type 0} (R : K → K → Ordering) (o : IsTotalOrder R) (x y z : K) → is_lt (R x y) ≡ true → is_lt (R z y) ≡ false → is_lt (R x z) ≡ true
 before_all R o x y z e f =
     elim (R y z) as (λ q. R y z ≡ q → is_lt (R x z) ≡ true) [
-      | Less ↦ λ w. ap is_lt (o.trans x y z (is_less (R x y) e) w)
+      | Less ↦ λ w. ap is_lt (o.trans x y z (lt_less (R x y) e) w)
       | Equal ↦ λ w.
           let back : R y x ≡ R z x = o.congr y z x w in
           ap is_lt (o.antisymm x z ∙ ap ordering_reverse (sym back) ∙ sym (o.antisymm x y)) ∙ e
@@ -43,12 +39,7 @@ InOrder R [] = Unit {0}
 InOrder R (x ∷ xs) = Every (λ z. is_lt (R z x) ≡ false) xs × InOrder R xs
 
 not_before : {K : Type 0} (R : K → K → Ordering) (o : IsTotalOrder R) (x y : K) → is_lt (R x y) ≡ true → is_lt (R y x) ≡ false
-not_before R o x y e = ap is_lt (o.antisymm y x ∙ ap ordering_reverse (is_less (R x y) e))
-
-pub every_put_by : {K : Type 0} (P : K → Type 0) (R : K → K → Ordering) (x : K) (xs : List K) → P x → Every P xs → Every P (put_by R x xs)
-every_put_by P R x [] k h = (k, tt)
-every_put_by P R x (y ∷ ys) k h = elim (is_lt (R x y)) as
-    (λ b. Every P (cond b (x ∷ y ∷ ys) (y ∷ put_by R x ys))) [ true ↦ (k, h) | false ↦ (h.0, every_put_by P R x ys k h.1) ]
+not_before R o x y e = ap is_lt (o.antisymm y x ∙ ap ordering_reverse (lt_less (R x y) e))
 
 in_order-put_by : {K : Type 0} (R : K → K → Ordering) (o : IsTotalOrder R) (x : K) (l : List K) → InOrder R l → InOrder R (put_by R x l)
 in_order-put_by R o x [] h = (tt, tt)
@@ -62,7 +53,7 @@ in_order-put_by R o x (y ∷ ys) h =
         ),
         h,
       )
-      | false ↦ λ e. (every_put_by (λ z. is_lt (R z y) ≡ false) R x ys e h.0, in_order-put_by R o x ys h.1)
+      | false ↦ λ e. (every_put (λ z. is_lt (R z y) ≡ false) R x ys e h.0, in_order-put_by R o x ys h.1)
     ] refl
 
 pub in_order-sorted_by : {K : Type 0} (R : K → K → Ordering) (o : IsTotalOrder R) (l : List K) → InOrder R (sorted_by R l)

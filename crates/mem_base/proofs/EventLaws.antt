@@ -14,8 +14,8 @@ use Rattle.mem_base.specs.map.Events.{AreEvents, event_cmp, match_order, is_even
 use Rattle.mem_base.specs.lists.Booleans.{bool_eq}
 use Rattle.mem_base.proofs.PlaceLaws.{Rises, Rises-rising, any-present, insert-place_of}
 use Rattle.mem_base.proofs.EveryLaws.{weaker}
-use Rattle.mem_base.proofs.DelLaws.{every_put_by}
 use Rattle.mem_base.proofs.EntryLaws.{nat_is}
+use Rattle.mem_base.proofs.ForestLaws.{every_put}
 
 bool_is : (a b : Bool) → bool_eq a b ≡ is_eq (bool_cmp a b)
 bool_is true true = refl
@@ -116,7 +116,7 @@ rising-put R O o e agrees (y ∷ ys) off h =
       | Greater ↦ λ t.
           let later : is_lt (O e y) ≡ false = agrees y off.0 ∙ ap is_lt t in
           let back : R y e ≡ Less = o.antisymm y e ∙ ap ordering_reverse t in
-          rw later (every_put_by (λ z. R y z ≡ Less) O e ys back h.0, rising-put R O o e agrees ys off.1 h.1)
+          rw later (every_put (λ z. R y z ≡ Less) O e ys back h.0, rising-put R O o e agrees ys off.1 h.1)
     ] refl
 
 none_equal : (p : Ioevent → Bool) (e : Ioevent) → ((y : Ioevent) → p y ≡ is_eq (match_order y e)) → (l : List Ioevent) → list_any p l ≡ false →

@@ -214,12 +214,12 @@ node_of-itself (m ∷ ms) h =
           (both (λ n. node_of ms n.id ≡ Some n) (λ n. m.id.0 < n.id.0) ms (node_of-itself ms h.1) h.0),
     )
 
-every_put : {K : Type 0} (P : K → Type 0) (R : K → K → Ordering) (x : K) (xs : List K) → P x → Every P xs → Every P (put_by R x xs)
+pub every_put : {K : Type 0} (P : K → Type 0) (R : K → K → Ordering) (x : K) (xs : List K) → P x → Every P xs → Every P (put_by R x xs)
 every_put P R x [] k h = (k, tt)
 every_put P R x (y ∷ ys) k h = elim (is_lt (R x y)) as
     (λ b. Every P (cond b (x ∷ y ∷ ys) (y ∷ put_by R x ys))) [ true ↦ (k, h) | false ↦ (h.0, every_put P R x ys k h.1) ]
 
-every_sorted : {K : Type 0} (P : K → Type 0) (R : K → K → Ordering) (xs : List K) → Every P xs → Every P (sorted_by R xs)
+pub every_sorted : {K : Type 0} (P : K → Type 0) (R : K → K → Ordering) (xs : List K) → Every P xs → Every P (sorted_by R xs)
 every_sorted P R [] h = tt
 every_sorted P R (x ∷ xs) h = every_put P R x (sorted_by R xs) h.0 (every_sorted P R xs h.1)
 

@@ -76,7 +76,7 @@ pub steps_children : (nodes : List Node) (k : Kind) (n : Node) → is_alias k �
 steps_children nodes (Alias target offset) n e = cc
 steps_children nodes _ n e = refl
 
-alike_of : {xs ys : List RegionId} → xs ≡ ys → Alike xs ys
+pub alike_of : {xs ys : List RegionId} → xs ≡ ys → Alike xs ys
 alike_of e g = (ap (λ l. greatest (map g l)) e, ap (λ l. total (map g l)) e)
 
 module _ (f : Forest) (h : IsOrderedForest f) (parent : RegionId) (offset : ℕ) (child : RegionId) (priority : ℤ) (n m : Node)

@@ -15,3 +15,6 @@ pub mod NodeLaws
 pub mod ChunkLaws
 pub mod WordLaws
 pub mod PassTurnLaws
+pub mod BoolLaws
+pub mod OptionLaws
+pub mod ListLaws

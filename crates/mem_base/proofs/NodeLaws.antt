@@ -1,5 +1,5 @@
 -- The place of a region among nodes that stand by ascending id.
-use Rattle.std.proofs.Common.{◌≡◌, ◌≢◌, ℕ, zero, suc, ◌+◌, ◌<◌, ◌≤◌, false, eqb, List, [], ◌∷◌, length, get_or, Option, Some, None, Err}
+use Rattle.std.proofs.Common.{◌≡◌, ◌≢◌, ℕ, zero, suc, ◌+◌, ◌<◌, ◌≤◌, false, eqb, List, [], ◌∷◌, length, get_or, Option, Some, None, Err, true}
 use Rattle.std.proofs.Common.{refl, sym, ap, subst, ◌∙◌, arith}
 use Rattle.std.specs.List.Sorted.{IsBinarySearchResult, IsNonDecreasingBy}
 use Rattle.std.specs.declared.cmp.Ordering.TheVariants.{Equal}
@@ -8,9 +8,18 @@ use Rattle.std.proofs.lemmas.Cmp.{ranked}
 use Rattle.std.proofs.lemmas.Bool.Decides.{nat_tests}
 use Rattle.mem_base.specs.declared.map.ids.RegionId.{RegionId}
 use Rattle.mem_base.specs.declared.map.forests.Node.{Node}
-use Rattle.mem_base.specs.map.Region.{IsAscending, node_of}
+use Rattle.mem_base.specs.map.Region.{IsAscending, node_of, has_id}
 use Rattle.mem_base.proofs.EveryLaws.{every_at}
-use Rattle.mem_base.proofs.ForestLaws.{node_of-itself}
+use Rattle.mem_base.proofs.ForestLaws.{node_of-itself, id_of}
+use Rattle.mem_base.specs.declared.map.kinds.Kind.{Kind}
+use Rattle.mem_base.specs.declared.map.kinds.Kind.TheVariants.{Alias, Container, Ram, Rom, RomDevice, Io, Iommu, Reserve, Host}
+use Rattle.mem_base.specs.map.Kinds.{target_of, has_bytes}
+use Rattle.mem_base.specs.map.Order.{children_of, ids_of}
+use Rattle.mem_base.specs.map.Steps.{steps_at}
+use Rattle.std.specs.Option.{option_or}
+use Rattle.mem_base.specs.declared.map.forests.Forest.{Forest}
+use Rattle.mem_base.specs.map.Search.{Search, first_of_children, inside, itself}
+use Rattle.mem_base.specs.access.Places.{extent_of}
 
 ids_rise : (nodes : List Node) (i j : ℕ) (d : Node) → IsAscending nodes → i < j → j < length nodes → (get_or nodes i d).id.0 < (get_or nodes j d).id.0
 ids_rise [] i j d h l m = absurd (omega arith)
@@ -51,3 +60,33 @@ module _ (nodes : List Node) (ascending : IsAscending nodes) (r : RegionId) wher
       let a : k < i → (get_or nodes k d).id.0 < r.0 = λ b. ranked _ r.0 _ (sym (parts.0 k d (omega arith) b)) in
       let b : i ≤ k → r.0 < (get_or nodes k d).id.0 = λ c. ranked _ r.0 _ (sym (parts.1 k d c m)) in
       grind (arith, a, b))
+
+pub found_itself : (nodes : List Node) (r : RegionId) (n : Node) → Some n ≡ node_of nodes r → node_of nodes n.id ≡ Some n
+found_itself nodes r n e = ap (node_of nodes) (id_of nodes r n (sym e)) ∙ sym e
+
+pub steps_to_children : (nodes : List Node) (k : Kind) (n : Node) → target_of k ≡ None → steps_at nodes k n ≡ ids_of (children_of nodes n.id)
+steps_to_children nodes (Alias target offset) n e = cc
+steps_to_children nodes _ n e = refl
+
+pub steps_to_target : (nodes : List Node) (k : Kind) (n : Node) (t : RegionId) → target_of k ≡ Some t → steps_at nodes k n ≡ t ∷ []
+steps_to_target nodes (Alias target offset) n t e = let same : target ≡ t = cc in ap (λ q. q ∷ []) same
+steps_to_target nodes _ n t e = cc
+
+pub found_id : (nodes : List Node) (r : RegionId) (n : Node) → node_of nodes r ≡ Some n → has_id r n ≡ true
+found_id nodes r n e = let q : n.id.0 ≡ r.0 = ap (λ (x : RegionId). x.0) (id_of nodes r n e) in grind (arith, nat_tests)
+
+pub inside-own : (f : Forest) (below : Search) (k : Kind) (n : Node) (b : ℕ) → ((target : RegionId) (offset : ℕ) → k ≡ Alias target offset → ⊥) →
+    inside f below k n b ≡ option_or (first_of_children below (children_of f.nodes n.id) b) (itself f.global n.kind n b)
+inside-own f below (Alias target offset) n b h = absurd (h target offset refl)
+inside-own f below _ n b h = refl
+
+pub whole_bytes : (kind : Kind) (size : ℕ) → has_bytes kind ≡ true → (extent_of kind size).bytes ≡ size
+whole_bytes Ram size e = refl
+whole_bytes Rom size e = refl
+whole_bytes (RomDevice device) size e = refl
+whole_bytes Container size e = cc
+whole_bytes (Io device) size e = cc
+whole_bytes Iommu size e = cc
+whole_bytes (Alias target offset) size e = cc
+whole_bytes Reserve size e = cc
+whole_bytes Host size e = cc

@@ -1,10 +1,11 @@
 -- Entries of a list of events of a pass, by their replies.
-use Rattle.std.proofs.Common.{◌≡◌, ℕ, suc, List, [], ◌∷◌, ◌++◌, length, map, refl, ap, arith}
+use Rattle.std.proofs.Common.{◌≡◌, ℕ, suc, List, [], ◌∷◌, ◌++◌, length, map, refl, ap, arith, ◌≤◌, Option, Some, None}
 use Rattle.mem_base.specs.declared.access.cells.Place.{Place}
 use Rattle.mem_base.specs.declared.machine.events.Event.{Event}
 use Rattle.mem_base.specs.declared.machine.events.HistoryEntry.{HistoryEntry}
 use Rattle.mem_base.specs.machine.Turns.{history_entry}
 use Rattle.mem_base.specs.machine.PassTurns.{carried_among, entries_of}
+use Rattle.mem_base.specs.machine.Generations.{PassTrack, least_lowest, pin_word, number_pinned}
 
 pub entries_append : (places : List Place) (es fs : List Event) (rs qs : List ℕ) → length rs ≡ length es
     → entries_of places (es ++ fs) (rs ++ qs) ≡ entries_of places es rs ++ entries_of places fs qs
@@ -24,3 +25,11 @@ pub events_are : (places : List Place) (es : List Event) (ns : List ℕ) → map
 events_are places [] ns = refl
 events_are places (e ∷ es) [] = ap (λ (fs : List Event). e ∷ fs) (events_are places es [])
 events_are places (e ∷ es) (n ∷ ns) = ap (λ (fs : List Event). e ∷ fs) (events_are places es ns)
+
+pub least_within : (current : ℕ) (ks : List PassTrack) → least_lowest current ks ≤ current
+least_within current [] = omega arith
+least_within current (k ∷ ks) = let within = least_within current ks in omega arith
+
+pub pinned : (o : Option ℕ) → number_pinned (pin_word o) ≡ o
+pinned None = refl
+pinned (Some n) = grind arith

@@ -1,13 +1,9 @@
 -- Lists of regions are the same exactly where the regions are, one by one.
-use Rattle.std.proofs.Common.{◌≡◌, ℕ, Bool, true, false, ◌&&◌, List, [], ◌∷◌, refl, ap, eqb, eqb-true, arith}
+use Rattle.std.proofs.Common.{◌≡◌, ℕ, true, List, [], ◌∷◌, refl, ap, eqb, eqb-true, arith}
 use Rattle.std.proofs.lemmas.Bool.Decides.{nat_tests}
 use Rattle.std.specs.Cmp.Lexicographic.{pointwise}
 use Rattle.mem_base.specs.declared.map.ids.RegionId.{RegionId}
-
-and_true : (x y : Bool) → x && y ≡ true → (x ≡ true) × (y ≡ true)
-and_true true true e = (refl, refl)
-and_true true false e = cc
-and_true false y e = cc
+use Rattle.std.proofs.lemmas.Bool.{and_parts}
 
 abbrev region : ℕ → RegionId
 region n = record { 0 = n }
@@ -20,7 +16,7 @@ same_regions [] [] e = refl
 same_regions [] (q ∷ qs) e = cc
 same_regions (r ∷ rs) [] e = cc
 same_regions (r ∷ rs) (q ∷ qs) e =
-    let t = and_true (eqb r.0 q.0) (pointwise (λ r q. eqb r.0 q.0) rs qs) e in
+    let t = and_parts (eqb r.0 q.0) (pointwise (λ r q. eqb r.0 q.0) rs qs) e in
     let first = same_region r q t.0 in let rest = same_regions rs qs t.1 in cc
 
 pub same_itself : (rs : List RegionId) → pointwise (λ r q. eqb r.0 q.0) rs rs ≡ true

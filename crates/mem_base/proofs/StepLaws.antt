@@ -1,5 +1,5 @@
 -- Laws of depth and weight over any steps.
-use Rattle.std.proofs.Common.{◌≡◌, ◌≢◌, ℕ, zero, suc, ◌+◌, ◌*◌, ◌<◌, ◌≤◌, Bool, true, false, ◌||◌, eqb, cond, List, [], ◌∷◌, ◌++◌, map, max}
+use Rattle.std.proofs.Common.{◌≡◌, ◌≢◌, ℕ, zero, suc, ◌+◌, ◌*◌, ◌<◌, ◌≤◌, Bool, true, false, eqb, cond, List, [], ◌∷◌, ◌++◌, map, max}
 use Rattle.std.proofs.Common.{refl, ap, ◌∙◌, arith}
 use Rattle.std.specs.List.{list_any}
 use Rattle.std.proofs.lemmas.Bool.Decides.{nat_tests}
@@ -11,6 +11,7 @@ use Rattle.mem_base.specs.lists.Every.{Every}
 use Rattle.mem_base.specs.lists.Sorting.{put_by, sorted_by}
 use Rattle.mem_base.specs.map.Steps.{Steps, greatest, total, depth_by, weight_by, reaches_by}
 use Rattle.mem_base.proofs.EveryLaws.{weaker}
+use Rattle.std.proofs.lemmas.Bool.{or_parts, or_from}
 
 pub map_agree : {A : Type 0} (g h : A → ℕ) (xs : List A) → Every (λ x. g x ≡ h x) xs → map g xs ≡ map h xs
 map_agree g h [] e = refl
@@ -141,13 +142,9 @@ weight_by-fewer s t h (suc most) r =
 abbrev pub joined_steps : Steps → RegionId → RegionId → Steps
 joined_steps s parent child q = cond (eqb q.0 parent.0) (child ∷ s q) (s q)
 
-or_false : (a b : Bool) → a || b ≡ false → (a ≡ false) × (b ≡ false)
-or_false true b e = cc
-or_false false b e = (refl, e)
-
 none_reaches : (p : RegionId → Bool) (xs : List RegionId) → list_any p xs ≡ false → Every (λ x. p x ≡ false) xs
 none_reaches p [] e = tt
-none_reaches p (x ∷ xs) e = let q = or_false (p x) (list_any p xs) e in (q.0, none_reaches p xs q.1)
+none_reaches p (x ∷ xs) e = let q = or_parts (p x) (list_any p xs) e in (q.0, none_reaches p xs q.1)
 
 -- one more step
 module _ (s : Steps) (parent child : RegionId) where
@@ -156,7 +153,7 @@ module _ (s : Steps) (parent child : RegionId) where
   unfolding reaches_by weight_by
   weight_by-apart zero q e = refl
   weight_by-apart (suc most) q e =
-      let no = or_false (eqb q.0 parent.0) (list_any (λ x. reaches_by s most x parent) (s q)) e in
+      let no = or_parts (eqb q.0 parent.0) (list_any (λ x. reaches_by s most x parent) (s q)) e in
       let t = no.0 in
       let below = map_agree (weight_by (joined_steps s parent child) most) (weight_by s most) (s q)
       (weaker (λ x. reaches_by s most x parent ≡ false) _ (λ x w. weight_by-apart most x w) (s q)
@@ -194,10 +191,7 @@ weight_by-longer s (suc few) (suc most) r l =
     let below = total_le (weight_by s few) (weight_by s most) (s r) (every_of _ (λ q. weight_by-longer s few most q (omega arith)) (s r)) in
     omega arith
 
-false_or : (a b : Bool) → a ≡ false → b ≡ false → a || b ≡ false
-false_or a b e h = cc
-
-no_any : (p : RegionId → Bool) (xs : List RegionId) → Every (λ x. p x ≡ false) xs → list_any p xs ≡ false
+pub no_any : (p : RegionId → Bool) (xs : List RegionId) → Every (λ x. p x ≡ false) xs → list_any p xs ≡ false
 no_any p [] h = refl
 no_any p (x ∷ xs) h = let t = no_any p xs h.1 in let u = h.0 in rw u t
 
@@ -207,7 +201,7 @@ unfolding reaches_by
 reaches_by-shorter s zero most r to l e = refl
 reaches_by-shorter s (suc few) zero r to l e = absurd (omega arith)
 reaches_by-shorter s (suc few) (suc most) r to l e =
-    let no = or_false (eqb r.0 to.0) (list_any (λ x. reaches_by s most x to) (s r)) e in
+    let no = or_parts (eqb r.0 to.0) (list_any (λ x. reaches_by s most x to) (s r)) e in
     let a = no.0 in
     let b = no_any (λ x. reaches_by s few x to) (s r)
     (weaker (λ x. reaches_by s most x to ≡ false) _ (λ x w. reaches_by-shorter s few most x to (omega arith) w) (s r)
@@ -218,7 +212,7 @@ reaches_by-shorter s (suc few) (suc most) r to l e =
 pub reaches_by-apart : (s : Steps) (most : ℕ) (r to : RegionId) → 1 ≤ most → reaches_by s most r to ≡ false → r.0 ≢ to.0
 unfolding reaches_by
 reaches_by-apart s zero r to l e = absurd (omega arith)
-reaches_by-apart s (suc most) r to l e = let t = (or_false (eqb r.0 to.0) _ e).0 in λ k. grind (arith, nat_tests)
+reaches_by-apart s (suc most) r to l e = let t = (or_parts (eqb r.0 to.0) _ e).0 in λ k. grind (arith, nat_tests)
 
 -- with one more step that makes no loop, no weight passes this
 pub weight_by-bounded : (s : Steps) (parent child : RegionId) (w most : ℕ) → ((r : RegionId) → weight_by s most r ≤ w) →

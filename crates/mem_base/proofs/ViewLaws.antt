@@ -1,5 +1,5 @@
 -- Laws of views: what they show before, within and after their ranges, and that one list of ranges shows it.
-use Rattle.std.proofs.Common.{◌≡◌, ℕ, ◌+◌, ◌-◌, ◌^◌, ◌<◌, ◌≤◌, true, false, List, [], ◌∷◌, Some, None, refl, sym, ap, subst, ◌∙◌, arith, ⊎_elim}
+use Rattle.std.proofs.Common.{◌≡◌, ℕ, ◌+◌, ◌-◌, ◌^◌, ◌<◌, ◌≤◌, true, false, List, [], ◌∷◌, Some, None, refl, sym, ap, subst, ◌∙◌, arith, ⊎_elim, eq-eqb, ne_eqb, ◌++◌, Option}
 use Rattle.std.proofs.lemmas.Bool.{cases_lt}
 use Rattle.std.proofs.lemmas.Bool.Decides.{nat_tests}
 use Rattle.mem_base.specs.declared.map.forests.Forest.{Forest}
@@ -11,6 +11,9 @@ use Rattle.mem_base.specs.declared.views.flat.FlatRange.{FlatRange}
 use Rattle.mem_base.specs.lists.Every.{Every}
 use Rattle.mem_base.specs.map.Search.{path_at}
 use Rattle.mem_base.specs.views.View.{holds, seen, shown, IsRanges, PathAt, IsOnOnePath, Merges, MergesNot, IsMerged, IsView}
+use Rattle.mem_base.specs.views.Walk.{is_same_range}
+use Rattle.mem_base.proofs.BoolLaws.{bool_itself}
+use Rattle.std.specs.Option.{option_or}
 
 abbrev pub spot_at : FlatRange → ℕ → Spot
 spot_at r a = record { leaf = r.leaf; offset = r.offset + (a - r.start); attrs = r.attrs }
@@ -71,10 +74,10 @@ starts_at from end (q ∷ qs) s h e =
     (q, qs, refl, at, cc))
     (cases_lt from q.start)
 
-spot_leaf : (x y : Spot) → x ≡ y → (x.leaf ≡ y.leaf) × (x.offset ≡ y.offset) × (x.attrs ≡ y.attrs)
+pub spot_leaf : (x y : Spot) → x ≡ y → (x.leaf ≡ y.leaf) × (x.offset ≡ y.offset) × (x.attrs ≡ y.attrs)
 spot_leaf x y e = (ap (λ (s : Spot). s.leaf) e, ap (λ (s : Spot). s.offset) e, ap (λ (s : Spot). s.attrs) e)
 
-some_same : (x y : Spot) → Some x ≡ Some y → x ≡ y
+pub some_same : (x y : Spot) → Some x ≡ Some y → x ≡ y
 some_same x y e = cc
 
 -- one list cannot stop short in a range of the other
@@ -193,3 +196,39 @@ IsOnOnePath-same path other from end [] h e m = tt
 IsOnOnePath-same path other from end (r ∷ rs) h e m =
     let w = IsRanges-within (r.last + 1) end rs h.3 in
     (λ u a k l. sym (e a (omega arith)) ∙ m.0 u a k l ∙ e r.start (omega arith), IsOnOnePath-same path other (r.last + 1) end rs h.3 e m.1)
+
+pub ranges_past : (from end a : ℕ) (rs : List FlatRange) → a < from → IsRanges from end rs → Every (λ q. a < q.start) rs
+ranges_past from end a [] l h = tt
+ranges_past from end a (r ∷ rs) l h = let m = h.0 in let n = h.1 in (omega arith, ranges_past (r.last + 1) end a rs (omega arith) h.3)
+
+pub same_itself : (r : FlatRange) → is_same_range r r ≡ true
+same_itself r = rw (
+  eq-eqb r.start r.start refl,
+  eq-eqb r.last r.last refl,
+  eq-eqb r.leaf.0 r.leaf.0 refl,
+  eq-eqb r.offset r.offset refl,
+  bool_itself r.attrs.readonly,
+  bool_itself r.attrs.nonvolatile,
+  bool_itself r.attrs.romd,
+  bool_itself r.attrs.unmergeable,
+) refl
+
+pub not_same : (r q : FlatRange) → (r.start ≡ q.start → ⊥) → is_same_range r q ≡ false
+not_same r q ne = rw (ne_eqb r.start q.start ne) refl
+
+pub IsRanges-from : (low from end : ℕ) (rs : List FlatRange) → low ≤ from → IsRanges from end rs → IsRanges low end rs
+IsRanges-from low from end [] l h = omega (arith, h)
+IsRanges-from low from end (r ∷ rs) l h = (let k = h.0 in omega arith, h.1, h.2, h.3)
+
+pub ranges_join : (from mid end : ℕ) (xs ys : List FlatRange) → IsRanges from mid xs → IsRanges mid end ys → IsRanges from end (xs ++ ys)
+ranges_join from mid end [] [] h k = omega (arith, h, k)
+ranges_join from mid end [] (y ∷ ys) h k = (omega (arith, h, k.0), k.1, k.2, k.3)
+ranges_join from mid end (x ∷ xs) ys h k = (h.0, h.1, h.2, ranges_join (x.last + 1) mid end xs ys h.3 k)
+
+pub shown_join : (xs ys : List FlatRange) (a : ℕ) → shown (xs ++ ys) a ≡ option_or (shown xs a) (shown ys a)
+shown_join [] ys a = refl
+shown_join (x ∷ xs) ys a = ap (option_or (seen x a)) (shown_join xs ys a) ∙ again (seen x a) (shown xs a) (shown ys a)
+  where
+    again : (o p q : Option Spot) → option_or o (option_or p q) ≡ option_or (option_or o p) q
+    again None p q = refl
+    again (Some s) p q = refl

@@ -4,7 +4,7 @@ use Rattle.std.proofs.lemmas.Nat.{pow-add, pow_below}
 use Rattle.std.proofs.Math.Nat.{mod-lt, mod-eq_of_lt, mod-add-div, mul-le-mul_left, div-lt_iff_lt-mul, mul_comm}
 use Rattle.mem_base.specs.access.Words.{in_word, replaced}
 
-bytes_power : (n : ℕ) → 2 ^ (8 * n) ≡ 256 ^ n
+pub bytes_power : (n : ℕ) → 2 ^ (8 * n) ≡ 256 ^ n
 bytes_power zero = refl
 bytes_power (suc n) =
     let more : 8 * suc n ≡ 8 + 8 * n = omega arith in
@@ -16,7 +16,7 @@ lowest_by_shift number bytes few =
     let plain : 1 * 2 ^ (8 * bytes) ≡ 2 ^ (8 * bytes) = omega arith in
     ap (λ m. number % m) (ap (λ x. x % (2 ^ 64)) plain ∙ mod-eq_of_lt (pow_below (8 * bytes) 64 (omega (arith, few))) ∙ bytes_power bytes)
 
-some_power : (n : ℕ) → 0 < 256 ^ n
+pub some_power : (n : ℕ) → 0 < 256 ^ n
 some_power zero = omega arith
 some_power (suc n) = let e : 256 ^ (n + 1) ≡ 256 ^ n * 256 = pow-add 256 n 1 in let h = some_power n in let l : 0 < 256 ^ (n + 1) = omega arith in
     subst (λ (k : ℕ). 0 < 256 ^ k) {x = n + 1} (omega arith) l

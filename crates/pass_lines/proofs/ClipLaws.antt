@@ -23,7 +23,7 @@ use Rattle.access_base.proofs.MemoryLaws.{part_length}
 use Rattle.vcpu_pass.specs.Steps.{HasMade, generation_in}
 use Rattle.io_window.specs.Calls.{Does}
 use Rattle.io_window.specs.Whole.{HasRun}
-use Rattle.io_window.proofs.WholeLaws.{hand_laws}
+use Rattle.vcpu_pass.proofs.LoadLaws.{hand_laws}
 
 -- runs end within their numbers
 ends_within : (share : ℕ → Bool) (a n : ℕ) → Every (λ r. (a ≤ r.start) × (r.start + r.length ≤ a + n)) (runs share a n)

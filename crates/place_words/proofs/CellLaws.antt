@@ -1,5 +1,5 @@
 -- Laws of words seen as the cells of places.
-use Rattle.std.proofs.Common.{◌≡◌, ◌≢◌, ◌⊎◌, inl, inr, ℕ, ◌+◌, ◌-◌, ◌<◌, ◌≤◌, Bool, true, false, List, [], ◌∷◌, ◌++◌, length, map}
+use Rattle.std.proofs.Common.{◌≡◌, ◌≢◌, ◌⊎◌, inl, inr, ℕ, ◌+◌, ◌-◌, ◌<◌, ◌≤◌, Bool, true, false, List, [], ◌∷◌, ◌++◌, length}
 use Rattle.std.proofs.Common.{filter, get_or, set, take, drop, Some, refl, sym, ap, ◌∙◌, subst, ne_eqb, eq-eqb, arith}
 use Rattle.std.specs.Prelude.{◌==◌, if◌then◌else◌, replicate}
 use Rattle.std.proofs.lemmas.List.{drop-set-lt, drop-set-add, take-set-le, get_or-take, get_or-drop, length-replicate}
@@ -14,11 +14,12 @@ use Rattle.mem_base.specs.access.Words.{word_after}
 use Rattle.mem_base.specs.access.Cells.{has_block, cells_in, words_after, blocks_after}
 use Rattle.mem_base.specs.access.EditionPlaces.{ArePlacesApart}
 use Rattle.mem_base.specs.machine.World.{block_for}
-use Rattle.mem_base.proofs.EveryLaws.{weaker, both, every_filter}
+use Rattle.mem_base.proofs.EveryLaws.{weaker, both, every_filter, every_split, every_append}
 use Rattle.mem_base.specs.access.PlaceCells.{words_at, block_at, blocks_at}
 use Rattle.place_words.specs.Blocks.{cleared}
 use Rattle.place_words.specs.Laws.{StepsAreOnCells, NewPlacesAreCleared, PlacesKeepCells, FewerPlacesKeepCells, FirstCellsAreZero}
 use Rattle.place_words.proofs.PartLaws.{part_before, part_after, put_before, put_after, put_itself, part_replicate}
+use Rattle.mem_base.proofs.ListLaws.{map_same}
 
 -- a word that is set outside of a place, and one that is set in it
 set_elsewhere : (ws : List ℕ) (q : Place) (at v : ℕ) → (at < q.start) ⊎ (past q ≤ at) → words_at (set ws at v) q ≡ words_at ws q
@@ -146,33 +147,21 @@ place_itself (q ∷ qs) p a (inl e) = by (q.region.0 == p.region.0) (eq-eqb q.re
   by false h = absurd (grind arith)
 place_itself (q ∷ qs) p a (inr m) = rw (ne_eqb q.region.0 p.region.0 (has_every (ArePlacesApart q) p qs a.0 m).0) (place_itself qs p a.1 m)
 
-map_same : {A B : Type 0} (f g : A → B) (xs : List A) → Every (λ x. f x ≡ g x) xs → map f xs ≡ map g xs
-map_same f g [] h = refl
-map_same f g (x ∷ xs) h = ap (λ y. y ∷ map f xs) h.0 ∙ ap (λ ys. g x ∷ ys) (map_same f g xs h.1)
-
 pub places_keep : PlacesKeepCells
 places_keep ws places kept a h =
     map_same (block_for (blocks_at ws places)) (block_at ws) kept
     (weaker (HasElement places) (λ p. block_for (blocks_at ws places) p ≡ block_at ws p)
     (λ p m. block_kept ws places p (place_itself places p a m)) kept h)
 
-all_have : {A : Type 0} (xs : List A) → Every (HasElement xs) xs
+pub all_have : {A : Type 0} (xs : List A) → Every (HasElement xs) xs
 all_have [] = tt
 all_have (x ∷ xs) = (inl refl, weaker (HasElement xs) (HasElement (x ∷ xs)) (λ y m. inr m) xs (all_have xs))
-
-every_split : {A : Type 0} (P : A → Type 0) (xs ys : List A) → Every P (xs ++ ys) → Every P xs × Every P ys
-every_split P [] ys h = (tt, h)
-every_split P (x ∷ xs) ys h = let r = every_split P xs ys h.1 in ((h.0, r.0), r.1)
-
-every_join : {A : Type 0} (P : A → Type 0) (xs ys : List A) → Every P xs → Every P ys → Every P (xs ++ ys)
-every_join P [] ys h k = k
-every_join P (x ∷ xs) ys h k = (h.0, every_join P xs ys h.1 k)
 
 pub fewer_keep : FewerPlacesKeepCells
 fewer_keep ws stays places after a =
     let all = every_split (HasElement (places ++ after)) places after (all_have (places ++ after)) in
     places_keep ws (places ++ after) (filter stays places ++ after) a
-    (every_join (HasElement (places ++ after)) (filter stays places) after (every_filter (HasElement (places ++ after)) stays places all.0) all.1)
+    (every_append (HasElement (places ++ after)) (filter stays places) after (every_filter (HasElement (places ++ after)) stays places all.0) all.1)
 
 -- a list without one of its elements
 without_one : {A : Type 0} (P : A → Type 0) (xs ys : List A) (p : A) → Every P ((xs ++ p ∷ []) ++ ys) → P p × Every P (xs ++ ys)
@@ -216,15 +205,15 @@ new_cleared ws before after p within a =
     let stays : (q : Place) → place_in old q.region ≡ Some q → (past q ≤ p.start) ⊎ (past p ≤ q.start) → same q =
     λ q e m. block_kept ws old q e ∙ ap (λ x. record { region = q.region; words = x }) (sym (cleared_elsewhere ws p q room m)) in
     let strange : Every (λ q. q.region.0 ≢ p.region.0) old =
-    every_join (λ q. q.region.0 ≢ p.region.0) before after
+    every_append (λ q. q.region.0 ≢ p.region.0) before after
     (weaker (λ q. ArePlacesApart q p) (λ q. q.region.0 ≢ p.region.0) (λ q k. k.0) before from.before)
     (weaker (ArePlacesApart p) (λ q. q.region.0 ≢ p.region.0) (λ q k e. k.0 (sym e)) after from.after) in
     let new : same p =
     ap (λ b. record { region = p.region; words = if b then cells_in (blocks_at ws old) p.region else replicate p.words 0 }) (no_cells ws p.region old strange)
     ∙ ap (λ x. record { region = p.region; words = x }) (sym (cleared_itself ws p room)) in
     map_same (block_for (blocks_at ws old)) (block_at (cleared ws p)) ((before ++ p ∷ []) ++ after)
-    (every_join same (before ++ p ∷ []) after
-    (every_join same before (p ∷ [])
+    (every_append same (before ++ p ∷ []) after
+    (every_append same before (p ∷ [])
     (weaker (λ q. (place_in old q.region ≡ Some q) × ArePlacesApart q p) same (λ q k. stays q k.0 k.1.1) before
     (both (λ q. place_in old q.region ≡ Some q) (λ q. ArePlacesApart q p) before parts.0 from.before))
     (new, tt))

@@ -1,14 +1,8 @@
 -- Laws of a part of a list, where the list changes elsewhere.
-use Rattle.std.proofs.Common.{◌≡◌, ℕ, zero, suc, ◌+◌, ◌-◌, ◌≤◌, List, [], ◌∷◌, ◌++◌, length, take, drop, refl, sym, ap, ◌∙◌, arith}
+use Rattle.std.proofs.Common.{◌≡◌, ℕ, zero, suc, ◌+◌, ◌-◌, ◌≤◌, List, [], ◌∷◌, ◌++◌, length, take, drop, sym, ap, ◌∙◌, arith, take-take}
 use Rattle.std.specs.Prelude.{replicate}
 use Rattle.std.proofs.lemmas.List.{drop-take, take-append-le, drop-append-le, length-append, length-take, drop-replicate, take-replicate}
 use Rattle.std.proofs.Math.Seq.{drop-nil, drop-append_seam, take-append_seam}
-
-take_take : {A : Type 0} (k s : ℕ) (xs : List A) → k ≤ s → take k (take s xs) ≡ take k xs
-take_take zero s xs l = refl
-take_take (suc k) zero xs l = absurd (omega arith)
-take_take (suc k) (suc s) [] l = refl
-take_take (suc k) (suc s) (x ∷ xs) l = ap (λ ys. x ∷ ys) (take_take k s xs (omega arith))
 
 drop_later : {A : Type 0} (e t : ℕ) (xs : List A) → e ≤ t → drop t xs ≡ drop (t - e) (drop e xs)
 drop_later zero t xs l = let same : t ≡ t - 0 = omega arith in ap (λ n. drop n xs) same
@@ -19,7 +13,7 @@ drop_later (suc e) (suc t) (x ∷ xs) l = let same : t - e ≡ suc t - suc e = o
 -- two lists that begin alike have the same parts there, and two that end alike
 pub part_before : {A : Type 0} (s t m : ℕ) (xs ys : List A) → take s xs ≡ take s ys → t + m ≤ s → take m (drop t xs) ≡ take m (drop t ys)
 part_before s t m xs ys e l =
-    sym (drop-take t m xs) ∙ ap (drop t) (sym (take_take (t + m) s xs l) ∙ ap (take (t + m)) e ∙ take_take (t + m) s ys l) ∙ drop-take t m ys
+    sym (drop-take t m xs) ∙ ap (drop t) (sym (take-take (t + m) s xs l) ∙ ap (take (t + m)) e ∙ take-take (t + m) s ys l) ∙ drop-take t m ys
 
 pub part_after : {A : Type 0} (s t m : ℕ) (xs ys : List A) → drop s xs ≡ drop s ys → s ≤ t → take m (drop t xs) ≡ take m (drop t ys)
 part_after s t m xs ys e l = ap (take m) (drop_later s t xs l ∙ ap (drop (t - s)) e ∙ sym (drop_later s t ys l))
@@ -33,7 +27,7 @@ module _ {A : Type 0} (xs part : List A) (s e : ℕ) (within : e ≤ length xs) 
   put_before =
       let l = first_length in
       let m = length-append (take s xs) part in
-      take-append-le s (take s xs ++ part) (drop e xs) (omega arith) ∙ take-append-le s (take s xs) part (omega arith) ∙ take_take s s xs (omega arith)
+      take-append-le s (take s xs ++ part) (drop e xs) (omega arith) ∙ take-append-le s (take s xs) part (omega arith) ∙ take-take s s xs (omega arith)
 
   pub put_after : drop e (take s xs ++ part ++ drop e xs) ≡ drop e xs
   put_after =

@@ -1,49 +1,35 @@
 -- Laws of the cells that are not cleared yet, by the flags of their words.
 use Rattle.std.proofs.Common.{◌≡◌, ℕ, zero, suc, ◌+◌, ◌<◌, Bool, true, false, List, [], ◌∷◌, map, set, get_or, length, filter}
 use Rattle.std.proofs.Common.{refl, sym, ap, ◌∙◌, arith}
-use Rattle.std.specs.Prelude.{not, ◌&&◌, ◌||◌, ◌==◌, replicate}
+use Rattle.std.specs.Prelude.{not, ◌&&◌, ◌==◌, replicate}
 use Rattle.std.specs.List.{list_any, range_with_len}
 use Rattle.std.proofs.Common.{eq-eqb, ne_eqb}
 use Rattle.mem_base.specs.declared.map.ids.RegionId.{RegionId}
 use Rattle.mem_base.specs.declared.access.cells.Cell.{Cell}
 use Rattle.mem_base.specs.access.Cells.{cell, is_same_cell}
 use Rattle.place_words.specs.Unfilled.{cells_left}
-
-never_both : (b : Bool) → (b && false) ≡ false
-never_both true = refl
-never_both false = refl
-
-always_both : (b : Bool) → (b && true) ≡ b
-always_both true = refl
-always_both false = refl
-
-either_false : (b : Bool) → (b || false) ≡ b
-either_false true = refl
-either_false false = refl
-
-pub both_of : (a b : Bool) → (a && b) ≡ true → (a ≡ true) × (b ≡ true)
-both_of true b e = (refl, e)
-both_of false b e = absurd (grind arith)
+use Rattle.std.proofs.lemmas.Bool.{and_parts}
+use Rattle.mem_base.proofs.BoolLaws.{and_nothing, and_always, or_nothing}
 
 -- a word before the first one is none of them
 none_before : (q r : RegionId) (word at : ℕ) (flags : List Bool) → word < at → list_any (is_same_cell (cell q word)) (cells_left r at flags) ≡ false
 none_before q r word at [] l = refl
 none_before q r word at (true ∷ flags) l =
     let other : (word == at) ≡ false = ne_eqb word at (λ e. omega arith) in
-    rw other (rw (never_both (q.0 == r.0)) (none_before q r word (at + 1) flags (omega arith)))
+    rw other (rw (and_nothing (q.0 == r.0)) (none_before q r word (at + 1) flags (omega arith)))
 none_before q r word at (false ∷ flags) l = none_before q r word (at + 1) flags (omega arith)
 
 any_from : (q r : RegionId) (at i : ℕ) (flags : List Bool)
     → list_any (is_same_cell (cell q (at + i))) (cells_left r at flags) ≡ (q.0 == r.0) && get_or flags i false
-any_from q r at i [] = sym (never_both (q.0 == r.0))
+any_from q r at i [] = sym (and_nothing (q.0 == r.0))
 any_from q r at zero (true ∷ flags) =
     let same : (at + 0 == at) ≡ true = eq-eqb (at + 0) at (omega arith) in
-    rw same (rw (none_before q r (at + 0) (at + 1) flags (omega arith)) (either_false ((q.0 == r.0) && true)))
-any_from q r at zero (false ∷ flags) = none_before q r (at + 0) (at + 1) flags (omega arith) ∙ sym (never_both (q.0 == r.0))
+    rw same (rw (none_before q r (at + 0) (at + 1) flags (omega arith)) (or_nothing ((q.0 == r.0) && true)))
+any_from q r at zero (false ∷ flags) = none_before q r (at + 0) (at + 1) flags (omega arith) ∙ sym (and_nothing (q.0 == r.0))
 any_from q r at (suc i) (true ∷ flags) =
     let other : (at + suc i == at) ≡ false = ne_eqb (at + suc i) at (λ e. omega arith) in
     let next : at + suc i ≡ at + 1 + i = omega arith in
-    rw other (rw (never_both (q.0 == r.0))
+    rw other (rw (and_nothing (q.0 == r.0))
     (ap (λ (n : ℕ). list_any (is_same_cell (cell q n)) (cells_left r (at + 1) flags)) next ∙ any_from q r (at + 1) i flags))
 any_from q r at (suc i) (false ∷ flags) =
     let next : at + suc i ≡ at + 1 + i = omega arith in
@@ -61,7 +47,7 @@ keeps_after : (q r : RegionId) (word at : ℕ) (flags : List Bool) → word < at
 keeps_after q r word at [] l = refl
 keeps_after q r word at (true ∷ flags) l =
     let other : (word == at) ≡ false = ne_eqb word at (λ e. omega arith) in
-    rw other (rw (never_both (q.0 == r.0)) (ap (λ (cs : List Cell). cell r at ∷ cs) (keeps_after q r word (at + 1) flags (omega arith))))
+    rw other (rw (and_nothing (q.0 == r.0)) (ap (λ (cs : List Cell). cell r at ∷ cs) (keeps_after q r word (at + 1) flags (omega arith))))
 keeps_after q r word at (false ∷ flags) l = keeps_after q r word (at + 1) flags (omega arith)
 
 less_from : (q r : RegionId) (at i : ℕ) (flags : List Bool) → (q.0 == r.0) ≡ true
@@ -74,7 +60,7 @@ less_from q r at zero (false ∷ flags) same = keeps_after q r (at + 0) (at + 1)
 less_from q r at (suc i) (true ∷ flags) same =
     let other : (at + suc i == at) ≡ false = ne_eqb (at + suc i) at (λ e. omega arith) in
     let next : at + suc i ≡ at + 1 + i = omega arith in
-    rw other (rw (never_both (q.0 == r.0)) (ap (λ (cs : List Cell). cell r at ∷ cs)
+    rw other (rw (and_nothing (q.0 == r.0)) (ap (λ (cs : List Cell). cell r at ∷ cs)
     (ap (λ (n : ℕ). filter (λ x. not (is_same_cell (cell q n) x)) (cells_left r (at + 1) flags)) next ∙ less_from q r (at + 1) i flags same)))
 less_from q r at (suc i) (false ∷ flags) same =
     let next : at + suc i ≡ at + 1 + i = omega arith in
@@ -118,7 +104,7 @@ module _ (c : Cell) (r : RegionId) (flags : List Bool) where
 
   pub is_left : list_any (is_same_cell c) (cells_left r 0 flags) ≡ true → IsLeft
   is_left waits =
-      let t = both_of (c.region.0 == r.0) (get_or flags c.word false) (sym (any_left c r flags) ∙ waits) in
+      let t = and_parts (c.region.0 == r.0) (get_or flags c.word false) (sym (any_left c r flags) ∙ waits) in
       record { same = t.0; on = t.1; within = on_within flags c.word t.1 }
 
 -- all flags are on

@@ -2,7 +2,7 @@
 use Rattle.std.proofs.Common.{◌≡◌, ℕ, zero, suc, ◌+◌, ◌-◌, ◌<◌, ◌≤◌, ◌&&◌, not, Bool, true, false, List, [], ◌∷◌, ◌++◌, Option, Some, None, ◌⊎◌, inl, inr}
 use Rattle.std.proofs.Common.{if◌then◌else◌, refl, sym, ap, subst, ◌∙◌, arith, append_assoc}
 use Rattle.std.specs.Prelude.{flat_map}
-use Rattle.std.proofs.lemmas.Bool.{cases_lt}
+use Rattle.std.proofs.lemmas.Bool.{cases_lt, and_parts}
 use Rattle.mem_base.specs.declared.map.kinds.Device.{Device}
 use Rattle.mem_base.specs.map.Kinds.{device_of}
 use Rattle.mem_base.specs.map.Devices.{is_good_device}
@@ -31,7 +31,6 @@ use Rattle.mem_base.specs.access.AccessSteps.{Transfer, reading, writing, is_wri
 use Rattle.mem_base.specs.access.Plans.{Reached, Answerer, by_memory, by_device, by_nobody, by_memory_unless, answerer_at, answerer_in, answerer, in_piece, in_device, reached, in_chunk}
 use Rattle.mem_base.specs.access.CorePlans.{in_page, in_pages, taken_by, taken, reached_at_once, in_round, rounds_from}
 use Rattle.iommu.specs.Ways.{further}
-use Rattle.iommu.proofs.FoundLaws.{both}
 use Rattle.access_cut.proofs.PieceLaws.{size_some}
 use Rattle.access_base.specs.Sizes.{IsSize}
 use Rattle.access_base.proofs.DeviceLaws.{size_so}
@@ -334,7 +333,7 @@ module _ (f : Forest) (w : Bool) (s : SpaceId) where
       let none : bad_device (Some device) ≡ None = sym (ap bad_device e) ∙ region.device in
       let good : is_good_device device ≡ true = go (is_good_device device) refl (refuse_if-none _ _ none) in
       let ops = device.ops in
-      size_so ops.valid_max (both _ _ (both _ _ (both _ _ (both _ _ (both _ _ (both _ _ (both _ _ good).0).0).0).0).0).0).1
+      size_so ops.valid_max (and_parts _ _ (and_parts _ _ (and_parts _ _ (and_parts _ _ (and_parts _ _ (and_parts _ _ (and_parts _ _ good).0).0).0).0).0).0).1
     where
       go : (b : Bool) → is_good_device device ≡ b → not b ≡ false → is_good_device device ≡ true
       go true e h = e

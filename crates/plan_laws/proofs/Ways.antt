@@ -2,7 +2,7 @@
 use Rattle.std.proofs.Common.{◌≡◌, ℕ, zero, suc, ◌+◌, ◌-◌, ◌^◌, ◌<◌, ◌≤◌, ◌&&◌, ◌||◌, not, ◌==◌, min, Bool, true, false, List, [], ◌∷◌, Option, Some, None}
 use Rattle.std.proofs.Common.{◌⊎◌, inl, inr, if◌then◌else◌, refl, sym, ap, subst, ◌∙◌, arith}
 use Rattle.std.specs.Prelude.{bit_and, unwrap_or, option_map}
-use Rattle.std.proofs.lemmas.Bool.{eqb-true, cases_lt}
+use Rattle.std.proofs.lemmas.Bool.{eqb-true, cases_lt, and_parts}
 use Rattle.std.proofs.lemmas.Nat.{and_mask}
 use Rattle.mem_base.specs.declared.map.ids.RegionId.{RegionId}
 use Rattle.mem_base.specs.declared.map.ids.SpaceId.{SpaceId}
@@ -25,11 +25,13 @@ use Rattle.mem_base.specs.access.Trails.{Hop, hop, Trail, trail, Onward, through
 use Rattle.mem_base.specs.access.Trails.{are_next_hops, is_leaf, shares_next}
 use Rattle.iommu.specs.Ways.{further}
 use Rattle.iommu.specs.Pages.{ArePages}
-use Rattle.iommu.proofs.FoundLaws.{both, bool_eq-is, nat_same, IsAfter, is_after}
+use Rattle.iommu.proofs.FoundLaws.{IsAfter, is_after}
 use Rattle.iommu.proofs.PageLaws.{IsPage, IsIn, are_pages, in_page}
 use Rattle.iommu.proofs.TableLaws.{found_past}
 use Rattle.iommu.proofs.HopLaws.{IsUsed, is_used}
 use Rattle.mem_base.specs.access.CorePlans as core
+use Rattle.access_base.proofs.TrailLaws.{no_leaf, longer}
+use Rattle.mem_base.proofs.BoolLaws.{bool_same, number_itself}
 
 -- each translation that a hop uses is the one of its spot
 
@@ -47,9 +49,6 @@ pub record IsOwnTrail (f : Forest) (w : Bool) (t : Trail) : Type 0 where
   pub own : Every (IsOwnHop f w) t.hops
   pub ends : (x : Spot) → t.target ≡ Leaf x → last_spot t.hops ≡ Some x
 
-no_leaf : (x : Spot) → Unassigned ≡ Leaf x → ⊥
-no_leaf x e = cc
-
 same_leaf : (x y : Spot) → Leaf x ≡ Leaf y → Some x ≡ Some y
 same_leaf x y e = cc
 
@@ -64,10 +63,6 @@ shut f w found = record { own = (unused f w found, tt); ends = λ x e. absurd (n
 
 at_leaf : (f : Forest) (w : Bool) (found : Found) → IsOwnTrail f w (trail (hop found None ∷ []) (Leaf found.0))
 at_leaf f w found = record { own = (unused f w found, tt); ends = λ x e. same_leaf found.0 x e }
-
-longer : (h : Hop) (hs : List Hop) (x : Spot) → last_spot hs ≡ Some x → last_spot (h ∷ hs) ≡ Some x
-longer h [] x e = cc
-longer h (k ∷ hs) x e = e
 
 opened : (f : Forest) (w : Bool) (onward : Onward) (found : Found) (u : Option Entry) → used_at f w found.0.leaf found.0.offset ≡ u
     → ((s : SpaceId) (a : ℕ) → IsOwnTrail f w (onward s a)) → IsOwnTrail f w (through (Some onward) found u)
@@ -114,7 +109,7 @@ AreAlong n _ _ = ⊥
 
 same_itself : (u : Option Entry) → is_same_entry u u ≡ true
 same_itself None = refl
-same_itself (Some e) = nat_same e.iova
+same_itself (Some e) = number_itself e.iova
 
 pub along_itself : (hs : List Hop) → AreAlong 0 hs hs
 along_itself [] = tt
@@ -131,8 +126,8 @@ same_both (Some u) (Some v) (Some x) p q = ap (λ n. n == x.iova) (eqb-true u.io
 
 next_hop : (n m : ℕ) (x y z : Hop) → m ≡ n + 1 → IsAlong n x y → is_next_hop y z ≡ true → IsAlong m x z
 next_hop n m x y z is h e =
-    let t = both (is_next_spot y.spot z.spot && is_same_entry y.used z.used) (not y.spot.attrs.unmergeable || same_path y.path z.path) e in
-    let u = both (is_next_spot y.spot z.spot) (is_same_entry y.used z.used) t.0 in
+    let t = and_parts (is_next_spot y.spot z.spot && is_same_entry y.used z.used) (not y.spot.attrs.unmergeable || same_path y.path z.path) e in
+    let u = and_parts (is_next_spot y.spot z.spot) (is_same_entry y.used z.used) t.0 in
     let both_true : (is_next_spot y.spot z.spot && (not y.spot.attrs.unmergeable || same_path y.path z.path)) ≡ true = (λ i. u.0 i && t.1 i) in
     let after : IsAfter (y.spot, y.path) (z.spot, z.path) = is_after (y.spot, y.path) (z.spot, z.path) both_true in
     let leaf : z.spot.leaf ≡ x.spot.leaf = after.leaf ∙ ap (λ (q : Spot). q.leaf) h.spot in
@@ -152,7 +147,7 @@ next_hops n m [] (y ∷ ys) zs is h e = absurd h
 next_hops n m (x ∷ xs) [] zs is h e = absurd h
 next_hops n m (x ∷ xs) (y ∷ ys) [] is h e = cc
 next_hops n m (x ∷ xs) (y ∷ ys) (z ∷ zs) is h e =
-    let t = both (is_next_hop y z) (are_next_hops ys zs) e in (next_hop n m x y z is h.0 t.0, next_hops n m xs ys zs is h.1 t.1)
+    let t = and_parts (is_next_hop y z) (are_next_hops ys zs) e in (next_hop n m x y z is h.0 t.0, next_hops n m xs ys zs is h.1 t.1)
 
 -- two addresses of one route
 pub record AreOnRoute (n : ℕ) (t u : Trail) : Type 0 where
@@ -167,12 +162,12 @@ on_route f w s a c shared zero l =
 on_route f w s a c shared (suc i) l =
     let h = on_route f w s a c shared i (omega (arith, l)) in
     let at : a + i + 1 ≡ a + suc i = omega arith in
-    let e = both (are_next_hops (trail_of f w s (a + i)).hops (trail_of f w s (a + i + 1)).hops)
+    let e = and_parts (are_next_hops (trail_of f w s (a + i)).hops (trail_of f w s (a + i + 1)).hops)
     (bool_eq (is_leaf (trail_of f w s (a + i)).target) (is_leaf (trail_of f w s (a + i + 1)).target)) (shared i (omega (arith, l))) in
     let more : suc i ≡ i + 1 = omega arith in
     subst (λ b. AreOnRoute (suc i) (trail_of f w s a) (trail_of f w s b)) at (record {
       hops = next_hops i (suc i) (trail_of f w s a).hops (trail_of f w s (a + i)).hops (trail_of f w s (a + i + 1)).hops more h.hops e.0;
-      ends = h.ends ∙ bool_eq-is (is_leaf (trail_of f w s (a + i)).target) (is_leaf (trail_of f w s (a + i + 1)).target) e.1;
+      ends = h.ends ∙ bool_same (is_leaf (trail_of f w s (a + i)).target) (is_leaf (trail_of f w s (a + i + 1)).target) e.1;
     })
 
 last_along : (n : ℕ) (xs ys : List Hop) (x : Spot) → AreAlong n xs ys → last_spot xs ≡ Some x → last_spot ys ≡ Some (further n x)
@@ -197,9 +192,6 @@ leads_along f w n t u x own other h e = go u.target refl (sym (ap is_leaf e) ∙
     go (Leaf z) is l = is ∙ some_same z (further n x) (sym (other.ends z is) ∙ last_along n t.hops u.hops x h.hops (own.ends x e))
 
 -- pages
-
-no_some : (e : Entry) → None ≡ Some e → ⊥
-no_some e t = cc
 
 pub record IsTable (es : List Entry) : Type 0 where
   pub order : AreEntries es

@@ -1,7 +1,7 @@
 -- What keeps the machine at rest, and its passes ready.
 use Rattle.std.proofs.Common.{◌≡◌, ◌<◌, ℕ, zero, suc, true, false, List, [], ◌∷◌, length, get_or, refl, sym, ap, subst, arith}
 use Rattle.std.specs.Prelude.{is_some, nat_lt}
-use Rattle.std.proofs.lemmas.Bool.{lt-ltb}
+use Rattle.std.proofs.lemmas.Bool.{lt-ltb, and_from}
 use Rattle.mem_base.specs.declared.map.ids.PassId.{PassId}
 use Rattle.mem_base.specs.declared.machine.events.Event.TheVariants as events
 use Rattle.mem_base.specs.map.Limits.{most_passes}
@@ -11,12 +11,12 @@ use Rattle.mem_base.specs.machine.Composites.{is_entered}
 use Rattle.mem_base.specs.machine.Passes.{PassState, idle, is_pass}
 use Rattle.mem_base.specs.machine.Reaps.{Writer}
 use Rattle.mem_base.specs.machine.World.{World, is_at_rest, opening, possible}
-use Rattle.view_laws.proofs.Tests.{both, true_is_not_false}
 use Rattle.world_laws.proofs.PassKeeping.{may_look}
 use Rattle.run_laws.proofs.EachCommand.{may_first}
 use Rattle.run_laws.proofs.Ordering.{same_may}
 use Rattle.world_hand.specs.Taken.{with_calls}
 use Rattle.pure_machine.specs.Machines.{IsMachine}
+use Rattle.mem_base.proofs.BoolLaws.{true_is_not_false}
 
 -- at first
 pub at_first : (pool_words : ℕ) → IsMachine (opening pool_words most_passes)
@@ -48,4 +48,4 @@ in_range (p ∷ ps) (suc n) e = let l = in_range ps n e in omega arith
 
 -- and one that is in may leave
 pub may_leave : (w : World) (pass : PassId) → is_entered w pass ≡ true → possible w (events.Leave pass) ≡ true
-may_leave w pass inside = both (is_pass w.passes pass) (is_entered w pass) (lt-ltb pass.0 (length w.passes) (in_range w.passes pass.0 inside)) inside
+may_leave w pass inside = and_from (is_pass w.passes pass) (is_entered w pass) (lt-ltb pass.0 (length w.passes) (in_range w.passes pass.0 inside)) inside

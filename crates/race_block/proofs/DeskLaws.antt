@@ -1,6 +1,6 @@
 -- A line of the desk, by the receipts of its orders.
 use Rattle.std.proofs.Common.{◌≡◌, ℕ, ◌<◌, List, [], ◌∷◌, ◌++◌, length, map, refl, sym, ap, subst, ◌∙◌, append-nil, append_assoc, arith}
-use Rattle.std.proofs.Common.{Option, Some, None, Result, Ok, Err, OnErr}
+use Rattle.std.proofs.Common.{Option, Some, None, Result, Ok, Err}
 use Rattle.std.proofs.lemmas.List.{map-append}
 use Rattle.std.specs.Arc.{arc_value}
 use mathlib.Core.List.{IsPrefix}
@@ -331,8 +331,3 @@ pub asked : (cabinet other : TableId) (k : Known) (line : Line) (x : Asked) (c d
 asked cabinet other k line x c d e notes more most look r own h is =
     is_asked other k line x c d e notes more most look (own_part cabinet k line x.task c notes x.got d more own) h
     (ap value_in (sym h.current ∙ is)) r
-
--- of what failed
-pub on_failure : {T E : Type 0} (r : Result T E) (P : Type 0) → P → OnErr r P
-on_failure (Ok x) P p = tt
-on_failure (Err e) P p = p

@@ -24,6 +24,7 @@ use Rattle.race_block.specs.declared.tasks.OwnLine.{OwnLine}
 use Rattle.race_block.specs.Desks.{DeskKeeps, DoesDeskLine, HasDoneLines, HasHeard, HasStopped, IsAsked, IsNotDone, LeavesLine, StopsIn, clerk_with}
 use Rattle.race_block.specs.Desks.{line_asked, line_meant, lines_meant}
 use Rattle.race_block.proofs.DeskLaws.{heard_both, told_both, with_nothing}
+use Rattle.race_block.proofs.ResolvingLaws.{take_all}
 
 none_done : (k : Known) (c : Clerk) → HasDoneLines k [] c c [] k []
 none_done k c = record {
@@ -157,16 +158,10 @@ step_stops k xs at x c d e notes more now said l is h (inr s) =
     one_lost k front c d e notes more now said (line_meant x) s.0 h s.1 (lines_meant xs) left
     (cut_at xs at x l is ∙ sym (append_assoc front (line_meant x ∷ []) left))
 
-take_whole : (xs : List OwnLine) (n : ℕ) → length xs ≤ n → take n xs ≡ xs
-take_whole [] zero l = refl
-take_whole [] (suc n) l = refl
-take_whole (x ∷ xs) zero l = absurd (omega (arith, l))
-take_whole (x ∷ xs) (suc n) l = ap (λ (zs : List OwnLine). x ∷ zs) (take_whole xs n (omega (arith, l)))
-
 pub first_done : (k : Known) (c : Clerk) (notes : List NoteValue) (said : List Said) → notes ≡ [] → said ≡ [] → HasDoneLines k [] c c notes k said
 first_done k c notes said unheard silent =
     subst (λ (z : List NoteValue × List Said). HasDoneLines k [] c c z.0 k z.1) (λ i. (sym unheard i, sym silent i)) (none_done k c)
 
 pub all_done : (k : Known) (xs : List OwnLine) (at : ℕ) (c d : Clerk) (notes : List NoteValue) (now : Known) (said : List Said)
     → length xs ≤ at → HasDoneLines k (lines_meant (take at xs)) c d notes now said → HasDoneLines k (lines_meant xs) c d notes now said
-all_done k xs at c d notes now said l h = subst (λ (ys : List OwnLine). HasDoneLines k (lines_meant ys) c d notes now said) (take_whole xs at l) h
+all_done k xs at c d notes now said l h = subst (λ (ys : List OwnLine). HasDoneLines k (lines_meant ys) c d notes now said) (take_all xs at l) h

@@ -27,10 +27,10 @@ use Rattle.race_block.specs.declared.tasks.BlockLine.{BlockLine}
 use Rattle.race_block.specs.declared.tasks.OwnLine.{OwnLine}
 use Rattle.race_block.specs.declared.passes.PassActor.{PassActor}
 use Rattle.race_block.specs.Desks.{line_meant, lines_meant}
-use Rattle.view_laws.proofs.Tests.{true_is_not_false}
 use Rattle.race_block.specs.declared.tasks.LineGot.{LineGot}
 use Rattle.race_block.specs.Lines.{FitsLine, FitsTask, HasRun, HasRunLines, HaveRun, IsReady}
 use Rattle.race_block.specs.Resolving.{AreTasksIn, AreTasksOf, IsOfPass, IsTaskOf, StandsFor, copy_room, tasks_in}
+use Rattle.mem_base.proofs.BoolLaws.{true_is_not_false}
 
 -- a task of a pass, which copies no more than there is room for
 abbrev CanBeOfPass : Resolved Task → Type 0

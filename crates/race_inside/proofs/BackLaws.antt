@@ -1,6 +1,6 @@
 -- The virtual CPUs stand in order of their numbers again after a block.
 use Rattle.std.proofs.Common.{◌≡◌, ℕ, ◌+◌, ◌<◌, Bool, true, false, List, [], ◌∷◌, ◌++◌, length, get_or, append-nil, append_assoc}
-use Rattle.std.proofs.Common.{refl, sym, ap, subst, ◌∙◌, arith, All, Option, Some, None, option_map, option_to_list}
+use Rattle.std.proofs.Common.{refl, sym, ap, subst, ◌∙◌, arith, All, Option, Some, None, option_to_list}
 use Rattle.std.specs.Prelude.{nat_le}
 use Rattle.std.proofs.lemmas.List.{get_or_append_left, get_or_push, length_push, same_from_push}
 use mathlib.Core.List.{IsPrefix}
@@ -9,21 +9,21 @@ use Rattle.mem_base.specs.declared.machine.events.HistoryEntry.{HistoryEntry}
 use Rattle.mem_base.specs.map.Limits.{most_passes}
 use Rattle.mem_base.specs.script.Scripts.{Line}
 use Rattle.mem_base.specs.script.Race.{block, lines_by}
-use Rattle.mem_base.specs.machine.Actors.{own_entries, pass_after_all}
-use Rattle.mem_base.specs.machine.Passes.{PassState}
+use Rattle.mem_base.specs.machine.Actors.{own_entries}
 use Rattle.mem_base.specs.machine.Passes as passes
 use Rattle.generation.specs.Published.{Published}
 use Rattle.epoch_rule.specs.Values.{PassValue}
-use Rattle.pass_lines.specs.Doing.{IsInItsGeneration, state_seen}
+use Rattle.pass_lines.specs.Doing.{IsInItsGeneration}
 use Rattle.desk_lock.specs.Records.{IsLater, RecordState}
 use Rattle.race_outside.specs.Levels.{HasMet, IsHeard, IsOfCabinet}
 use Rattle.race_outside.specs.Ready.{AreReady}
-use Rattle.view_laws.proofs.Tests.{true_is_not_false}
 use Rattle.race_phases.specs.Plain.{has_lines}
 use Rattle.race_block.specs.declared.blocks.BlockActor.{BlockActor}
 use Rattle.race_block.specs.declared.blocks.BlockActor.TheVariants.{Desk, Pass, Gone}
 use Rattle.race_inside.specs.Seats.{AllComeBack, AreActorsOf, AreBack, AreBusy, AreSeats, ComeBack, HaveSeatOf, IsBack, TakesCpu, acting, idle}
 use Rattle.race_inside.proofs.SeatLists.{last_actor, last_seat, one_acts, one_waits, others_act, others_wait}
+use Rattle.race_outside.proofs.ReadyLaws.{stays_inside}
+use Rattle.mem_base.proofs.BoolLaws.{true_is_not_false}
 
 -- what a pop takes
 pub popped : {X : Type 0} (olds news front : List X) (got : Option X) (x : X) → olds ≡ news ++ option_to_list got
@@ -131,13 +131,6 @@ back_inside : (b : Bool) (v w : RecordState) (p : ℕ) (x : PassValue Published)
 back_inside true v w p x h = h.inside
 back_inside false v w p x h = h.inside
 
--- one that met is still where its own entries say
-met_inside : (seen : List HistoryEntry) (x y : PassValue Published) → HasMet seen x y → IsInItsGeneration x → IsInItsGeneration y
-met_inside seen x y m inside =
-    let same : state_seen y ≡ state_seen x = (λ i. pass_after_all passes.idle (own_entries (m.number i + 1) (m.seen_is i)))
-    ∙ ap (λ (ys : List HistoryEntry). pass_after_all passes.idle ys) m.own in
-    ap (λ (s : PassState). s.entered) same ∙ inside ∙ ap (λ (e : Option Published). option_map (λ g. g.number) e) (sym m.edition)
-
 -- all of them, once they have come back
 pub record AllBack (lines : List Line) (v w : RecordState) (cpus : List (PassValue Published)) : Type 0 where
   pub all : length cpus ≡ most_passes
@@ -174,7 +167,7 @@ all_ready lines v w cpus after later h same met =
         (met p d (there p near)).number ∙ back_number (has_lines (block lines) p) v w p (get_or cpus p d) (h.each p d near),
         (met p d (there p near)).seen_is,
       );
-      inside = λ p d near. met_inside w.seat.seen (get_or cpus p d) (get_or after p d) (met p d (there p (here p near)))
+      inside = λ p d near. stays_inside w.seat.seen (get_or cpus p d) (get_or after p d) (met p d (there p (here p near)))
           (back_inside (has_lines (block lines) p) v w p (get_or cpus p d) (h.each p d (here p near)));
     }
 

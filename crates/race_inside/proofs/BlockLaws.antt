@@ -1,7 +1,7 @@
 -- A block, from the places that its actors took to what its runner has after it.
 use Rattle.std.proofs.Common.{◌≡◌, ◌⊎◌, ℕ, ◌+◌, ◌<◌, Bool, false, List, [], ◌∷◌, ◌++◌, length, get_or, refl, sym, ap, subst, ◌∙◌, arith}
 use Rattle.std.proofs.lemmas.List.{length_push, nil_from_length}
-use Rattle.std.proofs.Common.{zero, suc, inl, inr, All, Option, Some, None, OnOk, Result, Ok, Err, option_to_list}
+use Rattle.std.proofs.Common.{zero, suc, inl, inr, All, Option, Some, None, OnOk, Result, option_to_list}
 use Rattle.std.specs.List.{range_with_len, list_any}
 use Rattle.mem_base.specs.declared.machine.records.Differs.{Differs}
 use Rattle.mem_base.specs.lists.Every.{Every}
@@ -33,6 +33,7 @@ use Rattle.race_inside.specs.declared.seats.Seated.{Seated}
 use Rattle.race_inside.proofs.SeatLaws.{all_can, all_start}
 use Rattle.race_inside.proofs.BackLaws.{AllBack, all_back, all_rest}
 use Rattle.race_inside.proofs.JoinedLaws.{Parted, parted, texts_after}
+use Rattle.race_outside.proofs.StoppingLaws.{on_both}
 
 -- the numbers of passes
 
@@ -148,10 +149,6 @@ names_same k None [] = refl
 names_same k None (Pass a ∷ actors) = refl
 names_same k None (Gone ∷ actors) = refl
 
-both_ok : {T E P Q R : Type 0} (r : Result T E) → OnOk r P → OnOk r Q → (P → Q → R) → OnOk r R
-both_ok (Ok x) p q f = f p q
-both_ok (Err e) p q f = tt
-
 -- the race takes the block, where all is written
 pub steps_on : {T E : Type 0} (k : Known) (lines : List Line) (v w last : RecordState) (s : Seated) (h : AreSeated k lines v s) (news shown : List BlockActor)
     (clerks told : List Clerk) (differs : Option Differs) → HasRunAll v w s.actors.items news clerks differs → (next : Known) (before after : Text)
@@ -161,7 +158,7 @@ pub steps_on : {T E : Type 0} (k : Known) (lines : List Line) (v w last : Record
     → (list_any is_out_of_memory news ≡ false → StepsOn v k (block lines) w (known_after_block k news) (block_text k lines w news clerks differs))
     → OnOk done (WritesOn v k (block lines) last next before after)
 steps_on k lines v w last s h news shown clerks told differs r next before after done same_news same_clerks same known lasted text steps =
-    both_ok done lasted text (λ all put. record {
+    on_both done lasted text (λ all put. record {
       written = block_text k lines w news clerks differs;
       text = put ∙ ap (λ (t : Text). before ++ t)
           ((λ i. actors_said (names_now s.known.now (same_news i)) w.part.desk.listening.journal (same_news i) (same_clerks i) ++ differs_line differs)

@@ -14,7 +14,6 @@ use Rattle.mem_base.specs.script.Scripts.{Line}
 use Rattle.mem_base.specs.script.Tasks.{Known}
 use Rattle.mem_base.specs.script.RaceLines.{Said}
 use Rattle.mem_base.specs.script.Race.{actors_in, block, desk_number, lines_by}
-use Rattle.view_laws.proofs.Tests.{true_is_not_false}
 use Rattle.race_laws.proofs.ActingLaws.{desk_acts}
 use Rattle.desk_lock.specs.Records.{RecordState}
 use Rattle.race_block.specs.declared.blocks.BlockActor.{BlockActor}
@@ -27,10 +26,11 @@ use Rattle.race_block.specs.Joined.{HasJoined}
 use Rattle.race_inside.specs.Starts.{IsAtStart}
 use Rattle.race_inside.specs.Ran.{HasRunBlock, is_out_of_memory, known_after_block}
 use Rattle.race_inside.proofs.ListLaws.{Each, GotIs, IsItsClerk, actors_apart, each_both, each_weaker, find_each, got_each, got_nothing, has_lines}
-use Rattle.race_inside.proofs.ListLaws.{in_actors, is_in, no_lines, or_first, or_second}
+use Rattle.race_inside.proofs.ListLaws.{in_actors, is_in, no_lines}
 use Rattle.race_inside.proofs.StartLaws.{WasActor, were_actors}
 use Rattle.race_inside.proofs.DeskLaws.{DeskBegan, DeskEnded, desk_ended}
 use Rattle.race_inside.proofs.PassLaws.{PassEnded, pass_ended}
+use Rattle.mem_base.proofs.BoolLaws.{true_is_not_false, neither_first, neither_second}
 
 -- the actor of a number after the block
 abbrev pub Ended : Known → List Line → List HistoryEntry → List HistoryEntry → ℕ → BlockActor → Clerk → Type 0
@@ -67,8 +67,8 @@ module _ (k : Known) (lines : List Line) (before seen : List HistoryEntry) where
   lasting : (E : ℕ → BlockActor → Clerk → Type 0) (ns : List ℕ) (xs : List BlockActor) (cs : List Clerk) → Each E ns xs cs → Each (LastsWith xs) ns xs cs
   lasting E [] [] [] h = tt
   lasting E (n ∷ ns) (x ∷ xs) (c ∷ cs) h = (
-    λ none. or_first (is_out_of_memory x) (list_any is_out_of_memory xs) none,
-    each_weaker (LastsWith xs) (LastsWith (x ∷ xs)) (λ m y d f none. f (or_second (is_out_of_memory x) (list_any is_out_of_memory xs) none)) ns xs cs
+    λ none. neither_first (is_out_of_memory x) (list_any is_out_of_memory xs) none,
+    each_weaker (LastsWith xs) (LastsWith (x ∷ xs)) (λ m y d f none. f (neither_second (is_out_of_memory x) (list_any is_out_of_memory xs) none)) ns xs cs
         (lasting E ns xs cs h.1),
   )
   lasting E [] [] (c ∷ cs) h = absurd h
@@ -112,8 +112,8 @@ module _ (k : Known) (lines : List Line) (before seen : List HistoryEntry) where
     no_desk (n ∷ ns) (x ∷ xs) [] h out = absurd h
     no_desk (n ∷ ns) (Gone ∷ xs) (c ∷ cs) h out = absurd h.0.ended
     no_desk (n ∷ ns) (Desk b ∷ xs) (c ∷ cs) h out =
-        true_is_not_false (n == desk_number) (ap (λ (m : ℕ). m == desk_number) h.0.ended.0) (or_first (n == desk_number) (is_in desk_number ns) out)
-    no_desk (n ∷ ns) (Pass b ∷ xs) (c ∷ cs) h out = no_desk ns xs cs h.1 (or_second (n == desk_number) (is_in desk_number ns) out)
+        true_is_not_false (n == desk_number) (ap (λ (m : ℕ). m == desk_number) h.0.ended.0) (neither_first (n == desk_number) (is_in desk_number ns) out)
+    no_desk (n ∷ ns) (Pass b ∷ xs) (c ∷ cs) h out = no_desk ns xs cs h.1 (neither_second (n == desk_number) (is_in desk_number ns) out)
 
     abbrev Lasted : Type 0
     Lasted = list_any is_out_of_memory news ≡ false

@@ -10,15 +10,7 @@ use native.Mathlib.Decide.{ℕ_discrete}
 use Rattle.mem_base.specs.machine.Records.{Clerk, got_by}
 use Rattle.mem_base.specs.script.Scripts.{Line}
 use Rattle.mem_base.specs.script.Race.{Phase, actors_in, desk_number, lines_by}
-use Rattle.view_laws.proofs.Tests.{true_is_not_false}
-
-pub or_first : (x y : Bool) → (x || y) ≡ false → x ≡ false
-or_first true y h = h
-or_first false y h = refl
-
-pub or_second : (x y : Bool) → (x || y) ≡ false → y ≡ false
-or_second true y h = true_is_not_false true refl h
-or_second false y h = h
+use Rattle.mem_base.proofs.BoolLaws.{neither_first, neither_second, and_always, true_is_not_false}
 
 -- Numbers
 
@@ -53,7 +45,7 @@ apart_range s (suc k) = (out_below s (s + 1) k (omega arith), apart_range (s + 1
 
 fewer : (p : ℕ → Bool) (n : ℕ) (xs : List ℕ) → is_in n xs ≡ false → is_in n (filter p xs) ≡ false
 fewer p n [] h = refl
-fewer p n (x ∷ xs) h = go (p x) (or_first (x == n) (is_in n xs) h) (fewer p n xs (or_second (x == n) (is_in n xs) h))
+fewer p n (x ∷ xs) h = go (p x) (neither_first (x == n) (is_in n xs) h) (fewer p n xs (neither_second (x == n) (is_in n xs) h))
   where
     go : (b : Bool) → (x == n) ≡ false → is_in n (filter p xs) ≡ false → is_in n (if b then x ∷ filter p xs else filter p xs) ≡ false
     go true out rest = or_from (x == n) (is_in n (filter p xs)) out rest
@@ -82,15 +74,11 @@ all_in who l = go (16 == who) refl
     go true e = refl
     go false e = let other : 16 ≡ who → ⊥ = eqb-false 16 who e in inside who 0 16 (omega arith) (omega (arith, l, other))
 
-and_true : (b : Bool) → (b && true) ≡ b
-and_true true = refl
-and_true false = refl
-
 -- an actor is among them where it has a line
 pub in_actors : (phase : Phase) (who : ℕ) → who ≤ 16 → is_in who (actors_in phase) ≡ has_lines phase who
 in_actors phase who l =
     any-filter_same (λ m. m == who) (has_lines phase) (has_lines phase who) (λ k e. ap (has_lines phase) (eqb-true k who e)) (16 ∷ range_with_len 0 16)
-    ∙ ap (λ (b : Bool). has_lines phase who && b) (all_in who l) ∙ and_true (has_lines phase who)
+    ∙ ap (λ (b : Bool). has_lines phase who && b) (all_in who l) ∙ and_always (has_lines phase who)
 
 pub no_lines : (phase : Phase) (who : ℕ) → has_lines phase who ≡ false → lines_by who phase ≡ []
 no_lines phase who h = none (lines_by who phase) h
@@ -173,8 +161,8 @@ module _ {X : Type 0} where
   pub got_nothing : (who : ℕ) (ns : List ℕ) (xs : List X) (cs : List Clerk) → Each IsItsClerk ns xs cs → is_in who ns ≡ false → got_by who cs ≡ []
   got_nothing who [] [] [] h out = refl
   got_nothing who (n ∷ ns) (x ∷ xs) (c ∷ cs) h out =
-      ap (λ (b : Bool). if b then c.got else got_by who cs) (ap (λ (m : ℕ). m == who) h.0 ∙ or_first (n == who) (is_in who ns) out)
-      ∙ got_nothing who ns xs cs h.1 (or_second (n == who) (is_in who ns) out)
+      ap (λ (b : Bool). if b then c.got else got_by who cs) (ap (λ (m : ℕ). m == who) h.0 ∙ neither_first (n == who) (is_in who ns) out)
+      ∙ got_nothing who ns xs cs h.1 (neither_second (n == who) (is_in who ns) out)
   got_nothing who [] [] (c ∷ cs) h out = absurd h
   got_nothing who [] (x ∷ xs) cs h out = absurd h
   got_nothing who (n ∷ ns) [] cs h out = absurd h
@@ -187,9 +175,9 @@ module _ {X : Type 0} where
       → Each (GotIs all) ns xs cs → Each (GotIs (c ∷ all)) ns xs cs
   got_past c all n [] [] [] is out h = tt
   got_past c all n (m ∷ ns) (x ∷ xs) (d ∷ cs) is out h =
-      let other : m ≡ n → ⊥ = eqb-false m n (or_first (m == n) (is_in n ns) out) in (
+      let other : m ≡ n → ⊥ = eqb-false m n (neither_first (m == n) (is_in n ns) out) in (
         ap (λ (b : Bool). if b then c.got else got_by m all) (ne_eqb c.who m (λ e. other (sym e ∙ is))) ∙ h.0,
-        got_past c all n ns xs cs is (or_second (m == n) (is_in n ns) out) h.1,
+        got_past c all n ns xs cs is (neither_second (m == n) (is_in n ns) out) h.1,
       )
   got_past c all n [] [] (d ∷ cs) is out h = absurd h
   got_past c all n [] (x ∷ xs) cs is out h = absurd h

@@ -23,11 +23,11 @@ use Rattle.race_block.specs.Lines as passes
 use Rattle.race_block.specs.declared.tasks.PassLines.{PassLines}
 use Rattle.race_block.specs.declared.tasks.PassLines.TheVariants.{Unresolved, Resolved}
 use Rattle.race_block.specs.Resolving.{AreLinesBy, AreTasksIn, AreTasksOf, tasks_in}
-use Rattle.view_laws.proofs.Tests.{true_is_not_false}
 use Rattle.race_block.specs.Laws.{HasKept, count_own, deed_from, saids}
 use Rattle.race_block.proofs.KeptLaws.{passes_keep_lines}
 use Rattle.race_block.specs.Joined.{HasJoinedPass}
 use Rattle.race_inside.specs.Starts.{PassStarts}
+use Rattle.mem_base.proofs.BoolLaws.{true_is_not_false}
 
 -- the first of some lines, with their tasks
 record FirstTasks (k : Known) (n : ℕ) (lines : List Line) (xs : List BlockLine) : Type 0 where

@@ -26,8 +26,9 @@ use Rattle.run_laws.specs.KnownNames.{IsChangeOrder, IsKnownTask, IsPassTask, Kn
 use Rattle.run_laws.specs.LineLaws.{IsSomeonesLine}
 use Rattle.run_laws.proofs.TaskLaws.{lines_are_tasks}
 use Rattle.run_laws.proofs.TurnLaws.{change_knows, turn_knows}
-use Rattle.race_laws.proofs.DeskTasks.{asks_are, asks_of, desk_by, other_watchers}
+use Rattle.race_laws.proofs.DeskTasks.{asks_are, asks_of, desk_by}
 use Rattle.race_laws.proofs.DeskPhases.{first_same, no_less, rest_same}
+use Rattle.run_laws.proofs.DeskLaws.{other_watchers}
 
 asks_some : {A : Type 0} (xs ys : List DeskOrder) (o : DeskOrder) → [] ≡ (xs ++ o ∷ []) ++ ys → A
 asks_some [] ys o e = no_less o ys e

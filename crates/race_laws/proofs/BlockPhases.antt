@@ -24,12 +24,13 @@ use Rattle.mem_base.specs.script.RaceLines.{DeskLine, PassLine, entry_at, known_
 use Rattle.mem_base.specs.script.Race.{Course, IsPassPart, IsPhase, Phase, Stand, actor_number, actors_in, block, desk_number, desk_part, lines_by, pass_part}
 use Rattle.mem_base.specs.script.Race.{pass_state, stand_after, turns_in}
 use Rattle.mem_base.proofs.EveryLaws.{weaker, every_append}
-use Rattle.view_laws.proofs.Tests.{none_is_not_some, true_is_not_false}
+use Rattle.view_laws.proofs.Tests.{none_is_not_some}
 use Rattle.run_laws.specs.KnownNames.{IsChangeOrder, IsPassTask, KnowsNames}
 use Rattle.race_laws.proofs.Actors.{each_pass}
 use Rattle.race_laws.proofs.DeskTasks.{asks_of}
 use Rattle.race_laws.proofs.PassPhases.{pass_asks}
 use Rattle.race_laws.proofs.BlockNames.{IsLine, IsOthers, along, pass_here}
+use Rattle.mem_base.proofs.BoolLaws.{true_is_not_false}
 
 -- Clerks, and what the record has of each
 

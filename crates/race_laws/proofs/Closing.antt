@@ -6,11 +6,12 @@ use Rattle.mem_base.specs.declared.machine.records.Differs.{Differs}
 use Rattle.mem_base.specs.lists.Every.{Every}
 use Rattle.mem_base.specs.machine.Records.{Clerk, Closes, DifferAt, HasDiffering, IsOfRecord, entries_by, first_stray}
 use Rattle.mem_base.specs.script.Race.{Phase, MayDiffer, alone, block}
-use Rattle.view_laws.proofs.Tests.{none_is_not_some, same_some}
+use Rattle.view_laws.proofs.Tests.{none_is_not_some}
 use Rattle.race_laws.specs.Stopped.{MayClose}
 use Rattle.race_laws.proofs.GoesOn.{add_got}
 use Rattle.race_laws.proofs.CourseLaws.{closes_on}
 use Rattle.race_laws.proofs.Telling.{entry_discrete}
+use Rattle.std.proofs.lemmas.Option.{same_Some}
 
 no_tail : (y : DeskEntry) (ys : List DeskEntry) → [] ≡ y ∷ ys → ⊥
 no_tail y ys e = let same : 0 ≡ length (y ∷ ys) = ap length e in omega (arith, same)
@@ -23,7 +24,7 @@ same_or_differ (x ∷ xs) [] = inr (0, (refl, λ e. none_is_not_some x (sym e)))
 same_or_differ (x ∷ xs) (y ∷ ys) = go (entry_discrete x y) (same_or_differ xs ys)
   where
     go : Dec (x ≡ y) → (xs ≡ ys) ⊎ ((at : ℕ) × DifferAt at xs ys) → (x ∷ xs ≡ y ∷ ys) ⊎ ((at : ℕ) × DifferAt at (x ∷ xs) (y ∷ ys))
-    go (no p) rest = inr (0, (refl, λ e. p (same_some x y e)))
+    go (no p) rest = inr (0, (refl, λ e. p (same_Some x y e)))
     go (yes p) (inl q) = inl (λ i. p i ∷ q i)
     go (yes p) (inr d) = inr (suc d.0, ((λ i. p i ∷ d.1.0 i), d.1.1))
 

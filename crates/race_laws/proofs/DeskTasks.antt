@@ -1,13 +1,11 @@
 -- A task of the desk, by what its orders got, is what the run does.
-use Rattle.std.proofs.Common.{◌≡◌, ◌-◌, ℕ, suc, List, [], ◌∷◌, ◌++◌, length, append_assoc, take, drop, refl, sym, ap, subst, ◌∙◌, arith, Option, Some, None, Ok}
-use Rattle.std.proofs.lemmas.List.{take_all, length-drop}
+use Rattle.std.proofs.Common.{◌≡◌, ◌-◌, ℕ, suc, List, [], ◌∷◌, ◌++◌, length, append_assoc, drop, refl, sym, ap, subst, ◌∙◌, arith, Option, Some, None, Ok}
 use Rattle.mem_base.specs.declared.map.calls.Call.TheVariants as calls
 use Rattle.mem_base.specs.declared.map.forests.Forest.{Forest}
 use Rattle.mem_base.specs.declared.map.refusals.Refusal.{Refusal}
 use Rattle.mem_base.specs.declared.machine.events.HistoryEntry.{HistoryEntry}
 use Rattle.mem_base.specs.declared.machine.records.DeskOrder.{DeskOrder}
 use Rattle.mem_base.specs.declared.machine.records.DeskOrder.TheVariants as orders
-use Rattle.mem_base.specs.declared.machine.records.DeskAnswer.{DeskAnswer}
 use Rattle.mem_base.specs.declared.machine.records.DeskAnswer.TheVariants as answers
 use Rattle.mem_base.specs.declared.machine.records.DeskEntry.{DeskEntry}
 use Rattle.mem_base.specs.views.Listening.{Delivery}
@@ -26,13 +24,14 @@ use Rattle.mem_base.specs.script.Output.{notice_lines, told_lines}
 use Rattle.mem_base.specs.script.Watching.{Watcher, caught_up, notices_all, watch_refusal}
 use Rattle.mem_base.specs.script.States.{Outcome, State, outcome}
 use Rattle.mem_base.specs.script.Shows.{catches_up, joins_unless, shown_forest}
-use Rattle.mem_base.specs.script.Tasks.{Known, Resolved, Task, after_order, ordered, unwatched, watched, with_order}
+use Rattle.mem_base.specs.script.Tasks.{Known, Resolved, Task, after_order, ordered, unwatched, watched}
 use Rattle.mem_base.specs.script.RaceLines.{DeskLine, Said, answer_text, asked_first, catching_up, entry_at, generation_numbered, new_watcher}
 use Rattle.mem_base.specs.script.RaceLines.{number_looked, own_line, said_text, says, watch_line}
 use Rattle.run_laws.specs.TaskSteps.{desk_order, desk_step, known_state}
 use Rattle.run_laws.specs.KnownNames.{IsKnownTask, KnowsNames}
 use Rattle.run_laws.proofs.KnowingLaws.{orders_are_known}
 use Rattle.race_laws.proofs.Running.{IsLegal, IsRun, IsTurned, current_shown, turned, world_after}
+use Rattle.run_laws.proofs.DeskLaws.{other_watchers, sliced, after_watchers}
 
 -- a line of the desk by its task
 abbrev pub desk_by : List Generation → Known → ℕ → Resolved Task → List DeskEntry → DeskLine
@@ -62,23 +61,6 @@ asked_none (Ok (ordered order name)) e = absurd (one_is_not_none order e)
 asked_none task e = refl
 
 -- orders change no watchers
-
-with_watchers : (k : Known) (name : Text) (order : DeskOrder) → (with_order k name order).watchers ≡ k.watchers
-with_watchers k name (orders.Call (calls.Region kind size)) = refl
-with_watchers k name (orders.Call (calls.Space space root)) = refl
-with_watchers k name (orders.Call (calls.Drop region)) = refl
-with_watchers k name (orders.Listen listener space priority) = refl
-with_watchers k name (orders.Unlisten listener) = refl
-with_watchers k name order = refl
-
-after_watchers : (k : Known) (name : Text) (order : DeskOrder) (x : DeskAnswer) → (after_order k name order x).watchers ≡ k.watchers
-after_watchers k name order (answers.Refused why) = refl
-after_watchers k name order x = with_watchers k name order
-
--- watchers are no part of what is known of names
-pub other_watchers : (k : Known) (d : Desk) (watchers : List Watcher) → KnowsNames k d → KnowsNames (record k { watchers = watchers }) d
-other_watchers k d watchers a =
-    record { regions = a.regions; made = a.made; dropped = a.dropped; listeners = a.listeners; gone = a.gone }
 
 -- Tasks without an order
 
@@ -124,10 +106,6 @@ caught pool h seen k o x own r a =
       runs = r;
       knows = other_watchers x.known h.desk (caught_up f x.known.watchers) (own.knows h.desk a);
     }
-
--- all that a journal has after a number
-pub sliced : (xs : List Delivery) (m : ℕ) → take (length xs - m) (drop m xs) ≡ drop m xs
-sliced xs m = take_all (length xs - m) (drop m xs) (let l = length-drop m xs in omega (arith, l))
 
 -- the order of a Look, whoever gave it
 abbrev pub look_by : ℕ → List ℕ → Given

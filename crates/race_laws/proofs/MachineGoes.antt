@@ -30,7 +30,7 @@ use Rattle.mem_base.specs.machine.PassTurns.{entries_of}
 use Rattle.mem_base.specs.machine.Records.{call_of, FitsDeskOrder}
 use Rattle.mem_base.specs.script.Race.{pass_state}
 use Rattle.mem_base.proofs.EveryLaws.{every_push}
-use Rattle.view_laws.proofs.Tests.{both, none_is_not_some, same_some}
+use Rattle.view_laws.proofs.Tests.{none_is_not_some}
 use Rattle.history_laws.specs.Numbers.{HasSoundNumbers}
 use Rattle.history_laws.proofs.NumberLaws.{sound}
 use Rattle.history_laws.proofs.AppendLaws.{pass_owns}
@@ -47,6 +47,8 @@ use Rattle.cell_laws.proofs.MadeTurns.{turns_make_forests}
 use Rattle.cell_laws.proofs.Carrying.{AllCarry, Carries, carry, carry_enters, carry_leaves, steps_carry}
 use Rattle.cell_laws.proofs.Following.{shared_join, turns_may_follow}
 use Rattle.race_laws.specs.Acting.{AreEntries, generation_in}
+use Rattle.std.proofs.lemmas.Bool.{and_from}
+use Rattle.std.proofs.lemmas.Option.{same_Some}
 
 -- a legal history, whose writer's entries are those of the turns of orders that fit their types
 pub record Stands (pool : ℕ) (os : List Answered) (xs : List HistoryEntry) : Type 0 where
@@ -138,7 +140,7 @@ pub record PassGoes (pool : ℕ) (os : List Answered) (xs : List HistoryEntry) (
 
 get_told : (gs : List Generation) (n : ℕ) (x : Generation) → slice_get gs n ≡ Some x → slice_index_or gs n first_generation ≡ x
 get_told [] n x e = none_is_not_some x e
-get_told (g ∷ gs) zero x e = same_some g x e
+get_told (g ∷ gs) zero x e = same_Some g x e
 get_told (g ∷ gs) (suc n) x e = get_told gs n x e
 
 -- the generation in which a pass is entered is that of its number among those that were published
@@ -221,7 +223,7 @@ module _ (pool : ℕ) (os : List Answered) (xs : List HistoryEntry) (s : Stands 
 
     pub enters_go : is_none (pass_state pass xs).announced ≡ true → PassGoes pool os xs pass [] (enters pass)
     enters_go out =
-        let look : possible w (events.Look pass) ≡ true = both _ _ is_there (ap (λ (p : PassState). is_none p.announced) state_is ∙ out) in
+        let look : possible w (events.Look pass) ≡ true = and_from _ _ is_there (ap (λ (p : PassState). is_none p.announced) state_is ∙ out) in
         goes pass [] (enters pass) (carry_enters [] w pass (may_enter w pass (orderly pool zs w led) look))
         ((refl, refl), ((refl, refl), ((refl, refl), tt)))
 

@@ -39,7 +39,7 @@ names_its (commands.PassDo pass change) f = f.0
 names_its (commands.PassDma pass space addr len to_space to_addr) f = f.0
 names_its c f = tt
 
-name_theirs : (lines : List Line) → AreFitting lines → NameTheirPasses lines
+pub name_theirs : (lines : List Line) → AreFitting lines → NameTheirPasses lines
 name_theirs [] f = tt
 name_theirs (line ∷ lines) f = (names_its line.1 f.0, name_theirs lines f.1)
 

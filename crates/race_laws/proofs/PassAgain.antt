@@ -23,7 +23,6 @@ use Rattle.mem_base.specs.script.Named.{Names}
 use Rattle.mem_base.specs.script.Tasks.{Task}
 use Rattle.mem_base.specs.script.Tasks as tasks
 use Rattle.mem_base.specs.script.RaceLines.{PassLine, line_of_pass}
-use Rattle.view_laws.proofs.Tests.{or_left}
 use Rattle.history_laws.proofs.AppendLaws.{pass_by_append}
 use Rattle.race_laws.specs.Acting.{AreAccess, AreCopy, AreEntries, AreSteps, bytes_of_read, generation_in}
 use Rattle.race_laws.proofs.GoesOn.{IsRested}
@@ -34,6 +33,7 @@ use Rattle.race_laws.proofs.PassStages.{accessed_are, copied_are, makes_are, tur
 use Rattle.std.proofs.lemmas.List.{drop_at}
 use Rattle.race_laws.proofs.Stages.{idle_after, inside_after}
 use Rattle.race_laws.proofs.PassRuns.{steps_stay}
+use Rattle.std.proofs.lemmas.Bool.{or_left}
 
 pub are_again : (places : List Place) (es : List Event) (ns : List ℕ) → AreEntries places es (entries_of places es ns)
 are_again places [] ns = refl

@@ -27,7 +27,6 @@ use Rattle.mem_base.specs.script.Tasks.{Task, task_of}
 use Rattle.mem_base.specs.script.Tasks as tasks
 use Rattle.mem_base.specs.script.RaceLines.{PassLine, entry_at, line_of_pass, number_published}
 use Rattle.mem_base.specs.script.Race.{IsAfterPublish, Phase, Stand, Course, pass_state, publishes_number}
-use Rattle.view_laws.proofs.Tests.{or_left, or_right}
 use Rattle.history_laws.proofs.AppendLaws.{own_append, pass_by_append}
 use Rattle.run_laws.specs.Fitting.{FitsCommand}
 use Rattle.race_laws.specs.Acting.{PassAt, PassDeed, PassLineDoes}
@@ -40,6 +39,7 @@ use Rattle.race_laws.proofs.PhaseParts.{Only, OrderOn, Part, course_on, only_non
 use Rattle.race_laws.proofs.PassStages.{accessed_are, copied_are, makes_are, turn_at}
 use Rattle.race_laws.proofs.Publishing.{stands_after}
 use Rattle.race_laws.proofs.Stages.{Inside, enters_again, leaves_if, makes_access, makes_copy, state_on}
+use Rattle.std.proofs.lemmas.Bool.{or_left, or_right}
 
 -- what a pass did in a phase so far
 abbrev pub deed_of : Stand → Course → PassId → List Line → PassDeed

@@ -35,9 +35,10 @@ use Rattle.run_laws.proofs.KnowingLaws.{orders_are_known}
 use Rattle.race_laws.proofs.Actors.{IsMachines, each_pass, lines_mine, lines_others, of_one, only_pass, only_writers}
 use Rattle.race_laws.proofs.Recording.{recorded_orders}
 use Rattle.race_laws.proofs.Running.{IsLegal, IsRun, IsTurned, turned, world_after}
-use Rattle.race_laws.proofs.DeskTasks.{Follows, asks_of, sliced}
+use Rattle.race_laws.proofs.DeskTasks.{Follows, asks_of}
 use Rattle.race_laws.proofs.DeskPhases.{Goes, course_machines, got_record, none_given, one_given, orders_of, text_by}
 use Rattle.race_laws.proofs.PassTasks.{pass_follows}
+use Rattle.run_laws.proofs.DeskLaws.{sliced}
 
 pub pass_asks : (published : List Generation) (names : Names) (pass : PassId) (n : ℕ) (task : Resolved Task) (t : PassTurn) (e : DeskEntry)
     → (line_of_pass published names pass n task t e).asks ≡ asks_of task

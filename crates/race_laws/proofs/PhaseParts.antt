@@ -25,7 +25,6 @@ use Rattle.mem_base.specs.script.Scripts.{Line}
 use Rattle.mem_base.specs.script.RaceLines.{number_looked, number_published}
 use Rattle.mem_base.specs.script.Race.{Phase, Stand, Course, actors_in, desk_number, lines_by, publishes_number, turns_in}
 use Rattle.mem_base.proofs.EveryLaws.{every_push, weaker}
-use Rattle.view_laws.proofs.Tests.{or_left, or_right}
 use Rattle.history_laws.proofs.NumberLaws.{sound}
 use Rattle.history_laws.proofs.AppendLaws.{after_append, own_append}
 use Rattle.end_laws.proofs.EndLaws.{turns_end_in}
@@ -40,6 +39,7 @@ use Rattle.race_laws.proofs.EnterLaws.{more_published}
 use Rattle.race_laws.proofs.MachineGoes.{AreOf, OrderGoes, Stands, only_passes, order_goes, shared_now, writer_now}
 use Rattle.race_laws.proofs.NextNumbers.{next_above}
 use Rattle.race_laws.proofs.Publishing.{looks_low, numbers_told, published_between}
+use Rattle.std.proofs.lemmas.Bool.{or_left, or_right}
 
 abbrev pub published_in : Stand → Course → List Generation
 published_in s c = generations_published (s.seen ++ c.entries)

@@ -20,7 +20,7 @@ use Rattle.mem_base.specs.machine.Actors.{first_generation, generations_publishe
 use Rattle.mem_base.specs.machine.Turns.{Answered, WriterCall, turn, turns, entries_of_turn, last_writer, is_writers, writers_of}
 use Rattle.mem_base.specs.machine.JoinedHistory.{read}
 use Rattle.mem_base.specs.script.RaceLines.{generation_numbered}
-use Rattle.view_laws.proofs.Tests.{none_is_not_some, same_some}
+use Rattle.view_laws.proofs.Tests.{none_is_not_some}
 use Rattle.history_laws.specs.Numbers.{HasSoundNumbers}
 use Rattle.history_laws.proofs.NumberLaws.{sound}
 use Rattle.mem_base.specs.machine.ShownWorlds.{world_shown}
@@ -30,6 +30,7 @@ use Rattle.end_laws.proofs.GoingOn.{turns_go_on}
 use Rattle.end_laws.proofs.Shows.{pass_entries_run, turn_is_completed}
 use Rattle.end_laws.proofs.TurnRuns.{shared_both}
 use Rattle.history_laws.proofs.AppendLaws.{after_append, generation_stays}
+use Rattle.std.proofs.lemmas.Option.{same_Some}
 
 module _ (pool : ℕ) where
   abbrev pub opening : Shared
@@ -124,7 +125,7 @@ generation_kept words seen rest s k n low near =
 
 first_forest : (gs : List Generation) (n : ℕ) (g : Generation) → n ≡ 0 → slice_get gs n ≡ Some g → forest_in gs ≡ g.forest
 first_forest [] n g z e = none_is_not_some g e
-first_forest (x ∷ xs) n g z e = ap (λ (y : Generation). y.forest) (same_some x g (sym (ap (λ (m : ℕ). slice_get (x ∷ xs) m) z) ∙ e))
+first_forest (x ∷ xs) n g z e = ap (λ (y : Generation). y.forest) (same_Some x g (sym (ap (λ (m : ℕ). slice_get (x ∷ xs) m) z) ∙ e))
 
 -- the forest of the current number is the current one
 pub current_shown : (pool : ℕ) (h : Writer) (seen rest : List HistoryEntry) → IsRun pool h seen → IsLegal pool seen

@@ -16,7 +16,6 @@ use Rattle.mem_base.specs.machine.Composites.{enters, enters_anew, enters_unless
 use Rattle.mem_base.specs.machine.Turns.{Answered, replies_of}
 use Rattle.mem_base.specs.machine.PassTurns.{entries_of}
 use Rattle.mem_base.specs.script.Race.{pass_state}
-use Rattle.view_laws.proofs.Tests.{or_left}
 use Rattle.history_laws.proofs.AppendLaws.{own_append, pass_by_append}
 use Rattle.race_laws.specs.Acting.{AreAccess, AreCopy, AreSteps, bytes_of_read, generation_in}
 use Rattle.race_laws.proofs.GoesOn.{IsRested}
@@ -28,6 +27,7 @@ use Rattle.race_laws.proofs.PassStages.{are_both}
 use Rattle.race_laws.proofs.MachineGoes.{AreOf, IsOf, PassGoes, Stands, enters_go, leaves_go, transfer_goes}
 use Rattle.race_laws.proofs.PhaseParts.{own_mine}
 use Rattle.race_laws.proofs.PassRuns.{steps_stay}
+use Rattle.std.proofs.lemmas.Bool.{or_left}
 
 -- a pass's state after entries of its own
 pub state_on : (pass : PassId) (xs ys : List HistoryEntry) → AreOf pass ys → pass_after_all (pass_state pass xs) ys ≡ pass_state pass (xs ++ ys)

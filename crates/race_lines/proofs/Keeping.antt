@@ -12,12 +12,15 @@ use Rattle.mem_base.specs.script.Named.{Names}
 use Rattle.mem_base.specs.script.Tasks.{region_id}
 use Rattle.mem_base.specs.script.Watching.{Watcher}
 use Rattle.script_names.specs.Tables.{AllNames, Rebinds, Table, number_of, printed_names, table}
-use Rattle.view_laws.proofs.Tests.{none_is_not_some, or_right, same_some}
-use Rattle.run_laws.proofs.DeskLaws.{any_push, or_false}
+use Rattle.view_laws.proofs.Tests.{none_is_not_some}
+use Rattle.run_laws.proofs.DeskLaws.{any_push}
 use Rattle.run_laws.proofs.Naming.{numbered}
 use Rattle.race_lines.specs.NamedTables.{IsNamed}
 use Rattle.race_lines.specs.KnownNames.{HoldsNames, is_kept, listens_on, watches}
 use Rattle.race_lines.proofs.NamedLaws.{named_drop, named_none, named_push}
+use Rattle.std.proofs.lemmas.Bool.{or_right}
+use Rattle.std.proofs.lemmas.Option.{same_Some}
+use Rattle.mem_base.proofs.BoolLaws.{or_false}
 
 abbrev no_tables : AllNames
 no_tables = record { regions = table [] []; kinds = []; spaces = table [] []; listeners = table [] []; notifiers = table [] [] }
@@ -43,7 +46,7 @@ none_named f (Some n) e = none_is_not_some (f n) (sym e)
 
 pub some_named : {A : Type 0} (f : ℕ → A) (g : A → ℕ) → ((n : ℕ) → g (f n) ≡ n) → (o : Option ℕ) (x : A) → option_map f o ≡ Some x → o ≡ Some (g x)
 some_named f g same None x e = none_is_not_some x e
-some_named f g same (Some n) x e = ap Some (sym (same n) ∙ ap g (same_some (f n) x e))
+some_named f g same (Some n) x e = ap Some (sym (same n) ∙ ap g (same_Some (f n) x e))
 
 -- a number that a name stands for is one of those that were made
 pub is_made : (t : Table) (p : ℕ → Bool) (name : Text) (n : ℕ) → IsNamed t p → number_of t.bound name ≡ Some n → n < length t.made

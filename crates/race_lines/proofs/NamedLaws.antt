@@ -8,10 +8,13 @@ use Rattle.std.specs.Str.{bytes_eq}
 use Rattle.std.proofs.lemmas.Slice.Eq.{bytes_eq-Decides}
 use Rattle.mem_base.specs.script.Spelling.{Text}
 use Rattle.mem_base.specs.script.States.{number_from}
-use Rattle.view_laws.proofs.Tests.{none_is_not_some, same_some, both_of, both, true_is_not_false}
+use Rattle.view_laws.proofs.Tests.{none_is_not_some}
 use Rattle.script_names.specs.Tables.{Rebinds, Table, number_of, table}
 use Rattle.race_lines.specs.NamedTables.{AreSingle, IsNamed}
 use Rattle.run_laws.proofs.Naming.{from_agree}
+use Rattle.mem_base.proofs.BoolLaws.{both_ways, true_is_not_false}
+use Rattle.std.proofs.lemmas.Option.{same_Some}
+use Rattle.std.proofs.lemmas.Bool.{and_parts, and_from}
 
 same_text : (x y : Text) → bytes_eq x y ≡ true → x ≡ y
 same_text x y e = (bytes_eq-Decides x y).0 e
@@ -19,15 +22,8 @@ same_text x y e = (bytes_eq-Decides x y).0 e
 text_same : (x y : Text) → x ≡ y → bytes_eq x y ≡ true
 text_same x y e = (bytes_eq-Decides x y).1 e
 
--- two tests that are true of the same
-either_way : (a b : Bool) → (a ≡ true → b ≡ true) → (b ≡ true → a ≡ true) → a ≡ b
-either_way true true f g = refl
-either_way true false f g = sym (f refl)
-either_way false true f g = g refl
-either_way false false f g = refl
-
 bytes_eq-sym : (x y : Text) → bytes_eq x y ≡ bytes_eq y x
-bytes_eq-sym x y = either_way (bytes_eq x y) (bytes_eq y x) (λ e. text_same y x (sym (same_text x y e)))
+bytes_eq-sym x y = both_ways (bytes_eq x y) (bytes_eq y x) (λ e. text_same y x (sym (same_text x y e)))
     (λ e. text_same x y (sym (same_text y x e)))
 
 single_agree : (n : ℕ) (names : List Text) (p q : ℕ → Bool) → ((k : ℕ) → n ≤ k → k < n + length names → p k ≡ q k)
@@ -82,7 +78,7 @@ single_push n (y ∷ ys) x p s free =
         → (if b && p (n + 1 + length ys) then Some (n + 1 + length ys) else None)
         ≡ None
     other false e h t = refl
-    other true e h t = true_is_not_false (bytes_eq y x && p n) (both (bytes_eq y x) (p n) (bytes_eq-sym y x ∙ e) t) h
+    other true e h t = true_is_not_false (bytes_eq y x && p n) (and_from (bytes_eq y x) (p n) (bytes_eq-sym y x ∙ e) t) h
 
     last : p n ≡ true → (bytes_eq y x && p n) ≡ false → at_end (n + 1) ys x p y ≡ None
     last t h = other (bytes_eq x y) refl h t
@@ -102,8 +98,8 @@ module _ (p q : ℕ → Bool) (r : ℕ) (others : (k : ℕ) → k ≢ r → q k 
       go : (b : Bool) → (bytes_eq y x && q n) ≡ b → (bytes_eq y x && p n) ≡ false → number_from (n + 1) ys q x ≡ None
           → (if b then Some n else number_from (n + 1) ys q x) ≡ None
       go false e h ih = ih
-      go true e h ih = let t = both_of (bytes_eq y x) (q n) e in
-          true_is_not_false (bytes_eq y x && p n) (both (bytes_eq y x) (p n) t.0 (weaker n t.1)) h
+      go true e h ih = let t = and_parts (bytes_eq y x) (q n) e in
+          true_is_not_false (bytes_eq y x && p n) (and_from (bytes_eq y x) (p n) t.0 (weaker n t.1)) h
 
   single_left : (n : ℕ) (names : List Text) → AreSingle n names p → AreSingle n names q
   single_left n [] s = tt
@@ -116,7 +112,7 @@ module _ (p q : ℕ → Bool) (r : ℕ) (others : (k : ℕ) → k ≢ r → q k 
     where
       go : (b : Bool) → (if b then Some n else number_from (n + 1) ys p x) ≡ Some r
           → (number_from (n + 1) ys p x ≡ Some r → n + 1 ≤ r) → n ≤ r
-      go true e ih = let s = same_some n r e in omega arith
+      go true e ih = let s = same_Some n r e in omega arith
       go false e ih = let l = ih e in omega arith
 
   beyond : (n : ℕ) (names : List Text) (x : Text) → r < n → number_from n names q x ≡ number_from n names p x
@@ -138,15 +134,15 @@ module _ (p q : ℕ → Bool) (r : ℕ) (others : (k : ℕ) → k ≢ r → q k 
 
       stays_off : (bytes_eq y x && p n) ≡ false → (b : Bool) → (bytes_eq y x && q n) ≡ b → b ≡ false
       stays_off h false e = refl
-      stays_off h true e = let t = both_of (bytes_eq y x) (q n) e in
-          true_is_not_false (bytes_eq y x && p n) (both (bytes_eq y x) (p n) t.0 (weaker n t.1)) h
+      stays_off h true e = let t = and_parts (bytes_eq y x) (q n) e in
+          true_is_not_false (bytes_eq y x && p n) (and_from (bytes_eq y x) (p n) t.0 (weaker n t.1)) h
 
       go : (b : Bool) → (bytes_eq y x && p n) ≡ b → (if b then Some n else number_from (n + 1) ys p x) ≡ Some r
           → (number_from (n + 1) ys p x ≡ Some r → number_from (n + 1) ys q x ≡ None)
           → (if bytes_eq y x && q n then Some n else number_from (n + 1) ys q x) ≡ None
       go true h e ih =
-          let t = both_of (bytes_eq y x) (p n) h in
-          let is : n ≡ r = same_some n r e in
+          let t = and_parts (bytes_eq y x) (p n) h in
+          let is : n ≡ r = same_Some n r e in
           let none : number_from (n + 1) ys p x ≡ None = ap (number_from (n + 1) ys p) (sym (same_text y x t.0)) ∙ s.0 t.1 in
           head (bytes_eq y x && q n) refl (off (bytes_eq y x) (ap q is ∙ gone)) (beyond (n + 1) ys x (omega arith) ∙ none)
       go false h e ih = head (bytes_eq y x && q n) refl (stays_off h (bytes_eq y x && q n) refl) (ih e)
@@ -169,8 +165,8 @@ module _ (p q : ℕ → Bool) (r : ℕ) (others : (k : ℕ) → k ≢ r → q k 
           → (if bytes_eq z y && q n then Some n else number_from (n + 1) zs q y)
           ≡ (if bytes_eq z y && p n then Some n else number_from (n + 1) zs p y)
       go true h e ih =
-          let t = both_of (bytes_eq z x) (p n) h in
-          let is : n ≡ r = same_some n r e in
+          let t = and_parts (bytes_eq z x) (p n) h in
+          let is : n ≡ r = same_Some n r e in
           let head : (bytes_eq z y && q n) ≡ (bytes_eq z y && p n) = both_off (bytes_eq z y)
           (not_it (bytes_eq z y) refl (same_text z x t.0)) in
           let tail : number_from (n + 1) zs q y ≡ number_from (n + 1) zs p y = beyond (n + 1) zs y (omega arith) in

@@ -3,7 +3,7 @@ use Rattle.std.proofs.Common.{◌≡◌, ◌≢◌, ◌≤◌, ◌+◌, ℕ, Boo
 use Rattle.std.proofs.Common.{◌∙◌, arith, ne_eqb, eq-eqb}
 use Rattle.std.specs.Prelude.{not, ◌==◌}
 use Rattle.std.specs.List.{list_any}
-use Rattle.std.proofs.lemmas.Bool.{eqb-true}
+use Rattle.std.proofs.lemmas.Bool.{eqb-true, or_right}
 use Rattle.std.proofs.lemmas.List.{length-append}
 use mathlib.Core.Logic.{dite}
 use native.Mathlib.Decide.{ℕ_discrete}
@@ -14,11 +14,11 @@ use Rattle.mem_base.specs.script.Spelling.{Text}
 use Rattle.mem_base.specs.script.Named.{Names}
 use Rattle.mem_base.specs.script.Watching.{Watcher, caught_up, is_watcher, without_number}
 use Rattle.script_names.specs.Tables.{AllNames, Rebinds, Table, number_of, printed_names, table}
-use Rattle.view_laws.proofs.Tests.{or_right}
-use Rattle.run_laws.proofs.DeskLaws.{any_push, or_false}
+use Rattle.run_laws.proofs.DeskLaws.{any_push}
 use Rattle.race_lines.specs.NamedTables.{IsNamed}
 use Rattle.race_lines.specs.KnownNames.{HoldsNames, is_kept, listens_on, watches}
 use Rattle.race_lines.proofs.NamedLaws.{found_last, named_drop, named_push, named_same}
+use Rattle.mem_base.proofs.BoolLaws.{or_false}
 
 pub same_watchers : (f : Forest) (watchers : List Watcher) (n : ℕ) → watches (caught_up f watchers) n ≡ watches watchers n
 same_watchers f [] n = refl

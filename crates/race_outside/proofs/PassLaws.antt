@@ -1,5 +1,5 @@
 -- A line of a pass outside the block, from what its virtual CPU or the record did to the race that goes on.
-use Rattle.std.proofs.Common.{◌≡◌, ℕ, ◌+◌, ◌<◌, List, [], ◌∷◌, ◌++◌, drop, length, map, Result, Ok, Err, IfOk, OnErr, OnOk, append-nil, refl, sym}
+use Rattle.std.proofs.Common.{◌≡◌, ℕ, ◌+◌, ◌<◌, List, [], ◌∷◌, ◌++◌, length, map, Result, Ok, Err, IfOk, OnErr, OnOk, append-nil, refl, sym}
 use Rattle.std.proofs.Common.{ap, subst, ◌∙◌}
 use Rattle.std.specs.Prelude.{All, flat_map, slice_index_or}
 use mathlib.Core.List.{IsPrefix}
@@ -44,7 +44,7 @@ use Rattle.pass_lines.specs.Texts.{answer_text}
 use Rattle.pass_lines.proofs.DoneLaws.{lines_are_done, published_prefix}
 use Rattle.desk_lock.specs.Records.{GrewBy, RecordState, turns_given}
 use Rattle.desk_lock.specs.Turned.{given_by}
-use Rattle.desk_lock.proofs.RecordLaws.{grew_on, grew_one}
+use Rattle.desk_lock.proofs.RecordLaws.{grew_on, grew_one, append_cancel}
 use Rattle.race_lines.specs.declared.passes.PassSaid.{PassSaid}
 use Rattle.race_lines.specs.declared.passes.PassSaid.TheVariants as saids
 use Rattle.race_lines.specs.declared.tasks.LineTask.{LineTask}
@@ -113,10 +113,6 @@ is_same p v w a b (Ok (Found space addr)) said h inside = unchanged a b h.cpu in
 is_same p v w a b (Ok (Watched name region first last)) said h inside = unchanged a b h.cpu inside
 is_same p v w a b (Ok (Unwatched name watcher)) said h inside = unchanged a b h.cpu inside
 is_same p v w a b (Err why) said h inside = unchanged a b h.cpu inside
-
-append_cancel : (xs ys zs : List HistoryEntry) → xs ++ ys ≡ xs ++ zs → ys ≡ zs
-append_cancel [] ys zs e = e
-append_cancel (x ∷ xs) ys zs e = append_cancel xs ys zs (ap (drop 1) e)
 
 -- what came to pass for a line, once all are level: the pass made these entries, and gave these orders
 record CameToPass (v w : RecordState) (k : Known) (line : Line) (p : ℕ) (given : List Given) (ys : List HistoryEntry) (said : Said) : Type 0 where

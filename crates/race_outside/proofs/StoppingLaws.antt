@@ -1,5 +1,5 @@
 -- A race that stopped in a phase, or lost the text of one, could have gone on.
-use Rattle.std.proofs.Common.{◌≡◌, ℕ, ◌+◌, List, [], ◌∷◌, ◌++◌, Option, Some, None, Result, Ok, Err, OnErr, OnOk, inl, inr, refl, sym, subst, ◌∙◌, append_assoc}
+use Rattle.std.proofs.Common.{◌≡◌, ℕ, ◌+◌, List, [], ◌∷◌, ◌++◌, Option, Some, None, Result, Ok, Err, OnOk, inl, inr, refl, sym, subst, ◌∙◌, append_assoc}
 use Rattle.mem_base.specs.declared.machine.events.HistoryEntry.{HistoryEntry}
 use Rattle.mem_base.specs.declared.machine.records.DeskOrder.{DeskOrder}
 use Rattle.mem_base.specs.map.Limits.{most_passes, notifier_count}
@@ -36,10 +36,6 @@ use Rattle.race_outside.specs.Settling.{AreLevel, HaveMet}
 use Rattle.race_outside.proofs.SettlingLaws.{desk_settles}
 use Rattle.race_outside.specs.Asked.{StopsAsking, TakesOwn}
 use Rattle.race_outside.specs.Outside.{StepsOn, StopsIn, WritesOn, stand_of}
-
-pub on_failure : {T E : Type 0} (r : Result T E) (P : Type 0) → P → OnErr r P
-on_failure (Ok x) P p = tt
-on_failure (Err e) P p = p
 
 pub on_both : {T E P Q R : Type 0} (r : Result T E) → OnOk r P → OnOk r Q → (P → Q → R) → OnOk r R
 on_both (Ok x) p q f = f p q

@@ -13,10 +13,12 @@ use Rattle.mem_base.specs.lists.Every.{Every}
 use Rattle.mem_base.specs.script.Scripts.{Line, placed, rule_of}
 use Rattle.mem_base.specs.script.Race.{is_end, is_par, phases_of}
 use Rattle.mem_base.specs.script.Sound.{Sound}
-use Rattle.view_laws.proofs.Tests.{none_is_not_some, same_some, true_is_not_false}
+use Rattle.view_laws.proofs.Tests.{none_is_not_some}
 use Rattle.race_laws.specs.Outside.{IsPlain, block_of, phases_alone}
 use Rattle.race_laws.proofs.OutsideLaws.{has_phases}
 use Rattle.race_phases.specs.Plain.{AreParts, is_plain}
+use Rattle.std.proofs.lemmas.Option.{same_Some}
+use Rattle.mem_base.proofs.BoolLaws.{true_is_not_false}
 
 -- Where a list is cut at the first element that fails a test
 
@@ -167,22 +169,22 @@ IsBefore (Block par) = ⊥
 IsBefore Tail = ⊥
 
 before_plain : (n : ℕ) (s next : Section) (rule : PlaceRule) → IsBefore s → IsPlainRule rule → placed n s rule ≡ Some next → IsBefore next
-before_plain n Start next First b r e = subst IsBefore (same_some Setup next e) tt
-before_plain n Start next OutsideBlock b r e = subst IsBefore (same_some Setup next e) tt
-before_plain n Start next Anywhere b r e = subst IsBefore (same_some Setup next e) tt
+before_plain n Start next First b r e = subst IsBefore (same_Some Setup next e) tt
+before_plain n Start next OutsideBlock b r e = subst IsBefore (same_Some Setup next e) tt
+before_plain n Start next Anywhere b r e = subst IsBefore (same_Some Setup next e) tt
 before_plain n Start next OpensBlock b r e = absurd r
 before_plain n Start next ClosesBlock b r e = absurd r
 before_plain n Setup next First b r e = none_is_not_some next e
-before_plain n Setup next OutsideBlock b r e = subst IsBefore (same_some Setup next e) tt
-before_plain n Setup next Anywhere b r e = subst IsBefore (same_some Setup next e) tt
+before_plain n Setup next OutsideBlock b r e = subst IsBefore (same_Some Setup next e) tt
+before_plain n Setup next Anywhere b r e = subst IsBefore (same_Some Setup next e) tt
 before_plain n Setup next OpensBlock b r e = absurd r
 before_plain n Setup next ClosesBlock b r e = absurd r
 before_plain n (Block par) next rule b r e = absurd b
 before_plain n Tail next rule b r e = absurd b
 
 before_opens : (n : ℕ) (s next : Section) → IsBefore s → placed n s OpensBlock ≡ Some next → Block n ≡ next
-before_opens n Start next b e = same_some (Block n) next e
-before_opens n Setup next b e = same_some (Block n) next e
+before_opens n Start next b e = same_Some (Block n) next e
+before_opens n Setup next b e = same_Some (Block n) next e
 before_opens n (Block par) next b e = absurd b
 before_opens n Tail next b e = absurd b
 
@@ -195,14 +197,14 @@ before_closes n Tail next b e = absurd b
 block_plain : (n par : ℕ) (next : Section) (rule : PlaceRule) → IsPlainRule rule → placed n (Block par) rule ≡ Some next → Block par ≡ next
 block_plain n par next First r e = none_is_not_some next e
 block_plain n par next OutsideBlock r e = none_is_not_some next e
-block_plain n par next Anywhere r e = same_some (Block par) next e
+block_plain n par next Anywhere r e = same_Some (Block par) next e
 block_plain n par next OpensBlock r e = absurd r
 block_plain n par next ClosesBlock r e = absurd r
 
 tail_plain : (n : ℕ) (next : Section) (rule : PlaceRule) → placed n Tail rule ≡ Some next → (Tail ≡ next) × IsPlainRule rule
 tail_plain n next First e = none_is_not_some next e
-tail_plain n next OutsideBlock e = (same_some Tail next e, tt)
-tail_plain n next Anywhere e = (same_some Tail next e, tt)
+tail_plain n next OutsideBlock e = (same_Some Tail next e, tt)
+tail_plain n next Anywhere e = (same_Some Tail next e, tt)
 tail_plain n next OpensBlock e = none_is_not_some next e
 tail_plain n next ClosesBlock e = none_is_not_some next e
 
@@ -258,7 +260,7 @@ block_part front par inside (end ∷ back) f begins i fails h = go (marker end.1
     go : IsMarker end.1 → phases_of (front ++ par ∷ (inside ++ end ∷ back)) ≡ phases_alone front ++ (block_of inside ++ phases_alone back)
     go (inl m) = none_is_not_some h.1.0 (sym (ap (placed end.0 (Block par.0)) m.1) ∙ h.1.1)
     go (inr m) =
-        let tail : Tail ≡ h.1.0 = same_some Tail h.1.0 (sym (ap (placed end.0 (Block par.0)) m.2) ∙ h.1.1) in
+        let tail : Tail ≡ h.1.0 = same_Some Tail h.1.0 (sym (ap (placed end.0 (Block par.0)) m.2) ∙ h.1.1) in
         has_phases.with_block front inside back par end (plain_lines front f) (plain_lines inside i)
         (plain_lines back (sound_tail back (subst (λ (s : Section). Sound s back) (sym tail) h.1.2))) begins m.1 m.0
 

@@ -16,7 +16,7 @@ use Rattle.mem_base.specs.script.Spelling.{Text}
 use Rattle.mem_base.specs.script.Scripts.{Line}
 use Rattle.mem_base.specs.script.Run.{pool_words, text_of}
 use Rattle.mem_base.specs.script.Tasks.{known_at_first}
-use Rattle.mem_base.specs.script.Race.{IsAlone, IsTextOfRace, LeavesLast, NameTheirPasses, NamesItsPass, Phase, Stand, first_stand, phases_of}
+use Rattle.mem_base.specs.script.Race.{IsAlone, IsTextOfRace, LeavesLast, NamesItsPass, Phase, Stand, first_stand, phases_of}
 use Rattle.run_laws.specs.Fitting.{AreFitting, FitsCommand}
 use Rattle.race_laws.specs.SoFar.{IsRaceSoFar}
 use Rattle.race_laws.specs.Outside.{IsFault}
@@ -36,6 +36,9 @@ use Rattle.script_run.specs.declared.faults.RunFault.TheVariants.{Memory, Write}
 use Rattle.race_run.specs.declared.racers.Racer.{Racer}
 use Rattle.race_run.specs.Ends.{HasClosed, IsFresh}
 use Rattle.race_run.specs.Racing.{Goes, GoesThrough, HasStopped, StopsWithin, TakesOne}
+use Rattle.script_run.proofs.Writing.{on_ok}
+use Rattle.mem_base.proofs.OptionLaws.{on_failure}
+use Rattle.race_laws.proofs.OutsideRuns.{name_theirs}
 
 -- before the first phase
 race_starts : (pool : ℕ) → IsRaceSoFar pool [] (first_stand pool) []
@@ -51,10 +54,6 @@ names_its (commands.PassWrite pass space addr bytes) f = f
 names_its (commands.PassDo pass change) f = f.0
 names_its (commands.PassDma pass space addr len to_space to_addr) f = f.0
 names_its c f = tt
-
-name_theirs : (lines : List Line) → AreFitting lines → NameTheirPasses lines
-name_theirs [] f = tt
-name_theirs (line ∷ lines) f = (names_its line.1 f.0, name_theirs lines f.1)
 
 -- How phases join
 
@@ -76,14 +75,6 @@ stops_after xs ys a b c one two same first second lines done left text sizes fit
 stops_before : (xs ys : List Phase) (a b : Racer) (one : Text) → StopsWithin xs a b one → StopsWithin (xs ++ ys) a b one
 stops_before xs ys a b one first lines done left text sizes fits phases race =
     first lines done (ys ++ left) text sizes fits (phases ∙ ap (λ (zs : List Phase). done ++ zs) (append_assoc xs ys left)) race
-
-pub on_err : {T E : Type 0} (r : Result T E) (P : Type 0) → P → OnErr r P
-on_err (Ok x) P p = tt
-on_err (Err e) P p = p
-
-ok_of : {T E P Q : Type 0} (r : Result T E) → OnOk r P → (P → Q) → OnOk r Q
-ok_of (Ok x) p f = f p
-ok_of (Err e) p f = tt
 
 err_of : {T E P Q : Type 0} (r : Result T E) → OnErr r P → (P → Q) → OnErr r Q
 err_of (Ok x) p f = tt
@@ -109,7 +100,7 @@ module _ {K : Type 0} (written : K → Option (List ℕ)) (holds : K → List �
       → Goes written holds faults old new (xs ++ ys) a c r
   goes_on old mid new xs ys a b c r first second = record {
     later = later_joins a.desk b.desk c.desk first.later second.later;
-    through = ok_of r second.through (λ t. (
+    through = on_ok r second.through (λ t. (
       first.through.0 ++ t.0,
       Takes-append written holds old mid new first.through.0 t.0 first.through.1 t.1,
       goes_through_both xs ys a b c first.through.0 t.0 first.later.grew.sizes first.through.2 t.2,
@@ -176,7 +167,7 @@ module _ {K : Type 0} (written : K → Option (List ℕ)) (holds : K → List �
       → Goes written holds faults old new (phase ∷ []) a b r
   goes_one old new phase a b text r later steps wrote = record {
     later = later;
-    through = ok_of r wrote.all (λ t. (text, t, steps));
+    through = on_ok r wrote.all (λ t. (text, t, steps));
     stopped = err_of r wrote.prefix part;
     failed = wrote.failed;
     no_less = wrote.later;
@@ -230,7 +221,7 @@ module _ {K : Type 0} (written : K → Option (List ℕ)) (holds : K → List �
       → Goes written holds faults old new (phases_of lines) a b r → HasClosed b.desk c
       → a.desk.seat.sizes ≡ sizes_of (pool_words lines) → a.known ≡ known_at_first → a.desk.seat.seen ≡ []
       → a.desk.part ≡ (first_stand (pool_words lines)).writer → OnOk r (TakesOne written holds old new (IsTextOfRace lines c.seat.seen))
-  whole_race old new lines a b c r goes closed sizes known seen part = ok_of r goes.through (λ t. (
+  whole_race old new lines a b c r goes closed sizes known seen part = on_ok r goes.through (λ t. (
     t.0,
     t.1,
     let race : IsRaceSoFar (pool_words lines) (phases_of lines) (stand_of b.known b.desk) t.0 =
@@ -264,7 +255,7 @@ module _ {K : Type 0} (written : K → Option (List ℕ)) (holds : K → List �
       → (IsErrOf r Write → Rose (faults old) (faults new)) → faults old ≤ faults new → Every IsAlone (phases_of lines)
       → Writes written holds faults old new (text_of lines) Write r
   plain_race old new lines c r fits through stopped failed less plain = record {
-    all = ok_of r through (λ t. subst (Takes written holds old new)
+    all = on_ok r through (λ t. subst (Takes written holds old new)
         (race_is_run lines c.seat.seen t.0 (name_theirs lines fits) plain t.2) t.1);
     prefix = err_of r stopped (λ t. let f = t.2.fault in (
       t.0,

@@ -10,12 +10,12 @@ use Rattle.mem_base.specs.declared.map.ids.RegionId.{RegionId}
 use Rattle.mem_base.specs.lists.Every.{Every}
 use Rattle.mem_base.specs.lists.Sorting.{put_by}
 use Rattle.mem_base.proofs.EveryLaws.{weaker, every_map}
-use Rattle.mem_base.proofs.DelLaws.{every_put_by}
 use Rattle.generation.specs.Published.{Published}
 use Rattle.reclaim.specs.declared.notes.Note.{Note}
 use Rattle.reclaim.specs.Notes.{NoteList, note, note_order, is_of, is_noted, others, seen_in}
 use Rattle.reclaim.specs.Ledgers.{LedgerState, AreApart, IsLedger, noted_last}
 use Rattle.reclaim.proofs.NoteLaws.{seen_region}
+use Rattle.mem_base.proofs.ForestLaws.{every_put}
 
 -- numbers
 
@@ -150,7 +150,7 @@ every_others P region (n ∷ ns) h =
 
 pub apart_made : (region : RegionId) (present dropped : List Note) → is_noted region dropped ≡ false → AreApart present dropped
     → AreApart (put_by note_order (note region None) present) dropped
-apart_made region present dropped free h = every_put_by (λ n. is_noted n.region dropped ≡ false) note_order (note region None) present free h
+apart_made region present dropped free h = every_put (λ n. is_noted n.region dropped ≡ false) note_order (note region None) present free h
 
 other_way : (x y : RegionId) (b : Bool) → (x.0 == y.0) ≡ b → (y.0 == x.0) ≡ b
 other_way x y true e = grind (arith, nat_tests)

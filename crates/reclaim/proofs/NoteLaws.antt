@@ -1,6 +1,6 @@
 -- Notes in order: putting in, taking out, and the first that passes a test.
 use Rattle.std.proofs.Common.{◌≡◌, ◌≢◌, ℕ, zero, suc, ◌+◌, ◌<◌, ◌≤◌, ◌==◌, ◌||◌, Bool, true, false, not, cond, List, [], ◌∷◌, length}
-use Rattle.std.proofs.Common.{Some, None, Option, Result, Ok, Err}
+use Rattle.std.proofs.Common.{Some, None, Option, Ok, Err}
 use Rattle.std.proofs.Common.{refl, sym, ap, subst, ◌∙◌, arith, filter, get_or, set, add-one, take, drop, ◌++◌}
 use Rattle.std.specs.Prelude.{if◌then◌else◌, map, find, insert, remove}
 use Rattle.std.specs.List.{list_any}
@@ -11,15 +11,15 @@ use Rattle.std.specs.Cmp.{IsTotalOrder}
 use Rattle.std.proofs.lemmas.Cmp.{on_total, nat_cmp_total}
 use Rattle.mem_base.specs.declared.map.ids.RegionId.{RegionId}
 use Rattle.mem_base.specs.lists.Every.{Every}
-use Rattle.mem_base.specs.lists.Sorting.{put_by, IsRising, place_of, place_at, one_later}
-use Rattle.mem_base.proofs.PlaceLaws.{Rises, Rises-rising, rising-filter, any-present, insert-place_of, remove-place_of, filter-absent, any-absent}
+use Rattle.mem_base.specs.lists.Sorting.{put_by, IsRising, place_of, place_at}
+use Rattle.mem_base.proofs.PlaceLaws.{Rises, Rises-rising, rising-filter, any-present, insert-place_of, remove-place_of, filter-absent, any-absent, one_later-ok}
 use Rattle.mem_base.proofs.EntryLaws.{nat_is}
 use Rattle.mem_base.proofs.EveryLaws.{weaker, every_filter, every_map}
-use Rattle.mem_base.proofs.DelLaws.{every_put_by}
 use Rattle.mem_base.specs.views.Naming.{names}
 use Rattle.generation.specs.Published.{Published}
 use Rattle.reclaim.specs.declared.notes.Note.{Note}
 use Rattle.reclaim.specs.Notes.{note, by_region, note_order, is_of, is_noted, others, AreNotes, seen_in}
+use Rattle.mem_base.proofs.ForestLaws.{every_put}
 
 pub note_total : IsTotalOrder note_order
 note_total = on_total (λ (n : Note). n.region.0) nat_cmp_total
@@ -39,10 +39,6 @@ greater_before n y e = ap is_lt (note_total.antisymm n y ∙ ap ordering_reverse
 -- a note put in where it would stand
 pub put_in : (n : Note) (notes : List Note) (at : ℕ) → place_of (by_region n.region) notes ≡ Err at → insert notes at n ≡ put_by note_order n notes
 put_in n notes at e = insert-place_of (by_region n.region) note_order n (less_after n) (greater_before n) notes at e
-
-one_later-ok : (r : Result ℕ ℕ) (i : ℕ) → one_later r ≡ Ok i → (j : ℕ) × (r ≡ Ok j) × (i ≡ suc j)
-one_later-ok (Ok j) i e = let q : j + 1 ≡ i = cc in (j, refl, omega arith)
-one_later-ok (Err j) i e = cc
 
 -- the note of a region stands where the search finds it
 pub found_at : (region : RegionId) (notes : List Note) (i : ℕ) (d : Note) → place_of (by_region region) notes ≡ Ok i
@@ -93,7 +89,7 @@ rising_put n (y ∷ ys) free h =
           let later : is_lt (note_order n y) ≡ false = ap is_lt t in
           let back : note_order y n ≡ Less = note_total.antisymm y n ∙ ap ordering_reverse t in
           let less : is_noted n.region ys ≡ false = second (is_of n.region y) (is_noted n.region ys) free in
-          rw later (every_put_by (λ z. note_order y z ≡ Less) note_order n ys back h.0, rising_put n ys less h.1)
+          rw later (every_put (λ z. note_order y z ≡ Less) note_order n ys back h.0, rising_put n ys less h.1)
     ] refl
   where
     both_ways : (a b : Bool) → a ≡ true → (a || b) ≡ false → ⊥

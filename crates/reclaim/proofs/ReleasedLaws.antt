@@ -1,5 +1,5 @@
 -- A ledger that has seen each generation answers what a reap releases.
-use Rattle.std.proofs.Common.{◌≡◌, ℕ, zero, suc, ◌+◌, ◌-◌, ◌<◌, ◌≤◌, ◌||◌, Bool, true, false, not, List, [], ◌∷◌, length, Option, Some, None}
+use Rattle.std.proofs.Common.{◌≡◌, ℕ, suc, ◌+◌, ◌-◌, ◌<◌, ◌≤◌, ◌||◌, Bool, true, false, not, List, [], ◌∷◌, length, Option, Some, None, take-take}
 use Rattle.std.proofs.Common.{refl, sym, ap, subst, ◌∙◌, arith, filter}
 use Rattle.std.specs.Prelude.{if◌then◌else◌, find, map, take, nat_lt, nat_le}
 use Rattle.std.specs.List.{list_any}
@@ -12,13 +12,13 @@ use Rattle.mem_base.specs.views.Naming.{names}
 use Rattle.mem_base.specs.machine.Generations.{Generation, Generations, least_lowest, held_generations}
 use Rattle.mem_base.specs.machine.Reaps.{Writer, is_named, released}
 use Rattle.mem_base.proofs.EveryLaws.{weaker, every_filter}
-use Rattle.mem_base.proofs.DelLaws.{every_put_by}
 use Rattle.generation.specs.Published.{Published}
 use Rattle.reclaim.specs.declared.notes.Note.{Note}
 use Rattle.reclaim.specs.Notes.{note, note_order, is_of, is_noted, is_before, is_due, others, others_if, seen_in}
 use Rattle.reclaim.specs.Ledgers.{noted_last}
 use Rattle.reclaim.specs.Released.{last_naming, TellLast, HasSeen, KeepsSight, ArePublished, AnswersReleased}
 use Rattle.reclaim.proofs.LedgerLaws.{found_every, found_note, noted_found}
+use Rattle.mem_base.proofs.ForestLaws.{every_put}
 
 -- by a test
 either_way : {A : Type 0} (P : A → Type 0) (b : Bool) (x y : A) → (b ≡ true → P x) → (b ≡ false → P y) → P (if b then x else y)
@@ -58,13 +58,13 @@ pub keeps_sight : KeepsSight
 keeps_sight = record {
   first = record { there = tt; gone = tt };
   made = λ fs present dropped region h none. record {
-    there = every_put_by (λ n. n.last ≡ last_naming fs n.region) note_order (note region None) present (sym none) h.there;
+    there = every_put (λ n. n.last ≡ last_naming fs n.region) note_order (note region None) present (sym none) h.there;
     gone = h.gone;
   };
   seen = λ fs present dropped g h e. record { there = all_told fs g present e h.there; gone = all_told fs g dropped e h.gone };
   drops = λ fs present dropped region h there. record {
     there = others_tell fs region present h.there;
-    gone = every_put_by (λ n. n.last ≡ last_naming fs n.region) note_order (note region (noted_last region present)) dropped
+    gone = every_put (λ n. n.last ≡ last_naming fs n.region) note_order (note region (noted_last region present)) dropped
         (note_tells fs region present there h.there) h.gone;
   };
   releases = λ fs present dropped region h. record { there = h.there; gone = left fs region dropped h.gone };
@@ -115,19 +115,13 @@ any_forest : (region : RegionId) (xs : List Generation) → list_any (λ x. name
 any_forest region [] = refl
 any_forest region (x ∷ xs) = ap (λ b. names x.forest region || b) (any_forest region xs)
 
-take_less : {A : Type 0} (n m : ℕ) (xs : List A) → n ≤ m → take n (take m xs) ≡ take n xs
-take_less zero m xs l = refl
-take_less (suc n) zero xs l = absurd (omega arith)
-take_less (suc n) (suc m) [] l = refl
-take_less (suc n) (suc m) (x ∷ xs) l = ap (λ ys. x ∷ ys) (take_less n m xs (omega arith))
-
 -- a note is due just where no held generation names its region
 due_is : (fs : List Forest) (g : Generations) → ArePublished fs g → (n : Note) → n.last ≡ last_naming fs n.region
     → is_due (least_lowest g.current g.passes) n ≡ not (is_named g n.region)
 due_is fs g p n e =
     let lowest : ℕ = least_lowest g.current g.passes in
     let count : ℕ = g.current + 1 - lowest in
-    let held : take count (map (λ (x : Generation). x.forest) g.kept) ≡ take count fs = ap (take count) p.kept ∙ take_less count (length g.kept) fs p.held in
+    let held : take count (map (λ (x : Generation). x.forest) g.kept) ≡ take count fs = ap (take count) p.kept ∙ take-take count (length g.kept) fs p.held in
     ap (is_before lowest) e
     ∙ before_is lowest n.region fs
     ∙ ap (λ (k : ℕ). not (named_in n.region (take (k - lowest) fs))) p.count

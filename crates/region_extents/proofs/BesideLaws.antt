@@ -1,5 +1,5 @@
 -- Laws of what a tree keeps beside its regions: what each call makes of it.
-use Rattle.std.proofs.Common.{◌≡◌, ◌≢◌, ℕ, zero, suc, ◌+◌, ◌<◌, ◌≤◌, max, min, Bool, true, false, cond, eqb, ltb, ◌||◌, ℤ, List, [], ◌∷◌}
+use Rattle.std.proofs.Common.{◌≡◌, ◌≢◌, ℕ, zero, suc, ◌+◌, ◌<◌, ◌≤◌, max, min, Bool, true, false, cond, eqb, ◌||◌, ℤ, List, [], ◌∷◌}
 use Rattle.std.proofs.Common.{◌++◌, length, get_or, set, map, filter, Option, Some, None, refl, sym, ap, subst, ◌∙◌, arith}
 use Rattle.std.specs.Prelude.{is_some, IsSome, IfSome}
 use Rattle.std.proofs.lemmas.Bool.Decides.{nat_tests}
@@ -33,7 +33,7 @@ use Rattle.mem_base.proofs.StepLaws.{every_of}
 use Rattle.mem_base.proofs.ForestLaws.{id_of, node_of-itself, children_of-made, no_children}
 use Rattle.map_laws.proofs.LeadLaws.{KeepsSteps, depth_of-kept, weight_of-kept}
 use Rattle.map_laws.proofs.MadeLaws.{depth_made, weight_made, depth_alias, weight_alias}
-use Rattle.map_laws.proofs.RefusalLaws.{has_container-none}
+use Rattle.map_laws.proofs.RefusalLaws.{has_container-none, some_of, is_known}
 use Rattle.mem_base.proofs.JoinLaws.{steps_joined, depth_at_most, weight_at_most}
 use Rattle.mem_base.proofs.StepLaws.{depth_by-alike, weight_by-alike, Alike}
 use Rattle.region_slots.specs.declared.slots.Slot.{Slot}
@@ -46,10 +46,12 @@ use Rattle.region_extents.specs.Kept.{aliases_of, aliases_in, extent_in, extents
 use Rattle.region_extents.specs.Kept.{made_extent, enlisted}
 use Rattle.region_extents.proofs.RaiseLaws.{steps_fall, reaches_down}
 use Rattle.region_extents.proofs.JoinedLaws.{map_changed_at, map_by, extents_new, within_limits}
-use Rattle.region_extents.proofs.ExtentsLaws.{steps_to_children}
-use Rattle.region_extents.proofs.StretchLaws.{known}
-use Rattle.region_slots.proofs.SlotsBasics.{some_element}
 use Rattle.region_extents.proofs.StretchLaws.{no_alias_of, alias_parent_of}
+use Rattle.mem_base.proofs.ListLaws.{length_map, map_same}
+use Rattle.region_slots.proofs.PlaceLaws.{length_nodes}
+use Rattle.std.proofs.lemmas.Bool.{false_from_ne_true, le-ltb}
+use Rattle.mem_base.proofs.NodeLaws.{steps_to_children}
+use Rattle.region_slots.proofs.SlotsLaws.{some_element}
 
 abbrev extent : ℕ → ℕ → Extent
 extent d w = record { depth = d; weight = w }
@@ -57,10 +59,6 @@ extent d w = record { depth = d; weight = w }
 map_all : {A B : Type 0} (f g : A → B) → ((x : A) → f x ≡ g x) → (xs : List A) → map f xs ≡ map g xs
 map_all f g h [] = refl
 map_all f g h (x ∷ xs) = let a = h x in let b = map_all f g h xs in cc
-
-pub map_every : {A B : Type 0} (f g : A → B) (xs : List A) → Every (λ x. f x ≡ g x) xs → map f xs ≡ map g xs
-map_every f g [] h = refl
-map_every f g (x ∷ xs) h = let a = h.0 in let b = map_every f g xs h.1 in cc
 
 -- whether an alias is one of a region is a matter of its target
 abbrev pub aims : RegionId → Option RegionId → Bool
@@ -117,13 +115,6 @@ module _ (r : RegionId) (g : Node → Node) (keeps : KeepsSteps g) (nodes : List
     aliases = λ fresh. h.aliases fresh ∙ sym (aliases_changed r g keeps.id keeps.target nodes);
   }
 
-some_of : (o : Option Node) → is_some o ≡ true → (n : Node) × (o ≡ Some n)
-some_of None e = cc
-some_of (Some n) e = (n, refl)
-
-not_above : (a g : ℕ) → g ≤ a → ltb a g ≡ false
-not_above a g l = grind (arith, nat_tests)
-
 -- the steps of a forest are among those with one more
 fewer_fall : (nodes : List Node) (join : Join) (P : RegionId → Type 0) (r : RegionId) → Every P (steps_with nodes join r) → Every P (steps_of nodes r)
 fewer_fall nodes join P r h = elim (eqb r.0 join.parent.0) as
@@ -144,9 +135,9 @@ pub joined_extents : (f : Forest) → IsOrderedForest f → (slots : List Slot) 
     is_some (node_of f.nodes parent) ≡ true → is_some (node_of f.nodes child) ≡ true → alias_parent f parent ≡ None → has_container f child ≡ None →
     (es : List Extent) → ((v : RegionId) → IsSettledBy (steps_plus (nodes_of slots) (Some (record { parent = parent; child = child }))) slots es v) →
     Every IsShort es → length es ≡ length slots → (offset : ℕ) (priority : ℤ) → IsJoined f parent offset child priority es
-joined_extents f h slots seen parent child known here no_alias free es settled short all offset priority =
+joined_extents f h slots seen parent child is_known here no_alias free es settled short all offset priority =
     let join : Join = record { parent = parent; child = child } in
-    let p = some_of (node_of f.nodes parent) known in
+    let p = some_of (node_of f.nodes parent) is_known in
     let m = some_of (node_of f.nodes child) here in
     let plain : is_alias p.0.kind ≡ false = no_alias_of (node_of f.nodes parent) p.0 _ p.1 (is_alias p.0.kind)
     (sym (ap (alias_parent_of parent) p.1) ∙ no_alias) in
@@ -166,8 +157,8 @@ joined_extents f h slots seen parent child known here no_alias free es settled s
     let no_loop : reaches f.nodes child parent ≡ false =
     reaches_down (steps_of f.nodes) (λ q. (told_of slots es q).depth)
     (λ r. fewer_fall f.nodes join (λ q. (told_of slots es q).depth < (told_of slots es r).depth) r (fall r)) 64 child parent lower in
-    let deep = not_above 32 (greatest_depth new) limits.0 in
-    let wide = not_above 65536 (greatest_weight new) limits.1 in
+    let deep = le-ltb 32 (greatest_depth new) limits.0 in
+    let wide = le-ltb 65536 (greatest_weight new) limits.1 in
     record {
       extents = extents;
       allowed = rw (no_loop, deep, wide) refl;
@@ -194,9 +185,9 @@ pub slow_extents : (f : Forest) → IsOrderedForest f → (slots : List Slot) �
     is_some (node_of f.nodes parent) ≡ true → is_some (node_of f.nodes child) ≡ true → alias_parent f parent ≡ None → has_container f child ≡ None →
     (es : List Extent) → es ≡ extents_by (nodes_of slots) (record { parent = parent; child = child }) 64 slots → (offset : ℕ) (priority : ℤ) →
     es ≡ extents_in (changed f (calls.Add parent offset child priority)).nodes
-slow_extents f h slots seen parent child known here no_alias free es e offset priority =
+slow_extents f h slots seen parent child is_known here no_alias free es e offset priority =
     let join : Join = record { parent = parent; child = child } in
-    let p = some_of (node_of f.nodes parent) known in
+    let p = some_of (node_of f.nodes parent) is_known in
     let m = some_of (node_of f.nodes child) here in
     let plain : is_alias p.0.kind ≡ false = no_alias_of (node_of f.nodes parent) p.0 _ p.1 (is_alias p.0.kind)
     (sym (ap (alias_parent_of parent) p.1) ∙ no_alias) in
@@ -208,10 +199,6 @@ slow_extents f h slots seen parent child known here no_alias free es e offset pr
     ∙ map_by (extent_by f.nodes join 64) (extent_in new) (by_alike f.nodes join new alike) slots
     ∙ ap (map (λ (n : Node). extent_in new n.id)) (sym seen)
     ∙ sym (map_changed_at (extent_in new) child g (λ n. refl) f.nodes)
-
-not_true : (a : Bool) → (a ≡ true → ⊥) → a ≡ false
-not_true true h = absurd (h refl)
-not_true false h = refl
 
 -- a region that is made: its own extent and aliases, and those of the others
 map_append : {A B : Type 0} (f : A → B) (xs : List A) (y : A) → map f (xs ++ y ∷ []) ≡ map f xs ++ f y ∷ []
@@ -268,7 +255,7 @@ aliases_of_push q (m ∷ ms) n =
 
 -- no region made before is an alias of one that is made now
 not_aimed : (made : ℕ) (q : RegionId) (k : Kind) → made ≤ q.0 → IsTargetBefore made k → targets q k ≡ false
-not_aimed made q (Alias target offset) l h = not_true (eqb target.0 q.0) (λ e. let same : target.0 ≡ q.0 = grind (arith, nat_tests) in omega arith)
+not_aimed made q (Alias target offset) l h = false_from_ne_true (eqb target.0 q.0) (λ e. let same : target.0 ≡ q.0 = grind (arith, nat_tests) in omega arith)
 not_aimed made q _ l h = refl
 
 none_aimed : (made : ℕ) (q : RegionId) (nodes : List Node) → made ≤ q.0 → Every (λ n. IsTargetBefore made n.kind) nodes → aliases_of nodes q ≡ []
@@ -286,7 +273,7 @@ module _ (f : Forest) (h : IsOrderedForest f) (n : Node) (fresh : n.id.0 ≡ f.m
       ∙ ap (λ k. extent (depth_of f.nodes q) k) (weight_made f h n fresh free 64 q l)
 
   others_extents : map (λ (m : Node). extent_in grown m.id) f.nodes ≡ extents_in f.nodes
-  others_extents = map_every (λ (m : Node). extent_in grown m.id) (λ (m : Node). extent_in f.nodes m.id) f.nodes
+  others_extents = map_same (λ (m : Node). extent_in grown m.id) (λ (m : Node). extent_in f.nodes m.id) f.nodes
       (weaker (λ m. m.id.0 < f.made) _ (λ m l. extent_before m.id l) f.nodes h.made_before)
 
   new_extents : extents_in grown ≡ extents_in f.nodes ++ extent_in grown n.id ∷ []
@@ -362,19 +349,15 @@ module _ (f : Forest) (h : IsOrderedForest f) (n : Node) (fresh : n.id.0 ≡ f.m
       same_id t = grind (arith, nat_tests)
 
       other_id : (t q : RegionId) → q.0 ≢ t.0 → eqb t.0 q.0 ≡ false
-      other_id t q k = not_true (eqb t.0 q.0) (λ e. k (grind (arith, nat_tests)))
+      other_id t q k = false_from_ne_true (eqb t.0 q.0) (λ e. k (grind (arith, nat_tests)))
 
 target_before : (made : ℕ) (k : Kind) (t : RegionId) → target_of k ≡ Some t → IsTargetBefore made k → t.0 < made
 target_before made (Alias target offset) t e h = let same : target ≡ t = cc in subst (λ (q : RegionId). q.0 < made) same h
 target_before made _ t e h = cc
 
 target_known : (f : Forest) (k : Kind) (t : RegionId) → target_of k ≡ Some t → unknown_target f k ≡ None → is_some (node_of f.nodes t) ≡ true
-target_known f (Alias target offset) t e h = let same : target ≡ t = cc in subst (λ q. is_some (node_of f.nodes q) ≡ true) same (known f target h)
+target_known f (Alias target offset) t e h = let same : target ≡ t = cc in subst (λ q. is_some (node_of f.nodes q) ≡ true) same (is_known f target h)
 target_known f _ t e h = cc
-
-length_nodes : (slots : List Slot) → length (nodes_of slots) ≡ length slots
-length_nodes [] = refl
-length_nodes (s ∷ ss) = ap suc (length_nodes ss)
 
 -- where the target of a region that is made stands
 pub record IsTargetPlace (slots : List Slot) (o : Option RegionId) (at : Option ℕ) : Type 0 where
@@ -412,10 +395,6 @@ module _ (f : Forest) (h : IsOrderedForest f) (n : Node) (fresh : n.id.0 ≡ f.m
         extents = λ t. x t ∙ ap (λ es. es ++ made_extent es at ∷ []) (b.extents (w t)) ∙ sym m.0;
         aliases = λ t. y t ∙ ap (λ ls. enlisted ls at n.id ++ [] ∷ []) (b.aliases (w t)) ∙ sym m.1;
       }
-
-length_map : {A B : Type 0} (f : A → B) (xs : List A) → length (map f xs) ≡ length xs
-length_map f [] = refl
-length_map f (x ∷ xs) = ap suc (length_map f xs)
 
 -- a change of one region keeps how many there are
 pub length_left : (r : RegionId) (g : Node → Node) (nodes : List Node) (slots : List Slot) (es : List Extent) → nodes_of slots ≡ changed_at r g nodes →

@@ -20,15 +20,15 @@ use Rattle.mem_base.proofs.ForestLaws.{only_node, id_of}
 use Rattle.region_slots.specs.declared.slots.Slot.{Slot}
 use Rattle.region_slots.specs.Slots.{nodes_of}
 use Rattle.region_slots.proofs.PlaceLaws.{length_nodes}
-use Rattle.region_slots.proofs.SlotsBasics.{some_element}
 use Rattle.map_laws.proofs.DropLaws.{without, steps_of-without}
-use Rattle.region_slots.proofs.SlotsLaws.{map-remove, remove_there}
+use Rattle.region_slots.proofs.SlotsLaws.{map-remove, remove_there, some_element}
 use Rattle.region_extents.specs.declared.extents.Extent.{Extent}
 use Rattle.region_extents.specs.declared.kept.Kept.{Kept}
 use Rattle.region_extents.specs.Kept.{listed, container_list, aliases_of, aliases_in, extent_in, extents_in, delisted, IsBeside}
 use Rattle.region_extents.proofs.RaiseLaws.{unlisted}
 use Rattle.region_extents.proofs.UsersLaws.{users_apart}
-use Rattle.region_extents.proofs.BesideLaws.{map_every, set_map, targets_aims, aims, IsTargetPlace}
+use Rattle.region_extents.proofs.BesideLaws.{set_map, targets_aims, aims, IsTargetPlace}
+use Rattle.mem_base.proofs.ListLaws.{map_same}
 
 abbrev extent : ℕ → ℕ → Extent
 extent d w = record { depth = d; weight = w }
@@ -109,7 +109,7 @@ module _ (r : RegionId) (m : Node) (nodes : List Node) (a : IsAscending nodes) (
     pub left_extents : remove (extents_in nodes) i ≡ extents_in left
     left_extents =
         left_beside (extent_in nodes) r nodes i d l a at
-        ∙ map_every (λ (n : Node). extent_in nodes n.id) (λ (n : Node). extent_in left n.id) left
+        ∙ map_same (λ (n : Node). extent_in nodes n.id) (λ (n : Node). extent_in left n.id) left
         (weaker (λ (n : Node). n.id.0 ≢ r.0) (λ n. extent_in nodes n.id ≡ extent_in left n.id) (λ n k. sym (extent_left n.id k)) left
         (others_left r nodes))
 
@@ -120,7 +120,7 @@ module _ (r : RegionId) (m : Node) (nodes : List Node) (a : IsAscending nodes) (
     cut_lists : remove (map (λ (n : Node). cut n.id) nodes) i ≡ aliases_in left
     cut_lists =
         left_beside cut r nodes i d l a at
-        ∙ map_every (λ (n : Node). cut n.id) (λ (n : Node). aliases_of left n.id) left
+        ∙ map_same (λ (n : Node). cut n.id) (λ (n : Node). aliases_of left n.id) left
         (weaker (λ (n : Node). n.id.0 ≢ r.0) (λ n. cut n.id ≡ aliases_of left n.id) (λ n k. sym (aliases_of-without r n.id nodes)) left
         (others_left r nodes))
 
@@ -131,7 +131,7 @@ module _ (r : RegionId) (m : Node) (nodes : List Node) (a : IsAscending nodes) (
 
     pub left_plain : target_of m.kind ≡ None → remove (delisted (aliases_in nodes) None r) i ≡ aliases_in left
     left_plain e =
-        ap (λ ls. remove ls i) (sym (map_every (λ (n : Node). cut n.id) (λ (n : Node). aliases_of nodes n.id) nodes (every_other nodes)))
+        ap (λ ls. remove ls i) (sym (map_same (λ (n : Node). cut n.id) (λ (n : Node). aliases_of nodes n.id) nodes (every_other nodes)))
         ∙ cut_lists
       where
         every_other : (ns : List Node) → Every (λ (n : Node). cut n.id ≡ aliases_of nodes n.id) ns

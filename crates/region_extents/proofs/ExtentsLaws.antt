@@ -18,15 +18,14 @@ use Rattle.region_slots.specs.Slots.{nodes_of}
 use Rattle.region_extents.specs.Extents.{steps_with, extent_by, extents_by}
 use Rattle.mem_base.proofs.ForestLaws.{id_of, node_of-itself, every_node_of}
 use Rattle.mem_base.proofs.EveryLaws.{every_at}
-use Rattle.mem_base.specs.declared.map.kinds.Kind.{Kind}
-use Rattle.mem_base.specs.declared.map.kinds.Kind.TheVariants.{Alias}
 use Rattle.mem_base.specs.map.Kinds.{target_of}
 use Rattle.mem_base.specs.map.Order.{children_of}
 use Rattle.mem_base.specs.map.Region.{IsAscending}
-use Rattle.mem_base.specs.map.Steps.{steps_at}
-use Rattle.mem_base.specs.map.Order.{ids_of}
 use Rattle.region_slots.specs.Slots.{HasItsChildren, ids_in}
 use Rattle.region_slots.proofs.SlotsLaws.{ids_placed}
+use Rattle.std.proofs.lemmas.Bool.{and_parts}
+use Rattle.mem_base.proofs.NodeLaws.{steps_to_children, steps_to_target}
+use Rattle.region_slots.proofs.PlaceLaws.{length_nodes}
 
 -- the known extent of a region that is found
 pub extent_found : (slots : List Slot) (join : Join) (round i : ℕ) (r : RegionId) (e : Extent) (d : Slot) → i < length slots →
@@ -74,18 +73,6 @@ pub total_le : (g : RegionId → ℕ) (xs : List RegionId) (i : ℕ) (d : Region
 total_le g [] i d l = absurd (omega arith)
 total_le g (x ∷ xs) zero d l = omega arith
 total_le g (x ∷ xs) (suc i) d l = total_le g xs i d (omega arith)
-
-pub steps_to_target : (nodes : List Node) (k : Kind) (n : Node) (t : RegionId) → target_of k ≡ Some t → steps_at nodes k n ≡ t ∷ []
-steps_to_target nodes (Alias target offset) n t e = let same : target ≡ t = cc in ap (λ q. q ∷ []) same
-steps_to_target nodes _ n t e = cc
-
-pub steps_to_children : (nodes : List Node) (k : Kind) (n : Node) → target_of k ≡ None → steps_at nodes k n ≡ ids_of (children_of nodes n.id)
-steps_to_children nodes (Alias target offset) n e = cc
-steps_to_children nodes _ n e = refl
-
-length_nodes : (slots : List Slot) → length (nodes_of slots) ≡ length slots
-length_nodes [] = refl
-length_nodes (s ∷ ss) = ap suc (length_nodes ss)
 
 -- the steps of the region at a place
 module _ (slots : List Slot) (i : ℕ) (d : Slot) (l : i < length slots) (ascending : IsAscending (nodes_of slots)) where
@@ -263,13 +250,9 @@ extents_settled slots join round all l m parent h =
     let sum : (all - round) + round ≡ all = omega arith in
     extents_agree nodes join all round (subst (λ k. (r : RegionId) → extent_by nodes join k r ≡ extent_by nodes join round r) sum later) slots
 
-and_true : (a b : Bool) → (a && b) ≡ true → (a ≡ true) × (b ≡ true)
-and_true true b e = (refl, e)
-and_true false b e = cc
-
 pub extent_eq : (a b : Extent) → (eqb a.depth b.depth && eqb a.weight b.weight) ≡ true → a ≡ b
 extent_eq a b e =
-    let h = and_true (eqb a.depth b.depth) (eqb a.weight b.weight) e in
+    let h = and_parts (eqb a.depth b.depth) (eqb a.weight b.weight) e in
     let h0 = h.0 in
     let h1 = h.1 in
     let d : a.depth ≡ b.depth = grind (arith, nat_tests) in
@@ -281,4 +264,4 @@ pub same_pointwise : {A : Type 0} (E : A → A → Bool) → ((a b : A) → E a 
 same_pointwise E h [] [] e = refl
 same_pointwise E h [] (y ∷ ys) e = cc
 same_pointwise E h (x ∷ xs) [] e = cc
-same_pointwise E h (x ∷ xs) (y ∷ ys) e = let t = and_true (E x y) (pointwise E xs ys) e in let a = h x y t.0 in let b = same_pointwise E h xs ys t.1 in cc
+same_pointwise E h (x ∷ xs) (y ∷ ys) e = let t = and_parts (E x y) (pointwise E xs ys) e in let a = h x y t.0 in let b = same_pointwise E h xs ys t.1 in cc

@@ -1,5 +1,5 @@
 -- Laws of a region that is taken out of its container: only the container leads elsewhere then.
-use Rattle.std.proofs.Common.{◌≡◌, ◌≢◌, ℕ, Bool, true, false, cond, eqb, List, [], ◌∷◌, ◌++◌, length, map, Option, Some, None, refl, sym, ap, subst, ◌∙◌, arith}
+use Rattle.std.proofs.Common.{◌≡◌, ◌≢◌, ℕ, true, false, cond, eqb, List, [], ◌∷◌, ◌++◌, length, map, Option, Some, None, refl, sym, ap, subst, ◌∙◌, arith}
 use Rattle.std.specs.Prelude.{is_some, option_map, not}
 use Rattle.std.proofs.lemmas.Bool.Decides.{nat_tests}
 use Rattle.mem_base.specs.declared.map.ids.RegionId.{RegionId}
@@ -28,6 +28,7 @@ use Rattle.region_extents.specs.declared.kept.Kept.{Kept}
 use Rattle.region_slots.specs.Slots.{nodes_of}
 use Rattle.region_extents.specs.Kept.{extents_in, aliases_in, steps_plus, IsSettledBy, IsShort, IsBeside}
 use Rattle.region_extents.proofs.JoinedLaws.{kept_elsewhere, settled_extents_in}
+use Rattle.std.proofs.lemmas.Bool.{not-false}
 
 -- without a container
 abbrev pub freed : Node → Node
@@ -74,10 +75,6 @@ module _ (f : Forest) (h : IsOrderedForest f) (parent child : RegionId) (m : Nod
   settled_elsewhere slots seen es e v k =
       kept_elsewhere f h child freed (λ n. refl) slots seen es e v (ap (λ ns. steps_of ns v) seen ∙ steps_elsewhere v (λ same. k (sym same)))
 
-not_not : (b : Bool) → not b ≡ false → b ≡ true
-not_not true h = refl
-not_not false h = cc
-
 -- what an accepted Del says of the child
 pub child_of_del : (f : Forest) (parent child : RegionId) → refusal_of f (calls.Del parent child) ≡ None → (m : Node) × (node_of f.nodes child ≡ Some m)
     × (is_child_of parent m ≡ true)
@@ -85,7 +82,7 @@ child_of_del f parent child e =
     let each = each_none (refusals f (calls.Del parent child) ++ no_more_calls f ∷ []) e in
     let m = known_node f child each.1.0 in
     let t = refuse_where-none (λ (n : Node). not (is_child_of parent n)) (NotChild child) (node_of f.nodes child) m.0 m.1 each.1.1.0 in
-    (m.0, m.1, not_not (is_child_of parent m.0) t)
+    (m.0, m.1, not-false (is_child_of parent m.0) t)
 
 -- what is kept after that
 pub left_beside : (slots : List Slot) (k : Kept) → IsAscending (nodes_of slots) → (k.fresh ≡ true → k.aliases.items ≡ aliases_in (nodes_of slots)) →

@@ -1,8 +1,7 @@
 -- Laws of extents that are set right upward from a region whose steps changed.
-use Rattle.std.proofs.Common.{◌≡◌, ◌≢◌, ℕ, zero, suc, ◌+◌, ◌<◌, ◌≤◌, max, Bool, true, false, cond, eqb, ◌||◌, List, [], ◌∷◌, ◌++◌, length}
+use Rattle.std.proofs.Common.{◌≡◌, ◌≢◌, ℕ, zero, suc, ◌+◌, ◌<◌, ◌≤◌, max, Bool, true, false, cond, eqb, List, [], ◌∷◌, ◌++◌, length}
 use Rattle.std.proofs.Common.{get_or, set, insert, take, map, filter, Option, Some, None, refl, sym, ap, subst, ◌∙◌, arith}
 use Rattle.std.specs.Prelude.{is_some, IfSome, ◌-◌}
-use Rattle.std.specs.List.{list_any}
 use Rattle.std.proofs.lemmas.Bool.Decides.{nat_tests}
 use Rattle.std.proofs.lemmas.List.Folds.{list_any-append}
 use Rattle.mem_base.specs.declared.map.ids.RegionId.{RegionId}
@@ -12,7 +11,7 @@ use Rattle.mem_base.specs.map.Region.{node_of, has_id}
 use Rattle.mem_base.specs.map.Region.{IsAscending}
 use Rattle.mem_base.specs.map.Steps.{Steps, steps_of, greatest, total, depth_by, weight_by, reaches_by}
 use Rattle.mem_base.proofs.EveryLaws.{weaker}
-use Rattle.mem_base.proofs.StepLaws.{map_agree, every_of}
+use Rattle.mem_base.proofs.StepLaws.{map_agree, every_of, no_any}
 use Rattle.mem_base.proofs.ForestLaws.{id_of}
 use Rattle.region_slots.specs.declared.slots.Slot.{Slot}
 use Rattle.region_extents.specs.declared.extents.Extent.{Extent}
@@ -23,6 +22,7 @@ use Rattle.region_extents.specs.Extents.{told_of, stepped, alone, steps_with}
 use Rattle.region_extents.specs.Kept.{listed, undone, with_child, IsSettledBy, IsShort}
 use Rattle.region_slots.proofs.PlaceLaws.{ids_rise}
 use Rattle.region_extents.proofs.SettledLaws.{told_there}
+use Rattle.std.proofs.lemmas.Bool.{or_parts}
 
 -- an extent by its two numbers
 abbrev extent : ℕ → ℕ → Extent
@@ -59,14 +59,10 @@ stepped_agree t u xs h =
     ap (λ ks. extent (greatest ks + 1) (total (map (λ q. (t q).weight) xs) + 1)) d
     ∙ ap (λ ks. extent (greatest (map (λ q. (u q).depth) xs) + 1) (total ks + 1)) w
 
-or_false : (a b : Bool) → a || b ≡ false → (a ≡ false) × (b ≡ false)
-or_false true b e = cc
-or_false false b e = (refl, e)
-
 -- those that are not this region
 pub unlisted : (r : RegionId) (xs : List RegionId) → listed r xs ≡ false → Every (λ q. r.0 ≢ q.0) xs
 unlisted r [] h = tt
-unlisted r (x ∷ xs) h = let p = or_false (eqb x.0 r.0) (listed r xs) h in let t = p.0 in (λ k. grind (arith, nat_tests), unlisted r xs p.1)
+unlisted r (x ∷ xs) h = let p = or_parts (eqb x.0 r.0) (listed r xs) h in let t = p.0 in (λ k. grind (arith, nat_tests), unlisted r xs p.1)
 
 -- one region was set right: those that do not lead to it stay settled, and it is settled itself
 module _ (steps : Steps) (slots : List Slot) (es : List Extent) (i : ℕ) (d : Slot) (e : Extent) (r : RegionId)
@@ -180,18 +176,12 @@ set_same [] i d e l h k = absurd (omega arith)
 set_same (x ∷ es) zero d e l h k = ap (λ (y : Extent). y ∷ es) (ap (λ n. extent n x.weight) (sym h) ∙ ap (λ n. extent e.depth n) (sym k))
 set_same (x ∷ es) (suc i) d e l h k = ap (λ l. x ∷ l) (set_same es i d e (omega arith) h k)
 
--- one element of a list replaced
-pub every_set : {A : Type 0} (P : A → Type 0) (xs : List A) (i : ℕ) (y : A) → P y → Every P xs → Every P (set xs i y)
-every_set P [] i y p h = tt
-every_set P (x ∷ xs) zero y p h = (p, h.1)
-every_set P (x ∷ xs) (suc i) y p h = (h.0, every_set P xs i y p h.1)
-
 -- a list with one region more
 pub listed_insert : (v r : RegionId) (xs : List RegionId) (i : ℕ) → i ≤ length xs → listed v (insert xs i r) ≡ false → (listed v xs ≡ false) × (r.0 ≢ v.0)
-listed_insert v r xs zero l h = let p = or_false (eqb r.0 v.0) (listed v xs) h in let t = p.0 in (p.1, λ k. grind (arith, nat_tests))
+listed_insert v r xs zero l h = let p = or_parts (eqb r.0 v.0) (listed v xs) h in let t = p.0 in (p.1, λ k. grind (arith, nat_tests))
 listed_insert v r [] (suc i) l h = absurd (omega arith)
 listed_insert v r (x ∷ xs) (suc i) l h =
-    let p = or_false (eqb x.0 v.0) (listed v (insert xs i r)) h in
+    let p = or_parts (eqb x.0 v.0) (listed v (insert xs i r)) h in
     let q = listed_insert v r xs i (omega arith) p.1 in
     let a = p.0 in
     let b = q.0 in
@@ -200,13 +190,13 @@ listed_insert v r (x ∷ xs) (suc i) l h =
 -- one that stands there already
 pub listed_there : (v r : RegionId) (xs : List RegionId) (i : ℕ) (d : RegionId) → i < length xs → (get_or xs i d).0 ≡ r.0 → listed v xs ≡ false → r.0 ≢ v.0
 listed_there v r [] i d l e h = absurd (omega arith)
-listed_there v r (x ∷ xs) zero d l e h = let t = (or_false (eqb x.0 v.0) (listed v xs) h).0 in λ k. grind (arith, nat_tests)
-listed_there v r (x ∷ xs) (suc i) d l e h = listed_there v r xs i d (omega arith) e (or_false (eqb x.0 v.0) (listed v xs) h).1
+listed_there v r (x ∷ xs) zero d l e h = let t = (or_parts (eqb x.0 v.0) (listed v xs) h).0 in λ k. grind (arith, nat_tests)
+listed_there v r (x ∷ xs) (suc i) d l e h = listed_there v r xs i d (omega arith) e (or_parts (eqb x.0 v.0) (listed v xs) h).1
 
 -- the last one taken away
 pub listed_last : (v r : RegionId) (xs : List RegionId) → v.0 ≢ r.0 → listed v xs ≡ false → listed v (xs ++ r ∷ []) ≡ false
 listed_last v r [] k h = let t : eqb r.0 v.0 ≡ false = grind (arith, nat_tests) in rw t refl
-listed_last v r (x ∷ xs) k h = let p = or_false (eqb x.0 v.0) (listed v xs) h in let a = p.0 in let b = listed_last v r xs k p.1 in rw a b
+listed_last v r (x ∷ xs) k h = let p = or_parts (eqb x.0 v.0) (listed v xs) h in let a = p.0 in let b = listed_last v r xs k p.1 in rw a b
 
 -- where all is settled, what is told of a region is its extent
 module _ (steps : Steps) (told : RegionId → Extent) (settled : (r : RegionId) → told r ≡ stepped told (steps r)) where
@@ -241,10 +231,6 @@ module _ (steps : Steps) (told : RegionId → Extent) (settled : (r : RegionId) 
       e
       ∙ ap (λ xs. extent (greatest xs + 1) (total (map (λ q. (told q).weight) (steps r)) + 1)) ds
       ∙ ap (λ xs. extent (greatest (map (depth_by steps k) (steps r)) + 1) (total xs + 1)) ws
-
-no_any : (p : RegionId → Bool) (xs : List RegionId) → Every (λ x. p x ≡ false) xs → list_any p xs ≡ false
-no_any p [] h = refl
-no_any p (x ∷ xs) h = let t = no_any p xs h.1 in let u = h.0 in rw u t
 
 -- where each step leads to one less deep, no region reaches a deeper one: such steps make no loop
 module _ (s : Steps) (depth : RegionId → ℕ) (falls : (r : RegionId) → Every (λ q. depth q < depth r) (s r)) where

@@ -18,7 +18,7 @@ use Rattle.mem_base.specs.map.Region.{IsAscending}
 use Rattle.mem_base.proofs.EveryLaws.{weaker, every_at}
 use Rattle.mem_base.proofs.StepLaws.{every_of}
 use Rattle.region_extents.specs.Marks.{marked}
-use Rattle.region_extents.proofs.ExtentsLaws.{steps_to_target, steps_to_children}
+use Rattle.mem_base.proofs.NodeLaws.{steps_to_target, steps_to_children}
 
 pub reaches_none : (s : Steps) (most : ℕ) (from to : RegionId) → most ≡ 0 → false ≡ reaches_by s most from to
 unfolding reaches_by

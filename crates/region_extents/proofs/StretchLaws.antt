@@ -1,12 +1,12 @@
 -- Laws of the depths and weights after a region is placed in a container.
-use Rattle.std.proofs.Common.{◌≡◌, ℕ, zero, suc, ◌<◌, Bool, true, false, cond, ℤ, List, [], ◌∷◌, length, get_or, map, Option}
-use Rattle.std.proofs.Common.{Some, None, refl, sym, ap, ◌∙◌, arith}
+use Rattle.std.proofs.Common.{◌≡◌, ℕ, Bool, true, false, ℤ, List, [], ◌∷◌, map, Option}
+use Rattle.std.proofs.Common.{Some, None, refl, sym, ap, ◌∙◌}
 use Rattle.std.specs.Prelude.{is_some}
 use Rattle.mem_base.specs.declared.map.ids.RegionId.{RegionId}
 use Rattle.mem_base.specs.declared.map.forests.Node.{Node}
 use Rattle.mem_base.specs.declared.map.forests.Forest.{Forest}
 use Rattle.mem_base.specs.declared.map.refusals.Refusal.{Refusal}
-use Rattle.mem_base.specs.declared.map.refusals.Refusal.TheVariants.{AliasParent, Unknown}
+use Rattle.mem_base.specs.declared.map.refusals.Refusal.TheVariants.{AliasParent}
 use Rattle.mem_base.specs.declared.map.refusals.What.TheVariants as what
 use Rattle.mem_base.specs.declared.map.calls.Call.TheVariants as calls
 use Rattle.mem_base.specs.lists.Every.{Every}
@@ -14,7 +14,7 @@ use Rattle.mem_base.specs.map.Kinds.{is_alias}
 use Rattle.mem_base.specs.map.Region.{node_of}
 use Rattle.mem_base.specs.map.Region.{IsAscending}
 use Rattle.mem_base.specs.map.Forest.{IsOrderedForest}
-use Rattle.mem_base.specs.map.Refusals.{unknown_region, alias_parent, has_container, refuse_if, refuse_where}
+use Rattle.mem_base.specs.map.Refusals.{alias_parent, has_container, refuse_if, refuse_where}
 use Rattle.mem_base.specs.map.Changes.{changed, changed_at, placed}
 use Rattle.mem_base.specs.map.Steps.{steps_of, greatest, depth_by, weight_by, depth_of, weight_of, greatest_depth, greatest_weight}
 use Rattle.mem_base.proofs.StepLaws.{joined_steps, depth_by-alike, weight_by-alike, map_agree, every_of}
@@ -28,7 +28,8 @@ use Rattle.region_extents.specs.Extents.{steps_with, extent_by, extents_by, HasI
 use Rattle.region_extents.specs.Room.{are_within, is_within}
 use Rattle.region_extents.proofs.ExtentsLaws.{steps_alias, steps_listed}
 use Rattle.region_extents.proofs.RoomLaws.{within_greatest}
-use Rattle.map_laws.proofs.RefusalLaws.{has_container-none}
+use Rattle.map_laws.proofs.RefusalLaws.{has_container-none, is_known}
+use Rattle.region_slots.proofs.SlotsLaws.{every_by_place}
 
 depths_seen : (nodes : List Node) (join : Join) (slots : List Slot) →
     map (λ (e : Extent). e.depth) (extents_by nodes join 64 slots) ≡ map (λ (n : Node). depth_by (steps_with nodes join) 64 n.id) (nodes_of slots)
@@ -49,10 +50,6 @@ no_alias_of o n why e false h = refl
 abbrev pub alias_parent_of : RegionId → Option Node → Option Refusal
 alias_parent_of parent o = refuse_where (λ n. is_alias n.kind) (AliasParent parent) o
 
-pub known : (f : Forest) (r : RegionId) → unknown_region f r ≡ None → is_some (node_of f.nodes r) ≡ true
-known f r e = elim (is_some (node_of f.nodes r)) as
-    (λ b. cond b None (Some (Unknown (what.Region r))) ≡ None → b ≡ true) [ true ↦ λ h. refl | false ↦ λ h. cc ] e
-
 -- the greatest depth and weight with one more step are those after the call
 pub joined_greatest : (f : Forest) → IsOrderedForest f → (parent child : RegionId) → is_some (node_of f.nodes parent) ≡ true →
     is_some (node_of f.nodes child) ≡ true → alias_parent f parent ≡ None → has_container f child ≡ None → (offset : ℕ) (priority : ℤ) →
@@ -60,7 +57,7 @@ pub joined_greatest : (f : Forest) → IsOrderedForest f → (parent child : Reg
     greatest_depth (changed f (calls.Add parent offset child priority)).nodes)
     × (greatest (map (λ (x : Node). weight_by (joined_steps (steps_of f.nodes) parent child) 64 x.id) f.nodes) ≡
     greatest_weight (changed f (calls.Add parent offset child priority)).nodes)
-joined_greatest f h parent child known here no_alias free offset priority =
+joined_greatest f h parent child is_known here no_alias free offset priority =
     let new = changed_at child (placed parent offset priority f.placings) f.nodes in
     let depths = map (λ (x : Node). depth_by (joined_steps (steps_of f.nodes) parent child) 64 x.id) f.nodes in
     let weights = map (λ (x : Node). weight_by (joined_steps (steps_of f.nodes) parent child) 64 x.id) f.nodes in
@@ -93,9 +90,9 @@ pub stretched : (f : Forest) → IsOrderedForest f → (slots : List Slot) → f
     (es : List Extent) → es ≡ extents_by (nodes_of slots) (record { parent = parent; child = child }) 64 slots → (offset : ℕ) (priority : ℤ) →
     (greatest (map (λ (e : Extent). e.depth) es) ≡ greatest_depth (changed f (calls.Add parent offset child priority)).nodes)
     × (greatest (map (λ (e : Extent). e.weight) es) ≡ greatest_weight (changed f (calls.Add parent offset child priority)).nodes)
-stretched f h slots seen parent child known here no_alias free es e offset priority =
+stretched f h slots seen parent child is_known here no_alias free es e offset priority =
     let join : Join = record { parent = parent; child = child } in
-    let both = joined_greatest f h parent child known here no_alias free offset priority in
+    let both = joined_greatest f h parent child is_known here no_alias free offset priority in
     let seen_d = ap (map (λ (x : Extent). x.depth)) e ∙ depths_seen (nodes_of slots) join slots
     ∙ ap (λ ns. map (λ (x : Node). depth_by (joined_steps (steps_of ns) parent child) 64 x.id) ns) (sym seen) in
     let seen_w = ap (map (λ (x : Extent). x.weight)) e ∙ weights_seen (nodes_of slots) join slots
@@ -108,16 +105,12 @@ pub within_joined : (f : Forest) → IsOrderedForest f → (parent child : Regio
     are_within f.nodes (record { parent = parent; child = child }) ≡
     is_within (greatest_depth (changed f (calls.Add parent offset child priority)).nodes)
     (greatest_weight (changed f (calls.Add parent offset child priority)).nodes)
-within_joined f h parent child known here no_alias free offset priority =
+within_joined f h parent child is_known here no_alias free offset priority =
     let steps = joined_steps (steps_of f.nodes) parent child in
-    let both = joined_greatest f h parent child known here no_alias free offset priority in
+    let both = joined_greatest f h parent child is_known here no_alias free offset priority in
     within_greatest (λ (x : Node). depth_by steps 64 x.id) (λ (x : Node). weight_by steps 64 x.id) f.nodes
     ∙ ap (λ d. is_within d (greatest (map (λ (x : Node). weight_by steps 64 x.id) f.nodes))) both.0
     ∙ ap (is_within (greatest_depth (changed f (calls.Add parent offset child priority)).nodes)) both.1
-
-every_by_place : {A : Type 0} (P : A → Type 0) (xs : List A) → ((i : ℕ) (d : A) → i < length xs → P (get_or xs i d)) → Every P xs
-every_by_place P [] h = tt
-every_by_place P (x ∷ xs) h = (h zero x (omega arith), every_by_place P xs (λ i d l. h (suc i) d (omega arith)))
 
 -- each slot shows the steps of its region
 pub slots_show_steps : (slots : List Slot) → IsAscending (nodes_of slots) → Every (HasItsChildren (nodes_of slots)) slots →

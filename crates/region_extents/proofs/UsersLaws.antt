@@ -1,5 +1,5 @@
 -- Laws of the regions whose steps lead to a region: its container and its aliases.
-use Rattle.std.proofs.Common.{◌≡◌, ◌≢◌, ℕ, zero, suc, ◌+◌, ◌<◌, ◌≤◌, Bool, true, false, cond, eqb, ◌||◌, List, [], ◌∷◌, ◌++◌, length}
+use Rattle.std.proofs.Common.{◌≡◌, ◌≢◌, ℕ, zero, ◌+◌, ◌<◌, ◌≤◌, Bool, true, false, cond, eqb, ◌||◌, List, [], ◌∷◌, ◌++◌, length}
 use Rattle.std.proofs.Common.{get_or, map, filter, Option, Some, None, refl, sym, ap, subst, ◌∙◌, arith}
 use Rattle.std.specs.Prelude.{is_some, IfSome}
 use Rattle.std.specs.List.{list_any}
@@ -24,6 +24,8 @@ use Rattle.region_slots.specs.Slots.{nodes_of}
 use Rattle.region_extents.specs.declared.extents.Join.{Join}
 use Rattle.region_extents.specs.Extents.{steps_with}
 use Rattle.region_extents.specs.Kept.{listed, aliases_of, steps_plus, container_list, aliases_in}
+use Rattle.std.proofs.lemmas.Bool.{or_right, or_left, false_from_ne_true}
+use Rattle.region_slots.proofs.PlaceLaws.{length_nodes}
 
 -- one of the regions passes a test, and has this id
 any_id : (r : RegionId) (ns : List Node) → listed r (ids_of ns) ≡ list_any (has_id r) ns
@@ -76,13 +78,6 @@ children_users nodes r v n a there e =
     of_all [] h = tt
     of_all (m ∷ ms) h = ((λ t u. let same = h.0 t in subst (λ (x : Node). listed v (container_list x.parent) ≡ true) same (eq_in v m.parent u)), of_all ms h.1)
 
-or_true : (a b : Bool) → a ≡ true → a || b ≡ true
-or_true a b h = cc
-
-or_later : (a b : Bool) → b ≡ true → a || b ≡ true
-or_later true b h = refl
-or_later false b h = h
-
 -- an alias is one of the aliases of its target
 alias_users : (r v : RegionId) (m : Node) (nodes : List Node) → node_of nodes v ≡ Some m → targets r m.kind ≡ true → listed v (aliases_of nodes r) ≡ true
 alias_users r v m [] there t = cc
@@ -91,11 +86,11 @@ alias_users r v m (n ∷ ns) there t =
       | true ↦ λ u. λ k.
           let same : n ≡ m = cc in
           let w : targets r n.kind ≡ true = ap (λ (x : Node). targets r x.kind) same ∙ t in
-          rw w (or_true (has_id v n) (listed v (aliases_of ns r)) u)
+          rw w (or_left (has_id v n) (listed v (aliases_of ns r)) u)
       | false ↦ λ u. λ k.
           let ih = alias_users r v m ns k t in
           elim (targets r n.kind) as (λ b. listed v (ids_of (cond b (n ∷ filter (λ x. targets r x.kind) ns) (filter (λ x. targets r x.kind) ns))) ≡ true)
-          [ true ↦ or_later (has_id v n) (listed v (aliases_of ns r)) ih | false ↦ ih ]
+          [ true ↦ or_right (has_id v n) (listed v (aliases_of ns r)) ih | false ↦ ih ]
     ] refl there
 
 one_or_none : (a : Bool) → a || false ≡ true → a ≡ true
@@ -106,9 +101,9 @@ steps_users : (nodes : List Node) (r v : RegionId) (n m : Node) (k : Kind) → I
     (targets r k ≡ true → listed v (aliases_of nodes r) ≡ true) → listed r (steps_at nodes k m) ≡ true → listed v (container_list n.parent)
     || listed v (aliases_of nodes r) ≡ true
 steps_users nodes r v n m (Alias target offset) a there id h e =
-    or_later (listed v (container_list n.parent)) (listed v (aliases_of nodes r)) (h (one_or_none (eqb target.0 r.0) e))
+    or_right (listed v (container_list n.parent)) (listed v (aliases_of nodes r)) (h (one_or_none (eqb target.0 r.0) e))
 steps_users nodes r v n m _ a there id h e =
-    or_true (listed v (container_list n.parent)) (listed v (aliases_of nodes r))
+    or_left (listed v (container_list n.parent)) (listed v (aliases_of nodes r))
     (children_users nodes r v n a there (subst (λ q. listed r (ids_of (children_of nodes q)) ≡ true) id e))
 
 -- whose steps lead to a region is its container or one of its aliases
@@ -121,14 +116,10 @@ users_all nodes r v n a there e =
       | Some m ↦ λ k. λ h. steps_users nodes r v n m m.kind a there (id_of nodes v m k) (λ t. alias_users r v m nodes k t) h
     ] refl e
 
-not_true : (a : Bool) → (a ≡ true → ⊥) → a ≡ false
-not_true true h = absurd (h refl)
-not_true false h = refl
-
 -- those that are none of them do not lead to it
 pub users_apart : (nodes : List Node) (r v : RegionId) (n : Node) → IsAscending nodes → node_of nodes r ≡ Some n →
     listed v (container_list n.parent) ≡ false → listed v (aliases_of nodes r) ≡ false → listed r (steps_of nodes v) ≡ false
-users_apart nodes r v n a there p q = not_true (listed r (steps_of nodes v)) (λ e. let t = users_all nodes r v n a there e in cc)
+users_apart nodes r v n a there p q = false_from_ne_true (listed r (steps_of nodes v)) (λ e. let t = users_all nodes r v n a there e in cc)
 
 -- a region that none of those leads to that wait for another is not led to by them
 pub apart_plus : (nodes : List Node) (extra : Option Join) (r v : RegionId) (n : Node) → IsAscending nodes → node_of nodes r ≡ Some n →
@@ -136,13 +127,9 @@ pub apart_plus : (nodes : List Node) (extra : Option Join) (r v : RegionId) (n :
     listed r (steps_plus nodes extra v) ≡ false
 apart_plus nodes None r v n a there k p q = users_apart nodes r v n a there p q
 apart_plus nodes (Some join) r v n a there k p q =
-    let t : eqb join.child.0 r.0 ≡ false = not_true (eqb join.child.0 r.0) (λ e. k (grind (arith, nat_tests))) in
+    let t : eqb join.child.0 r.0 ≡ false = false_from_ne_true (eqb join.child.0 r.0) (λ e. k (grind (arith, nat_tests))) in
     let h = users_apart nodes r v n a there p q in
     elim (eqb v.0 join.parent.0) as (λ b. listed r (cond b (join.child ∷ steps_of nodes v) (steps_of nodes v)) ≡ false) [ true ↦ rw t h | false ↦ h ]
-
-length_nodes : (slots : List Slot) → length (nodes_of slots) ≡ length slots
-length_nodes [] = refl
-length_nodes (s ∷ ss) = ap suc (length_nodes ss)
 
 -- the aliases that stand at a place
 pub aliases_at : (slots : List Slot) (lists : List (List RegionId)) (i : ℕ) (d : Slot) (x : List RegionId) (r : RegionId) →

@@ -1,7 +1,7 @@
 -- Laws of regions beside the lists of their children.
 use Rattle.std.proofs.Common.{◌≡◌, ◌≢◌, ℕ, zero, suc, ◌+◌, ◌-◌, ◌<◌, ◌≤◌, Bool, true, false, not, cond, eqb, ℤ, List, [], ◌∷◌, ◌++◌, length}
 use Rattle.std.proofs.Common.{get_or, set, map, filter, take, drop, Option, Some, None, refl, sym, ap, subst, ◌∙◌, arith, add-one}
-use Rattle.std.specs.Prelude.{insert, int_lt, is_some}
+use Rattle.std.specs.Prelude.{insert, int_lt}
 use Rattle.std.specs.List.{remove}
 use Rattle.std.specs.declared.cmp.Ordering.{Ordering}
 use Rattle.std.specs.declared.cmp.Ordering.TheVariants.{Less, Equal, Greater}
@@ -25,7 +25,7 @@ use Rattle.mem_base.specs.map.Order.{trial_order, children_of, ids_of}
 use Rattle.mem_base.specs.map.Region.{IsAscending}
 use Rattle.mem_base.specs.map.Forest.{IsOrderedForest}
 use Rattle.mem_base.specs.map.Changes.{placed, changed_at, moved}
-use Rattle.mem_base.proofs.EveryLaws.{weaker, both, every_at, every_push}
+use Rattle.mem_base.proofs.EveryLaws.{weaker, both, every_at, every_push, every_filter}
 use Rattle.mem_base.proofs.ForestLaws.{trial_apart, changed_at-set, filter-changed_at, children_of-joined, children_of-made, every_node_of}
 use Rattle.mem_base.proofs.ForestLaws.{only_node, node_of-itself, every_child, child_before, ascending_changed_at, id_of}
 use Rattle.map_laws.proofs.FieldLaws.{IsField, children_field}
@@ -37,6 +37,7 @@ use Rattle.region_slots.specs.declared.children.Child.{Child}
 use Rattle.region_slots.specs.Slots.{nodes_of, child_of, placed_of, ids_in, HasItsChildren, AreKept, AreIn, AreByPriority, rank_in, others}
 use Rattle.region_slots.specs.Edits.{new_size}
 use Rattle.region_slots.proofs.PlaceLaws.{ids_rise, length_nodes}
+use Rattle.mem_base.proofs.NodeLaws.{found_id}
 
 every_set : {A : Type 0} (P : A → Type 0) (xs : List A) (i : ℕ) (v : A) → Every P xs → P v → Every P (set xs i v)
 every_set P [] i v h k = tt
@@ -47,13 +48,9 @@ pub of_all : {A : Type 0} {P : A → Type 0} (xs : List A) → ((x : A) → P x)
 of_all [] h = tt
 of_all (x ∷ xs) h = (h x, of_all xs h)
 
-every_by_place : {A : Type 0} (P : A → Type 0) (xs : List A) → ((i : ℕ) (d : A) → i < length xs → P (get_or xs i d)) → Every P xs
+pub every_by_place : {A : Type 0} (P : A → Type 0) (xs : List A) → ((i : ℕ) (d : A) → i < length xs → P (get_or xs i d)) → Every P xs
 every_by_place P [] h = tt
 every_by_place P (x ∷ xs) h = (h zero x (omega arith), every_by_place P xs (λ i d l. h (suc i) d (omega arith)))
-
--- the id that is found is the one that was sought
-found_id : (nodes : List Node) (r : RegionId) (n : Node) → node_of nodes r ≡ Some n → has_id r n ≡ true
-found_id nodes r n e = let q : n.id.0 ≡ r.0 = ap (λ (x : RegionId). x.0) (id_of nodes r n e) in grind (arith, nat_tests)
 
 -- what is read at a place does not depend on the default
 pub get_or-default : {A : Type 0} (xs : List A) (i : ℕ) (d e : A) → i < length xs → get_or xs i d ≡ get_or xs i e
@@ -65,10 +62,6 @@ get_or-default (x ∷ xs) (suc i) d e l = get_or-default xs i d e (omega arith)
 pub some_element : {A : Type 0} (xs : List A) (i : ℕ) → i < length xs → A
 some_element [] i l = absurd (omega arith)
 some_element (x ∷ xs) i l = x
-
-pub none_of : {A : Type 0} (o : Option A) → is_some o ≡ false → o ≡ None
-none_of None e = refl
-none_of (Some x) e = cc
 
 -- the children that stand with a region that is found
 pub children_at : (slots : List Slot) (i : ℕ) (d : Slot) (r : RegionId) → i < length slots → node_of (nodes_of slots) r ≡ Some (get_or slots i d).node →
@@ -561,12 +554,6 @@ out_elsewhere nodes parent child m ascending at_child inside q apart =
     other_container None h = refl
     other_container (Some p) h = grind (arith, nat_tests)
 
--- a region moved in its container
-every_filter : {A : Type 0} (P : A → Type 0) (p : A → Bool) (xs : List A) → Every P xs → Every P (filter p xs)
-every_filter P p [] h = tt
-every_filter P p (x ∷ xs) h = elim (p x) as
-    (λ b. Every P (cond b (x ∷ filter p xs) (filter p xs))) [ true ↦ (h.0, every_filter P p xs h.1) | false ↦ every_filter P p xs h.1 ]
-
 module _ (f : Forest) (placing : ℕ) (forest : IsOrderedForest f) (same : f.placings ≡ placing) (child : RegionId) (offset : ℕ) (m : Node)
     (at_child : node_of f.nodes child ≡ Some m) where
   pub moved_nowhere : eqb m.offset offset ≡ true → f.nodes ≡ changed_at child (moved offset placing) f.nodes
@@ -599,10 +586,6 @@ module _ (f : Forest) (placing : ℕ) (forest : IsOrderedForest f) (same : f.pla
         ∙ ap (λ n. placed_of (put_by trial_order n left)) (sym is_x)
         ∙ ap placed_of (sym (children_there f forest child offset m at_child parent in_parent differs))
         ∙ ap (λ r. placed_of (children_of (changed_at child (moved offset r) f.nodes) parent)) same
-
-pub moved_id : (offset placing : ℕ) (n : Node) → (moved offset placing n).id ≡ n.id
-moved_id offset placing n = elim (eqb n.offset offset) as
-    (λ b. (cond b n (record n { offset = offset; placing = placing })).id ≡ n.id) [ true ↦ refl | false ↦ refl ]
 
 -- the calls that change the fields of one region but its size keep what a search needs of it
 edited_offset : (call : Call) (n : Node) → (edited call n).offset ≡ n.offset

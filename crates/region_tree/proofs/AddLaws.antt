@@ -1,16 +1,15 @@
 -- Laws of why an Add is refused.
-use Rattle.std.proofs.Common.{◌≡◌, ◌≢◌, ℕ, ◌<◌, ◌≤◌, Bool, true, false, ltb, leb, ◌^◌, ℤ, List, [], ◌∷◌, ◌++◌, length}
+use Rattle.std.proofs.Common.{◌≡◌, ◌≢◌, ℕ, ◌<◌, ◌≤◌, true, false, ◌^◌, ℤ, List, [], ◌∷◌, ◌++◌, length}
 use Rattle.std.proofs.Common.{Option, Some, None, refl, sym, ap, ◌∙◌, arith}
 use Rattle.std.specs.Prelude.{is_some, is_none}
 use Rattle.std.specs.Option.{option_or}
-use Rattle.std.proofs.lemmas.Bool.Decides.{nat_tests}
 use Rattle.mem_base.specs.declared.map.ids.RegionId.{RegionId}
 use Rattle.mem_base.specs.declared.map.forests.Forest.{Forest}
 use Rattle.mem_base.specs.declared.map.refusals.Refusal.{Refusal}
 use Rattle.mem_base.specs.declared.map.refusals.Refusal.TheVariants.{TooDeep, TooWide, Loop}
 use Rattle.mem_base.specs.declared.map.calls.Call.TheVariants as calls
 use Rattle.mem_base.specs.map.Region.{node_of}
-use Rattle.mem_base.specs.map.Refusals.{first_refusal, refuse_if, unknown_region, has_container, alias_parent, makes_loop, too_deep, or_refused}
+use Rattle.mem_base.specs.map.Refusals.{first_refusal, unknown_region, has_container, alias_parent, makes_loop, too_deep, or_refused}
 use Rattle.mem_base.specs.map.Refusals.{too_wide}
 use Rattle.mem_base.specs.map.TableRefusals.{no_more_calls}
 use Rattle.mem_base.specs.map.Changes.{changed}
@@ -25,14 +24,10 @@ use Rattle.region_slots.specs.declared.slots.Slot.{Slot}
 use Rattle.region_slots.specs.Slots.{nodes_of}
 use Rattle.region_extents.specs.declared.extents.Extent.{Extent}
 use Rattle.region_extents.specs.Kept.{extents_in, steps_plus, IsSettledBy, IsShort}
-use Rattle.region_extents.proofs.StretchLaws.{known}
 use Rattle.region_extents.proofs.BesideLaws.{joined_extents}
 use Rattle.mem_base.specs.map.Steps.{steps_of, reaches, greatest_depth, greatest_weight}
-use Rattle.map_laws.proofs.RefusalLaws.{has_container-none}
-
-pub none_or : (a b : Option Refusal) → option_or a b ≡ None → (a ≡ None) × (b ≡ None)
-none_or None b e = (refl, e)
-none_or (Some x) b e = cc
+use Rattle.map_laws.proofs.RefusalLaws.{has_container-none, first_none, refuse_if-none, is_known}
+use Rattle.std.proofs.lemmas.Bool.{leb-false, ltb-false}
 
 pub first_refusal-append : (xs ys : List (Option Refusal)) → first_refusal (xs ++ ys) ≡ option_or (first_refusal xs) (first_refusal ys)
 first_refusal-append [] ys = refl
@@ -67,10 +62,6 @@ pub stands_not : (a b : Option Refusal) → is_some a ≡ true → is_none (opti
 stands_not None b e = cc
 stands_not (Some x) b e = refl
 
-pub refused_not : (b : Bool) (why : Refusal) → refuse_if b why ≡ None → b ≡ false
-refused_not true why e = cc
-refused_not false why e = refl
-
 -- what holds where nothing stands against an Add but the lengths of paths
 pub record IsFree (f : Forest) (parent child : RegionId) : Type 0 where
   pub parent_known : is_some (node_of f.nodes parent) ≡ true
@@ -83,18 +74,18 @@ pub free_of : (f : Forest) (parent child : RegionId) →
     first_refusal (unknown_region f parent ∷ unknown_region f child ∷ has_container f child ∷ alias_parent f parent ∷ makes_loop f parent child ∷ []) ≡
     None → IsFree f parent child
 free_of f parent child e =
-    let a = none_or (unknown_region f parent)
+    let a = first_none (unknown_region f parent)
     (first_refusal (unknown_region f child ∷ has_container f child ∷ alias_parent f parent ∷ makes_loop f parent child ∷ [])) e in
-    let b = none_or (unknown_region f child) (first_refusal (has_container f child ∷ alias_parent f parent ∷ makes_loop f parent child ∷ [])) a.1 in
-    let c = none_or (has_container f child) (first_refusal (alias_parent f parent ∷ makes_loop f parent child ∷ [])) b.1 in
-    let d = none_or (alias_parent f parent) (first_refusal (makes_loop f parent child ∷ [])) c.1 in
-    let l = none_or (makes_loop f parent child) None d.1 in
+    let b = first_none (unknown_region f child) (first_refusal (has_container f child ∷ alias_parent f parent ∷ makes_loop f parent child ∷ [])) a.1 in
+    let c = first_none (has_container f child) (first_refusal (alias_parent f parent ∷ makes_loop f parent child ∷ [])) b.1 in
+    let d = first_none (alias_parent f parent) (first_refusal (makes_loop f parent child ∷ [])) c.1 in
+    let l = first_none (makes_loop f parent child) None d.1 in
     record {
-      parent_known = known f parent a.0;
-      child_known = known f child b.0;
+      parent_known = is_known f parent a.0;
+      child_known = is_known f child b.0;
       no_container = c.0;
       no_alias = d.0;
-      no_loop = refused_not (reaches f.nodes child parent) (Loop parent) l.0;
+      no_loop = refuse_if-none (reaches f.nodes child parent) (Loop parent) l.0;
     }
 
 -- the refusal of an Add in three parts
@@ -110,12 +101,6 @@ refusal_of-add f parent offset child priority =
     first_refusal-append early (late ++ no_more_calls f ∷ [])
     ∙ ap (option_or (first_refusal early)) (first_refusal-append late (no_more_calls f ∷ []) ∙ ap (option_or (first_refusal late)) (or_none (no_more_calls f)))
 
-not_below : (a b : ℕ) → ltb a b ≡ false → b ≤ a
-not_below a b e = grind (arith, nat_tests)
-
-above : (a b : ℕ) → leb a b ≡ false → b < a
-above a b e = grind (arith, nat_tests)
-
 -- what an accepted Add keeps
 pub record IsAllowed (f : Forest) (parent : RegionId) (offset : ℕ) (child : RegionId) (priority : ℤ) : Type 0 where
   pub free : IsFree f parent child
@@ -128,19 +113,19 @@ pub allowed_of : (f : Forest) (parent : RegionId) (offset : ℕ) (child : Region
 allowed_of f parent offset child priority e =
     let deep = too_deep (changed f (calls.Add parent offset child priority)).nodes in
     let wide = too_wide (changed f (calls.Add parent offset child priority)).nodes in
-    let a = none_or (first_refusal (unknown_region f parent ∷ unknown_region f child ∷ has_container f child ∷ alias_parent f parent ∷ makes_loop f parent
+    let a = first_none (first_refusal (unknown_region f parent ∷ unknown_region f child ∷ has_container f child ∷ alias_parent f parent ∷ makes_loop f parent
     child ∷ [])) (option_or (first_refusal (deep ∷ wide ∷ [])) (no_more_calls f)) (sym (refusal_of-add f parent offset child priority) ∙ e) in
-    let b = none_or (first_refusal (deep ∷ wide ∷ [])) (no_more_calls f) a.1 in
-    let c = none_or deep (first_refusal (wide ∷ [])) b.0 in
-    let d = none_or wide None c.1 in
-    let s = refused_not _ (TooDeep (greatest_depth (changed f (calls.Add parent offset child priority)).nodes)) c.0 in
-    let n = refused_not _ (TooWide (greatest_weight (changed f (calls.Add parent offset child priority)).nodes)) d.0 in
-    let k = refused_not _ _ b.1 in
+    let b = first_none (first_refusal (deep ∷ wide ∷ [])) (no_more_calls f) a.1 in
+    let c = first_none deep (first_refusal (wide ∷ [])) b.0 in
+    let d = first_none wide None c.1 in
+    let s = refuse_if-none _ (TooDeep (greatest_depth (changed f (calls.Add parent offset child priority)).nodes)) c.0 in
+    let n = refuse_if-none _ (TooWide (greatest_weight (changed f (calls.Add parent offset child priority)).nodes)) d.0 in
+    let k = refuse_if-none _ _ b.1 in
     record {
       free = free_of f parent child a.0;
-      shallow = not_below _ _ s;
-      narrow = not_below _ _ n;
-      few = above _ _ k;
+      shallow = ltb-false _ _ s;
+      narrow = ltb-false _ _ n;
+      few = leb-false _ _ k;
     }
 
 pub apart_of : (f : Forest) (parent child : RegionId) → IsFree f parent child → parent.0 ≢ child.0
@@ -202,16 +187,16 @@ pub joined_add : (f : Forest) → IsOrderedForest f → (slots : List Slot) → 
     (es : List Extent) → ((v : RegionId) → IsSettledBy (steps_plus (nodes_of slots) (Some (record { parent = parent; child = child }))) slots es v) →
     Every IsShort es → length es ≡ length slots → (offset : ℕ) (priority : ℤ) → IsJoinedAdd f parent offset child priority es
 joined_add f h slots seen parent child none more es settled short all offset priority =
-    let a = none_or (unknown_region f parent) (first_refusal (unknown_region f child ∷ has_container f child ∷ alias_parent f parent ∷ [])) none in
-    let b = none_or (unknown_region f child) (first_refusal (has_container f child ∷ alias_parent f parent ∷ [])) a.1 in
-    let d = none_or (has_container f child) (first_refusal (alias_parent f parent ∷ [])) b.1 in
-    let e = none_or (alias_parent f parent) None d.1 in
-    let j = joined_extents f h slots seen parent child (known f parent a.0) (known f child b.0) e.0 d.0 es settled short all offset priority in
+    let a = first_none (unknown_region f parent) (first_refusal (unknown_region f child ∷ has_container f child ∷ alias_parent f parent ∷ [])) none in
+    let b = first_none (unknown_region f child) (first_refusal (has_container f child ∷ alias_parent f parent ∷ [])) a.1 in
+    let d = first_none (has_container f child) (first_refusal (alias_parent f parent ∷ [])) b.1 in
+    let e = first_none (alias_parent f parent) None d.1 in
+    let j = joined_extents f h slots seen parent child (is_known f parent a.0) (is_known f child b.0) e.0 d.0 es settled short all offset priority in
     let deep = too_deep (changed f (calls.Add parent offset child priority)).nodes in
     let wide = too_wide (changed f (calls.Add parent offset child priority)).nodes in
-    let l = none_or (makes_loop f parent child) (first_refusal (deep ∷ wide ∷ [])) j.allowed in
-    let m = none_or deep (first_refusal (wide ∷ [])) l.1 in
-    let n = none_or wide None m.1 in
+    let l = first_none (makes_loop f parent child) (first_refusal (deep ∷ wide ∷ [])) j.allowed in
+    let m = first_none deep (first_refusal (wide ∷ [])) l.1 in
+    let n = first_none wide None m.1 in
     record {
       accepted = all_none (unknown_region f parent) (unknown_region f child) (has_container f child) (alias_parent f parent)
           (makes_loop f parent child) deep wide (no_more_calls f) a.0 b.0 d.0 e.0 l.0 m.0 n.0 more;

@@ -18,6 +18,7 @@ use Rattle.mem_base.proofs.ChunkLaws.{none_there, front_only, back_only, ascendi
 use Rattle.region_slots.specs.declared.slots.Slot.{Slot}
 use Rattle.region_slots.specs.Slots.{nodes_of}
 use Rattle.region_tree.specs.Near.{AreLeft, IsBound, is_below, is_touched}
+use Rattle.mem_base.proofs.BoolLaws.{and_nothing}
 
 none_below : (xs : List Node) (r : RegionId) → Every (λ m. r.0 < m.id.0) xs → node_of xs r ≡ None
 none_below [] r h = refl
@@ -124,10 +125,6 @@ at_bound (Some b) a later h e =
           (from_first later (ascending_rest a later h)),
     )
 
-both_false : (b : Bool) → (b && false) ≡ false
-both_false true = refl
-both_false false = refl
-
 -- what is left once the regions below a bound are done
 pub left_after : (from : RegionId) (u : Option RegionId) (a later f g : List Node) (rs : List RegionId) → AreLeft from.0 (a ++ later) (f ++ g) rs
     → Every (λ n. is_below u n.id.0 ≡ true) a → Every (λ n. is_below u n.id.0 ≡ false) later
@@ -147,7 +144,7 @@ left_after from u a later f g rs left ba al bf ag = record {
     still (Some b) r out t =
         let t2 : nat_le b.0 r.0 ≡ true = grind (arith, nat_tests, t) in
         let none : among r ≡ false = subst (λ c. (c && among r) ≡ false) t2 out in
-        rw none (both_false (nat_le from.0 r.0))
+        rw none (and_nothing (nat_le from.0 r.0))
 
     go : (r : RegionId) → (nat_le (unwrap_or u from).0 r.0 && among r) ≡ false → (b : Bool) → is_below u r.0 ≡ b → node_of later r ≡ node_of g r
     go r out true t = none_there r later (absent_above u r later t al) ∙ sym (none_there r g (absent_above u r g t ag))
@@ -157,7 +154,7 @@ left_after from u a later f g rs left ba al bf ag = record {
 -- where no region below a bound changed, none is among the changed ones
 outside : (from : ℕ) (u : Option RegionId) (r : RegionId) (rs : List RegionId) → is_touched from u rs ≡ false → is_below u r.0 ≡ true
     → (nat_le from r.0 && list_any (λ q. q.0 == r.0) rs) ≡ false
-outside from u r [] h t = both_false (nat_le from r.0)
+outside from u r [] h t = and_nothing (nat_le from r.0)
 outside from u r (q ∷ qs) h t = go (λ k. outside from u r qs k t) (nat_le from q.0 && is_below u q.0) refl h (eqb q.0 r.0) refl
   where
     alone : (b c : Bool) → (b && c) ≡ false → c ≡ true → b ≡ false

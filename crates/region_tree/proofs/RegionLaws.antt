@@ -22,8 +22,9 @@ use Rattle.mem_base.specs.map.Calls.{alias_too_long, refusal_of}
 use Rattle.mem_base.specs.map.Steps.{depth_of, weight_of, greatest_depth, greatest_weight}
 use Rattle.mem_base.proofs.ForestLaws.{known_below}
 use Rattle.map_laws.proofs.MadeLaws.{greatest_depth_made, greatest_weight_made, depth_alias, weight_alias, shallow_made, narrow_made}
-use Rattle.region_tree.proofs.AddLaws.{or_none, none_or, refused_not}
-use Rattle.region_extents.proofs.StretchLaws.{known}
+use Rattle.region_tree.proofs.AddLaws.{or_none}
+use Rattle.std.proofs.lemmas.Bool.{leb-false, ltb-false}
+use Rattle.map_laws.proofs.RefusalLaws.{first_none, refuse_if-none, is_known}
 
 limit_of : (most g d : ℕ) (why : ℕ → Refusal) → g ≤ most → refuse_if (leb most d) (why (d + 1)) ≡ refuse_if (ltb most (max g (d + 1))) (why (max g (d + 1)))
 limit_of most g d why l =
@@ -47,7 +48,7 @@ pub alias_refused : (f : Forest) → IsOrderedForest f → (target : RegionId) (
     ≡ alias_too_long f (Alias target offset) size
 alias_refused f h target offset size e =
     let n = made_region (record { 0 = f.made }) (Alias target offset) size in
-    let before = known_below f target h (known f target e) in
+    let before = known_below f target h (is_known f target e) in
     let new = f.nodes ++ n ∷ [] in
     let d : greatest_depth new ≡ max (greatest_depth f.nodes) (depth_of f.nodes target + 1) = greatest_depth_made f h n refl refl
     ∙ ap (max (greatest_depth f.nodes)) (depth_alias f h n refl refl target offset refl before) in
@@ -58,12 +59,6 @@ alias_refused f h target offset size e =
     ap (λ x. option_or x (refuse_if (leb 65536 (weight_of f.nodes target)) (TooWide (weight_of f.nodes target + 1)))) a
     ∙ ap (option_or (too_deep new)) (b ∙ sym (or_none (too_wide new)))
 
-above : (a b : ℕ) → leb a b ≡ false → b < a
-above a b e = grind (arith, nat_tests)
-
-not_below : (a b : ℕ) → ltb a b ≡ false → b ≤ a
-not_below a b e = grind (arith, nat_tests)
-
 -- what an accepted Region keeps
 pub record IsMakeable (f : Forest) (kind : Kind) (size : ℕ) : Type 0 where
   pub target : IsTargetBefore f.made kind
@@ -73,16 +68,16 @@ pub record IsMakeable (f : Forest) (kind : Kind) (size : ℕ) : Type 0 where
   pub few : f.calls < 4611686018427387904
 
 target_made : (f : Forest) → IsOrderedForest f → (kind : Kind) → unknown_target f kind ≡ None → IsTargetBefore f.made kind
-target_made f h (Alias target offset) e = known_below f target h (known f target e)
+target_made f h (Alias target offset) e = known_below f target h (is_known f target e)
 target_made f h _ e = tt
 
 lengths_made : (f : Forest) → IsOrderedForest f → (kind : Kind) (size : ℕ) → alias_too_long f kind size ≡ None →
     (greatest_depth (changed f (calls.Region kind size)).nodes ≤ 32) × (greatest_weight (changed f (calls.Region kind size)).nodes ≤ 65536)
 lengths_made f h (Alias target offset) size e =
     let new = (changed f (calls.Region (Alias target offset) size)).nodes in
-    let a = none_or (too_deep new) (first_refusal (too_wide new ∷ [])) e in
-    let b = none_or (too_wide new) None a.1 in
-    (not_below _ _ (refused_not _ (TooDeep (greatest_depth new)) a.0), not_below _ _ (refused_not _ (TooWide (greatest_weight new)) b.0))
+    let a = first_none (too_deep new) (first_refusal (too_wide new ∷ [])) e in
+    let b = first_none (too_wide new) None a.1 in
+    (ltb-false _ _ (refuse_if-none _ (TooDeep (greatest_depth new)) a.0), ltb-false _ _ (refuse_if-none _ (TooWide (greatest_weight new)) b.0))
 lengths_made f h kind size e = (
   shallow_made f h (made_region (record { 0 = f.made }) kind size) refl refl refl,
   narrow_made f h (made_region (record { 0 = f.made }) kind size) refl refl refl,
@@ -90,25 +85,25 @@ lengths_made f h kind size e = (
 
 pub makeable_of : (f : Forest) → IsOrderedForest f → (kind : Kind) (size : ℕ) → refusal_of f (calls.Region kind size) ≡ None → IsMakeable f kind size
 makeable_of f h kind size e =
-    let a = none_or (unknown_target f kind) (first_refusal
+    let a = first_none (unknown_target f kind) (first_refusal
     (bad_size kind size ∷ bad_device (device_of kind) ∷ alias_too_long f kind size ∷ no_more_regions f ∷ no_more_calls f ∷ [])) e in
-    let b = none_or (bad_size kind size) (first_refusal
+    let b = first_none (bad_size kind size) (first_refusal
     (bad_device (device_of kind) ∷ alias_too_long f kind size ∷ no_more_regions f ∷ no_more_calls f ∷ [])) a.1 in
-    let c = none_or (bad_device (device_of kind)) (first_refusal (alias_too_long f kind size ∷ no_more_regions f ∷ no_more_calls f ∷ [])) b.1 in
-    let d = none_or (alias_too_long f kind size) (first_refusal (no_more_regions f ∷ no_more_calls f ∷ [])) c.1 in
-    let k = none_or (no_more_regions f) (first_refusal (no_more_calls f ∷ [])) d.1 in
-    let l = none_or (no_more_calls f) None k.1 in
-    let m = none_or (at_limit which.Made 4294967294 f.made) (at_limit which.Regions 4096 (length f.nodes)) k.0 in
+    let c = first_none (bad_device (device_of kind)) (first_refusal (alias_too_long f kind size ∷ no_more_regions f ∷ no_more_calls f ∷ [])) b.1 in
+    let d = first_none (alias_too_long f kind size) (first_refusal (no_more_regions f ∷ no_more_calls f ∷ [])) c.1 in
+    let k = first_none (no_more_regions f) (first_refusal (no_more_calls f ∷ [])) d.1 in
+    let l = first_none (no_more_calls f) None k.1 in
+    let m = first_none (at_limit which.Made 4294967294 f.made) (at_limit which.Regions 4096 (length f.nodes)) k.0 in
     let long = lengths_made f h kind size d.0 in
     record {
       target = target_made f h kind a.0;
       shallow = long.0;
       narrow = long.1;
-      room = above _ _ (refused_not _ _ m.0);
-      few = above _ _ (refused_not _ _ l.0);
+      room = leb-false _ _ (refuse_if-none _ _ m.0);
+      few = leb-false _ _ (refuse_if-none _ _ l.0);
     }
 
 -- the target of an accepted Region is there
 pub target_of_region : (f : Forest) (kind : Kind) (size : ℕ) → refusal_of f (calls.Region kind size) ≡ None → unknown_target f kind ≡ None
-target_of_region f kind size e = (none_or (unknown_target f kind)
+target_of_region f kind size e = (first_none (unknown_target f kind)
     (first_refusal (bad_size kind size ∷ bad_device (device_of kind) ∷ alias_too_long f kind size ∷ no_more_regions f ∷ no_more_calls f ∷ [])) e).0

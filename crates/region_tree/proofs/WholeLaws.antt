@@ -12,7 +12,7 @@ use Rattle.mem_base.specs.map.TableRefusals.{no_more_calls}
 use Rattle.mem_base.specs.map.Changes.{changed}
 use Rattle.mem_base.specs.map.Calls.{counted, refusal_of, refusals}
 use Rattle.map_laws.proofs.CallLaws.{IsOrderedForest-accepted}
-use Rattle.map_laws.proofs.SoundCallLaws.{IsClosedForest-accepted}
+use Rattle.map_laws.proofs.SoundCallLaws.{IsClosedForest-accepted, not_met}
 use Rattle.std.specs.Prelude.{is_none, is_some}
 use Rattle.mem_base.specs.declared.map.ids.RegionId.{RegionId}
 use Rattle.mem_base.specs.declared.map.forests.Node.{Node}
@@ -53,20 +53,11 @@ moves_child f child offset h e =
     let p = container_there f.nodes m.0.parent inside region.container in
     (m.0, p.0, m.1, p.1, p.2)
 
--- a page that meets no translation
-none_met : (o : Option ℕ) → option_map (λ met. PageOverlap met) o ≡ None → o ≡ None
-none_met None e = refl
-none_met (Some k) e = cc
-
 pub page_apart : (iova size : ℕ) (o : Option Node) (n : Node) → o ≡ Some n →
     option_and_then (λ (m : Node). option_map (λ met. PageOverlap met) (least_met iova size m.entries)) o ≡ None → least_met iova size n.entries ≡ None
 page_apart iova size None n e h = cc
 page_apart iova size (Some m) n e h = let same : m ≡ n = cc in
-    subst (λ (x : Node). least_met iova size x.entries ≡ None) same (none_met (least_met iova size m.entries) h)
-
-pub none_of : {A : Type 0} (o : Option A) → is_some o ≡ false → o ≡ None
-none_of None e = refl
-none_of (Some x) e = cc
+    subst (λ (x : Node). least_met iova size x.entries ≡ None) same (not_met (least_met iova size m.entries) h)
 
 -- a region that may be dropped: it is in no container, and nobody's target
 pub record IsDroppable (f : Forest) (r : RegionId) : Type 0 where

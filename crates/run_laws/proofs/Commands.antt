@@ -37,13 +37,13 @@ use Rattle.mem_base.specs.script.WriterSteps.{released_in, pages_in, value_in, p
 use Rattle.mem_base.specs.script.Shows.{watch, catches_up, joins_unless}
 use Rattle.mem_base.specs.script.PassSteps.{enter, leave, copy}
 use Rattle.mem_base.specs.script.Run.{is_desk_line, own_step, step}
-use Rattle.view_laws.proofs.Tests.{both_of, or_left}
 use Rattle.run_laws.specs.Fitting.{FitsChange, FitsCommand}
 use Rattle.run_laws.specs.Asks.{Asked, asks, copy_entries, enter_entries, leave_entries, asks_change, asks_region, nothing, of_map}
 use Rattle.run_laws.specs.Asks.{one_call, steps, where_free, where_there}
 use Rattle.world_laws.proofs.PassKeeping.{access_keeps, accessed_stays, after_events, enter_keeps, entered_by, keeps_then, leave_keeps, left_looks, may_look}
 use Rattle.run_laws.proofs.Passing.{Led, LedOn, access_led, enters_led, leaves_led, may_leave, then_led}
 use Rattle.run_laws.proofs.Ordering.{FitsOrder, Settled, SettledOn, order_settles}
+use Rattle.std.proofs.lemmas.Bool.{and_parts, or_left}
 
 module _ (pool : ℕ) (xs : List PureEntry) where
   -- a command that does nothing to the machine
@@ -174,7 +174,7 @@ module _ (pool : ℕ) (xs : List PureEntry) where
               let v : World = after_events state.world (leaves pass) in
               let w : World = after_events v (enters pass) in
               let may = may_leave pool xs state.world pass k.led e in
-              let look : possible v (events.Look pass) ≡ true = left_looks state.world pass (both_of _ _ may).0 in
+              let look : possible v (events.Look pass) ≡ true = left_looks state.world pass (and_parts _ _ may).0 in
               pass_settles state.world w (run_events state.world (enters_anew true pass)).entries k
               (keeps_then state.world v w (leave_keeps state.world v pass may refl) (enter_keeps v w pass look refl))
               (then_led pool xs v w (run_events state.world (leaves pass)).entries (run_events v (enters pass)).entries

@@ -1,9 +1,9 @@
 -- What a call of the writer leaves of the map: which regions are there, and who listens.
-use Rattle.std.proofs.Common.{◌≡◌, ◌≢◌, ℕ, ◌+◌, ◌-◌, ◌/◌, ◌<◌, eq-eqb, ne_eqb, Bool, true, false, ◌&&◌, ◌||◌, cond, List, [], ◌∷◌, ◌++◌, length, map, Option}
+use Rattle.std.proofs.Common.{◌≡◌, ◌≢◌, ℕ, ◌+◌, ◌-◌, ◌/◌, ◌<◌, eq-eqb, ne_eqb, Bool, true, false, ◌&&◌, ◌||◌, cond, List, [], ◌∷◌, ◌++◌, length, map, Option, take, drop}
 use Rattle.std.proofs.Common.{Some, None, Result, Ok, Err, refl, sym, ap, subst, ◌∙◌, arith, if◌then◌else◌}
 use Rattle.std.specs.Prelude.{is_some, not, ◌==◌, filter, option_map}
 use Rattle.std.specs.List.{list_any, range_with_len}
-use Rattle.std.proofs.lemmas.Bool.{eqb-true}
+use Rattle.std.proofs.lemmas.Bool.{eqb-true, or_right}
 use Rattle.mem_base.specs.declared.map.ids.RegionId.{RegionId}
 use Rattle.mem_base.specs.declared.map.ids.ListenerId.{ListenerId}
 use Rattle.mem_base.specs.declared.map.forests.Forest.{Forest}
@@ -33,7 +33,7 @@ use Rattle.mem_base.specs.access.Cells.{cell}
 use Rattle.mem_base.specs.access.MemoryAccess.{replaces}
 use Rattle.mem_base.specs.views.Flattened.{view_of}
 use Rattle.mem_base.specs.views.LiveEvents.{lives_of}
-use Rattle.mem_base.specs.views.Listening.{joined, join_refusal, left, leave_refusal, is_listener}
+use Rattle.mem_base.specs.views.Listening.{joined, join_refusal, left, leave_refusal, is_listener, Delivery}
 use Rattle.mem_base.specs.machine.Generations.{Generations}
 use Rattle.mem_base.specs.machine.Desk.{Desk, places_of}
 use Rattle.mem_base.specs.machine.Reaps.{Writer}
@@ -54,8 +54,15 @@ use Rattle.mem_base.proofs.EveryLaws.{every_push}
 use Rattle.mem_base.proofs.JoinLaws.{node_of-changed_at}
 use Rattle.map_laws.proofs.DropLaws.{node_of-without, node_of-dropped}
 use Rattle.map_laws.proofs.CallLaws.{after-accepted}
-use Rattle.view_laws.proofs.Tests.{true_is_not_false}
-use Rattle.view_laws.proofs.Tests.{or_right}
+use Rattle.mem_base.specs.script.Watching.{Watcher}
+use Rattle.mem_base.specs.script.Tasks.{Known, with_order, after_order}
+use Rattle.run_laws.specs.KnownNames.{KnowsNames}
+use Rattle.std.proofs.lemmas.List.{take_all, length-drop}
+use Rattle.mem_base.specs.declared.machine.records.DeskOrder.{DeskOrder}
+use Rattle.mem_base.specs.script.Spelling.{Text}
+use Rattle.mem_base.specs.declared.machine.records.DeskAnswer.{DeskAnswer}
+use Rattle.map_laws.proofs.MoveLaws.{moved_id}
+use Rattle.mem_base.proofs.BoolLaws.{or_false, true_is_not_false}
 
 -- the forest and the listeners of one desk are another's
 pub record SameMap (d e : Desk) : Type 0 where
@@ -441,13 +448,6 @@ changed_there nodes r h id q = ap is_some (node_of-changed_at r h id nodes q) �
     go None = refl
     go (Some n) = refl
 
-moved_id : (offset placing : ℕ) (n : Node) → (moved offset placing n).id ≡ n.id
-moved_id offset placing n = go (n.offset == offset)
-  where
-    go : (b : Bool) → (if b then n else record n { offset = offset; placing = placing }).id ≡ n.id
-    go true = refl
-    go false = refl
-
 -- the regions of one forest are there in another, and as many were made
 pub record SameRegions (f g : Forest) : Type 0 where
   pub there : (q : RegionId) → is_some (node_of g.nodes q) ≡ is_some (node_of f.nodes q)
@@ -494,10 +494,6 @@ there_push (m ∷ ms) n q = go (has_id q m) (there_push ms n q)
     go true ih = refl
     go false ih = ih
 
-pub or_false : (a b : Bool) → b ≡ false → (a || b) ≡ a
-or_false true b e = refl
-or_false false b e = e
-
 pub made_there : (f : Forest) (kind : Kind) (size : ℕ) → let g = counted (changed f (calls.Region kind size)) in
     is_some (node_of g.nodes (record { 0 = f.made })) ≡ true
 made_there f kind size = there_push f.nodes _ (record { 0 = f.made })
@@ -530,3 +526,22 @@ any_push p (y ∷ ys) x = go (p y) (any_push p ys x)
         → (b || list_any p (ys ++ x ∷ [])) ≡ ((b || list_any p ys) || p x)
     go true e = refl
     go false e = e
+
+pub other_watchers : (k : Known) (d : Desk) (watchers : List Watcher) → KnowsNames k d → KnowsNames (record k { watchers = watchers }) d
+other_watchers k d watchers a =
+    record { regions = a.regions; made = a.made; dropped = a.dropped; listeners = a.listeners; gone = a.gone }
+
+pub sliced : (xs : List Delivery) (m : ℕ) → take (length xs - m) (drop m xs) ≡ drop m xs
+sliced xs m = take_all (length xs - m) (drop m xs) (let l = length-drop m xs in omega (arith, l))
+
+pub with_watchers : (k : Known) (name : Text) (order : DeskOrder) → (with_order k name order).watchers ≡ k.watchers
+with_watchers k name (orders.Call (calls.Region kind size)) = refl
+with_watchers k name (orders.Call (calls.Space space root)) = refl
+with_watchers k name (orders.Call (calls.Drop region)) = refl
+with_watchers k name (orders.Listen listener space priority) = refl
+with_watchers k name (orders.Unlisten listener) = refl
+with_watchers k name order = refl
+
+pub after_watchers : (k : Known) (name : Text) (order : DeskOrder) (x : DeskAnswer) → (after_order k name order x).watchers ≡ k.watchers
+after_watchers k name order (answers.Refused why) = refl
+after_watchers k name order x = with_watchers k name order

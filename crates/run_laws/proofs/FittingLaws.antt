@@ -25,17 +25,19 @@ use Rattle.mem_base.specs.script.ChangeForms.{nonvolatile, readonly, resize, ret
 use Rattle.mem_base.specs.script.Forms.{changed, command, form_of}
 use Rattle.mem_base.specs.script.PassForms.{pass_dma, pass_do, pass_forms, pass_line, pass_read, pass_write}
 use Rattle.mem_base.specs.script.Printing.{command_tokens, number_text}
-use Rattle.script_laws.proofs.Tokens.{Law, Spelled}
+use Rattle.script_laws.proofs.Tokens.{Spelled}
 use Rattle.script_laws.proofs.Numerals.{digits_fit, number_fits}
 use Rattle.script_laws.proofs.ScriptLaws.{script_sound}
-use Rattle.script_laws.proofs.Spelled.{decimal_law, perm_law, switch_law, bytes_law, client_law, length_law, machine_law, mapped_some, name_law, short_law}
+use Rattle.script_laws.proofs.Spelled.{perm_law, switch_law, bytes_law, client_law, length_law, machine_law, mapped_some, name_law}
 use Rattle.script_laws.proofs.Reading.{Every, Outcome, address_law, ended, ended_after, found, no_ok, same_Ok, size_law, took, took_data}
 use Rattle.script_laws.proofs.Reading.{took_form, took_priority}
 use Rattle.script_laws.proofs.DeviceLaws.{took_device}
-use Rattle.view_laws.proofs.Tests.{none_is_not_some, same_some}
+use Rattle.view_laws.proofs.Tests.{none_is_not_some}
 use Rattle.mem_base.specs.script.Run.{pool_words, words_named}
 use Rattle.run_laws.specs.Fitting.{AreFitting, FitsChange, FitsCommand}
-use Rattle.script_laws.proofs.CommandLaws.{either}
+use Rattle.script_laws.proofs.CommandLaws.{either, to_law}
+use Rattle.script_laws.proofs.ChangeLaws.{notifier_law, decimal_255_law}
+use Rattle.std.proofs.lemmas.Option.{same_Some}
 
 -- whatever the form gives has its numbers in bounds
 abbrev Fits : Form Command → Type 0
@@ -53,7 +55,7 @@ length_fits text n e = go (number_of 64 text) refl e
   where
     not_zero : (m : ℕ) (b : Bool) → (if b then None else Some m) ≡ Some n → m ≡ n
     not_zero m true e = none_is_not_some n e
-    not_zero m false e = same_some m n e
+    not_zero m false e = same_Some m n e
 
     go : (o : Option ℕ) → number_of 64 text ≡ o → option_and_then nonzero o ≡ Some n → n ≤ 64
     go None is e = none_is_not_some n e
@@ -63,7 +65,7 @@ machine_small : (text : Text) (n : ℕ) → machine_size text ≡ Some n → n �
 machine_small text n e = go (number_of (2 ^ 29) text) refl e
   where
     whole : (m : ℕ) (b : Bool) → (if b then Some m else None) ≡ Some n → m ≡ n
-    whole m true e = same_some m n e
+    whole m true e = same_Some m n e
     whole m false e = none_is_not_some n e
 
     go : (o : Option ℕ) → number_of (2 ^ 29) text ≡ o → option_and_then whole_pages o ≡ Some n → n ≤ 2 ^ 29
@@ -71,17 +73,11 @@ machine_small text n e = go (number_of (2 ^ 29) text) refl e
     go (Some m) is e = let most = number_fits (2 ^ 29) text m is in let same = whole m ((m % 4096 == 0) && nat_le 4096 m) e in
         omega arith
 
-decimal_255_law : Law (digits 10 255) decimal
-decimal_255_law = decimal_law 255 (omega arith)
-
 size_fits : (text : Text) (n : ℕ) → number_of most_size text ≡ Some n → n ≤ 2 ^ 64
 size_fits text n e = number_fits most_size text n e
 
 address_fits : (text : Text) (n : ℕ) → number_of most_address text ≡ Some n → n < 2 ^ 64
 address_fits text n e = let most : n ≤ 2 ^ 64 - 1 = number_fits most_address text n e in omega (arith, most)
-
-notifier_law : Law (number_of 63) decimal
-notifier_law = short_law 63 (omega arith)
 
 -- Changes of the map
 
@@ -432,9 +428,6 @@ pass_do_fits n v t y e = by (change t) refl e
 
 abbrev to_words : List (Text × Unit {0})
 to_words = (codes "to", tt) ∷ []
-
-to_law : Law (value_in to_words) (λ _. codes "to")
-to_law token tt e = record { token = refl; reads = refl }
 
 pass_dma_fits : (n : ℕ) → IsPass n → Fits (pass_dma (pass n))
 pass_dma_fits n v t y e =

@@ -37,8 +37,9 @@ use Rattle.run_laws.specs.KnownNames.{IsChangeOrder, IsKnownOrder, KnowsNames}
 use Rattle.run_laws.specs.LineLaws.{OrdersAreKnown}
 use Rattle.run_laws.proofs.DeskLaws.{IsGone, LeavesCall, LeavesListen, LeavesUnlisten, SameMap, any_push, begin_keeps, call_leaves, change_keeps}
 use Rattle.run_laws.proofs.DeskLaws.{commit_keeps, dropped_gone, dropped_others, harvest_keeps, listen_leaves, load_keeps, made_others, made_there}
-use Rattle.view_laws.proofs.Tests.{or_right}
-use Rattle.run_laws.proofs.DeskLaws.{notified_keeps, or_false, reap_keeps, unlisten_leaves}
+use Rattle.run_laws.proofs.DeskLaws.{notified_keeps, reap_keeps, unlisten_leaves}
+use Rattle.std.proofs.lemmas.Bool.{or_right}
+use Rattle.mem_base.proofs.BoolLaws.{or_false}
 
 -- the same regions and listeners
 pub same_known : (k : Known) (d e : Desk) → SameMap d e → KnowsNames k d → KnowsNames k e

@@ -2,7 +2,7 @@
 use Rattle.std.proofs.Common.{◌≡◌, ℕ, ◌+◌, ◌-◌, ◌≤◌, Bool, false, List, [], ◌∷◌, ◌++◌, length, map, drop, append-nil}
 use Rattle.std.proofs.Common.{refl, sym, ap, subst, ◌∙◌, arith, if◌then◌else◌, Option, Some, None}
 use Rattle.std.specs.Prelude.{min, slice_get, Contains, ◌↔◌}
-use Rattle.std.proofs.lemmas.Bool.{le-leb}
+use Rattle.std.proofs.lemmas.Bool.{le-leb, and_parts, not-true}
 use Rattle.mem_base.specs.declared.map.ids.RegionId.{RegionId}
 use Rattle.mem_base.specs.declared.map.ids.SpaceId.{SpaceId}
 use Rattle.mem_base.specs.declared.map.ids.PassId.{PassId}
@@ -35,7 +35,6 @@ use Rattle.map_laws.proofs.CallLaws.{IsOrderedForest-made}
 use Rattle.map_laws.proofs.OffsetLaws.{IsView-made}
 use Rattle.map_laws.proofs.PathLaws.{Finds-found_at}
 use Rattle.view_laws.specs.Named.{Names}
-use Rattle.view_laws.proofs.Tests.{both_of, not_true}
 use Rattle.history_laws.specs.Released.{AreFoundFree, DropsOnce}
 use Rattle.history_laws.specs.Published.{CarriesForests}
 use Rattle.history_laws.proofs.OrderLaws.{order}
@@ -108,7 +107,7 @@ module _ (pool : ℕ) (xs : List PureEntry) (state : State) (k : Settled pool xs
   here P p = subst P k.led.leads p
 
   off : h.desk.due ≡ false
-  off = not_true h.desk.due (both_of _ _ k.rests).0
+  off = not-true h.desk.due (and_parts _ _ k.rests).0
 
   told : told_forest h ≡ f
   told = ap (λ (b : Bool). if b then h.desk.forest else current_forest h.generations) off

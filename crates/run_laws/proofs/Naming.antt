@@ -15,9 +15,11 @@ use Rattle.mem_base.specs.script.States.{number_from, has_region, has_listener}
 use Rattle.mem_base.specs.script.States as states
 use Rattle.mem_base.specs.script.Tasks.{Known, region_id, region_named, space_named, listener_named}
 use Rattle.mem_base.specs.machine.Reaps.{is_among}
-use Rattle.view_laws.proofs.Tests.{both_of, none_is_not_some, same_some}
+use Rattle.view_laws.proofs.Tests.{none_is_not_some}
 use Rattle.run_laws.specs.KnownNames.{KnowsNames}
 use Rattle.run_laws.specs.TaskSteps.{known_state}
+use Rattle.std.proofs.lemmas.Bool.{and_parts}
+use Rattle.std.proofs.lemmas.Option.{same_Some}
 
 -- tests that agree on the numbers of some names
 pub from_agree : (n : ℕ) (names : List Text) (p q : ℕ → Bool) → ((k : ℕ) → n ≤ k → k < n + length names → p k ≡ q k) → (name : Text)
@@ -46,10 +48,10 @@ numbered n (x ∷ xs) p name m e = go (bytes_eq x name && p n) refl e (numbered 
   where
     go : (b : Bool) → (bytes_eq x name && p n) ≡ b → (if b then Some n else number_from (n + 1) xs p name) ≡ Some m
         → (number_from (n + 1) xs p name ≡ Some m → IsNumbered (n + 1) xs name m) → IsNumbered n (x ∷ xs) name m
-    go true h e ih = let same : n ≡ m = same_some n m e in record {
+    go true h e ih = let same : n ≡ m = same_Some n m e in record {
       low = omega arith;
       high = omega arith;
-      named = at_first x xs (m - n) (omega arith) ∙ (bytes_eq-Decides x name).0 (both_of (bytes_eq x name) (p n) h).0;
+      named = at_first x xs (m - n) (omega arith) ∙ (bytes_eq-Decides x name).0 (and_parts (bytes_eq x name) (p n) h).0;
     }
     go false h e ih = let t = ih e in let low = t.low in let high = t.high in record {
       low = omega arith;
@@ -59,7 +61,7 @@ numbered n (x ∷ xs) p name m e = go (bytes_eq x name && p n) refl e (numbered 
 
 mapped : {A B : Type 0} (f : A → B) (o : Option A) (y : B) → option_map f o ≡ Some y → (x : A) × (o ≡ Some x) × (f x ≡ y)
 mapped f None y e = none_is_not_some y e
-mapped f (Some x) y e = (x, refl, same_some (f x) y e)
+mapped f (Some x) y e = (x, refl, same_Some (f x) y e)
 
 zero_less : (m : ℕ) → m - 0 ≡ m
 zero_less m = omega arith

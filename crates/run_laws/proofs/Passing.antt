@@ -17,7 +17,7 @@ use Rattle.mem_base.specs.machine.World.{World, opening, possible}
 use Rattle.mem_base.specs.machine.History.{PureEntry, after_entries, IsLegal, IsLegalFrom, IsOrderly, run_events}
 use Rattle.mem_base.specs.machine.Composites.{accessed, enters, enters_unless, forest_at, is_entered, leaves, leaves_unless, steps_in}
 use Rattle.mem_base.specs.machine.Completions.{may_access}
-use Rattle.view_laws.proofs.Tests.{both, both_of, none_is_not_some, true_is_not_false}
+use Rattle.view_laws.proofs.Tests.{none_is_not_some}
 use Rattle.history_laws.proofs.OrderLaws.{order}
 use Rattle.world_laws.specs.Entered.{IsEnteredIn, EntersHeld}
 use Rattle.world_laws.specs.Accessing.{AreLegalSteps}
@@ -30,6 +30,8 @@ use Rattle.run_laws.specs.MadeForests.{FitsEvent, HasMadeForests}
 use Rattle.run_laws.proofs.MadeLaws.{made_run}
 use Rattle.world_laws.proofs.PassKeeping.{KeepsAll, accessed_by, after_events, entered_by, may_look, steps_keep}
 use Rattle.world_laws.proofs.PassKeeping.{not_entered}
+use Rattle.std.proofs.lemmas.Bool.{and_from, and_parts}
+use Rattle.mem_base.proofs.BoolLaws.{true_is_not_false}
 
 -- histories in parts
 
@@ -68,7 +70,7 @@ run_led pool xs w es k may fits = record {
 
 pub may_enter : (w : World) (pass : PassId) → IsOrderly w → possible w (events.Look pass) ≡ true → AllMay w (enters pass)
 may_enter w pass k may =
-    let t = both_of _ _ may in
+    let t = and_parts _ _ may in
     let near : pass.0 < length w.passes = ltb-true pass.0 (length w.passes) t.0 in
     let p = pass_of w.passes pass in
     let looked : PassState = pass_after p (events.Look pass) w.writer.generations.current in
@@ -88,9 +90,9 @@ may_enter w pass k may =
     let out : is_none p.entered ≡ true = not_entered p (λ n e. let q = (k.each pass near).entered n e in (q.0, q.1)) t.1 in (
       may,
       (
-        both _ _ (both _ _ here saw) free,
+        and_from _ _ (and_from _ _ here saw) free,
         (
-          both _ _ (both _ _ there told)
+          and_from _ _ (and_from _ _ there told)
               (ap (λ (q : PassState). is_none q.entered) two ∙ ap (λ (q : PassState). is_none q.entered) one ∙ out),
           tt,
         ),
@@ -136,7 +138,7 @@ module _ (pool : ℕ) where
 
   pub may_leave : (xs : List PureEntry) (w : World) (pass : PassId) → Led pool xs w → is_entered w pass ≡ true
       → possible w (events.Leave pass) ≡ true
-  may_leave xs w pass k e = both _ _ (within xs w pass k e).there e
+  may_leave xs w pass k e = and_from _ _ (within xs w pass k e).there e
 
   pub leaves_led : (xs : List PureEntry) (w : World) (pass : PassId) → Led pool xs w → is_entered w pass ≡ true
       → LedOn pool xs (after_events w (leaves pass)) (run_events w (leaves pass)).entries

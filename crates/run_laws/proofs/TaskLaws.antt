@@ -39,11 +39,11 @@ use Rattle.mem_base.specs.script.Tasks.{Known, Resolved, Task, after_order, chan
 use Rattle.mem_base.specs.script.Tasks.{space_made, space_named, task_of, then_resolved, listener_named, unless_taken, watcher_named, with_order}
 use Rattle.mem_base.specs.script.RaceLines.{answer_text, do_text}
 use Rattle.mem_base.specs.script.Race.{NamesItsPass, actor_number, desk_number, is_end, is_par}
-use Rattle.view_laws.proofs.Tests.{true_is_not_false}
 use Rattle.run_laws.specs.TaskSteps.{desk_step, known_state, pass_step}
 use Rattle.run_laws.specs.KnownNames.{IsKnownOrder, IsKnownTask, IsPassTask, KnowsNames}
 use Rattle.run_laws.specs.LineLaws.{IsDeskLine, IsPassLine, IsSomeonesLine, LinesAreTasks}
 use Rattle.run_laws.proofs.Naming.{listener_called, listeners_agree, region_called, regions_agree, space_called}
+use Rattle.mem_base.proofs.BoolLaws.{true_is_not_false}
 
 module _ (k : Known) (w : World) (line : ℕ) (a : KnowsNames k w.writer.desk) where
   abbrev state : State

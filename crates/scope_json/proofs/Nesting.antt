@@ -32,7 +32,7 @@ use Rattle.scope_run.specs.Tables.{slot_number}
 use Rattle.scope_values.specs.Findings.{finding_data}
 use Rattle.scope_values.specs.Rows.{row_data}
 use Rattle.scope_values.specs.Steps.{change_data}
-use Rattle.scope_values.proofs.Nesting.{change_depth, finding_depth, row_depth, searches_depth, shallow_append, shallow_flat_map, shallow_if, shallow_unless}
+use Rattle.scope_values.proofs.Nesting.{change_depth, finding_depth, row_depth, searches_depth, shallow_append, shallow_flat_map, shallow_if, shallow_unless, leaf}
 use Rattle.scope_values.proofs.Nesting.{slot_depth, topic_depth}
 use Rattle.scope_json.specs.Answers.{AnswersWith, AnswersWord}
 use Rattle.scope_json.specs.Diffs.{TellsBetween, TellsDiff, TellsFirst, alone_data, changes_of, diff_data, diff_fields, difference_data, second_data}
@@ -44,9 +44,6 @@ use Rattle.scope_json.specs.Lints.{findings_in, line_data, lint_by, lint_data, l
 use Rattle.scope_json.specs.Tables.{TellsSlotsIn, TellsSlotsOf, TellsTables, slots_data, slots_fields, step_data, table_data, table_fields}
 use Rattle.scope_json.specs.Texts.{answer_of}
 use Rattle.scope_json.specs.Whys.{why_data, why_fields}
-
-leaf : (n : ℕ) → 0 ≤ n
-leaf n = omega arith
 
 answer_depth : (n : ℕ) (command : Text) (fs : List (Text × Data)) → HaveShallow n fs → depth (answer_of command fs) ≤ suc n
 answer_depth n command fs h = depth_of_record n ((codes "command", string command) ∷ fs) (leaf n, h)

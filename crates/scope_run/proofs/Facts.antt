@@ -1,6 +1,6 @@
 -- What is said of the map of a script is said of the script.
 use Rattle.std.proofs.Common.{◌≡◌, List, Option, Some, None, Result, Ok, Err, ap, sym, subst, ◌∙◌}
-use Rattle.std.specs.Prelude.{IfErr, IfOk, OnOk}
+use Rattle.std.specs.Prelude.{IfOk, OnOk}
 use Rattle.mem_base.specs.script.Spelling.{Text}
 use Rattle.mem_base.specs.script.Scripts.{Line, script_of}
 use Rattle.mem_base.specs.script.States.{State}
@@ -13,10 +13,6 @@ use Rattle.scope_run.specs.Scripts.{FailsIn, FailsOn, FailsOnBoth, FailsOnSecond
 use Rattle.scope_run.specs.declared.answers.Fault.{Fault}
 use Rattle.scope_run.specs.declared.answers.Fault.TheVariants as faults
 use Rattle.scope_run.specs.declared.answers.Which.TheVariants.{First, Second}
-
-pub if_err : {T E : Type 0} (P Q : E → Type 0) (r : Result T E) → ((e : E) → P e → Q e) → IfErr r P → IfErr r Q
-if_err P Q (Ok x) f h = tt
-if_err P Q (Err e) f h = f e h
 
 pub on_ok : {T E : Type 0} (P Q : Type 0) (r : Result T E) → (P → Q) → OnOk r P → OnOk r Q
 on_ok P Q (Ok x) f h = f h

@@ -42,7 +42,7 @@ pub shallow_flat_map : {X : Type 0} (n : ℕ) (f : X → List Data) (xs : List X
 shallow_flat_map n f [] h = tt
 shallow_flat_map n f (x ∷ xs) h = shallow_append n (f x) (flat_map f xs) (h x) (shallow_flat_map n f xs h)
 
-leaf : (n : ℕ) → 0 ≤ n
+pub leaf : (n : ℕ) → 0 ≤ n
 leaf n = omega arith
 
 shallow_flag : (on : Bool) (word : Text) → AreShallow 0 (flag on word)

@@ -1,9 +1,7 @@
 -- What a subcommand's matches are, from its getters.
 use Rattle.std.proofs.Common.{◌≡◌, ◌∙◌, ℕ, List, [], ap, ap₂, sym, refl, true≢false, None, Some, option_map, is_some, unwrap_or}
 use Rattle.std.specs.declared.option.Option.{Option}
-
-some_same : {X : Type 0} (x y : X) → Some x ≡ Some y → x ≡ y
-some_same x y e = ap (λ o. unwrap_or o x) e
+use Rattle.std.proofs.lemmas.Option.{same_Some}
 
 abbrev pub pair_by : {X A B : Type 0} → (X → A) → (X → B) → X → A × B
 pair_by f g x = (f x, g x)
@@ -17,7 +15,7 @@ both_views None (Some y) f g f' g' a b = absurd (true≢false (sym (ap is_some a
 both_views (Some x) None f g f' g' a b = absurd (true≢false (ap is_some a))
 both_views {X} {Y} {A} {B} (Some x) (Some y) f g f' g' a b =
     let pair : A → B → Option (A × B) = λ p q. Some (p, q) in
-    ap₂ pair (some_same (f x) (f' y) a) (some_same (g x) (g' y) b)
+    ap₂ pair (same_Some (f x) (f' y) a) (same_Some (g x) (g' y) b)
 
 -- a word that is there, and one that is not
 pub there : {X : Type 0} (f : X → List ℕ) (o : Option X) (x : X) (t : Option (List ℕ)) → option_map f o ≡ t → o ≡ Some x → f x ≡ unwrap_or t []

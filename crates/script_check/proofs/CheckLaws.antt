@@ -1,6 +1,5 @@
 -- What is told of all spaces.
-use Rattle.std.proofs.Common.{◌≡◌, ◌∙◌, ◌||◌, ◌++◌, Bool, true, false, List, [], ◌∷◌, Result, Ok, Err, ap, refl, subst, sym, true≢false}
-use Rattle.std.specs.Prelude.{IfErr}
+use Rattle.std.proofs.Common.{◌≡◌, ◌∙◌, ◌++◌, Bool, false, List, [], ◌∷◌, ap, refl, subst, sym, true≢false}
 use Rattle.mem_base.specs.declared.map.ids.RegionId.{RegionId}
 use Rattle.mem_base.specs.declared.map.ids.SpaceId.{SpaceId}
 use Rattle.mem_base.specs.lists.Every.{Every}
@@ -28,13 +27,10 @@ use Rattle.script_memory.specs.Told.{IsToldByText, Told}
 use Rattle.script_check.specs.declared.verdicts.Verdict.{Verdict}
 use Rattle.script_check.specs.declared.verdicts.Verdict.TheVariants.{Same, Differs, Unprinted}
 use Rattle.script_check.proofs.VerdictLaws.{same_is_printed}
+use Rattle.std.proofs.lemmas.Bool.{or_parts}
 
 pub space_printed : (x : Compared) (space : SpaceId) → space_verdict x space ≡ Same → IsSpacePrinted x space
 space_printed x space e = same_is_printed x.names x.memory (space_name x.names space) (view_of x.forest space) 0 x.blocks e
-
-neither : (a b : Bool) → (a || b) ≡ false → (a ≡ false) × (b ≡ false)
-neither true b e = absurd (true≢false e)
-neither false b e = (refl, e)
 
 is_same : (v : Verdict) → is_other v ≡ false → v ≡ Same
 is_same Same e = refl
@@ -46,7 +42,7 @@ pub all_printed : (x : Compared) (spaces : List (SpaceId × RegionId)) → some_
     → Every (λ (s : SpaceId × RegionId). IsSpacePrinted x s.0) spaces
 all_printed x [] e = tt
 all_printed x (s ∷ rest) e =
-    let parts = neither (is_other (space_verdict x s.0)) (some_differs x rest) e in
+    let parts = or_parts (is_other (space_verdict x s.0)) (some_differs x rest) e in
     (space_printed x s.0 (is_same (space_verdict x s.0) parts.0), all_printed x rest parts.1)
 
 -- all spaces of the forest that is compared, where they came as a list, and the text was empty
@@ -74,10 +70,6 @@ is_told m blocks memory text differs e t d =
 pub told_of_text : (script : Text) (m : Told) (blocks : List Printed) (text : Text) (differs : Bool) → IsToldByText script m
     → IsToldOf m blocks text differs → IsToldOfText script blocks text differs
 told_of_text script m blocks text differs h t = record { map = m; reads = h; told = t }
-
-pub if_err : {T E : Type 0} (P Q : E → Type 0) (r : Result T E) → ((e : E) → P e → Q e) → IfErr r P → IfErr r Q
-if_err P Q (Ok x) f h = tt
-if_err P Q (Err e) f h = f e h
 
 pub memory_explains : (script flat : Text) (fault : CheckFault) → fault ≡ Memory → Explains script flat fault
 memory_explains script flat fault e = subst (Explains script flat) (sym e) tt

@@ -21,10 +21,10 @@ Reads c = (are_tokens (change_tokens c) ≡ true) × (change (change_tokens c) �
 abbrev pub Again : Form MapChange → Type 0
 Again f = (t : List Text) (y : MapChange) → f t ≡ Ok y → Reads y
 
-decimal_255_law : Law (digits 10 255) decimal
+pub decimal_255_law : Law (digits 10 255) decimal
 decimal_255_law = decimal_law 255 (omega arith)
 
-notifier_law : Law (number_of 63) decimal
+pub notifier_law : Law (number_of 63) decimal
 notifier_law = short_law 63 (omega arith)
 
 add_again : Again add

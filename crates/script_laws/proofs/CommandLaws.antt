@@ -1,12 +1,12 @@
 -- Each line that was read is printed so that it reads as the same.
-use Rattle.std.proofs.Common.{◌≡◌, List, [], ◌∷◌, ℕ, Ok, Err, Some, None, Option, refl, ap, subst, ◌∙◌, arith, decimal, codes, option_map}
+use Rattle.std.proofs.Common.{◌≡◌, List, [], ◌∷◌, ℕ, Ok, Err, Some, None, Option, refl, ap, subst, ◌∙◌, codes, option_map}
 use Rattle.std.specs.Option.{option_or}
 use Rattle.mem_base.specs.declared.script.faults.Cause.TheVariants as causes
 use Rattle.mem_base.specs.declared.map.ids.PassId.{PassId}
 use Rattle.mem_base.specs.declared.script.changes.MapChange.{MapChange}
 use Rattle.mem_base.specs.declared.script.commands.Command.{Command}
 use Rattle.mem_base.specs.declared.script.commands.Command.TheVariants as commands
-use Rattle.mem_base.specs.script.Spelling.{Text, name_of, number_of, pass_of}
+use Rattle.mem_base.specs.script.Spelling.{Text, name_of, pass_of}
 use Rattle.mem_base.specs.script.Operands.{Form, ends, then_read, value_in, with_value}
 use Rattle.mem_base.specs.script.RegionForms.{alias, container, io, iommu, ram, region, region_forms, reserve, rom, romdev}
 use Rattle.mem_base.specs.script.DeskForms.{at, desk_forms, dirty, drop_region, listen, load, machine, notified, show, space, unlisten, unwatch, watch}
@@ -16,9 +16,9 @@ use Rattle.mem_base.specs.script.Operands.{made_by}
 use Rattle.mem_base.specs.script.PassForms.{pass_dma, pass_do, pass_forms, pass_line, pass_read, pass_write}
 use Rattle.mem_base.specs.script.Printing.{pass_text}
 use Rattle.script_laws.proofs.Tokens.{Law, Spelled}
-use Rattle.script_laws.proofs.Spelled.{bytes_law, client_law, length_law, machine_law, mapped_some, name_law, pass_law, short_law}
+use Rattle.script_laws.proofs.Spelled.{bytes_law, client_law, length_law, machine_law, mapped_some, name_law, pass_law}
 use Rattle.script_laws.proofs.Reading.{Every, Outcome, address_law, ended, ended_after, found, no_ok, same_Ok, size_law, took, took_form, took_priority}
-use Rattle.script_laws.proofs.ChangeLaws.{change_again, change_table}
+use Rattle.script_laws.proofs.ChangeLaws.{change_again, change_table, notifier_law}
 use Rattle.script_laws.proofs.ChangeLaws as of_change
 use Rattle.script_laws.proofs.DeviceLaws.{took_device}
 pub use Rattle.mem_base.specs.script.Sound.{ReadsAsItself as Reads}
@@ -26,9 +26,6 @@ pub use Rattle.mem_base.specs.script.Sound.{ReadsAsItself as Reads}
 -- whatever the form gives reads as itself when it is printed
 abbrev pub Again : Form Command → Type 0
 Again f = (t : List Text) (y : Command) → f t ≡ Ok y → Reads y
-
-notifier_law : Law (number_of 63) decimal
-notifier_law = short_law 63 (omega arith)
 
 -- Regions
 
@@ -236,7 +233,7 @@ pass_do_again n v t y e = by (change t) refl e
 abbrev to_words : List (Text × Unit {0})
 to_words = (codes "to", tt) ∷ []
 
-to_law : Law (value_in to_words) (λ _. codes "to")
+pub to_law : Law (value_in to_words) (λ _. codes "to")
 to_law token tt e = record { token = refl; reads = refl }
 
 pass_dma_again : (n : ℕ) → IsPass n → Again (pass_dma (pass n))

@@ -10,9 +10,10 @@ use Rattle.mem_base.specs.script.Spelling.{Text, digits, range_of}
 use Rattle.mem_base.specs.script.Operands.{Form, Operand, flag, give, optional, then_read, token_as, value_in}
 use Rattle.mem_base.specs.script.RegionForms.{device, device_kinds, device_with}
 use Rattle.mem_base.specs.script.Printing.{device_kind_text, device_tokens, flag_tokens, range_text, range_tokens, regs_tokens}
-use Rattle.script_laws.proofs.Tokens.{Law, Spelled, and_both, and_true, are_tokens, is_token}
+use Rattle.script_laws.proofs.Tokens.{Law, Spelled, are_tokens, is_token}
 use Rattle.script_laws.proofs.Spelled.{decimal_law, device_kind_law, range_law}
 use Rattle.script_laws.proofs.Reading.{Outcome, no_ok, same_Ok, took}
+use Rattle.std.proofs.lemmas.Bool.{not-true, and_parts, and_from}
 
 -- Taken apart
 
@@ -46,14 +47,10 @@ abbrev differs : Text → List Text → Bool
 differs keyword [] = true
 differs keyword (token ∷ t) = not (bytes_eq token keyword)
 
-not_true : (b : Bool) → not b ≡ true → b ≡ false
-not_true true e = sym e
-not_true false e = refl
-
 left_out : {X : Type 0} (keyword : Text) (operand : Operand X) (default : X) (rest : List Text) → differs keyword rest ≡ true →
     optional keyword operand default rest ≡ Ok (default, rest)
 left_out keyword operand default [] h = refl
-left_out keyword operand default (token ∷ t) h = rw (not_true (bytes_eq token keyword) h) refl
+left_out keyword operand default (token ∷ t) h = rw (not-true (bytes_eq token keyword) h) refl
 
 option_reads : {X : Type 0} (keyword : Text) (cause : Cause) (value : Text → Option X) (default x : X) (text : Text) (b : Bool) (rest : List Text)
     → bytes_eq keyword keyword ≡ true → value text ≡ Some x → (b ≡ true → x ≡ default) → differs keyword rest ≡ true
@@ -94,7 +91,7 @@ flag_are keyword true h = rw h refl
 flag_are keyword false h = refl
 
 and_then : (a b : List Text) → are_tokens a ≡ true → are_tokens b ≡ true → are_tokens (a ++ b) ≡ true
-and_then a b h k = list_all-append is_token a b ∙ and_true (are_tokens a) (are_tokens b) h k
+and_then a b h k = list_all-append is_token a b ∙ and_from (are_tokens a) (are_tokens b) h k
 
 abbrev pub DeviceReads : Device → Type 0
 DeviceReads d = (are_tokens (device_tokens d) ≡ true) × (device (device_tokens d) ≡ Ok (d, []))
@@ -103,7 +100,7 @@ usual_regs : (n : ℕ) → (n == 1) ≡ true → n ≡ 1
 usual_regs n e = eqb-true n 1 e
 
 usual_range : (r : ℕ × ℕ) → ((r.0 == 1) && (r.1 == 4)) ≡ true → r ≡ (1, 4)
-usual_range r e = let both = and_both (r.0 == 1) (r.1 == 4) e in ap₂ (λ a b. (a, b)) (eqb-true r.0 1 both.0) (eqb-true r.1 4 both.1)
+usual_range r e = let both = and_parts (r.0 == 1) (r.1 == 4) e in ap₂ (λ a b. (a, b)) (eqb-true r.0 1 both.0) (eqb-true r.1 4 both.1)
 
 device_reads : (kind : DeviceKind) (regs : ℕ) (valid impl : ℕ × ℕ) (vu iu big : Bool)
     → Spelled (value_in device_kinds) (device_kind_text kind) kind → Spelled (digits 10 65535) (decimal regs) regs →

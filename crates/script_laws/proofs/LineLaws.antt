@@ -1,5 +1,5 @@
 -- A line that is printed in single spaces is read as its tokens.
-use Rattle.std.proofs.Common.{◌≡◌, ◌==◌, ◌-◌, ◌&&◌, ℕ, List, [], ◌∷◌, Bool, true, false, not, cond, nat_lt, Some, None, Ok, Err, refl, sym}
+use Rattle.std.proofs.Common.{◌≡◌, ◌==◌, ◌-◌, ◌&&◌, ℕ, List, [], ◌∷◌, Bool, true, false, not, cond, nat_lt, Some, None, Ok, Err, refl}
 use Rattle.std.proofs.Common.{ap, ◌∙◌, subst, arith, length, take, filter}
 use Rattle.std.specs.List.{All, list_all, position_or_len}
 use Rattle.std.proofs.lemmas.Bool.Decides.{nat_tests}
@@ -15,10 +15,11 @@ use Rattle.mem_base.specs.script.Forms.{command}
 use Rattle.mem_base.specs.script.Operands.{made_by}
 use Rattle.mem_base.specs.script.Lines.{command_or_blank, has_bytes, is_gap, is_return, line_of, may_stand, tokens_of, uncommented, without_return}
 use Rattle.mem_base.specs.script.Printing.{command_tokens, spaced}
-use Rattle.script_laws.proofs.Tokens.{and_both, and_true, are_tokens, is_graphic, is_token, list_all-more}
+use Rattle.script_laws.proofs.Tokens.{are_tokens, is_graphic, is_token, list_all-more}
 use Rattle.script_laws.proofs.Numerals.{last_step}
 use Rattle.script_laws.proofs.Reading.{Outcome, no_ok, same_Ok}
 use Rattle.script_laws.proofs.CommandLaws.{Reads, command_again}
+use Rattle.std.proofs.lemmas.Bool.{not-true, and_parts, and_from}
 
 -- a byte of a printed line
 abbrev pub is_plain : ℕ → Bool
@@ -30,36 +31,32 @@ graphic-plain b h = grind (arith, nat_tests)
 spaced_plain : (ts : List Text) → are_tokens ts ≡ true → list_all is_plain (spaced ts) ≡ true
 spaced_plain [] all = refl
 spaced_plain (t ∷ []) all = list_all-more is_graphic is_plain graphic-plain t
-    (and_both (nat_lt 0 (length t)) (list_all is_graphic t) (and_both (is_token t) true all).0).1
+    (and_parts (nat_lt 0 (length t)) (list_all is_graphic t) (and_parts (is_token t) true all).0).1
 spaced_plain (t ∷ u ∷ us) all =
-    let both = and_both (is_token t) (are_tokens (u ∷ us)) all in
+    let both = and_parts (is_token t) (are_tokens (u ∷ us)) all in
     list_all-append is_plain t (32 ∷ spaced (u ∷ us))
-    ∙ and_true (list_all is_plain t) (list_all is_plain (32 ∷ spaced (u ∷ us)))
-    (list_all-more is_graphic is_plain graphic-plain t (and_both (nat_lt 0 (length t)) (list_all is_graphic t) both.0).1) (spaced_plain (u ∷ us) both.1)
+    ∙ and_from (list_all is_plain t) (list_all is_plain (32 ∷ spaced (u ∷ us)))
+    (list_all-more is_graphic is_plain graphic-plain t (and_parts (nat_lt 0 (length t)) (list_all is_graphic t) both.0).1) (spaced_plain (u ∷ us) both.1)
 
 -- nothing that passes is found
 none_found : (p : ℕ → Bool) (xs : List ℕ) → list_all (λ b. not (p b)) xs ≡ true → position_or_len p xs ≡ length xs
 none_found p [] h = refl
 none_found p (x ∷ xs) h =
-    let both = and_both (not (p x)) (list_all (λ b. not (p b)) xs) h in
+    let both = and_parts (not (p x)) (list_all (λ b. not (p b)) xs) h in
     let rest = none_found p xs both.1 in
     rw both.0 (omega (arith, rest))
-
-not_false : (b : Bool) → not b ≡ true → b ≡ false
-not_false true e = sym e
-not_false false e = refl
 
 -- none passes, by index
 pub none_pass : (p : ℕ → Bool) (xs : List ℕ) → list_all (λ b. not (p b)) xs ≡ true → All (λ b. p b ≡ false) xs
 none_pass p [] h = All-nil (λ b. p b ≡ false)
 none_pass p (x ∷ xs) h =
-    let both = and_both (not (p x)) (list_all (λ b. not (p b)) xs) h in
-    All-cons (λ b. p b ≡ false) x xs (not_false (p x) both.0) (none_pass p xs both.1)
+    let both = and_parts (not (p x)) (list_all (λ b. not (p b)) xs) h in
+    All-cons (λ b. p b ≡ false) x xs (not-true (p x) both.0) (none_pass p xs both.1)
 
-no_hash : (b : ℕ) → is_plain b ≡ true → not (b == 35) ≡ true
+pub no_hash : (b : ℕ) → is_plain b ≡ true → not (b == 35) ≡ true
 no_hash b h = grind (arith, nat_tests)
 
-stands : (b : ℕ) → is_plain b ≡ true → may_stand b ≡ true
+pub stands : (b : ℕ) → is_plain b ≡ true → may_stand b ≡ true
 stands b h = grind (arith, nat_tests)
 
 pub no_feed : (b : ℕ) → is_plain b ≡ true → not (b == 10) ≡ true
@@ -82,26 +79,26 @@ uncommented_plain line h =
 
 last_plain : (line : Text) → list_all is_plain line ≡ true → is_return (last_of line) ≡ false
 last_plain [] h = refl
-last_plain (b ∷ []) h = ap is_return (one_left b) ∙ no_return b (and_both (is_plain b) true h).0
-last_plain (b ∷ c ∷ cs) h = ap is_return (last_step b c cs) ∙ last_plain (c ∷ cs) (and_both (is_plain b) (list_all is_plain (c ∷ cs)) h).1
+last_plain (b ∷ []) h = ap is_return (one_left b) ∙ no_return b (and_parts (is_plain b) true h).0
+last_plain (b ∷ c ∷ cs) h = ap is_return (last_step b c cs) ∙ last_plain (c ∷ cs) (and_parts (is_plain b) (list_all is_plain (c ∷ cs)) h).1
 
 without_return_plain : (line : Text) → list_all is_plain line ≡ true → without_return line ≡ line
 without_return_plain line h = ap (λ b. cond b (take (length line - 1) line) line) (last_plain line h)
 
 no_gaps : (t : Text) → is_token t ≡ true → All (λ b. is_gap b ≡ false) t
-no_gaps t h = none_pass is_gap t (list_all-more is_graphic (λ b. not (is_gap b)) no_gap t (and_both (nat_lt 0 (length t)) (list_all is_graphic t) h).1)
+no_gaps t h = none_pass is_gap t (list_all-more is_graphic (λ b. not (is_gap b)) no_gap t (and_parts (nat_lt 0 (length t)) (list_all is_graphic t) h).1)
 
 bytes_there : (t : Text) → is_token t ≡ true → has_bytes t ≡ true
-bytes_there t h = (and_both (nat_lt 0 (length t)) (list_all is_graphic t) h).0
+bytes_there t h = (and_parts (nat_lt 0 (length t)) (list_all is_graphic t) h).0
 
 -- tokens between single spaces are read as they were
 spaced_reads : (ts : List Text) → are_tokens ts ≡ true → tokens_of (spaced ts) ≡ ts
 spaced_reads [] all = refl
 spaced_reads (t ∷ []) all =
-    let here = (and_both (is_token t) true all).0 in
+    let here = (and_parts (is_token t) true all).0 in
     ap (filter has_bytes) (slice_split_none is_gap t (no_gaps t here)) ∙ rw (bytes_there t here) refl
 spaced_reads (t ∷ u ∷ us) all =
-    let both = and_both (is_token t) (are_tokens (u ∷ us)) all in
+    let both = and_parts (is_token t) (are_tokens (u ∷ us)) all in
     ap (filter has_bytes) (slice_split_at is_gap t 32 (spaced (u ∷ us)) (no_gaps t both.0) refl)
     ∙ rw (bytes_there t both.0) (ap (λ ts. t ∷ ts) (spaced_reads (u ∷ us) both.1))
 

@@ -10,7 +10,8 @@ use Rattle.std.proofs.lemmas.Bool.Decides.{nat_tests}
 use Rattle.std.proofs.lemmas.Option.{cond_some, option_and_then_some, none-some, same_Some}
 use Rattle.mem_base.specs.script.Spelling.{Text, at_most, digit_of, digits, digits_after, last_of, number_of, plain_number, scale_of}
 use Rattle.mem_base.specs.script.Printing.{number_text}
-use Rattle.script_laws.proofs.Tokens.{and_true, is_graphic, is_token}
+use Rattle.script_laws.proofs.Tokens.{is_graphic, is_token}
+use Rattle.std.proofs.lemmas.Bool.{and_from}
 
 pub at_most_yes : (limit n : ℕ) → n ≤ limit → at_most limit n ≡ Some n
 at_most_yes limit n h = grind (arith, nat_tests)
@@ -33,7 +34,7 @@ none_or false o m e = e
 pub digits_fit : (radix limit : ℕ) (text : Text) (m : ℕ) → digits radix limit text ≡ Some m → m ≤ limit
 digits_fit radix limit text m e = after_fits radix limit 0 text m (omega arith) (none_or (length text == 0) (digits_after radix limit 0 text) m e)
 
-either : {X P : Type 0} (b : Bool) (o p : Option X) (m : X) → ((o ≡ Some m) → P) → ((p ≡ Some m) → P) → cond b o p ≡ Some m → P
+pub either : {X P : Type 0} (b : Bool) (o p : Option X) (m : X) → ((o ≡ Some m) → P) → ((p ≡ Some m) → P) → cond b o p ≡ Some m → P
 either true o p m f g e = f e
 either false o p m f g e = g e
 
@@ -132,20 +133,20 @@ digit_graphic radix b small h = grind (arith, nat_tests)
 pub digits_graphic : (radix : ℕ) (ds : List ℕ) → radix ≤ 16 → AllDigits radix ds → list_all is_graphic ds ≡ true
 digits_graphic radix [] small all = refl
 digits_graphic radix (d ∷ ds) small all =
-    and_true (is_graphic d) (list_all is_graphic ds) (digit_graphic radix d small all.0) (digits_graphic radix ds small all.1)
+    and_from (is_graphic d) (list_all is_graphic ds) (digit_graphic radix d small all.0) (digits_graphic radix ds small all.1)
 
 some_there : (xs : List ℕ) → 0 < length xs → nat_lt 0 (length xs) ≡ true
 some_there xs h = grind (arith, nat_tests)
 
 pub numeral_token : (radix : ℕ) (ds : List ℕ) → radix ≤ 16 → IsNumeral radix ds → is_token ds ≡ true
-numeral_token radix ds small is = and_true (nat_lt 0 (length ds)) (list_all is_graphic ds) (some_there ds is.0) (digits_graphic radix ds small is.1)
+numeral_token radix ds small is = and_from (nat_lt 0 (length ds)) (list_all is_graphic ds) (some_there ds is.0) (digits_graphic radix ds small is.1)
 
 pub decimal_token : (n : ℕ) → n ≤ 2 ^ 64 → is_token (glyphs 10 false n) ≡ true
 decimal_token n small = numeral_token 10 (glyphs 10 false n) (omega arith) (ten n small).0
 
 pub number_token : (n : ℕ) → n ≤ 2 ^ 64 → is_token (number_text n) ≡ true
 number_token n small =
-    and_true (nat_lt 0 (length (number_text n))) (list_all is_graphic (number_text n)) (some_there (number_text n) (omega arith))
+    and_from (nat_lt 0 (length (number_text n))) (list_all is_graphic (number_text n)) (some_there (number_text n) (omega arith))
     (digits_graphic 16 (glyphs 16 false n) (omega arith) (sixteen n small).0.1)
 
 -- numbers of the general form that are printed in decimal
@@ -171,4 +172,4 @@ short_number_reads limit n small fits =
 -- no digit is this byte, which is no digit
 pub no_digit : (ds : List ℕ) (c : ℕ) → AllDigits 10 ds → 10 ≤ digit_value c → list_all (λ b. not (b == c)) ds ≡ true
 no_digit [] c all h = refl
-no_digit (d ∷ ds) c all h = and_true (not (d == c)) (list_all (λ b. not (b == c)) ds) (grind (arith, nat_tests)) (no_digit ds c all.1 h)
+no_digit (d ∷ ds) c all h = and_from (not (d == c)) (list_all (λ b. not (b == c)) ds) (grind (arith, nat_tests)) (no_digit ds c all.1 h)

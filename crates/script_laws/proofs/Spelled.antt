@@ -2,7 +2,7 @@
 use Rattle.std.proofs.Common.{◌≡◌, ◌==◌, ◌<◌, ◌≤◌, ◌+◌, ◌-◌, ◌*◌, ◌/◌, ◌%◌, ◌^◌, ◌++◌, ◌&&◌, ℕ, zero, suc, List, [], ◌∷◌, Bool, true, false}
 use Rattle.std.proofs.Common.{not, cond, nat_lt, nat_le, None, Some, Option, refl, sym, ap, ap₂, subst, ◌∙◌, arith, length, take, drop}
 use Rattle.std.proofs.Common.{codes, decimal, bytes_eq, ℤ, pos, negsuc, neg_ℤ, option_map, option_and_then, position, true≢false, eqb-true}
-use Rattle.std.proofs.lemmas.Bool.{eqb-false, lt-ltb}
+use Rattle.std.proofs.lemmas.Bool.{eqb-false, lt-ltb, and_parts, and_from}
 use Rattle.std.proofs.lemmas.List.{drop-drop, length-append}
 use Rattle.std.proofs.lemmas.List.Folds.{list_all-append}
 use Rattle.std.specs.Fmt.{digits as glyphs, signed_decimal, digit_glyph}
@@ -19,8 +19,8 @@ use Rattle.mem_base.specs.script.Spelling.{range_of, whole_pages}
 use Rattle.mem_base.specs.script.Operands.{clients, perms, switches, value_in}
 use Rattle.mem_base.specs.script.RegionForms.{device_kinds}
 use Rattle.mem_base.specs.script.Printing.{bytes_text, client_text, device_kind_text, number_text, pass_text, perm_text, range_text, switch_text}
-use Rattle.script_laws.proofs.Tokens.{Law, Spelled, and_both, and_true, is_graphic, is_token, name-token, token_more}
-use Rattle.script_laws.proofs.Numerals.{decimal_reads, decimal_token, digits_fit, digits_graphic, number_fits, number_reads, number_token}
+use Rattle.script_laws.proofs.Tokens.{Law, Spelled, is_graphic, is_token, name-token, token_more}
+use Rattle.script_laws.proofs.Numerals.{decimal_reads, decimal_token, digits_fit, digits_graphic, number_fits, number_reads, number_token, either}
 use Rattle.script_laws.proofs.Numerals.{no_digit, short_number_reads, ten}
 
 pub name_law : Law name_of (λ n. n)
@@ -84,10 +84,6 @@ pub mapped_some : {X Y P : Type 0} (f : X → Y) (o : Option X) (y : Y) → opti
 mapped_some f None y e k = absurd (none-some y e)
 mapped_some f (Some x) y e k = k x refl (same_Some (f x) y e)
 
-either : {X P : Type 0} (b : Bool) (o p : Option X) (m : X) → ((o ≡ Some m) → P) → ((p ≡ Some m) → P) → cond b o p ≡ Some m → P
-either true o p m f g e = f e
-either false o p m f g e = g e
-
 priority_fits : (token : Text) (z : ℤ) → priority_of token ≡ Some z → FitsPriority z
 priority_fits token z e =
     either (bytes_eq (take 1 token) (codes "-")) (option_map (λ n. neg_ℤ (pos n)) (digits 10 (2 ^ 31) (drop 1 token)))
@@ -149,7 +145,7 @@ all_below (suc n) test = test n && all_below n test
 pub below : (n k : ℕ) (test : ℕ → Bool) → all_below n test ≡ true → k < n → test k ≡ true
 below zero k test e h = absurd (omega (arith, h))
 below (suc n) k test e h =
-    let both = and_both (test n) (all_below n test) e in
+    let both = and_parts (test n) (all_below n test) e in
     by (k == n) refl both.0 (below n k test both.1)
   where
     by : (b : Bool) → (k == n) ≡ b → test n ≡ true → (k < n → test k ≡ true) → test k ≡ true
@@ -177,7 +173,7 @@ value_is n (Some m) e = ap Some (eqb-true m n e)
 pub pass_law : Law pass_of pass_number_text
 pass_law token n e =
     let some = cond_then (bytes_eq (take 1 token) (codes "v") && leads_with_no_zero (drop 1 token)) (digits 10 15 (drop 1 token)) n e in
-    let test = and_both (is_token (pass_number_text n)) (is_value n (pass_of (pass_number_text n)))
+    let test = and_parts (is_token (pass_number_text n)) (is_value n (pass_of (pass_number_text n)))
     (below 16 n pass_test passes (let fits = digits_fit 10 15 (drop 1 token) n some in omega (arith, fits))) in
     record { token = test.0; reads = value_is n (pass_of (pass_number_text n)) test.1 }
   where
@@ -190,7 +186,7 @@ pass_law token n e =
 first_at : (ds ys : List ℕ) → list_all (λ b. not (b == 45)) ds ≡ true → position_or_len (λ b. b == 45) (ds ++ 45 ∷ ys) ≡ length ds
 first_at [] ys h = refl
 first_at (d ∷ ds) ys h =
-    let both = and_both (not (d == 45)) (list_all (λ b. not (b == 45)) ds) h in
+    let both = and_parts (not (d == 45)) (list_all (λ b. not (b == 45)) ds) h in
     let rest = first_at ds ys both.1 in
     rw both.0 (omega (arith, rest))
 
@@ -232,10 +228,10 @@ range_law token r e =
     let back : digits 10 255 (drop (length (decimal r.0) + 1) (range_text r)) ≡ Some r.1 =
     ap (digits 10 255) (drop_past (decimal r.0) 45 (decimal r.1)) ∙ decimal_reads 255 r.1 (omega (arith, fits.1)) fits.1 in
     record {
-      token = and_true (nat_lt 0 (length (range_text r))) (list_all is_graphic (range_text r))
+      token = and_from (nat_lt 0 (length (range_text r))) (list_all is_graphic (range_text r))
           (let long = length-append (decimal r.0) (45 ∷ decimal r.1) in lt-ltb 0 (length (range_text r)) (omega (arith, long)))
           (list_all-append is_graphic (decimal r.0) (45 ∷ decimal r.1)
-          ∙ and_true (list_all is_graphic (decimal r.0)) (list_all is_graphic (45 ∷ decimal r.1)) (digits_graphic 10 (decimal r.0) (omega arith) low.0.1)
+          ∙ and_from (list_all is_graphic (decimal r.0)) (list_all is_graphic (45 ∷ decimal r.1)) (digits_graphic 10 (decimal r.0) (omega arith) low.0.1)
           (digits_graphic 10 (decimal r.1) (omega arith) (ten r.1 (omega (arith, fits.1))).0.1));
       reads = ap (λ o. range_at o (range_text r)) dash ∙ ap₂ pair_of front back;
     }
@@ -289,9 +285,9 @@ bytes_read (b ∷ bs) all =
 bytes_graphic : (bs : List ℕ) → AllBytes bs → list_all is_graphic (bytes_text bs) ≡ true
 bytes_graphic [] all = refl
 bytes_graphic (b ∷ bs) all =
-    and_true (is_graphic (digit_glyph false (b / 16))) (list_all is_graphic (digit_glyph false (b % 16) ∷ bytes_text bs))
+    and_from (is_graphic (digit_glyph false (b / 16))) (list_all is_graphic (digit_glyph false (b % 16) ∷ bytes_text bs))
     (glyph_graphic (b / 16) (omega (arith, all.0)))
-    (and_true (is_graphic (digit_glyph false (b % 16))) (list_all is_graphic (bytes_text bs)) (glyph_graphic (b % 16) (omega arith)) (bytes_graphic bs all.1))
+    (and_from (is_graphic (digit_glyph false (b % 16))) (list_all is_graphic (bytes_text bs)) (glyph_graphic (b % 16) (omega arith)) (bytes_graphic bs all.1))
 
 pub bytes_law : Law bytes_of bytes_text
 bytes_law token bs e =
@@ -299,8 +295,8 @@ bytes_law token bs e =
     let fits = pairs_fit token bs some.1 in
     let same : (nat_le 1 (length (bytes_text bs)) && nat_le (length (bytes_text bs)) 128) ≡ true = ap (λ n. nat_le 1 n && nat_le n 128) fits.1 ∙ some.0 in
     record {
-      token = and_true (nat_lt 0 (length (bytes_text bs))) (list_all is_graphic (bytes_text bs))
-          (and_both (nat_le 1 (length (bytes_text bs))) (nat_le (length (bytes_text bs)) 128) same).0
+      token = and_from (nat_lt 0 (length (bytes_text bs))) (list_all is_graphic (bytes_text bs))
+          (and_parts (nat_le 1 (length (bytes_text bs))) (nat_le (length (bytes_text bs)) 128) same).0
           (bytes_graphic bs fits.0);
       reads = ap (λ b. cond b (byte_pairs (bytes_text bs)) None) same ∙ bytes_read bs fits.0;
     }

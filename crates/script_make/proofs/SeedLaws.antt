@@ -2,7 +2,7 @@
 use Rattle.std.proofs.Common.{◌≡◌, ◌==◌, ◌<◌, ◌≤◌, ◌+◌, ◌*◌, ◌/◌, ◌%◌, ◌^◌, ◌++◌, ◌&&◌, ℕ, zero, suc, List, [], ◌∷◌, Bool, true, false}
 use Rattle.std.proofs.Common.{cond, nat_le, None, Some, Option, Ok, refl, ap, ◌∙◌, arith, length, codes, decimal, ℤ, pos, negsuc, ◌-ℤ◌}
 use Rattle.std.proofs.Math.Nat.{mod-lt}
-use Rattle.std.proofs.lemmas.Bool.{le-leb}
+use Rattle.std.proofs.lemmas.Bool.{le-leb, and_from}
 use Rattle.std.proofs.lemmas.Fmt.{length_signed_le}
 use Rattle.std.proofs.lemmas.Bool.Decides.{nat_tests}
 use Rattle.std.proofs.lemmas.Fmt.{length-decimal-le}
@@ -31,7 +31,6 @@ use Rattle.script_laws.proofs.CommandLaws.{command_again}
 use Rattle.script_laws.proofs.Numerals.{number_reads, ten}
 use Rattle.script_laws.proofs.ScriptLaws.{printed_again}
 use Rattle.script_laws.proofs.Spelled.{AllBytes, all_below, below, bytes_read, is_value, value_is}
-use Rattle.script_laws.proofs.Tokens.{and_true}
 use Rattle.script_make.specs.Texts.{commands_of_seed, script_of_seed, text_of_seed}
 
 -- How the operands read
@@ -41,7 +40,7 @@ digit_follows b h = grind (arith, nat_tests)
 
 digits_follow : (ds : List ℕ) → AllDigits 10 ds → list_all may_follow ds ≡ true
 digits_follow [] all = refl
-digits_follow (d ∷ ds) all = and_true (may_follow d) (list_all may_follow ds) (digit_follows d all.0) (digits_follow ds all.1)
+digits_follow (d ∷ ds) all = and_from (may_follow d) (list_all may_follow ds) (digit_follows d all.0) (digits_follow ds all.1)
 
 -- the name of a region below 2000
 name_long : (i : ℕ) → i < 2000 → length (region_name i) ≤ 5

@@ -9,7 +9,7 @@ use Rattle.std.proofs.lemmas.List.Quantifiers.{position-Some}
 use Rattle.std.proofs.Math.Seq.{drop-cons}
 use Rattle.mem_base.specs.script.Spelling.{Text}
 use Rattle.mem_base.specs.script.Lines.{has_bytes, is_gap, tokens_of}
-use Rattle.script_laws.proofs.Tokens.{and_both, and_true}
+use Rattle.std.proofs.lemmas.Bool.{and_parts, and_from}
 
 -- a list of parts is not empty
 pub some_part : (p : ℕ → Bool) (text : Text) → (first : Text) × (rest : List Text) × (slice_split p text ≡ first ∷ rest)
@@ -68,4 +68,4 @@ pub all_front : (p : ℕ → Bool) (text : Text) (n : ℕ) → list_all p text �
 all_front p text zero h = refl
 all_front p [] (suc n) h = refl
 all_front p (b ∷ bs) (suc n) h =
-    let both = and_both (p b) (list_all p bs) h in and_true (p b) (list_all p (take n bs)) both.0 (all_front p bs n both.1)
+    let both = and_parts (p b) (list_all p bs) h in and_from (p b) (list_all p (take n bs)) both.0 (all_front p bs n both.1)

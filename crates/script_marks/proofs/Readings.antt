@@ -4,8 +4,7 @@ use Rattle.std.proofs.Common.{Result, Ok, Err, is_ok, is_some, refl, sym, ap, �
 use Rattle.std.specs.Prelude.{MatchBool}
 use Rattle.std.proofs.lemmas.List.{length-append}
 use Rattle.std.specs.List.{list_all, slice_split, position_or_len}
-use Rattle.std.proofs.lemmas.Bool.{le-leb}
-use Rattle.std.proofs.lemmas.Bool.Decides.{nat_tests}
+use Rattle.std.proofs.lemmas.Bool.{le-leb, and_parts, and_from}
 use Rattle.std.proofs.lemmas.List.{append-nil, take_all}
 use Rattle.std.proofs.lemmas.List.Folds.{list_all-append}
 use Rattle.std.proofs.lemmas.List.Splits.{slice_split_none}
@@ -19,9 +18,9 @@ use Rattle.mem_base.specs.script.Forms.{command}
 use Rattle.mem_base.specs.script.Operands.{made_by}
 use Rattle.mem_base.specs.script.Lines.{command_or_blank, line_of, may_stand, tokens_of, uncommented}
 use Rattle.mem_base.specs.script.Scripts.{bad, ends_at, line_then, most_text, placed, placed_then, rule_of, script_from, script_of}
-use Rattle.script_laws.proofs.LineLaws.{none_pass}
+use Rattle.script_laws.proofs.LineLaws.{none_pass, no_hash, stands, no_feed}
 use Rattle.std.proofs.lemmas.Option.{same_Some}
-use Rattle.script_laws.proofs.Tokens.{and_both, and_true, list_all-more}
+use Rattle.script_laws.proofs.Tokens.{list_all-more}
 use Rattle.script_marks.specs.Marks.{IsShort, Opens, OpensNone, is_plain}
 use Rattle.script_marks.specs.Openings.{cause_in, is_own, of_line, opens_by}
 use Rattle.script_marks.proofs.Cuts.{tokens_at_gap}
@@ -38,19 +37,10 @@ cause_at ts = reading (command_or_blank ts)
 
 -- A text of one line
 
-no_hash : (b : ℕ) → is_plain b ≡ true → not (b == 35) ≡ true
-no_hash b h = (and_both (may_stand b) (not (b == 35)) h).1
-
-stands : (b : ℕ) → is_plain b ≡ true → may_stand b ≡ true
-stands b h = (and_both (may_stand b) (not (b == 35)) h).0
-
-no_feed : (b : ℕ) → is_plain b ≡ true → not (b == 10) ≡ true
-no_feed b h = grind (arith, nat_tests)
-
 none_found : (p : ℕ → Bool) (xs : Text) → list_all (λ b. not (p b)) xs ≡ true → position_or_len p xs ≡ length xs
 none_found p [] h = refl
 none_found p (x ∷ xs) h =
-    let both = and_both (not (p x)) (list_all (λ b. not (p b)) xs) h in
+    let both = and_parts (not (p x)) (list_all (λ b. not (p b)) xs) h in
     let rest = none_found p xs both.1 in
     rw both.0 (omega (arith, rest))
 
@@ -85,7 +75,7 @@ plain_script text h l =
 -- the text with another token
 pub probed_script : (text : Text) → IsShort text → cause_in (script_of (text ++ codes " ?")) ≡ cause_at (tokens_of text ++ probe ∷ [])
 probed_script text h =
-    plain_script (text ++ codes " ?") (list_all-append is_plain text (codes " ?") ∙ and_true (list_all is_plain text) (list_all is_plain (codes " ?")) h.0 refl)
+    plain_script (text ++ codes " ?") (list_all-append is_plain text (codes " ?") ∙ and_from (list_all is_plain text) (list_all is_plain (codes " ?")) h.0 refl)
     (longer text (codes " ?") h.1 (omega arith))
     ∙ ap cause_at (tokens_at_gap text 32 (codes "?") refl)
   where

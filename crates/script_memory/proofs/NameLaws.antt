@@ -1,7 +1,6 @@
 -- Names that are told, region after region and space after space.
 use Rattle.std.proofs.Common.{◌≡◌, ◌<◌, ◌≤◌, ◌+◌, ℕ, suc, List, [], ◌∷◌, ◌++◌, length, drop, add-one, sym, ap, ◌∙◌, append_assoc}
-use Rattle.std.proofs.Common.{Result, Ok, Err, is_ok, Some, None, true, true≢false, zero, refl, arith}
-use Rattle.std.specs.Prelude.{OnOk}
+use Rattle.std.proofs.Common.{Some, None, zero, refl, arith}
 use Rattle.std.specs.List.{slice_get}
 use Rattle.std.proofs.lemmas.List.{append-nil, drop_all, length-append}
 use Rattle.std.proofs.lemmas.Option.{get_or_from_slice_get, none-some, slice_get_within}
@@ -12,6 +11,7 @@ use Rattle.mem_base.specs.script.Named.{Names, name_at}
 use Rattle.mem_base.specs.script.Spelling.{Text}
 use Rattle.script_names.specs.Tables.{AllNames, printed_names}
 use Rattle.script_memory.specs.Told.{told_kind, told_kinds, told_names, without_names}
+use Rattle.script_map.proofs.LeftLaws.{ok_gives}
 
 -- one name more
 pub name_next : (names : List Text) (i : ℕ) (old new whole : List Text) → i < length names → new ≡ old ++ name_at names i ∷ []
@@ -72,8 +72,3 @@ all_told memory names none regions all n r k o s p =
     let notifiers : all.notifiers.made ≡ [] =
     ap (λ (x : AllNames). x.notifiers.made) p ∙ ap (λ (x : AllNames). x.notifiers.made) o ∙ ap (λ (x : AllNames). x.notifiers.made) n in
     λ i. record { regions = named i; kinds = kinds i; spaces = s i; listeners = listeners i; notifiers = notifiers i }
-
--- what holds of a call that was done
-pub done_gives : {T E : Type 0} (r : Result T E) (X : Type 0) → is_ok r ≡ true → OnOk r X → X
-done_gives (Ok x) X e h = h
-done_gives (Err x) X e h = absurd (true≢false (sym e))

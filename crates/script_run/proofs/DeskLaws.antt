@@ -1,9 +1,8 @@
 -- A line of the desk: what it writes and leaves, by what its order was answered.
-use Rattle.std.proofs.Common.{◌≡◌, ◌-◌, ℕ, List, [], ◌∷◌, ◌++◌, length, take, drop, Option, Some, None, Ok, Err, Bool, true, false}
+use Rattle.std.proofs.Common.{◌≡◌, ◌-◌, ℕ, List, [], ◌∷◌, ◌++◌, length, drop, Option, Some, None, Ok, Err, Bool, true, false}
 use Rattle.std.proofs.Common.{refl, sym, ap, subst, ◌∙◌, arith, append_assoc, if◌then◌else◌}
 use Rattle.std.specs.Prelude.{nat_le}
 use Rattle.std.specs.List.{slice_get}
-use Rattle.std.proofs.lemmas.List.{length-drop, take_all}
 use Rattle.mem_base.specs.declared.access.cells.Place.{Place}
 use Rattle.mem_base.specs.declared.map.calls.Call.TheVariants as calls
 use Rattle.mem_base.specs.declared.map.forests.Forest.{Forest}
@@ -14,7 +13,6 @@ use Rattle.mem_base.specs.declared.machine.records.DeskEntry.{DeskEntry}
 use Rattle.mem_base.specs.declared.machine.records.DeskOrder.{DeskOrder}
 use Rattle.mem_base.specs.declared.machine.records.DeskOrder.TheVariants as orders
 use Rattle.mem_base.specs.views.Listening.{Delivery}
-use Rattle.mem_base.specs.machine.Desk.{Desk}
 use Rattle.mem_base.specs.machine.Generations.{Generation, Generations, generation, generation_of}
 use Rattle.mem_base.specs.machine.Publishing.{current_forest, forest_in}
 use Rattle.mem_base.specs.machine.World.{World, is_at_rest}
@@ -29,7 +27,7 @@ use Rattle.mem_base.specs.script.Output.{notice_lines, told_lines}
 use Rattle.mem_base.specs.script.Watching.{Watcher, caught_up, notices_all, watch_refusal}
 use Rattle.mem_base.specs.script.States.{Outcome, State, outcome}
 use Rattle.mem_base.specs.script.Shows.{catches_up, joins_unless, shown_forest}
-use Rattle.mem_base.specs.script.Tasks.{Known, Resolved, Task, task_of, after_order, with_order}
+use Rattle.mem_base.specs.script.Tasks.{Known, Resolved, Task, task_of, after_order}
 use Rattle.mem_base.specs.script.Tasks.{accessed, copied, entered, found, idle, left, ordered, shown, unwatched, watched}
 use Rattle.mem_base.specs.script.RaceLines.{DeskLine, Said, answer_text, catching_up, new_watcher, own_line, said_text, says, watch_line}
 use Rattle.run_laws.specs.KnownNames.{IsKnownOrder, IsKnownTask, KnowsNames}
@@ -37,11 +35,13 @@ use Rattle.run_laws.specs.LineLaws.{IsDeskLine}
 use Rattle.run_laws.specs.TaskSteps.{desk_order, desk_step, known_state}
 use Rattle.run_laws.proofs.KnowingLaws.{orders_are_known}
 use Rattle.run_laws.proofs.Ordering.{same_may}
-use Rattle.view_laws.proofs.Tests.{none_is_not_some, same_some}
+use Rattle.view_laws.proofs.Tests.{none_is_not_some}
 use Rattle.race_lines.specs.DeskLines.{desk_line_by}
 use Rattle.script_run.specs.Asking.{IsAnswered, TakesOwn, entry_of}
 use Rattle.script_run.specs.Adding.{Adds}
 use Rattle.script_run.specs.Standing.{IsReady}
+use Rattle.run_laws.proofs.DeskLaws.{other_watchers, sliced, after_watchers}
+use Rattle.std.proofs.lemmas.Option.{same_Some}
 
 -- Orders
 
@@ -56,7 +56,7 @@ first_kept : (kept : List Generation) (n : ℕ) (f : Forest) (places : List Plac
 first_kept [] n f places z e =
     none_is_not_some (generation f places) (subst (λ (m : ℕ). slice_get [] m ≡ Some (generation f places)) z e)
 first_kept (x ∷ xs) n f places z e = ap (λ (y : Generation). y.forest)
-    (same_some x (generation f places) (subst (λ (m : ℕ). slice_get (x ∷ xs) m ≡ Some (generation f places)) z e))
+    (same_Some x (generation f places) (subst (λ (m : ℕ). slice_get (x ∷ xs) m ≡ Some (generation f places)) z e))
 
 -- its forest, by the generation of its number
 pub current_shown : (g : Generations) (f : Forest) (places : List Place) → generation_of g g.current ≡ Some (generation f places)
@@ -69,11 +69,6 @@ current_shown g f places e = go (nat_le g.current g.current) e
     go false e = none_is_not_some (generation f places) e
 
 -- Tasks without an order
-
--- watchers are no part of what is known of names
-other_watchers : (k : Known) (d : Desk) (watchers : List Watcher) → KnowsNames k d → KnowsNames (record k { watchers = watchers }) d
-other_watchers k d watchers a =
-    record { regions = a.regions; made = a.made; dropped = a.dropped; listeners = a.listeners; gone = a.gone }
 
 record IsOwn (k : Known) (w : World) (o : Outcome) (x : DeskLine) : Type 0 where
   said : x.said ≡ says o.0
@@ -112,23 +107,7 @@ caught k w o x own =
       knows = other_watchers x.known w.writer.desk (caught_up f x.known.watchers) own.knows;
     }
 
--- all that a journal has after a number
-sliced : (xs : List Delivery) (m : ℕ) → take (length xs - m) (drop m xs) ≡ drop m xs
-sliced xs m = take_all (length xs - m) (drop m xs) (let l = length-drop m xs in omega (arith, l))
-
 -- orders change no watchers
-
-with_watchers : (k : Known) (name : Text) (order : DeskOrder) → (with_order k name order).watchers ≡ k.watchers
-with_watchers k name (orders.Call (calls.Region kind size)) = refl
-with_watchers k name (orders.Call (calls.Space space root)) = refl
-with_watchers k name (orders.Call (calls.Drop region)) = refl
-with_watchers k name (orders.Listen listener space priority) = refl
-with_watchers k name (orders.Unlisten listener) = refl
-with_watchers k name order = refl
-
-after_watchers : (k : Known) (name : Text) (order : DeskOrder) (x : DeskAnswer) → (after_order k name order x).watchers ≡ k.watchers
-after_watchers k name order (answers.Refused why) = refl
-after_watchers k name order x = with_watchers k name order
 
 module _ (k : Known) (w : World) (n : ℕ) (a : KnowsNames k w.writer.desk) where
   -- an order by its answer, and the world after it

@@ -22,7 +22,6 @@ use Rattle.mem_base.specs.script.Named.{Names}
 use Rattle.mem_base.specs.script.Output.{dma_line, told_lines}
 use Rattle.mem_base.specs.script.PassSteps.{copy, entered_number, joined}
 use Rattle.mem_base.specs.script.States.{Outcome, State, heard, outcome}
-use Rattle.view_laws.proofs.Tests.{both, both_of, true_is_not_false}
 use Rattle.mem_base.specs.declared.machine.records.DeskAnswer.{DeskAnswer}
 use Rattle.mem_base.specs.declared.machine.records.DeskOrder.{DeskOrder}
 use Rattle.mem_base.specs.script.Spelling.{Text}
@@ -36,6 +35,8 @@ use Rattle.script_run.specs.Asking.{IsAnswered}
 use Rattle.script_run.specs.Standing.{IsReady}
 use Rattle.script_run.proofs.DeskLaws.{ready_after}
 use Rattle.run_laws.proofs.Lawful.{drop_all}
+use Rattle.std.proofs.lemmas.Bool.{and_from, and_parts}
+use Rattle.mem_base.proofs.BoolLaws.{true_is_not_false}
 
 -- Entering and leaving
 
@@ -56,7 +57,7 @@ lesser : (n m : ℕ) → nat_lt n m ≡ true → n < m
 lesser n m e = grind (arith, nat_tests)
 
 pub may_leave : (w : World) (pass : PassId) → is_entered w pass ≡ true → possible w (events.Leave pass) ≡ true
-may_leave w pass t = both (is_pass w.passes pass) (is_entered w pass) (less pass.0 (length w.passes) (in_range w.passes pass.0 t))
+may_leave w pass t = and_from (is_pass w.passes pass) (is_entered w pass) (less pass.0 (length w.passes) (in_range w.passes pass.0 t))
     t
 
 pub may_look : (w : World) (pass : PassId) → may_access w pass ≡ true → is_entered w pass ≡ false
@@ -69,7 +70,7 @@ out_after w pass = ap (λ (p : PassState). is_some p.entered) (idle_set w.passes
 inside : (w : World) (pass : PassId) → possible w (events.Look pass) ≡ true
     → pass.0 < length (run_events w (events.Look pass ∷ events.Announce pass ∷ [])).world.passes
 inside w pass e =
-    let l = lesser pass.0 (length w.passes) (both_of (is_pass w.passes pass) _ e).0 in
+    let l = lesser pass.0 (length w.passes) (and_parts (is_pass w.passes pass) _ e).0 in
     simp length-set (omega (arith, l))
 
 pub in_after : (w : World) (pass : PassId) → possible w (events.Look pass) ≡ true

@@ -1,5 +1,5 @@
 -- The text of a run, command after command.
-use Rattle.std.proofs.Common.{◌≡◌, ◌<◌, ◌≤◌, ◌+◌, ℕ, suc, List, [], ◌∷◌, ◌++◌, length, drop, get_or, add-one, Option, Bool, true, false, ◌||◌, inl, inr}
+use Rattle.std.proofs.Common.{◌≡◌, ◌<◌, ◌≤◌, ◌+◌, ℕ, suc, List, [], ◌∷◌, ◌++◌, length, drop, get_or, add-one, Option, true, false, ◌||◌, inl, inr}
 use Rattle.std.proofs.Common.{refl, sym, ap, subst, ◌∙◌, arith}
 use Rattle.std.proofs.Math.Seq.{drop-cons}
 use Rattle.std.proofs.lemmas.List.{append-nil}
@@ -24,6 +24,7 @@ use Rattle.script_run.specs.Adding.{StepAdds}
 use Rattle.script_run.specs.Standing.{IsReady, Standing, state_of}
 use Rattle.script_run.proofs.FittingLaws.{names_its}
 use Rattle.script_run.proofs.Writing.{Through, through_next, through_part}
+use Rattle.std.proofs.lemmas.Bool.{or_parts}
 
 -- Before the first command
 
@@ -106,10 +107,6 @@ pub each_later : (P : Line → Type 0) (lines : List Line) (i : ℕ) (line : Lin
 each_later P lines i line l is h = (each_split P lines i line l is h).1
 
 -- The ends of a block
-
-pub neither : (a b : Bool) → (a || b) ≡ false → (a ≡ false) × (b ≡ false)
-neither true b e = absurd (grind arith)
-neither false b e = (refl, e)
 
 block_end : (state : State) (n : ℕ) (c : Command) → (is_par c || is_end c) ≡ true → step state n c ≡ ([], state)
 block_end state n commands.Par e = refl

@@ -1,8 +1,9 @@
 -- What a sink took of a text, part after part.
-use Rattle.std.proofs.Common.{◌≡◌, ◌≤◌, ℕ, List, [], ◌++◌, sym, ap, subst, ◌∙◌, arith, append_assoc, take, drop, Option, Result, Ok, Err, OnErr, OnOk}
+use Rattle.std.proofs.Common.{◌≡◌, ◌≤◌, ℕ, List, [], ◌++◌, sym, ap, subst, ◌∙◌, arith, append_assoc, take, drop, Option, Result, Ok, Err, OnOk}
 use Rattle.std.proofs.lemmas.List.{append-nil, take-append-drop}
 use Rattle.outside.specs.Sink.{Takes, TakesPrefix}
 use Rattle.outside.proofs.Took.{Takes-append, Takes-nil, TakesPrefix-after}
+use Rattle.mem_base.proofs.OptionLaws.{on_failure}
 
 pub on_ok : {T E P Q : Type 0} (r : Result T E) → OnOk r P → (P → Q) → OnOk r Q
 on_ok (Ok x) p f = f p
@@ -15,10 +16,6 @@ cut_at text front back n e f = (λ i. e i ++ f i) ∙ take-append-drop n text
 -- a text that was added to nothing
 pub alone_added : (text whole old added : List ℕ) → text ≡ whole → whole ≡ old ++ added → old ≡ [] → text ≡ added
 alone_added text whole old added e f g = e ∙ f ∙ ap (λ (t : List ℕ). t ++ added) g
-
-pub on_err : {T E : Type 0} (r : Result T E) (P : Type 0) → P → OnErr r P
-on_err (Ok x) P p = tt
-on_err (Err e) P p = p
 
 module _ {K : Type 0} (written : K → Option (List ℕ)) (holds : K → List ℕ → Type 0) (faults : K → ℕ) where
   -- of a whole text all but this rest was written

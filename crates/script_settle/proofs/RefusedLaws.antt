@@ -1,5 +1,5 @@
 -- How many commands of a script are refused.
-use Rattle.std.proofs.Common.{◌≡◌, ℕ, Result, Ok, Err, length, sym, subst}
+use Rattle.std.proofs.Common.{◌≡◌, ℕ, Result, Err, length, sym, subst}
 use Rattle.std.specs.Prelude.{IfErr}
 use Rattle.mem_base.specs.script.Scripts.{Meaning}
 use Rattle.mem_base.specs.script.Spelling.{Text}
@@ -14,11 +14,6 @@ has_refused text m count h e = record { left = m; reads = h; refused = sym e }
 
 pub memory_is_bad : (meaning : Meaning) (stop : MapStop) → stop ≡ Memory → IfBad stop meaning
 memory_is_bad meaning stop e = subst (λ (s : MapStop). IfBad s meaning) (sym e) tt
-
--- a fact of why something failed, from another one, and from the failure itself
-pub if_err : {T E : Type 0} (P Q : E → Type 0) (r : Result T E) → ((e : E) → P e → Q e) → IfErr r P → IfErr r Q
-if_err P Q (Ok x) f h = tt
-if_err P Q (Err e) f h = f e h
 
 pub if_err_is : {T E : Type 0} (P : E → Type 0) (r : Result T E) (e : E) → r ≡ Err e → P e → IfErr r P
 if_err_is {T} {E} P r e is h = subst (λ (q : Result T E). IfErr q P) (sym is) h

@@ -1,5 +1,5 @@
 -- The form of a line's first word, from the tables that were tried one after another.
-use Rattle.std.proofs.Common.{◌≡◌, ℕ, List, Option, Some, None, Result, Ok, Err, refl, sym, ap, ◌∙◌, option_map, is_ok, true≢false}
+use Rattle.std.proofs.Common.{◌≡◌, ℕ, List, Option, Some, None, Result, Ok, Err, refl, sym, ap, ◌∙◌, option_map}
 use Rattle.std.specs.Option.{option_or}
 use Rattle.std.proofs.lemmas.Option.{none-some, same_Some}
 use Rattle.mem_base.specs.declared.script.faults.Cause.{Cause}
@@ -14,6 +14,7 @@ use Rattle.mem_base.specs.script.PassForms.{pass_line}
 use Rattle.script_text.specs.Reads.{Stops, chosen, tried}
 use Rattle.script_text.specs.declared.stops.LineStop.{LineStop}
 use Rattle.script_text.specs.declared.stops.LineStop.TheVariants.{Bad, Memory}
+use Rattle.script_laws.proofs.Reading.{no_ok}
 
 abbrev value_or : {X E : Type 0} → X → Result X E → X
 value_or x (Ok y) = y
@@ -22,9 +23,6 @@ value_or x (Err e) = x
 abbrev cause_or : {X E : Type 0} → E → Result X E → E
 cause_or e (Ok y) = e
 cause_or e (Err f) = f
-
-no_ok : {X E G : Type 0} {c : E} {x : X} → Err c ≡ Ok x → G
-no_ok e = absurd (true≢false (sym (ap is_ok e)))
 
 made_some : {X : Type 0} (r : Result X Cause) (x : X) → made_by Some r ≡ Ok (Some x) → r ≡ Ok x
 made_some (Ok y) x e = ap Ok (same_Some y x (ap (value_or (Some y)) e))

@@ -1,6 +1,6 @@
 -- What clap makes of words none of which begins with a hyphen.
-use Rattle.std.proofs.Common.{◌≡◌, ◌==◌, ◌||◌, ◌++◌, ℕ, List, [], ◌∷◌, Bool, true, false, None, Some, codes, refl, sym, ap, ◌∙◌, fold}
-use Rattle.std.proofs.Common.{append_assoc, inl, inr, true≢false, subst, ap₂, eqb-true, ◌&&◌}
+use Rattle.std.proofs.Common.{◌≡◌, ◌==◌, ◌++◌, ℕ, List, [], ◌∷◌, Bool, true, false, None, Some, codes, refl, sym, ap, ◌∙◌, fold, append-nil}
+use Rattle.std.proofs.Common.{append_assoc, inl, inr, true≢false, subst, ap₂, eqb-true}
 use Rattle.std.specs.Str.{bytes_eq}
 use Rattle.std.proofs.lemmas.Cmp.{nat_list_eq_equiv}
 use Rattle.std.specs.List.{list_any}
@@ -20,30 +20,19 @@ use Rattle.script_words.specs.App.{task_in, mtree_app}
 use Rattle.script_words.specs.Agrees.{Agrees}
 use Rattle.script_words.specs.Dash.{begins_with_dash}
 use Rattle.mem_base.specs.script.Words.{task_of}
-
-and_left : (a b : Bool) → (a && b) ≡ true → a ≡ true
-and_left true b h = refl
-and_left false b h = h
-
-and_right : (a b : Bool) → (a && b) ≡ true → b ≡ true
-and_right true b h = h
-and_right false b h = absurd (true≢false (sym h))
+use Rattle.mem_base.proofs.BoolLaws.{left_of, neither_first, neither_second, right_of}
 
 same_bytes : (xs ys : List ℕ) → bytes_eq xs ys ≡ true → xs ≡ ys
 same_bytes [] [] h = refl
 same_bytes [] (y ∷ ys) h = absurd (true≢false (sym h))
 same_bytes (x ∷ xs) [] h = absurd (true≢false (sym h))
-same_bytes (x ∷ xs) (y ∷ ys) h = ap₂ (λ z zs. z ∷ zs) (eqb-true x y (and_left _ _ h)) (same_bytes xs ys (and_right _ _ h))
-
-append_nil : {X : Type 0} (xs : List X) → xs ++ [] ≡ xs
-append_nil [] = refl
-append_nil (x ∷ xs) = ap (λ ys. x ∷ ys) (append_nil xs)
+same_bytes (x ∷ xs) (y ∷ ys) h = ap₂ (λ z zs. z ∷ zs) (eqb-true x y (left_of _ _ h)) (same_bytes xs ys (right_of _ _ h))
 
 -- after a subcommand each word is kept for it
 pub stops : (rules : List Rule) (names : Names) (w : Walk) (name : Text) (before words : List Text)
     → fold (walked rules names) (record w { stopped = Some (name, before) }) words ≡ record w { stopped = Some (name, before ++ words) }
 unfolding clap_on_literals
-stops rules names w name before [] = ap (λ (xs : List Text). record w { stopped = Some (name, xs) }) (sym (append_nil before))
+stops rules names w name before [] = ap (λ (xs : List Text). record w { stopped = Some (name, xs) }) (sym (append-nil before))
 stops rules names w name before (x ∷ words) =
     stops rules names w name (before ++ x ∷ []) words ∙ ap (λ (xs : List Text). record w { stopped = Some (name, xs) }) (append_assoc before (x ∷ []) words)
 
@@ -52,14 +41,6 @@ pub passes_over : (s : Shape) (names : Names) (w : Walk) (name : Text) (before w
 unfolding clap_on_literals
 passes_over s names w name before [] = refl
 passes_over s names w name before (x ∷ words) = passes_over s names w name (before ++ x ∷ []) words
-
-or_left : (a b : Bool) → (a || b) ≡ false → a ≡ false
-or_left false b h = refl
-or_left true b h = h
-
-or_right : (a b : Bool) → (a || b) ≡ false → b ≡ false
-or_right false b h = h
-or_right true b h = absurd (true≢false h)
 
 abbrev NoDash : List Text → Type 0
 NoDash words = list_any begins_with_dash words ≡ false
@@ -94,11 +75,11 @@ unfolding clap_on_literals
 run_then [] h = refl
 run_then ([] ∷ []) h = refl
 run_then ((b ∷ bs) ∷ []) h =
-    let dash = or_left (b == 45) false h in
+    let dash = neither_first (b == 45) false h in
     rw (no_long b bs dash, no_short b bs dash, no_dashes b bs dash) refl
 run_then ([] ∷ x ∷ xs) h = rw (stops [] names walk0 (codes "run") [] ([] ∷ x ∷ xs), passes_over top names walk0 (codes "run") [] ([] ∷ x ∷ xs)) refl
 run_then ((b ∷ bs) ∷ x ∷ xs) h =
-    let dash = or_left (b == 45) _ h in
+    let dash = neither_first (b == 45) _ h in
     rw (
       stops [] names walk0 (codes "run") [] ((b ∷ bs) ∷ x ∷ xs),
       passes_over top names walk0 (codes "run") [] ((b ∷ bs) ∷ x ∷ xs),
@@ -112,11 +93,11 @@ unfolding clap_on_literals
 race_then [] h = refl
 race_then ([] ∷ []) h = refl
 race_then ((b ∷ bs) ∷ []) h =
-    let dash = or_left (b == 45) false h in
+    let dash = neither_first (b == 45) false h in
     rw (no_long b bs dash, no_short b bs dash, no_dashes b bs dash) refl
 race_then ([] ∷ x ∷ xs) h = rw (stops [] names walk0 (codes "race") [] ([] ∷ x ∷ xs), passes_over top names walk0 (codes "race") [] ([] ∷ x ∷ xs)) refl
 race_then ((b ∷ bs) ∷ x ∷ xs) h =
-    let dash = or_left (b == 45) _ h in
+    let dash = neither_first (b == 45) _ h in
     rw (
       stops [] names walk0 (codes "race") [] ((b ∷ bs) ∷ x ∷ xs),
       passes_over top names walk0 (codes "race") [] ((b ∷ bs) ∷ x ∷ xs),
@@ -130,12 +111,12 @@ unfolding clap_on_literals
 make_then [] h = refl
 make_then ([] ∷ []) h = refl
 make_then ((b ∷ bs) ∷ []) h =
-    let dash = or_left (b == 45) false h in
+    let dash = neither_first (b == 45) false h in
     rw (no_long b bs dash, no_short b bs dash, no_dashes b bs dash) refl
 make_then ([] ∷ [] ∷ ys) h =
     rw (stops [] names walk0 (codes "make") [] ([] ∷ [] ∷ ys), passes_over top names walk0 (codes "make") [] ([] ∷ [] ∷ ys)) refl
 make_then ([] ∷ (d ∷ ds) ∷ ys) h =
-    let dash2 = or_left (d == 45) _ h in
+    let dash2 = neither_first (d == 45) _ h in
     rw (
       stops [] names walk0 (codes "make") [] ([] ∷ (d ∷ ds) ∷ ys),
       passes_over top names walk0 (codes "make") [] ([] ∷ (d ∷ ds) ∷ ys),
@@ -144,7 +125,7 @@ make_then ([] ∷ (d ∷ ds) ∷ ys) h =
       no_dashes d ds dash2,
     ) refl
 make_then ((b ∷ bs) ∷ [] ∷ ys) h =
-    let dash = or_left (b == 45) _ h in
+    let dash = neither_first (b == 45) _ h in
     rw (
       stops [] names walk0 (codes "make") [] ((b ∷ bs) ∷ [] ∷ ys),
       passes_over top names walk0 (codes "make") [] ((b ∷ bs) ∷ [] ∷ ys),
@@ -153,8 +134,8 @@ make_then ((b ∷ bs) ∷ [] ∷ ys) h =
       no_dashes b bs dash,
     ) refl
 make_then ((b ∷ bs) ∷ (d ∷ ds) ∷ ys) h =
-    let dash = or_left (b == 45) _ h in
-    let dash2 = or_left (d == 45) _ (or_right (b == 45) _ h) in
+    let dash = neither_first (b == 45) _ h in
+    let dash2 = neither_first (d == 45) _ (neither_second (b == 45) _ h) in
     rw (
       stops [] names walk0 (codes "make") [] ((b ∷ bs) ∷ (d ∷ ds) ∷ ys),
       passes_over top names walk0 (codes "make") [] ((b ∷ bs) ∷ (d ∷ ds) ∷ ys),
@@ -171,12 +152,12 @@ unfolding clap_on_literals
 demo_then [] h = refl
 demo_then ([] ∷ []) h = refl
 demo_then ((b ∷ bs) ∷ []) h =
-    let dash = or_left (b == 45) false h in
+    let dash = neither_first (b == 45) false h in
     rw (no_long b bs dash, no_short b bs dash, no_dashes b bs dash) refl
 demo_then ([] ∷ [] ∷ ys) h =
     rw (stops [] names walk0 (codes "demo") [] ([] ∷ [] ∷ ys), passes_over top names walk0 (codes "demo") [] ([] ∷ [] ∷ ys)) refl
 demo_then ([] ∷ (d ∷ ds) ∷ ys) h =
-    let dash2 = or_left (d == 45) _ h in
+    let dash2 = neither_first (d == 45) _ h in
     rw (
       stops [] names walk0 (codes "demo") [] ([] ∷ (d ∷ ds) ∷ ys),
       passes_over top names walk0 (codes "demo") [] ([] ∷ (d ∷ ds) ∷ ys),
@@ -185,7 +166,7 @@ demo_then ([] ∷ (d ∷ ds) ∷ ys) h =
       no_dashes d ds dash2,
     ) refl
 demo_then ((b ∷ bs) ∷ [] ∷ ys) h =
-    let dash = or_left (b == 45) _ h in
+    let dash = neither_first (b == 45) _ h in
     rw (
       stops [] names walk0 (codes "demo") [] ((b ∷ bs) ∷ [] ∷ ys),
       passes_over top names walk0 (codes "demo") [] ((b ∷ bs) ∷ [] ∷ ys),
@@ -194,8 +175,8 @@ demo_then ((b ∷ bs) ∷ [] ∷ ys) h =
       no_dashes b bs dash,
     ) refl
 demo_then ((b ∷ bs) ∷ (d ∷ ds) ∷ ys) h =
-    let dash = or_left (b == 45) _ h in
-    let dash2 = or_left (d == 45) _ (or_right (b == 45) _ h) in
+    let dash = neither_first (b == 45) _ h in
+    let dash2 = neither_first (d == 45) _ (neither_second (b == 45) _ h) in
     rw (
       stops [] names walk0 (codes "demo") [] ((b ∷ bs) ∷ (d ∷ ds) ∷ ys),
       passes_over top names walk0 (codes "demo") [] ((b ∷ bs) ∷ (d ∷ ds) ∷ ys),
@@ -237,7 +218,7 @@ by_name word words h hs false false false false r a m d = other_then word words 
 pub agrees : (words : List Text) → NoDash words → Agree words
 agrees [] h = nothing_then
 agrees (word ∷ words) h =
-    by_name word words (or_left (begins_with_dash word) _ h) (or_right (begins_with_dash word) _ h) _ _ _ _ refl refl refl refl
+    by_name word words (neither_first (begins_with_dash word) _ h) (neither_second (begins_with_dash word) _ h) _ _ _ _ refl refl refl refl
 
 pub mtree_is_simple : is_simple_and_free mtree_app ≡ true
 unfolding clap_on_literals

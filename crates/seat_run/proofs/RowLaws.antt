@@ -19,7 +19,7 @@ use Rattle.mem_base.specs.machine.Passes.{pass_id}
 use Rattle.mem_base.specs.machine.Turns.{history_entry}
 use Rattle.mem_base.specs.declared.machine.events.Hand.TheVariants as hands
 use Rattle.mem_base.specs.machine.Publishing.{held_up, held_from}
-use Rattle.view_laws.proofs.Tests.{length_map, none_is_not_some}
+use Rattle.view_laws.proofs.Tests.{none_is_not_some}
 use Rattle.generation.specs.Published.{Published}
 use Rattle.epoch_rule.specs.declared.views.Sizes.{Sizes}
 use Rattle.epoch_rule.specs.Calls.{sweeps_of, places_of, generations_in_seen}
@@ -33,6 +33,7 @@ use Rattle.writer_run.specs.Hands.{swept, cleared, IsPublished, IsHeldUp}
 use Rattle.seat_run.specs.Written.{HasWritten}
 use Rattle.epoch_rule.proofs.AddsLaws.{adds_some}
 use Rattle.seat_run.specs.WrittenLaws.{generations_go}
+use Rattle.mem_base.proofs.ListLaws.{length_map}
 
 -- an entry for each of `n` numbers from `a` on
 rows : (ℕ → HistoryEntry) → ℕ → ℕ → List HistoryEntry

@@ -1,11 +1,10 @@
 -- What the calls of a backed desk leave of it.
 use Rattle.std.proofs.Common.{◌≡◌, ℕ, ◌+◌, ◌<◌, ◌≤◌, ◌==◌, ◌^◌, Bool, true, false, not, List, [], ◌∷◌, ◌++◌, Option, Some, None, Ok, Err}
 use Rattle.std.proofs.Common.{◌≢◌, refl, sym, ap, subst, ◌∙◌}
-use Rattle.std.proofs.lemmas.Bool.{eqb-true, eqb-false}
+use Rattle.std.proofs.lemmas.Bool.{eqb-true, eqb-false, not-false, and_parts}
 use Rattle.std.proofs.Common.{arith, ne_eqb, eq-eqb, append-nil, length, filter, ◌-◌, ◌%◌}
 use Rattle.std.specs.Prelude.{◌&&◌, if◌then◌else◌, is_none, is_some, IsSome, nat_le, Result, IfOk, IfErr, OnErr, ◌↔◌}
 use Rattle.std.proofs.Common.{inl}
-use Rattle.std.specs.Option.{option_or}
 use Rattle.std.proofs.lemmas.Bool.Decides.{nat_tests}
 use Rattle.std.proofs.lemmas.List.{length-append, append_assoc}
 use Rattle.std.proofs.lemmas.List.Edits.{insert-append_right}
@@ -48,10 +47,10 @@ use Rattle.mem_base.proofs.PlaceLaws.{Rises, remove-place_of, filter-absent}
 use Rattle.mem_base.proofs.EveryLaws.{weaker, every_push, every_filter}
 use Rattle.mem_base.proofs.ForestLaws.{known_below}
 use Rattle.mem_base.proofs.EntryLaws.{nat_is}
-use Rattle.map_laws.proofs.PairLaws.{pairs_push, pairs_filter}
+use Rattle.map_laws.proofs.PairLaws.{pairs_push}
 use Rattle.map_laws.proofs.RefusalLaws.{each_none, refuse_if-none}
 use Rattle.map_laws.proofs.SizeLaws.{size_whole}
-use Rattle.view_laws.proofs.Tests.{none_is_not_some, both_of}
+use Rattle.view_laws.proofs.Tests.{none_is_not_some}
 use Rattle.view_laws.proofs.LiveLaws.{every_in}
 use Rattle.history_laws.proofs.PlaceLaws.{place_of_region}
 use Rattle.map_laws.proofs.CallLaws.{after-accepted}
@@ -71,6 +70,9 @@ use Rattle.transact.specs.declared.prepared.Step.{Step}
 use Rattle.transact.specs.declared.prepared.Step.TheVariants.{Inner, Empty, Ready}
 use Rattle.transact.specs.Backed.{by_region, is_place_of, without, backing_without, all_places}
 use Rattle.transact.specs.Preparing.{AreDeskPlaces}
+use Rattle.transact.proofs.PlacedLaws.{makes_none}
+use Rattle.history_laws.proofs.Idles.{first_none}
+use Rattle.mem_base.proofs.SortingLaws.{pairs_filter}
 
 -- the places back a forest, in order of their regions, each of a region that was made
 pub record Backs (f : Forest) (b : Backing) : Type 0 where
@@ -293,10 +295,6 @@ pub unplaced : (ps : List Place) (r : RegionId) → Every (λ p. p.region.0 < r.
 unplaced [] r h = refl
 unplaced (p ∷ ps) r h = rw (ne_eqb p.region.0 r.0 (λ e. let l = h.0 in omega arith)) (unplaced ps r h.1)
 
-first_none : (x y : Option Refusal) → option_or x y ≡ None → x ≡ None
-first_none None y e = refl
-first_none (Some why) y e = none_is_not_some why (sym e)
-
 -- what a region that may be made is like
 pub record MayBeMade (f : Forest) (kind : Kind) (size : ℕ) : Type 0 where
   pub sized : bad_size kind size ≡ None
@@ -312,10 +310,6 @@ may_be_made f kind size e =
           each.1.1.1.1.0) in grind (arith, nat_tests);
     }
 
-is_true : (b : Bool) → not b ≡ false → b ≡ true
-is_true true h = refl
-is_true false h = absurd (grind arith)
-
 -- its bytes are whole pages and not too many, and its registers are few
 pub bytes_fit : (kind : Kind) (size bytes regs : ℕ) → bad_size kind size ≡ None → bad_device (device_of kind) ≡ None → extent bytes regs ≡ extent_of kind size
     → (bytes % page_size ≡ 0) × (bytes ≤ most_bytes) × (regs ≤ most_registers)
@@ -323,9 +317,9 @@ bytes_fit kind size bytes regs s d e = go kind s d (ap (λ (x : Extent). x.bytes
   where
     few : (device : Device) → bad_device (Some device) ≡ None → device.regs ≤ most_registers
     few device h =
-        let good : is_good_device device ≡ true = is_true _ (refuse_if-none _ _ h) in
+        let good : is_good_device device ≡ true = not-false _ (refuse_if-none _ _ h) in
         let o = device.ops in
-        let t = (both_of (is_access_size o.valid_min && is_access_size o.valid_max && is_access_size o.impl_min && is_access_size o.impl_max
+        let t = (and_parts (is_access_size o.valid_min && is_access_size o.valid_max && is_access_size o.impl_min && is_access_size o.impl_max
         && nat_le o.valid_min o.valid_max && nat_le o.impl_min o.impl_max && nat_le 1 device.regs) (nat_le device.regs most_registers) good).1 in
         grind (arith, nat_tests)
 
@@ -346,27 +340,6 @@ backs_of s made all k = record { backs = k.backs; ascending = k.ascending; made_
 pub desk_of : (s : BackedState) (made : ℕ) (all : List Place) → made ≡ (forest_at s).made → all ≡ all_places s.backing → Backs (forest_at s) s.backing
     → IsBackedDesk s made all
 desk_of s made all counts lists k = record { counted = counts; listed = lists; backs = k.backs; ascending = k.ascending; made_before = k.made_before }
-
-makes_none : (call : Call) → is_quiet call ≡ false → makes call ≡ false
-makes_none (calls.Region kind size) h = absurd (grind arith)
-makes_none (calls.Drop region) h = absurd (grind arith)
-makes_none (calls.Space space root) h = refl
-makes_none (calls.Add parent offset child priority) h = refl
-makes_none (calls.Del parent child) h = refl
-makes_none (calls.Move child offset) h = refl
-makes_none (calls.Resize region size) h = refl
-makes_none (calls.Retarget alias offset) h = refl
-makes_none (calls.Enable region on) h = refl
-makes_none (calls.Readonly region on) h = refl
-makes_none (calls.Nonvolatile region on) h = refl
-makes_none (calls.Unmergeable region on) h = refl
-makes_none (calls.Romd region on) h = refl
-makes_none (calls.Log region client on) h = refl
-makes_none (calls.Global on) h = refl
-makes_none (calls.Map region iova size space translated perm) h = refl
-makes_none (calls.Unmap region iova) h = refl
-makes_none (calls.Event region event) h = refl
-makes_none (calls.Unevent region offset size matched value) h = refl
 
 -- what a change prepares
 pub ready_change : (s : BackedState) (call : Call) (listeners : List Listener) (p : Readied) → s.desk.state.depth ≡ 0 → is_quiet call ≡ false

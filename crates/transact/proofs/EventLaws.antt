@@ -16,14 +16,12 @@ use Rattle.mem_base.proofs.ForestLaws.{node_of-itself, every_node_of}
 use Rattle.view_laws.proofs.Tests.{none_is_not_some, same_region}
 use Rattle.view_laws.proofs.NamingLaws.{names_leaves}
 use Rattle.view_laws.proofs.ShownEvents.{events_shown}
+use Rattle.std.proofs.lemmas.Bool.{and_parts}
+use Rattle.mem_base.proofs.BoolLaws.{both_ways, or_true}
 
 -- a region of the forest that it names and that has an ioeventfd
 abbrev pub is_shown : Forest → Node → Bool
 is_shown f n = nat_lt 0 (length n.events) && names f n.id
-
-both_true : (a b : Bool) → (a && b) ≡ true → (a ≡ true) × (b ≡ true)
-both_true true b h = (refl, h)
-both_true false b h = absurd (grind arith)
 
 every_unit : {A : Type 0} (xs : List A) → Every (λ x. Unit {0}) xs
 every_unit [] = tt
@@ -38,10 +36,6 @@ any_with {A = A} q P (x ∷ xs) h e = go (any_with q P xs h.1) (q x) refl e
     go rest true t e = (x, h.0, t)
     go rest false t e = rest (subst (λ b. (b || list_any q xs) ≡ true) t e)
 
-or_true : (b : Bool) → (b || true) ≡ true
-or_true true = refl
-or_true false = refl
-
 -- a member that is found passes a test
 found_any : {A : Type 0} (p q : A → Bool) (xs : List A) (x : A) → find p xs ≡ Some x → q x ≡ true → list_any q xs ≡ true
 found_any p q [] x e t = none_is_not_some x e
@@ -55,20 +49,15 @@ found_any p q (y ∷ ys) x e t = go (found_any p q ys x) (p y) refl e t
         let more : list_any q ys ≡ true = rest (subst (λ b. (if b then Some y else find p ys) ≡ Some x) h e) t in
         rw more (or_true (q y))
 
-bool_same : (a b : Bool) → (a ≡ true → b ≡ true) → (b ≡ true → a ≡ true) → a ≡ b
-bool_same true b h k = sym (h refl)
-bool_same false true h k = k refl
-bool_same false false h k = refl
-
 -- a forest shows an ioeventfd exactly where one of its regions is such
 pub events_named : (f : Forest) → IsAscending f.nodes → list_any (is_shown f) f.nodes ≡ shows_events f
-events_named f ascending = bool_same (list_any (is_shown f) f.nodes) (shows_events f) there back
+events_named f ascending = both_ways (list_any (is_shown f) f.nodes) (shows_events f) there back
   where
     there : list_any (is_shown f) f.nodes ≡ true → shows_events f ≡ true
     there e =
         let one = any_with (is_shown f) (λ n. node_of f.nodes n.id ≡ Some n) f.nodes (node_of-itself f.nodes ascending) e in
         let n = one.0 in
-        let t = both_true (ltb 0 (length n.events)) (names f n.id) one.2 in
+        let t = and_parts (ltb 0 (length n.events)) (names f n.id) one.2 in
         let some : 0 < length n.events = let h = t.0 in grind (arith, nat_tests) in
         (events_shown f).1 (n.id, (names_leaves f n.id).0 t.1, subst (λ o. 0 < length (unwrap_or (option_map (λ (m : Node). m.events) o) [])) (sym one.1) some)
 

@@ -22,13 +22,10 @@ use Rattle.view_laws.proofs.LiveLaws.{In, order_itself}
 use Rattle.view_laws.proofs.SortedLaws.{any_in, any_found}
 use Rattle.change_laws.specs.Meeting.{is_among, OthersStay}
 use Rattle.transact.proofs.MadeLaws.{lives_are}
+use Rattle.mem_base.proofs.BoolLaws.{true_is_not_false}
 
 abbrev change : SpaceId → List RangeEvent → List Live → List Live → Change
 change s steps gone come = record { space = s; walk = steps; lost = gone; gained = come }
-
-contrary : {A : Type 0} (b : Bool) → b ≡ true → b ≡ false → A
-contrary true h k = absurd (grind arith)
-contrary false h k = absurd (grind arith)
 
 none_passes : {A : Type 0} (test : A → Bool) (xs : List A) → ((x : A) → In x xs → test x ≡ false) → filter test xs ≡ []
 none_passes test [] h = refl
@@ -50,7 +47,7 @@ module _ (f g : Forest) (noted : List RegionId) (others : OthersStay f g noted) 
       go true e =
           let t = any_found (λ (q : RegionId). eqb q.0 r.leaf.0) noted e in
           let leaf : has_leaf t.0 rs ≡ true = any_in (λ (p : FlatRange). eqb p.leaf.0 t.0.0) r rs m (let s = t.2 in grind (arith, nat_tests, s)) in
-          contrary (list_any (λ q. has_leaf q rs) noted) (any_in (λ q. has_leaf q rs) t.0 noted t.1 leaf) none
+          true_is_not_false (list_any (λ q. has_leaf q rs) noted) (any_in (λ q. has_leaf q rs) t.0 noted t.1 leaf) none
 
   each_same : (rs : List FlatRange) → ((r : FlatRange) → In r rs → node_of f.nodes r.leaf ≡ node_of g.nodes r.leaf)
       → flat_map (lives_of_range f) rs ≡ flat_map (lives_of_range g) rs

@@ -1,5 +1,5 @@
 -- Forests that accepted calls make.
-use Rattle.std.proofs.Common.{◌≡◌, ℕ, zero, suc, ◌+◌, ◌<◌, not, Bool, true, false, List, [], Option, Some, None, Ok, refl, sym}
+use Rattle.std.proofs.Common.{◌≡◌, ℕ, zero, suc, ◌+◌, ◌<◌, not, true, List, [], Option, Some, None, Ok, refl, sym}
 use Rattle.std.proofs.Common.{ap, subst, ◌∙◌, arith}
 use Rattle.mem_base.specs.declared.map.ids.SpaceId.{SpaceId}
 use Rattle.mem_base.specs.declared.map.forests.Node.{Node}
@@ -32,6 +32,7 @@ use Rattle.map_laws.proofs.OffsetLaws.{IsView-made}
 use Rattle.map_laws.proofs.RefusalLaws.{refuse_if-none}
 use Rattle.view_laws.specs.LiveLists.{HaveBytes}
 use Rattle.view_laws.proofs.LiveRanges.{lives_agree}
+use Rattle.std.proofs.lemmas.Bool.{not-false}
 pub use Rattle.map_laws.proofs.MadeForests.{calls_both, closed_made, made_after, made_empty, ordered_made}
 
 -- what a call changes is not the number of calls
@@ -82,13 +83,9 @@ sized : (size : ℕ) → is_access_size size ≡ true → 0 < size
 sized zero h = absurd (grind arith)
 sized (suc n) h = omega arith
 
-not_of : (a : Bool) → not a ≡ false → a ≡ true
-not_of true h = refl
-not_of false h = absurd (grind arith)
-
 has_bytes : (e : Ioevent) → bad_event e ≡ None → 0 < e.size
 has_bytes e h =
-    let good : is_good_event e ≡ true = not_of (is_good_event e) (refuse_if-none (not (is_good_event e)) BadOps h) in
+    let good : is_good_event e ≡ true = not-false (is_good_event e) (refuse_if-none (not (is_good_event e)) BadOps h) in
     sized e.size (grind (arith, good))
 
 have_bytes : (f : Forest) → IsClosedForest f → HaveBytes f

@@ -9,9 +9,9 @@ use Rattle.mem_base.specs.declared.map.calls.Call.{Call}
 use Rattle.mem_base.specs.map.Calls.{after}
 use Rattle.change_laws.specs.Meeting.{is_among, OthersStay}
 use Rattle.change_laws.specs.Calls.{changes, listed}
-use Rattle.change_laws.proofs.MeetingLaws.{or_parts}
 use Rattle.change_laws.proofs.CallLaws.{others_stay}
 use Rattle.transact.specs.Noted.{AreNoted}
+use Rattle.std.proofs.lemmas.Bool.{or_parts}
 
 -- one more region is noted
 module _ (f g h : Forest) (noted : List RegionId) (changed : RegionId) where

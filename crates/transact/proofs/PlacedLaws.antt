@@ -56,7 +56,7 @@ pub ascending_of : (g : Forest) (places list : List Place) → AreDeskPlaces g p
 ascending_of g places list k e = subst AscendByRegion (sym e) (ascend_filter (is_shown_place g) places k.ascending)
 
 -- a change makes no region
-makes_none : (call : Call) → is_quiet call ≡ false → makes call ≡ false
+pub makes_none : (call : Call) → is_quiet call ≡ false → makes call ≡ false
 makes_none (calls.Region kind size) h = absurd (grind arith)
 makes_none (calls.Space space root) h = refl
 makes_none (calls.Add parent offset child priority) h = refl

@@ -14,12 +14,13 @@ use Rattle.mem_base.specs.map.Touched.{is_same_region, is_touched}
 use Rattle.mem_base.specs.views.Flattened.{view_of}
 use Rattle.mem_base.specs.lists.Booleans.{bool_eq}
 use Rattle.mem_base.specs.views.View.{IsView}
-use Rattle.view_laws.proofs.TouchedLaws.{untouched_view, region_same, bool_same}
+use Rattle.view_laws.proofs.TouchedLaws.{untouched_view, region_same}
 use Rattle.change_spans.specs.declared.reaches.Reach.{Reach}
 use Rattle.change_spans.specs.declared.reaches.Span.{Span}
 use Rattle.change_spans.specs.Reaches.{has_in, IsOver, ShowsWithin}
 use Rattle.view_splice.specs.Splices.{StaysOutside}
 use Rattle.transact.proofs.MadeLaws.{ordered_made, view_made}
+use Rattle.mem_base.proofs.BoolLaws.{bool_same}
 
 -- an untouched space keeps its view
 pub view_stays : (f g : Forest) (s : SpaceId) → IsMade f → IsMade g → is_touched f g s ≡ false → view_of f s ≡ view_of g s

@@ -22,7 +22,7 @@ use Rattle.mem_base.specs.map.Forest.{IsMade, IsRegion, HasTarget}
 use Rattle.mem_base.specs.map.Touched.{is_reached, is_reached_from, reached, is_same_region, stays_alike, is_touched}
 use Rattle.mem_base.proofs.ForestLaws.{id_of, node_of-itself, every_node_of}
 use Rattle.map_laws.proofs.DepthLaws.{reaches_is}
-use Rattle.view_laws.proofs.Tests.{none_is_not_some, same_some, same_region}
+use Rattle.view_laws.proofs.Tests.{none_is_not_some, same_region}
 use Rattle.view_laws.proofs.LiveLaws.{In, every_in}
 use Rattle.view_laws.proofs.TouchedLaws.{found_in_list, ascending_filter, unique, region_same}
 use Rattle.change_laws.proofs.AlikeLaws.{stays_itself}
@@ -31,6 +31,9 @@ use Rattle.change_laws.specs.Meeting.{is_among, OthersStay}
 use Rattle.transact.specs.Noted.{is_parent_among, is_placed_among, stay_away}
 use Rattle.transact.proofs.MadeLaws.{ordered_made, closed_made}
 use Rattle.transact.proofs.TouchedLaws.{is_other, touched_by}
+use Rattle.mem_base.proofs.BoolLaws.{both_ways}
+use Rattle.std.proofs.lemmas.Bool.{or_right, or_left}
+use Rattle.std.proofs.lemmas.Option.{same_Some}
 
 -- regions of lists
 
@@ -65,19 +68,6 @@ not_both : (b : Bool) → b ≡ true → not b ≡ true → ⊥
 not_both true h k = absurd (grind arith)
 not_both false h k = absurd (grind arith)
 
-or_first : (a b : Bool) → a ≡ true → (a || b) ≡ true
-or_first true b h = refl
-or_first false b h = absurd (grind arith)
-
-or_second : (a b : Bool) → b ≡ true → (a || b) ≡ true
-or_second true b h = refl
-or_second false b h = h
-
-bool_same : (a b : Bool) → (a ≡ true → b ≡ true) → (b ≡ true → a ≡ true) → a ≡ b
-bool_same true b h k = sym (h refl)
-bool_same false true h k = k refl
-bool_same false false h k = refl
-
 is_some_node : (o : Option Node) → IsSome o → (n : Node) × (o ≡ Some n)
 is_some_node None h = absurd (grind arith)
 is_some_node (Some n) h = (n, refl)
@@ -90,7 +80,7 @@ found_space P s (p ∷ ps) r h e = go (is_space s p) e (found_space P s ps r h.1
   where
     go : (b : Bool) → option_map (λ (p : SpaceId × RegionId). p.1) (if b then Some p else find (is_space s) ps) ≡ Some r
         → (option_map (λ (p : SpaceId × RegionId). p.1) (find (is_space s) ps) ≡ Some r → P r) → P r
-    go true e rest = subst P (same_some p.1 r e) h.0
+    go true e rest = subst P (same_Some p.1 r e) h.0
     go false e rest = rest e
 
 module _ (f g : Forest) (s : SpaceId) (noted : List RegionId) (made_f : IsMade f) (made_g : IsMade g) (others : OthersStay f g noted)
@@ -138,12 +128,12 @@ module _ (f g : Forest) (s : SpaceId) (noted : List RegionId) (made_f : IsMade f
       go false e = others x e
 
   kept_same : (x : RegionId) → kept x ≡ true → node_of f.nodes x ≡ node_of g.nodes x
-  kept_same x k = unnoted x (λ h. not_near x h (or_first (kept x) (is_placed_among (reached f s) (node_of g.nodes x)) k))
+  kept_same x k = unnoted x (λ h. not_near x h (or_left (kept x) (is_placed_among (reached f s) (node_of g.nodes x)) k))
 
   -- a region that is now in a kept container was there before
   child_same : (q : RegionId) (c : Node) → node_of g.nodes c.id ≡ Some c → is_child_of q c ≡ true → kept q ≡ true → node_of f.nodes c.id ≡ node_of g.nodes c.id
   child_same q c e child k = unnoted c.id (λ h. not_near c.id h
-      (or_second (kept c.id) (is_placed_among (reached f s) (node_of g.nodes c.id))
+      (or_right (kept c.id) (is_placed_among (reached f s) (node_of g.nodes c.id))
       (subst (λ o. is_placed_among (reached f s) o ≡ true) (sym e) (go c.parent child))))
     where
       go : (o : Option RegionId) → is_in q o ≡ true → is_parent_among (reached f s) o ≡ true

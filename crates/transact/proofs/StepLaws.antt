@@ -1,24 +1,22 @@
 -- One turn of a loop over a list whose members are taken one after another.
-use Rattle.std.proofs.Common.{◌≡◌, ℕ, ◌+◌, ◌<◌, ◌≤◌, List, [], ◌∷◌, ◌++◌, map, length, drop, drop-cons, get_or, add-one, sym, ap, ◌∙◌, append_assoc, arith}
+use Rattle.std.proofs.Common.{◌≡◌, ℕ, ◌+◌, ◌<◌, ◌≤◌, List, [], ◌∷◌, ◌++◌, map, length, drop, get_or, sym, ap, ◌∙◌, append_assoc, arith}
 use Rattle.std.specs.Prelude.{Bool, filter}
 use Rattle.std.specs.List.{sum_by}
 use Rattle.std.proofs.lemmas.List.{map-append}
 use Rattle.std.proofs.lemmas.List.Elements.{filter-append}
 use Rattle.std.proofs.lemmas.List.Sums.{sum_by-cons}
-
-taken : {A : Type 0} (xs : List A) (i : ℕ) (d : A) → i < length xs → drop i xs ≡ get_or xs i d ∷ drop (i + 1) xs
-taken xs i d l = drop-cons xs i d l ∙ ap (λ n. get_or xs i d ∷ drop n xs) (sym (add-one i))
+use Rattle.mem_base.proofs.ListLaws.{drop_next}
 
 -- what is done, and what the members that are left give, is the whole
 pub next_done : {A B : Type 0} (k : A → B) (done whole : List B) (xs : List A) (i : ℕ) (d : A) (y : B) → i < length xs → y ≡ k (get_or xs i d)
     → done ++ map k (drop i xs) ≡ whole → (done ++ y ∷ []) ++ map k (drop (i + 1) xs) ≡ whole
 next_done k done whole xs i d y l e h =
     append_assoc done (y ∷ []) (map k (drop (i + 1) xs))
-    ∙ ap (λ zs. done ++ zs) (ap (λ z. z ∷ map k (drop (i + 1) xs)) e ∙ ap (map k) (sym (taken xs i d l))) ∙ h
+    ∙ ap (λ zs. done ++ zs) (ap (λ z. z ∷ map k (drop (i + 1) xs)) e ∙ ap (map k) (sym (drop_next xs i d l))) ∙ h
 
 pub next_sum : {A : Type 0} (c : A → ℕ) (xs : List A) (i : ℕ) (d : A) → i < length xs
     → sum_by c (drop i xs) ≡ c (get_or xs i d) + sum_by c (drop (i + 1) xs)
-next_sum c xs i d l = ap (sum_by c) (taken xs i d l) ∙ sum_by-cons c (get_or xs i d) (drop (i + 1) xs)
+next_sum c xs i d l = ap (sum_by c) (drop_next xs i d l) ∙ sum_by-cons c (get_or xs i d) (drop (i + 1) xs)
 
 -- the same where one more stands at the end of a list
 pub next_listed : {A B : Type 0} (k : A → B) (done new whole : List B) (xs : List A) (i : ℕ) (d : A) (y : B) → i < length xs → new ≡ done ++ y ∷ []
@@ -38,7 +36,7 @@ next_chosen p k done new whole xs i d y l more e h =
     let rest = map k (drop (i + 1) xs) in
     ap (λ zs. zs ++ filter p rest) more ∙ append_assoc done (filter p (y ∷ [])) (filter p rest)
     ∙ ap (λ zs. done ++ zs) (sym (filter-append p (y ∷ []) rest)
-    ∙ ap (filter p) (ap (λ z. z ∷ rest) e ∙ ap (map k) (sym (taken xs i d l)))) ∙ h
+    ∙ ap (filter p) (ap (λ z. z ∷ rest) e ∙ ap (map k) (sym (drop_next xs i d l)))) ∙ h
 
 -- what a turn spends, of what the members that are left may spend
 pub spent : {A : Type 0} (c : A → ℕ) (xs : List A) (i : ℕ) (d : A) (before now bound : ℕ) → i < length xs → before + sum_by c (drop i xs) ≤ bound

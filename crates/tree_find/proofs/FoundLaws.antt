@@ -5,7 +5,6 @@ use Rattle.std.proofs.lemmas.Bool.{cases_lt}
 use Rattle.mem_base.specs.declared.map.ids.RegionId.{RegionId}
 use Rattle.mem_base.specs.declared.map.forests.Node.{Node}
 use Rattle.mem_base.specs.declared.map.spots.Spot.{Spot}
-use Rattle.mem_base.specs.map.Region.{node_of}
 use Rattle.mem_base.specs.declared.map.forests.Forest.{Forest}
 use Rattle.mem_base.specs.map.Search.{Found, Search, spot_of, path_of, found_in, first_of_children}
 use Rattle.std.specs.Prelude.{nat_le}
@@ -16,11 +15,6 @@ use Rattle.region_slots.specs.Slots.{child_of, placed_of}
 use Rattle.region_slots.specs.Told.{IsChild}
 use Rattle.region_slots.proofs.ToldLaws.{past_last}
 use Rattle.tree_find.specs.Children.{tried, holds}
-use Rattle.mem_base.proofs.ForestLaws.{id_of}
-
--- a region that was found by an id is found by its own
-pub found_itself : (nodes : List Node) (r : RegionId) (n : Node) → Some n ≡ node_of nodes r → node_of nodes n.id ≡ Some n
-found_itself nodes r n e = ap (node_of nodes) (id_of nodes r n (sym e)) ∙ sym e
 
 -- where nothing is found, no region goes onto the path
 pub no_path : (path : List RegionId) (x : Option Found) → x ≡ None → path ≡ path ++ path_of x

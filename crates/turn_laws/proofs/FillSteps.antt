@@ -1,7 +1,7 @@
 -- A cell of a new region is cleared on both machines.
 use Rattle.std.proofs.Common.{◌≡◌, ℕ, ◌+◌, ◌<◌, Bool, true, false, ◌||◌, List, [], ◌∷◌, sym, refl, ap, ◌∙◌, subst, arith, if◌then◌else◌, Some}
 use Rattle.std.specs.Prelude.{slice_index, filter, ◌==◌, not}
-use Rattle.std.proofs.lemmas.Bool.{eqb-true}
+use Rattle.std.proofs.lemmas.Bool.{eqb-true, and_parts}
 use mathlib.Core.Logic.{dite}
 use native.Mathlib.Decide.{ℕ_discrete}
 use Rattle.mem_base.specs.declared.map.ids.RegionId.{RegionId}
@@ -16,7 +16,7 @@ use Rattle.mem_base.specs.machine.Generations.{held_generations}
 use Rattle.mem_base.specs.machine.Desk.{places_of}
 use Rattle.mem_base.specs.machine.World.{World, touched_blocks}
 use Rattle.mem_base.proofs.EveryLaws.{weaker}
-use Rattle.view_laws.proofs.Tests.{both_of, same_region, same_place}
+use Rattle.view_laws.proofs.Tests.{same_region, same_place}
 use Rattle.history_laws.proofs.OrderLaws.{order_after}
 use Rattle.turn_laws.proofs.Backed.{IsBacked, waits, its_own, at_same, steps_both}
 use Rattle.turn_laws.proofs.Coupled.{Stands, AllStand, Coupled, Follows}
@@ -38,10 +38,10 @@ others_wait c r i ne (x ∷ xs) = go (is_same_cell c x) refl (others_wait c r i 
       where
         at : (b : Bool) → is_same_cell (cell r i) x ≡ b → waits (less_cell c xs) r i ≡ (b || waits xs r i)
         at false z = rest
-        at true z = let h = both_of (c.region.0 == x.region.0) (c.word == x.word) e in let g = both_of (r.0 == x.region.0) (i == x.word) z in
+        at true z = let h = and_parts (c.region.0 == x.region.0) (c.word == x.word) e in let g = and_parts (r.0 == x.region.0) (i == x.word) z in
             absurd (ne (eqb-true _ _ g.0 ∙ sym (eqb-true _ _ h.0)) (eqb-true _ _ g.1 ∙ sym (eqb-true _ _ h.1)))
 
-fewer_wait : (c : Cell) (r : RegionId) (i : ℕ) (cells : List Cell) → waits cells r i ≡ false → waits (less_cell c cells) r i ≡ false
+pub fewer_wait : (c : Cell) (r : RegionId) (i : ℕ) (cells : List Cell) → waits cells r i ≡ false → waits (less_cell c cells) r i ≡ false
 fewer_wait c r i [] h = refl
 fewer_wait c r i (x ∷ xs) h = go (is_same_cell c x) (is_same_cell (cell r i) x) refl (fewer_wait c r i xs) h
   where

@@ -13,9 +13,10 @@ use Rattle.mem_base.specs.access.PlacesByRegion.{place_in}
 use Rattle.mem_base.specs.access.Cells.{cell, Block, has_block, cells_in}
 use Rattle.mem_base.specs.machine.Desk.{cells_of}
 use Rattle.mem_base.specs.machine.World.{block_for}
-use Rattle.view_laws.proofs.Tests.{true_is_not_false, none_is_not_some, same_region, same_place}
+use Rattle.view_laws.proofs.Tests.{none_is_not_some, same_region, same_place}
 use Rattle.turn_laws.proofs.Backed.{IsBacked, waits}
 use Rattle.turn_laws.proofs.Replaced.{block_words, words_stay}
+use Rattle.mem_base.proofs.BoolLaws.{true_is_not_false}
 
 -- each cell of the place waits
 waits_in : (r : RegionId) (a n i : ℕ) → a ≤ i → i < a + n → waits (map (cell r) (range_with_len a n)) r i ≡ true

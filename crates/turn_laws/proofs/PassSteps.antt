@@ -3,7 +3,7 @@ use Rattle.std.proofs.Common.{◌≡◌, ℕ, zero, suc, ◌+◌, ◌-◌, ◌<�
 use Rattle.std.proofs.Common.{sym, refl, ap, ◌∙◌, subst, arith, if◌then◌else◌, Option, Some, None}
 use Rattle.std.specs.Prelude.{slice_index, slice_get, nat_le}
 use Rattle.std.specs.List.{list_any}
-use Rattle.std.proofs.lemmas.Bool.{eqb-true, ltb-true, leb-true}
+use Rattle.std.proofs.lemmas.Bool.{eqb-true, ltb-true, leb-true, and_parts}
 use Rattle.mem_base.specs.declared.map.ids.RegionId.{RegionId}
 use Rattle.mem_base.specs.declared.map.ids.PassId.{PassId}
 use Rattle.mem_base.specs.declared.map.kinds.Client.{Client}
@@ -32,12 +32,13 @@ use Rattle.mem_base.specs.machine.World.{World, possible, world_after, if_placed
 use Rattle.mem_base.specs.machine.SharedHistory.{is_same_place, carries}
 use Rattle.mem_base.specs.machine.SharedHistory as running
 use Rattle.mem_base.specs.machine.Turns.{is_writers}
-use Rattle.view_laws.proofs.Tests.{both_of, same_some, none_is_not_some, same_region}
+use Rattle.view_laws.proofs.Tests.{none_is_not_some, same_region}
 use Rattle.history_laws.proofs.OrderLaws.{order_after}
 use Rattle.turn_laws.proofs.Backed.{IsBacked, waits, steps_both, same_blocks}
 use Rattle.turn_laws.proofs.Coupled.{Stands, AllStand, IsWhole, Coupled, Follows, seen}
+use Rattle.std.proofs.lemmas.Option.{same_Some}
 
-least_low : (c : ℕ) (ks : List PassTrack) (v : ℕ) → v < length ks → least_lowest c ks ≤ (get_or ks v nothing_known).lowest
+pub least_low : (c : ℕ) (ks : List PassTrack) (v : ℕ) → v < length ks → least_lowest c ks ≤ (get_or ks v nothing_known).lowest
 least_low c [] v l = absurd (omega arith)
 least_low c (k ∷ ks) zero l = omega arith
 least_low c (k ∷ ks) (suc v) l = let x = least_low c ks v (omega arith) in omega arith
@@ -45,12 +46,12 @@ least_low c (k ∷ ks) (suc v) l = let x = least_low c ks v (omega arith) in ome
 every_get : {A : Type 0} (P : A → Type 0) (xs : List A) (i m : ℕ) (x : A) → Every P (take m xs) → i < m → slice_get xs i ≡ Some x → P x
 every_get P [] i m x k l e = none_is_not_some x e
 every_get P (y ∷ ys) i zero x k l e = absurd (omega arith)
-every_get P (y ∷ ys) zero (suc m) x k l e = subst P (same_some y x e) k.0
+every_get P (y ∷ ys) zero (suc m) x k l e = subst P (same_Some y x e) k.0
 every_get P (y ∷ ys) (suc i) (suc m) x k l e = every_get P ys i m x k.1 (omega arith) e
 
 all_same : (p q : Place) → is_same_place p q ≡ true → q ≡ p
 all_same p q h =
-    let a = both_of _ _ h in let b = both_of _ _ a.0 in let c = both_of _ _ b.0 in let d = both_of _ _ c.0 in
+    let a = and_parts _ _ h in let b = and_parts _ _ a.0 in let c = and_parts _ _ b.0 in let d = and_parts _ _ c.0 in
     let e0 : q.region.0 ≡ p.region.0 = sym (eqb-true _ _ d.0) in
     let e1 : q.start ≡ p.start = sym (eqb-true _ _ d.1) in
     let e2 : q.words ≡ p.words = sym (eqb-true _ _ c.1) in
@@ -122,14 +123,14 @@ reached_word w None p c same s h = absurd (grind arith)
 reached_word w (Some x) p c same s h = go (names x.forest c.region && is_data_or_register p c.word) refl h
   where
     go : (b : Bool) → (names x.forest c.region && is_data_or_register p c.word) ≡ b → (b || is_notifier c) ≡ true → c.word < p.words
-    go true e h = let t = both_of _ _ e in let l : c.word < data_words p.bytes + p.regs = ltb-true _ _ t.1 in let m = s.wide in omega arith
-    go false e h = let t = both_of _ _ h in let l : c.word < notifier_count = ltb-true _ _ t.1 in
+    go true e h = let t = and_parts _ _ e in let l : c.word < data_words p.bytes + p.regs = ltb-true _ _ t.1 in let m = s.wide in omega arith
+    go false e h = let t = and_parts _ _ h in let l : c.word < notifier_count = ltb-true _ _ t.1 in
         let m : p.words ≡ notifier_count =
         s.notifiers (subst (λ (z : RegionId). is_notifiers z ≡ true) (sym (same_region p.region c.region same)) t.0) in omega arith
 
 marked_page : (o : Option Generation) (p : Place) (r : RegionId) (page : ℕ) → may_mark o p r page ≡ true → page < pages_in p
 marked_page None p r page h = absurd (grind arith)
-marked_page (Some x) p r page h = ltb-true _ _ (both_of _ _ h).1
+marked_page (Some x) p r page h = ltb-true _ _ (and_parts _ _ h).1
 
 -- a touch of a word of a place that stands
 
@@ -162,7 +163,7 @@ old_touch w words k e r p t here is near filled =
 pub steps_word : (w : World) (words : List ℕ) → Coupled w words → (v : PassId) (c : Cell) (step : WordStep) (p : Place)
     → running.shared_possible (seen w words) (events.Word (hands.Pass v) c step) (At p) ≡ true → Follows w words (events.Word (hands.Pass v) c step) (At p)
 steps_word w words k v c step p h =
-    let a = both_of _ _ h in let b = both_of _ _ a.0 in
+    let a = and_parts _ _ h in let b = and_parts _ _ a.0 in
     let same = eqb-true p.region.0 c.region.0 b.0 in
     let t = transaction w words k v p a.1 in
     let here = placed_there w c.region p same t.place.whole in
@@ -189,7 +190,7 @@ steps_word w words k v c step p h =
 pub steps_mark : (w : World) (words : List ℕ) → Coupled w words → (v : PassId) (r : RegionId) (client : Client) (page : ℕ) (p : Place)
     → running.shared_possible (seen w words) (events.Mark v r client page) (At p) ≡ true → Follows w words (events.Mark v r client page) (At p)
 steps_mark w words k v r client page p h =
-    let a = both_of _ _ h in let b = both_of _ _ a.0 in
+    let a = and_parts _ _ h in let b = and_parts _ _ a.0 in
     let same = eqb-true p.region.0 r.0 b.0 in
     let t = transaction w words k v p a.1 in
     let here = placed_there w r p same t.place.whole in

@@ -10,7 +10,7 @@ use Rattle.mem_base.specs.machine.History.{PureEntry}
 use Rattle.mem_base.specs.machine.Turns.{is_writers, writers_of}
 use Rattle.mem_base.specs.machine.JoinedHistory.{RowPart, next_entry, after_last, before_next, read, before_entry, at_once, past_at_once}
 use Rattle.mem_base.specs.machine.JoinedHistory.{past_entry, put_in, is_private}
-use Rattle.view_laws.proofs.Tests.{true_is_not_false}
+use Rattle.mem_base.proofs.BoolLaws.{true_is_not_false}
 
 -- the private entries of a row are private events of the writer
 abbrev pub ArePrivate : List RowPart → Type 0

@@ -2,7 +2,7 @@
 use Rattle.std.proofs.Common.{◌≡◌, ℕ, ◌+◌, ◌-◌, ◌<◌, ◌≤◌, Bool, true, false, ◌&&◌, List, [], ◌∷◌, ◌++◌, length, map, sym, refl, ap, ◌∙◌}
 use Rattle.std.proofs.Common.{subst, arith, if◌then◌else◌, Option, Some, None}
 use Rattle.std.specs.Prelude.{◌==◌, not, ◌/◌, Ok, Err, Result}
-use Rattle.std.proofs.lemmas.Bool.{eqb-true, eqb-false}
+use Rattle.std.proofs.lemmas.Bool.{eqb-true, eqb-false, and_parts, not-true}
 use Rattle.mem_base.specs.declared.map.ids.RegionId.{RegionId}
 use Rattle.mem_base.specs.declared.map.ids.ListenerId.{ListenerId}
 use Rattle.mem_base.specs.declared.map.kinds.Client.{Client}
@@ -36,14 +36,15 @@ use Rattle.mem_base.specs.machine.Configs.{configured, made, backed, kept_back, 
 use Rattle.mem_base.specs.machine.World.{World, possible, world_after, block_for, is_at_rest}
 use Rattle.mem_base.proofs.EveryLaws.{weaker}
 use Rattle.history_laws.proofs.Idles.{IsFresh, IsNew}
-use Rattle.view_laws.proofs.SortedLaws.{every_put}
-use Rattle.view_laws.proofs.Tests.{both_of, not_true, true_is_not_false, none_is_not_some, same_region}
+use Rattle.view_laws.proofs.Tests.{none_is_not_some, same_region}
 use Rattle.history_laws.proofs.OrderLaws.{order_after}
 use Rattle.turn_laws.proofs.Backed.{IsBacked}
 use Rattle.turn_laws.proofs.Coupled.{Stands, AllStand, IsWhole, Coupled}
 use Rattle.turn_laws.proofs.Replaced.{renew, no_cells}
 use Rattle.history_laws.proofs.FitLaws.{fits, clear}
 use Rattle.turn_laws.proofs.NewPlace.{others_rest, between_new, found_new, last_of, first_of, put_in, backs_new}
+use Rattle.mem_base.proofs.ForestLaws.{every_put}
+use Rattle.mem_base.proofs.BoolLaws.{true_is_not_false}
 
 -- what a private event leaves as it was
 record Leaves (d m : Desk) : Type 0 where
@@ -55,7 +56,7 @@ record Leaves (d m : Desk) : Type 0 where
 leaves : (d m : Desk) → m.places ≡ d.places → m.pool_words ≡ d.pool_words → m.unfilled ≡ d.unfilled → m.dropped ≡ d.dropped → Leaves d m
 leaves d m p w u x = record { places = p; pool = w; unfilled = u; low = λ e. subst (λ (rs : List RegionId). Every (λ r. is_notifiers r ≡ false) rs) (sym x) e }
 
-nothing_unfilled : (cells : List Cell) → (length cells == 0) ≡ true → cells ≡ []
+pub nothing_unfilled : (cells : List Cell) → (length cells == 0) ≡ true → cells ≡ []
 nothing_unfilled [] h = refl
 nothing_unfilled (c ∷ cs) h = absurd (omega (arith, eqb-true _ _ h))
 
@@ -72,7 +73,7 @@ module _ (w : World) (words : List ℕ) (k : Coupled w words) (rest : is_at_rest
   d = w.writer.desk
 
   none : d.unfilled ≡ []
-  none = nothing_unfilled d.unfilled (both_of _ _ rest).1
+  none = nothing_unfilled d.unfilled (and_parts _ _ rest).1
 
   quietly : (m : Desk) → Leaves d m → Kept w words m
   quietly m s =
@@ -169,7 +170,7 @@ module _ (w : World) (words : List ℕ) (k : Coupled w words) (rest : is_at_rest
             })
             (weaker (IsWhole (places_of e)) (IsWhole ((e.places ++ p ∷ []) ++ np ∷ [])) (λ q s. grown p q refl s) (places_of e) k.whole);
         low = k.low;
-        still = λ on. true_is_not_false e.due on (not_true e.due (both_of _ _ rest).0);
+        still = λ on. true_is_not_false e.due on (not-true e.due (and_parts _ _ rest).0);
       }
 
   made_kept : (f : Forest) (x : Extent) → Kept w words (made e f r x).desk
@@ -256,7 +257,7 @@ module _ (w : World) (words : List ℕ) (k : Coupled w words) (rest : is_at_rest
 -- each call, begin, commit, and listener that joins or leaves
 pub configures : (w : World) (words : List ℕ) (c : Config) → Coupled w words → possible w (events.Config c) ≡ true → IsFresh w.writer.desk c
     → Coupled (world_after w (events.Config c)) words
-configures w words c k may fresh = let s = configured_kept w words k (both_of _ _ may).0 c fresh in record {
+configures w words c k may fresh = let s = configured_kept w words k (and_parts _ _ may).0 c fresh in record {
   backed = s.backed;
   held = s.held;
   whole = s.whole;

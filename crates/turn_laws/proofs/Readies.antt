@@ -1,7 +1,7 @@
 -- When an event of the writer is ready, by the writer's part alone, and that each ready one follows.
 use Rattle.std.proofs.Common.{◌≡◌, ℕ, ◌<◌, true, ◌||◌, List, [], sym, refl, ap, ◌∙◌, subst, arith, Option, Some, None}
 use Rattle.std.specs.Prelude.{not, nat_lt}
-use Rattle.std.proofs.lemmas.Bool.{ltb-true}
+use Rattle.std.proofs.lemmas.Bool.{ltb-true, and_parts, and_from}
 use Rattle.mem_base.specs.declared.map.ids.RegionId.{RegionId}
 use Rattle.mem_base.specs.declared.map.kinds.Client.{Client}
 use Rattle.mem_base.specs.declared.access.cells.Place.{Place}
@@ -22,7 +22,6 @@ use Rattle.mem_base.specs.machine.World.{World, possible, is_at_rest}
 use Rattle.mem_base.specs.machine.History.{PureEntry, pure_entry, after_entry}
 use Rattle.mem_base.specs.machine.SharedHistory as running
 use Rattle.mem_base.specs.machine.JoinedHistory.{read}
-use Rattle.view_laws.proofs.Tests.{both_of, both}
 use Rattle.turn_laws.proofs.Backed.{waits}
 use Rattle.turn_laws.proofs.Coupled.{Coupled, Follows, seen}
 use Rattle.turn_laws.proofs.WriterSteps as steps
@@ -61,7 +60,7 @@ writes_there : (w : World) (words : List ℕ) → Coupled w words → w.writer.d
     → running.shared_possible (seen w words) (events.Word hands.Writer c step) (at_place o) ≡ true → Follows w words (events.Word hands.Writer c step)
     (at_place o)
 writes_there w words k none c step None here may = absurd (grind arith)
-writes_there w words k none c step (Some p) here may = let b : (nat_lt c.word p.words) ≡ true = (both_of _ _ (both_of _ _ may).1).0 in
+writes_there w words k none c step (Some p) here may = let b : (nat_lt c.word p.words) ≡ true = (and_parts _ _ (and_parts _ _ may).1).0 in
     steps.writes w words k none c step p here (ltb-true _ _ b)
 
 harvests_there : (w : World) (words : List ℕ) → Coupled w words → w.writer.desk.unfilled ≡ [] → (r : RegionId) (client : Client) (index : ℕ)
@@ -70,13 +69,13 @@ harvests_there : (w : World) (words : List ℕ) → Coupled w words → w.writer
     → running.shared_possible (seen w words) (events.Harvest r client index) (at_place o) ≡ true → Follows w words (events.Harvest r client index) (at_place o)
 harvests_there w words k none r client index inside None here may = absurd (grind arith)
 harvests_there w words k none r client index inside (Some p) here may = steps.harvests w words k none r client index p here (inside p here)
-    (ltb-true _ _ (both_of _ _ (both_of _ _ may).1).0)
+    (ltb-true _ _ (and_parts _ _ (and_parts _ _ may).1).0)
 
 fills_there : (w : World) (words : List ℕ) → Coupled w words → (c : Cell) → waits w.writer.desk.unfilled c.region c.word ≡ true → (o : Option Place)
     → place_in (places_of w.writer.desk) c.region ≡ o
     → running.shared_possible (seen w words) (events.Fill c) (at_place o) ≡ true → Follows w words (events.Fill c) (at_place o)
 fills_there w words k c waiting None here may = absurd (grind arith)
-fills_there w words k c waiting (Some p) here may = let b : (nat_lt c.word p.words) ≡ true = (both_of _ _ (both_of _ _ may).1).0 in
+fills_there w words k c waiting (Some p) here may = let b : (nat_lt c.word p.words) ≡ true = (and_parts _ _ (and_parts _ _ may).1).0 in
     fills w words k c p waiting here (ltb-true _ _ b)
 
 follows : (w : World) (words : List ℕ) → Coupled w words → (e : Event) → Readied w.writer.desk e → running.shared_possible (seen w words) e
@@ -113,7 +112,7 @@ steps_keep w words k y r may is = record {
 private_keeps : (w : World) (words : List ℕ) → Coupled w words → (e : Event) → DueEvent w.writer e
     → KeepsPrivate w words (pure_entry e (private_reply w.writer e))
 private_keeps w words k (events.Config c) due =
-    let may : possible w (events.Config c) ≡ true = both _ _ due.0 due.1 in record {
+    let may : possible w (events.Config c) ≡ true = and_from _ _ due.0 due.1 in record {
       may = may;
       tells = refl;
       coupled = configures w words c k may due.2;
@@ -121,7 +120,7 @@ private_keeps w words k (events.Config c) due =
       shows = refl;
     }
 private_keeps w words k events.Reap due =
-    let may : possible w events.Reap ≡ true = both _ _ due.0 due.1 in record {
+    let may : possible w events.Reap ≡ true = and_from _ _ due.0 due.1 in record {
       may = may;
       tells = refl;
       coupled = reaps w words k may;

@@ -2,7 +2,7 @@
 use Rattle.std.proofs.Common.{◌≡◌, ℕ, eqb, ne_eqb, eq-eqb, Bool, true, false, ◌||◌, List, [], ◌∷◌, ◌++◌, sym, refl, ◌∙◌, subst, if◌then◌else◌, Some, None}
 use Rattle.std.specs.Prelude.{filter, not, ◌^◌, ◌-◌}
 use Rattle.std.specs.List.{list_any}
-use Rattle.std.proofs.lemmas.Bool.{eqb-true}
+use Rattle.std.proofs.lemmas.Bool.{eqb-true, or_right, not_from_false, not_from_true}
 use Rattle.mem_base.specs.declared.map.ids.RegionId.{RegionId}
 use Rattle.mem_base.specs.declared.access.cells.Place.{Place}
 use Rattle.mem_base.specs.declared.machine.events.Event.TheVariants as events
@@ -15,11 +15,12 @@ use Rattle.mem_base.specs.machine.Desk.{places_of}
 use Rattle.mem_base.specs.machine.Reaps.{Writer, is_named, released, is_among}
 use Rattle.mem_base.specs.machine.World.{World, possible, world_after}
 use Rattle.mem_base.proofs.EveryLaws.{weaker, both}
-use Rattle.view_laws.proofs.Tests.{or_right, not_of_false, not_of_true, true_is_not_false, none_is_not_some, same_region}
+use Rattle.view_laws.proofs.Tests.{none_is_not_some, same_region}
 use Rattle.history_laws.proofs.OrderLaws.{order_after}
 use Rattle.turn_laws.proofs.Coupled.{Stands, AllStand, IsWhole, Coupled}
 use Rattle.turn_laws.proofs.Replaced.{fewer, kept_place, no_cells}
 use Rattle.view_laws.proofs.SortedLaws.{every_filter}
+use Rattle.mem_base.proofs.BoolLaws.{true_is_not_false}
 
 -- what one of these generations names, some of them names
 each_in : (xs : List Generation) → Every (λ x. (r : RegionId) → names x.forest r ≡ true → list_any (λ (y : Generation). names y.forest r) xs ≡ true) xs
@@ -67,10 +68,10 @@ abbrev left : Writer → List Place
 left h = filter (λ p. kept_by h p.region) h.desk.places ++ notifiers_place h.desk.pool_words ∷ []
 
 held_kept : (h : Writer) (r : RegionId) → is_named h.generations r ≡ true → kept_by h r ≡ true
-held_kept h r e = not_of_false _ (not_among (λ q. not (is_named h.generations q)) h.desk.dropped r (not_of_true _ e))
+held_kept h r e = not_from_false _ (not_among (λ q. not (is_named h.generations q)) h.desk.dropped r (not_from_true _ e))
 
 notifier_kept : (h : Writer) (r : RegionId) → Every (λ q. is_notifiers q ≡ false) h.desk.dropped → is_notifiers r ≡ true → kept_by h r ≡ true
-notifier_kept h r low e = not_of_false _ (none_among (λ q. not (is_named h.generations q)) h.desk.dropped r e low)
+notifier_kept h r low e = not_from_false _ (none_among (λ q. not (is_named h.generations q)) h.desk.dropped r e low)
 
 named_kept : (h : Writer) → Every (λ q. is_notifiers q ≡ false) h.desk.dropped → (x : Generation) (r : RegionId)
     → (names x.forest r ≡ true → is_named h.generations r ≡ true) → (is_notifiers r || names x.forest r) ≡ true → kept_by h r ≡ true

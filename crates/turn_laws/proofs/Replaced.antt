@@ -11,8 +11,9 @@ use Rattle.mem_base.specs.declared.access.cells.Cell.{Cell}
 use Rattle.mem_base.specs.access.PlacesByRegion.{place_in}
 use Rattle.mem_base.specs.access.Cells.{Block, has_block, cells_in}
 use Rattle.mem_base.specs.machine.World.{block_for}
-use Rattle.view_laws.proofs.Tests.{true_is_not_false, none_is_not_some, same_region, same_place}
+use Rattle.view_laws.proofs.Tests.{none_is_not_some, same_region, same_place}
 use Rattle.turn_laws.proofs.Backed.{IsBacked}
+use Rattle.mem_base.proofs.BoolLaws.{true_is_not_false}
 
 -- a block that is not there has no cells
 no_block : (blocks : List Block) (r : RegionId) → has_block blocks r ≡ false → cells_in blocks r ≡ []

@@ -23,12 +23,13 @@ use Rattle.mem_base.specs.machine.Answers.{first_or_zero}
 use Rattle.mem_base.specs.machine.Turns.{played}
 use Rattle.mem_base.specs.machine.JoinedHistory.{forest_carried, published_forests}
 use Rattle.history_laws.proofs.ReleasedLaws.{ids}
-use Rattle.view_laws.proofs.Tests.{both, length_map}
 use Rattle.view_laws.proofs.RangeLaws.{keeps_all}
 use Rattle.turn_laws.proofs.Backed.{waits}
 use Rattle.turn_laws.proofs.Readies.{Ready, Readied, Due}
 use Rattle.turn_laws.proofs.TurnGoes.{AllReady}
 use Rattle.history_laws.proofs.Outcomes.{Distinct}
+use Rattle.std.proofs.lemmas.Bool.{and_from}
+use Rattle.mem_base.proofs.ListLaws.{length_map}
 
 abbrev pub with_swept : List Bool → Desk → Desk
 with_swept bs d = record d { swept = bs }
@@ -107,7 +108,7 @@ turned_on a (suc n) bs v l m k = let k' : v < length (set bs a true) = subst (λ
 
 all_on : (bs : List Bool) → ((v : ℕ) → v < length bs → get_or bs v false ≡ true) → list_all (λ b. b) bs ≡ true
 all_on [] h = refl
-all_on (b ∷ bs) h = both b (list_all (λ b. b) bs) (h 0 (omega arith)) (all_on bs (λ v l. h (suc v) (omega arith)))
+all_on (b ∷ bs) h = and_from b (list_all (λ b. b) bs) (h 0 (omega arith)) (all_on bs (λ v l. h (suc v) (omega arith)))
 
 -- after a sweep of every pass all flags are on
 pub all_swept : (n : ℕ) (bs : List Bool) → length bs ≡ n → list_all (λ b. b) (flags_after (ids 0 n) bs) ≡ true
@@ -132,7 +133,7 @@ publish_forests (v ∷ vs) h ns = publish_forests vs (writer_after h (events.Pla
 
 -- fills
 
-same_cell : (c : Cell) → is_same_cell c c ≡ true
+pub same_cell : (c : Cell) → is_same_cell c c ≡ true
 same_cell c = rw (eq-eqb c.region.0 c.region.0 refl, eq-eqb c.word c.word refl) refl
 
 one_less : (c : Cell) (cs : List Cell) → Every (λ x. is_same_cell c x ≡ false) cs → filter (λ x. not (is_same_cell c x)) (c ∷ cs) ≡ cs

@@ -1,5 +1,5 @@
 -- A joined history keeps the entries of the shared history and of the turns, and each private one stands at its place.
-use Rattle.std.proofs.Common.{◌≡◌, Bool, true, false, ◌&&◌, List, [], ◌∷◌, ◌++◌, map, length, append_assoc, arith, ne_eqb, sym, refl, ap}
+use Rattle.std.proofs.Common.{◌≡◌, Bool, true, false, ◌&&◌, List, [], ◌∷◌, ◌++◌, map, length, append_assoc, arith, ne_eqb, sym, refl, ap, append-nil}
 use Rattle.std.proofs.Common.{◌∙◌, subst, if◌then◌else◌, Some}
 use Rattle.std.specs.Prelude.{flat_map, filter, not, ◌==◌}
 use Rattle.mem_base.specs.declared.machine.events.Event.{Event}
@@ -18,6 +18,7 @@ use Rattle.mem_base.specs.machine.JoinedHistory.{before_entry, at_once, past_at_
 use Rattle.mem_base.specs.machine.JoinedHistory.{shared_entries, private_entries_in, IsWritersOrNone, StandsBeside, IsPlaced}
 use Rattle.mem_base.proofs.EveryLaws.{every_filter, every_first}
 use Rattle.turn_laws.proofs.Placing.{ArePrivate, privates_in, Fits, row_entries, left_over, private_at, Starts, Placement, placed_all}
+use Rattle.view_laws.proofs.Projections.{filter_swap}
 
 -- lists
 
@@ -29,17 +30,6 @@ filter_both test (x ∷ xs) ys = go (test x) (filter_both test xs ys)
         → (if b then x ∷ filter test (xs ++ ys) else filter test (xs ++ ys)) ≡ (if b then x ∷ filter test xs else filter test xs) ++ filter test ys
     go true rest = ap (λ (zs : List _). x ∷ zs) rest
     go false rest = rest
-
-filter_swap : {A : Type 0} (test other : A → Bool) (xs : List A) → filter test (filter other xs) ≡ filter other (filter test xs)
-filter_swap test other [] = refl
-filter_swap test other (x ∷ xs) = go (test x) (other x) refl refl (filter_swap test other xs)
-  where
-    go : (a b : Bool) → test x ≡ a → other x ≡ b → filter test (filter other xs) ≡ filter other (filter test xs)
-        → filter test (if b then x ∷ filter other xs else filter other xs) ≡ filter other (if a then x ∷ filter test xs else filter test xs)
-    go true true p q rest = rw (p, q) (ap (λ (zs : List _). x ∷ zs) rest)
-    go true false p q rest = rw q rest
-    go false true p q rest = rw p rest
-    go false false p q rest = rest
 
 flat_both : {A B : Type 0} (f : A → List B) (xs ys : List A) → flat_map f (xs ++ ys) ≡ flat_map f xs ++ flat_map f ys
 flat_both f [] ys = refl
@@ -287,12 +277,8 @@ private_all t (y ∷ ys) = go (waits_for_fill t) (private_all t ys)
 
 -- of one turn, and of all
 
-append_nil : {A : Type 0} (xs : List A) → xs ++ [] ≡ xs
-append_nil [] = refl
-append_nil (x ∷ xs) = ap (λ (zs : List _). x ∷ zs) (append_nil xs)
-
 turn_row : (t : WriterCall) → IsRowOf (row_of t) (entries_of_turn t)
-turn_row t = subst (λ (us : List HistoryEntry). IsRowOf (row_of t) (us ++ t.after)) (append_nil t.before)
+turn_row t = subst (λ (us : List HistoryEntry). IsRowOf (row_of t) (us ++ t.after)) (append-nil t.before)
     (rows_both (map (λ x. next_entry) t.before ++ map (private_part t) t.private) (map (λ x. next_entry) t.after) (t.before ++ []) t.after
     (rows_both (map (λ x. next_entry) t.before) (map (private_part t) t.private) t.before [] (nexts_row t.before) (private_row t t.private))
     (nexts_row t.after))
@@ -315,7 +301,7 @@ turn_privates t =
     ∙ ap (λ (zs : List PureEntry). zs ++ privates_in (map (λ x. next_entry) t.after))
     (privates_both (map (λ x. next_entry) t.before) (map (private_part t) t.private)
     ∙ ap (λ (zs : List PureEntry). zs ++ privates_in (map (private_part t) t.private)) (nexts_none t.before) ∙ private_all t t.private)
-    ∙ ap (λ (zs : List PureEntry). t.private ++ zs) (nexts_none t.after) ∙ append_nil t.private
+    ∙ ap (λ (zs : List PureEntry). t.private ++ zs) (nexts_none t.after) ∙ append-nil t.private
 
 turns_privates : (ts : List WriterCall) → privates_in (flat_map row_of ts) ≡ flat_map (λ t. t.private) ts
 turns_privates [] = refl

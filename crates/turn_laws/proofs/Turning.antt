@@ -33,7 +33,6 @@ use Rattle.mem_base.specs.machine.Turns.{turn, played, private_entries, after_pr
 use Rattle.mem_base.specs.machine.JoinedHistory.{published_forests, accepted, accepted_one}
 use Rattle.mem_base.proofs.EveryLaws.{weaker, every_map}
 use Rattle.history_laws.proofs.Outcomes.{told_commits, due_forests, outcome, stands}
-use Rattle.view_laws.proofs.Tests.{or_right, length_map}
 use Rattle.view_laws.proofs.SortedLaws.{every_filter}
 use Rattle.turn_laws.proofs.Readies.{Ready, Due}
 use Rattle.turn_laws.proofs.TurnGoes.{AllDue, TurnReady}
@@ -42,6 +41,8 @@ use Rattle.turn_laws.proofs.Rows.{AreReady, writer_played, forests_in, forests_b
 use Rattle.turn_laws.proofs.Rows.{flags_after, swept_desk, swept_passes, swept_length, sweeps_forests, all_swept, sweeps_ready}
 use Rattle.turn_laws.proofs.Rows.{published_desk, published_passes, publish_forests, publish_ready, filled_desk, filled_generations}
 use Rattle.turn_laws.proofs.Rows.{fill_forests, fills_ready, IsSteady, steady_after, steady_forests, steady_ready}
+use Rattle.std.proofs.lemmas.Bool.{or_right}
+use Rattle.mem_base.proofs.ListLaws.{length_map}
 
 -- nothing is due or unfilled in an idle desk
 pub at_rest : (d : Desk) → d.due ≡ false → d.unfilled ≡ [] → is_at_rest d ≡ true

@@ -2,7 +2,7 @@
 use Rattle.std.proofs.Common.{◌≡◌, ℕ, zero, suc, ◌+◌, ◌-◌, ◌<◌, ◌≤◌, ne_eqb, Bool, true, false, ◌||◌, List, [], ◌∷◌, map, take, get_or, set}
 use Rattle.std.proofs.Common.{sym, refl, ap, subst, arith, if◌then◌else◌, Option, Some}
 use Rattle.std.specs.Prelude.{nat_lt, Ok}
-use Rattle.std.proofs.lemmas.Bool.{ltb-true, lt-ltb}
+use Rattle.std.proofs.lemmas.Bool.{ltb-true, lt-ltb, and_parts}
 use Rattle.mem_base.specs.declared.map.ids.RegionId.{RegionId}
 use Rattle.mem_base.specs.declared.map.ids.PassId.{PassId}
 use Rattle.mem_base.specs.declared.map.kinds.Client.{Client}
@@ -24,7 +24,6 @@ use Rattle.mem_base.specs.machine.Desk.{Desk, places_of, is_shown_place, shown_p
 use Rattle.mem_base.specs.machine.World.{World, possible, if_placed}
 use Rattle.mem_base.specs.machine.SharedHistory as running
 use Rattle.view_laws.proofs.SortedLaws.{every_filter}
-use Rattle.view_laws.proofs.Tests.{both_of}
 use Rattle.history_laws.proofs.OrderLaws.{order_after}
 use Rattle.turn_laws.proofs.Backed.{waits}
 use Rattle.turn_laws.proofs.Coupled.{Stands, AllStand, IsWhole, Coupled, Follows, seen}
@@ -92,7 +91,7 @@ sweeps w words k v h = let g = w.writer.generations in let near = ltb-true _ _ h
 
 pub places : (w : World) (words : List ℕ) → Coupled w words → w.writer.desk.due ≡ true → (v : PassId) → running.shared_possible (seen w words)
     (events.Place v) Nothing ≡ true → Follows w words (events.Place v) Nothing
-places w words k due v h = let g = w.writer.generations in let may : possible w (events.Place v) ≡ true = rw due (both_of _ _ h).1 in record {
+places w words k due v h = let g = w.writer.generations in let may : possible w (events.Place v) ≡ true = rw due (and_parts _ _ h).1 in record {
   may = may;
   tells = refl;
   leads = refl;

@@ -17,7 +17,7 @@ use Rattle.mem_base.specs.machine.Passes.{pass_id}
 use Rattle.mem_base.specs.machine.Generations.{generation}
 use Rattle.mem_base.specs.machine.Composites.{enters, leaves, enters_unless, leaves_unless, enters_anew, access_events, word_write, is_not_whole}
 use Rattle.mem_base.specs.machine.Actors.{number_seen, generations_published, generation_published}
-use Rattle.view_laws.proofs.Tests.{true_is_not_false, none_is_not_some}
+use Rattle.view_laws.proofs.Tests.{none_is_not_some}
 use Rattle.generation.specs.Published.{Published}
 use Rattle.epoch_rule.specs.declared.views.Sizes.{Sizes}
 use Rattle.epoch_rule.specs.Rule.{IsLegal}
@@ -32,6 +32,8 @@ use Rattle.mem_base.proofs.PassTurnLaws.{entries_append}
 use Rattle.vcpu_pass.specs.StepLaws.{adds_then, adds_some, made_none}
 use Rattle.vcpu_pass.specs.Around.{HasBegun, HasEnded}
 use Rattle.vcpu_pass.specs.Calls.{is_entered, HasLeft, HasEntered, GoesBy, IsPublishedIn, HasAccessedBy, HasAccessed, HasRefusedBy, HasRefused, HasWritten8}
+use Rattle.mem_base.proofs.OptionLaws.{none_of}
+use Rattle.mem_base.proofs.BoolLaws.{true_is_not_false}
 
 -- what was made, from what was added, and back
 made_of : (v w : PassValue Published) (new : List HistoryEntry) → w.cabinet ≡ v.cabinet → w.number ≡ v.number → w.sizes ≡ v.sizes
@@ -55,10 +57,6 @@ adds_by : (z y : Sizes) (m n : ℕ) (xs new ys : List HistoryEntry) → y ≡ z 
 adds_by z y m n xs new ys a b h = subst (λ (q : Sizes × ℕ). Adds q.0 (q.1 + 1) xs new ys) (λ i. (a i, b i)) h
 
 -- of an option
-
-none_of : {A : Type 0} (o : Option A) → is_some o ≡ false → o ≡ None
-none_of None e = refl
-none_of {A = A} (Some x) e = true_is_not_false (is_some {T = A} (Some x)) refl e
 
 some_not_none : {A X : Type 0} (o : Option A) → is_some o ≡ true → o ≡ None → X
 some_not_none {A = A} None e n = true_is_not_false (is_some {T = A} None) e refl

@@ -22,7 +22,7 @@ use Rattle.mem_base.specs.machine.Desk.{at_place}
 use Rattle.mem_base.specs.machine.Passes.{pass_id}
 use Rattle.mem_base.specs.machine.SharedHistory.{is_same_place}
 use Rattle.mem_base.specs.machine.Turns.{history_entry}
-use Rattle.view_laws.proofs.Tests.{both, none_is_not_some, same_some, true_is_not_false}
+use Rattle.view_laws.proofs.Tests.{none_is_not_some}
 use Rattle.generation.specs.Published.{Published}
 use Rattle.epoch_rule.specs.declared.touches.Touch.{Touch}
 use Rattle.epoch_rule.specs.Shown.{IsReach, PassMay}
@@ -32,29 +32,28 @@ use Rattle.access_run.specs.Hands.{IsPlaceOf, IsWriteStep, word_event}
 use Rattle.access_run.specs.Runs.{TakesAll}
 use Rattle.vcpu_pass.specs.Steps.{generation_shown, generation_in, Adds, HasMade, IsNotPart, IsWhole}
 use Rattle.vcpu_pass.specs.StepLaws.{adds_some}
+use Rattle.std.proofs.lemmas.Bool.{or_parts, or_right, and_from}
+use Rattle.std.proofs.lemmas.Option.{same_Some}
+use Rattle.mem_base.proofs.BoolLaws.{true_is_not_false}
 
 -- a place among places
 
-same_place : (p : Place) → is_same_place p p ≡ true
+pub same_place : (p : Place) → is_same_place p p ≡ true
 same_place p =
     let r : (n : ℕ) → (n == n) ≡ true = λ n. eq-eqb n n refl in
-    both _ _ (both _ _ (both _ _ (both _ _ (r p.region.0) (r p.start)) (r p.words)) (r p.bytes)) (r p.regs)
+    and_from _ _ (and_from _ _ (and_from _ _ (and_from _ _ (r p.region.0) (r p.start)) (r p.words)) (r p.bytes)) (r p.regs)
 
-or_second : (b c : Bool) → c ≡ true → (b || c) ≡ true
-or_second true c h = refl
-or_second false c h = h
-
-place_at : (q : Place) (qs : List Place) (p : Place) (b : Bool) → (if b then Some q else place_in qs p.region) ≡ Some p
+pub place_at : (q : Place) (qs : List Place) (p : Place) (b : Bool) → (if b then Some q else place_in qs p.region) ≡ Some p
     → (place_in qs p.region ≡ Some p → list_any (is_same_place p) qs ≡ true) → (is_same_place p q || list_any (is_same_place p) qs) ≡ true
-place_at q qs p true e rest = subst (λ z. (is_same_place p z || list_any (is_same_place p) qs) ≡ true) (sym (same_some q p e))
+place_at q qs p true e rest = subst (λ z. (is_same_place p z || list_any (is_same_place p) qs) ≡ true) (sym (same_Some q p e))
     (ap (λ b. b || list_any (is_same_place p) qs) (same_place p))
-place_at q qs p false e rest = or_second (is_same_place p q) (list_any (is_same_place p) qs) (rest e)
+place_at q qs p false e rest = or_right (is_same_place p q) (list_any (is_same_place p) qs) (rest e)
 
 pub has_place : (ps : List Place) (p : Place) → place_in ps p.region ≡ Some p → list_any (is_same_place p) ps ≡ true
 has_place [] p h = none_is_not_some p h
 has_place (q ∷ qs) p h = place_at q qs p (q.region.0 == p.region.0) h (has_place qs p)
 
-may_in : (o : Option Published) (p : Place) (word : ℕ) (touch : Touch) → is_some o ≡ true → place_in (generation_shown o).places p.region ≡ Some p
+pub may_in : (o : Option Published) (p : Place) (word : ℕ) (touch : Touch) → is_some o ≡ true → place_in (generation_shown o).places p.region ≡ Some p
     → IsReach p word touch → (e : Published) × (o ≡ Some e) × PassMay e.places p word touch
 may_in None p word touch is placed reach = true_is_not_false (is_some {T = Published} None) is refl
 may_in (Some g) p word touch is placed reach = (g, refl, (has_place g.places p placed, reach))
@@ -64,7 +63,7 @@ pub may_word : (v : PassValue Published) (p : Place) (word : ℕ) (touch : Touch
     → IsReach p word touch → (e : Published) × (v.edition ≡ Some e) × PassMay e.places p word touch
 may_word v p word touch is placed reach = may_in v.edition p word touch is placed reach
 
-carries_in : (o : Option Published) (p : Place) → is_some o ≡ true → place_in (generation_shown o).places p.region ≡ Some p
+pub carries_in : (o : Option Published) (p : Place) → is_some o ≡ true → place_in (generation_shown o).places p.region ≡ Some p
     → (e : Published) × (o ≡ Some e) × (list_any (is_same_place p) e.places ≡ true)
 carries_in None p is placed = true_is_not_false (is_some {T = Published} None) is refl
 carries_in (Some g) p is placed = (g, refl, has_place g.places p placed)
@@ -120,10 +119,6 @@ whole_step AddOne k t = tt
 whole_step (Or bits) k t = tt
 whole_step Take k t = tt
 
-neither : (b c : Bool) → (b || c) ≡ false → (b ≡ false) × (c ≡ false)
-neither true c h = true_is_not_false true refl h
-neither false c h = (refl, h)
-
 at_least : (n : ℕ) → nat_lt n word_size ≡ false → 8 ≤ n
 at_least n h = grind (arith, nat_tests)
 
@@ -131,7 +126,7 @@ pub takes_whole : (ds : List AccessStep) → has_partial ds ≡ false → TakesA
 takes_whole [] h = tt
 takes_whole (blank n result ∷ ds) h = (tt, takes_whole ds h)
 takes_whole (steps cell (Replace first bytes value) x ∷ ds) h =
-    let both : (nat_lt bytes word_size ≡ false) × (has_partial ds ≡ false) = neither (nat_lt bytes word_size) (has_partial ds) h in
+    let and_from : (nat_lt bytes word_size ≡ false) × (has_partial ds ≡ false) = or_parts (nat_lt bytes word_size) (has_partial ds) h in
     (at_least bytes both.0, takes_whole ds both.1)
 takes_whole (steps cell Load x ∷ ds) h = (tt, takes_whole ds h)
 takes_whole (steps cell AddOne x ∷ ds) h = (tt, takes_whole ds h)

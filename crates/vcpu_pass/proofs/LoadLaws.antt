@@ -107,7 +107,7 @@ words_done v w p offset n bytes placed begins many s h =
     }
 
 -- what an entered pass does one after another
-hand_laws : AreHandLaws HasMade (λ v. pass_id v.number) generation_in
+pub hand_laws : AreHandLaws HasMade (λ v. pass_id v.number) generation_in
 hand_laws = record {
   begins = made_none;
   goes_on = made_then;

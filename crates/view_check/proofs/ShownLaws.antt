@@ -8,6 +8,7 @@ use Rattle.mem_base.specs.declared.views.flat.FlatRange.{FlatRange}
 use Rattle.mem_base.specs.script.Named.{Names}
 use Rattle.monitor_text.specs.declared.rows.FlatRow.{FlatRow}
 use Rattle.view_check.specs.Shown.{AreShown, first_difference, is_shown}
+use Rattle.mem_base.proofs.ListLaws.{drop_past}
 
 shown_then : (b : Bool) (at : ℕ) (rest : Option ℕ) (A : Type 0) → (if b then rest else Some at) ≡ None → (rest ≡ None → A) → (b ≡ true) × A
 shown_then true at rest A e f = (refl, f e)
@@ -44,15 +45,9 @@ found_here names memory at rows view row range whole l m is also shown h =
 
 -- at the end of one of two lists
 
-past : {X : Type 0} (xs : List X) (i : ℕ) → length xs ≤ i → drop i xs ≡ []
-past [] zero l = refl
-past [] (suc i) l = refl
-past (x ∷ xs) zero l = absurd (omega (arith, l))
-past (x ∷ xs) (suc i) l = past xs i (omega (arith, l))
-
 both_end : (names : Names) (memory : List RegionId) (at : ℕ) (rows : List FlatRow) (view : List FlatRange) → length rows ≤ at → length view ≤ at
     → first_difference names memory at (drop at rows) (drop at view) ≡ None
-both_end names memory at rows view l m = λ i. first_difference names memory at (past rows at l i) (past view at m i)
+both_end names memory at rows view l m = λ i. first_difference names memory at (drop_past rows at l i) (drop_past view at m i)
 
 rows_end : (names : Names) (memory : List RegionId) (at : ℕ) (view : List FlatRange) → 0 < length view → first_difference names memory at [] view ≡ Some at
 rows_end names memory at [] l = absurd (omega (arith, l))
@@ -76,10 +71,10 @@ pub rows_differ : (names : Names) (memory : List RegionId) (at : ℕ) (rows : Li
     → at < length view → first_difference names memory at (drop at rows) (drop at view) ≡ first_difference names memory 0 rows view
     → Some at ≡ first_difference names memory 0 rows view
 rows_differ names memory at rows view l m h =
-    sym ((λ i. first_difference names memory at (past rows at l i) (drop at view)) ∙ rows_end names memory at (drop at view) (left_over view at m)) ∙ h
+    sym ((λ i. first_difference names memory at (drop_past rows at l i) (drop at view)) ∙ rows_end names memory at (drop at view) (left_over view at m)) ∙ h
 
 pub view_differs : (names : Names) (memory : List RegionId) (at : ℕ) (rows : List FlatRow) (view : List FlatRange) → at < length rows
     → length view ≤ at → first_difference names memory at (drop at rows) (drop at view) ≡ first_difference names memory 0 rows view
     → Some at ≡ first_difference names memory 0 rows view
 view_differs names memory at rows view l m h =
-    sym ((λ i. first_difference names memory at (drop at rows) (past view at m i)) ∙ view_end names memory at (drop at rows) (left_over rows at l)) ∙ h
+    sym ((λ i. first_difference names memory at (drop at rows) (drop_past view at m i)) ∙ view_end names memory at (drop at rows) (left_over rows at l)) ∙ h

@@ -9,9 +9,9 @@ use Rattle.mem_base.specs.declared.map.forests.Forest.{Forest}
 use Rattle.mem_base.specs.map.Search.{look}
 use Rattle.mem_base.specs.views.LiveEvents.{events_of, moved_to, meets, lives_at, lives_of, IsLive}
 use Rattle.view_laws.specs.LiveLists.{ListsLive}
-use Rattle.view_laws.proofs.Tests.{both_of, both}
 use Rattle.view_laws.proofs.LiveLaws.{In}
 use Rattle.view_laws.proofs.LiveRanges.{moved_in, moved_out, below_in, below_out, below_rising}
+use Rattle.std.proofs.lemmas.Bool.{and_parts, and_from}
 
 pub contained : {A : Type 0} (x : A) (xs : List A) → In x xs → Contains xs x
 contained x [] m = absurd m
@@ -41,7 +41,7 @@ is_live f s l m = let t = below_in f (2 ^ 64) (look f s) l m in go t.address (lo
     go : (a : ℕ) (o : Option Spot) → look f s a ≡ o → a < 2 ^ 64 → In l (lives_at f a o) → IsLive f s l
     go a None e b m = absurd m
     go a (Some spot) e b m =
-        let t = moved_in (moved_to a spot.offset) (meets a a) (events_of f spot.leaf) l m in let w = both_of _ _ t.passes in record {
+        let t = moved_in (moved_to a spot.offset) (meets a a) (events_of f spot.leaf) l m in let w = and_parts _ _ t.passes in record {
           address = a;
           below = b;
           spot = spot;
@@ -55,7 +55,7 @@ is_live f s l m = let t = below_in f (2 ^ 64) (look f s) l m in go t.address (lo
 
 is_listed : (f : Forest) (s : SpaceId) (l : Live) → IsLive f s l → In l (lives_of f s)
 is_listed f s l k =
-    let met : meets k.address k.address l ≡ true = both _ _ (so_le l.addr (pos k.address) k.from) (so_lt (pos k.address) (l.addr +ℤ pos l.size) k.to) in
+    let met : meets k.address k.address l ≡ true = and_from _ _ (so_le l.addr (pos k.address) k.from) (so_lt (pos k.address) (l.addr +ℤ pos l.size) k.to) in
     let c = k.among in
     below_out f (2 ^ 64) (look f s) l k.address k.below
     (subst (λ (o : Option Spot). In l (lives_at f k.address o)) (sym k.shows)

@@ -4,7 +4,7 @@ use Rattle.std.proofs.Common.{ap, ◌∙◌, subst, inl, inr, arith, if◌then�
 use Rattle.std.specs.Prelude.{filter, flat_map, negsuc, ◌+ℤ◌, ◌-ℤ◌, int_lt, int_le}
 use Rattle.std.specs.Option.{option_or}
 use Rattle.std.proofs.lemmas.Int.{ints}
-use Rattle.std.proofs.lemmas.Bool.{leb-true, cases_lt}
+use Rattle.std.proofs.lemmas.Bool.{leb-true, cases_lt, and_parts, and_from}
 use Rattle.mem_base.specs.declared.map.ids.SpaceId.{SpaceId}
 use Rattle.mem_base.specs.declared.map.spots.Spot.{Spot}
 use Rattle.mem_base.specs.declared.views.flat.FlatRange.{FlatRange}
@@ -17,24 +17,12 @@ use Rattle.mem_base.specs.lists.Sorting.{IsRising}
 use Rattle.mem_base.specs.views.LiveEvents.{live_order, events_of, moved_to, meets, lives_at, lives_below, lives_of, lives_of_range, lives_in}
 use Rattle.mem_base.proofs.ViewLaws.{spot_at, shown-first, shown-later, IsRanges-within}
 use Rattle.view_laws.specs.LiveLists.{HaveBytes}
-use Rattle.view_laws.proofs.Tests.{both_of, both, same_some, none_is_not_some}
+use Rattle.view_laws.proofs.Tests.{none_is_not_some}
 use Rattle.view_laws.proofs.LiveLaws.{In, every_in, unique, in_order_rising, in_order_in, in_order_out}
+use Rattle.view_laws.proofs.SortedLaws.{append_in, append_left, append_right}
+use Rattle.std.proofs.lemmas.Option.{same_Some}
 
 -- elements of lists that are made of others
-
-in_left : {A : Type 0} (x : A) (xs ys : List A) → In x xs → In x (xs ++ ys)
-in_left x [] ys m = absurd m
-in_left x (y ∷ xs) ys (inl e) = inl e
-in_left x (y ∷ xs) ys (inr m) = inr (in_left x xs ys m)
-
-in_right : {A : Type 0} (x : A) (xs ys : List A) → In x ys → In x (xs ++ ys)
-in_right x [] ys m = m
-in_right x (y ∷ xs) ys m = inr (in_right x xs ys m)
-
-in_either : {A : Type 0} (x : A) (xs ys : List A) → In x (xs ++ ys) → In x xs ⊎ In x ys
-in_either x [] ys m = inr m
-in_either x (y ∷ xs) ys (inl e) = inl (inl e)
-in_either x (y ∷ xs) ys (inr m) = ⊎_elim (λ l. inl (inr l)) (λ r. inr r) (in_either x xs ys m)
 
 -- an ioeventfd that is moved and passes a test
 pub record Moved (g : Ioevent → Live) (test : Live → Bool) (es : List Ioevent) (l : Live) : Type 0 where
@@ -79,14 +67,14 @@ below_in f zero find l m = absurd m
 below_in f (suc a) find l m = ⊎_elim
     (λ here. record { address = a; below = omega arith; lives = here })
     (λ before. let t = below_in f a find l before in let b = t.below in record { address = t.address; below = omega arith; lives = t.lives })
-    (in_either l (lives_at f a (find a)) (lives_below f a find) (in_order_in l (lives_at f a (find a) ++ lives_below f a find) m))
+    (append_in l (lives_at f a (find a)) (lives_below f a find) (in_order_in l (lives_at f a (find a) ++ lives_below f a find) m))
 
 pub below_out : (f : Forest) (n : ℕ) (find : ℕ → Option Spot) (l : Live) (a : ℕ) → a < n → In l (lives_at f a (find a)) → In l (lives_below f n find)
 unfolding lives_below
 below_out f zero find l a h m = absurd (omega arith)
 below_out f (suc n) find l a h m = in_order_out l (lives_at f n (find n) ++ lives_below f n find) (⊎_elim
-    (λ less. in_right l (lives_at f n (find n)) (lives_below f n find) (below_out f n find l a less m))
-    (λ more. in_left l (lives_at f n (find n)) (lives_below f n find) (let e : a ≡ n = omega arith in subst (λ (z : ℕ). In l (lives_at f z (find z))) e m))
+    (λ less. append_right l (lives_at f n (find n)) (lives_below f n find) (below_out f n find l a less m))
+    (λ more. append_left l (lives_at f n (find n)) (lives_below f n find) (let e : a ≡ n = omega arith in subst (λ (z : ℕ). In l (lives_at f z (find z))) e m))
     (cases_lt a n))
 
 pub below_rising : (f : Forest) (n : ℕ) (find : ℕ → Option Spot) → IsRising live_order (lives_below f n find)
@@ -106,12 +94,12 @@ ranges_in f [] l m = absurd m
 ranges_in f (r ∷ rs) l m = ⊎_elim
     (λ here. record { range = r; among = inl refl; lives = here })
     (λ past. let t = ranges_in f rs l past in record { range = t.range; among = inr t.among; lives = t.lives })
-    (in_either l (lives_of_range f r) (flat_map (lives_of_range f) rs) m)
+    (append_in l (lives_of_range f r) (flat_map (lives_of_range f) rs) m)
 
 ranges_out : (f : Forest) (rs : List FlatRange) (l : Live) (r : FlatRange) → In r rs → In l (lives_of_range f r) → In l (flat_map (lives_of_range f) rs)
 ranges_out f [] l r k m = absurd k
-ranges_out f (q ∷ rs) l r (inl e) m = in_left l (lives_of_range f q) (flat_map (lives_of_range f) rs) (subst (λ (z : FlatRange). In l (lives_of_range f z)) e m)
-ranges_out f (q ∷ rs) l r (inr k) m = in_right l (lives_of_range f q) (flat_map (lives_of_range f) rs) (ranges_out f rs l r k m)
+ranges_out f (q ∷ rs) l r (inl e) m = append_left l (lives_of_range f q) (flat_map (lives_of_range f) rs) (subst (λ (z : FlatRange). In l (lives_of_range f z)) e m)
+ranges_out f (q ∷ rs) l r (inr k) m = append_right l (lives_of_range f q) (flat_map (lives_of_range f) rs) (ranges_out f rs l r k m)
 
 -- a range that shows an address
 
@@ -129,12 +117,12 @@ shown_by (r ∷ rs) a spot h = go (holds r a) refl h (λ k. let t = shown_by rs 
   where
     go : (b : Bool) → holds r a ≡ b → option_or (if b then Some (spot_at r a) else None) (shown rs a) ≡ Some spot
         → (shown rs a ≡ Some spot → Shows (r ∷ rs) a spot) → Shows (r ∷ rs) a spot
-    go true e h rest = let t = both_of _ _ e in record {
+    go true e h rest = let t = and_parts _ _ e in record {
       range = r;
       among = inl refl;
       from = leb-true _ _ t.0;
       to = leb-true _ _ t.1;
-      spot_is = sym (same_some (spot_at r a) spot h);
+      spot_is = sym (same_Some (spot_at r a) spot h);
     }
     go false e h rest = rest h
 
@@ -166,7 +154,7 @@ wider_lt : (x : ℤ) (a b : ℕ) → a ≤ b → int_lt (pos b) x ≡ true → i
 wider_lt x a b l h = grind (arith, ints)
 
 wider : (l : Live) (start a last : ℕ) → start ≤ a → a ≤ last → meets a a l ≡ true → meets start last l ≡ true
-wider l start a last m n h = let t = both_of _ _ h in both _ _ (wider_le l.addr a last n t.0) (wider_lt (l.addr +ℤ pos l.size) start a m t.1)
+wider l start a last m n h = let t = and_parts _ _ h in and_from _ _ (wider_le l.addr a last n t.0) (wider_lt (l.addr +ℤ pos l.size) start a m t.1)
 
 -- an address of the range at which a byte lies
 record Meeting (l : Live) (start last : ℕ) : Type 0 where
@@ -183,7 +171,7 @@ meeting_by l start last (pos n) e w some h k = ⊎_elim
       from = omega arith;
       to = (let z : n ≤ last = grind (arith, ints) in z);
       meets_it = subst (λ (z : ℤ). (int_le z (pos n) && int_lt (pos n) (z +ℤ pos l.size)) ≡ true) (sym e)
-          (both _ _ (let z : int_le (pos n) (pos n) ≡ true = grind (arith, ints) in z)
+          (and_from _ _ (let z : int_le (pos n) (pos n) ≡ true = grind (arith, ints) in z)
           (let z : int_lt (pos n) (pos n +ℤ pos l.size) ≡ true = grind (arith, ints) in z));
     })
     (λ more. record {
@@ -191,7 +179,7 @@ meeting_by l start last (pos n) e w some h k = ⊎_elim
       from = omega arith;
       to = w;
       meets_it = subst (λ (z : ℤ). (int_le z (pos start) && int_lt (pos start) (z +ℤ pos l.size)) ≡ true) (sym e)
-          (both _ _ (let z : int_le (pos n) (pos start) ≡ true = grind (arith, ints) in z) k);
+          (and_from _ _ (let z : int_le (pos n) (pos start) ≡ true = grind (arith, ints) in z) k);
     })
     (cases_lt start n)
 meeting_by l start last (negsuc n) e w some h k =
@@ -199,11 +187,11 @@ meeting_by l start last (negsuc n) e w some h k =
       address = start;
       from = omega arith;
       to = w;
-      meets_it = subst (λ (z : ℤ). (int_le z (pos start) && int_lt (pos start) (z +ℤ pos l.size)) ≡ true) (sym e) (both _ _ refl k);
+      meets_it = subst (λ (z : ℤ). (int_le z (pos start) && int_lt (pos start) (z +ℤ pos l.size)) ≡ true) (sym e) (and_from _ _ refl k);
     }
 
 meeting : (l : Live) (start last : ℕ) → start ≤ last → 0 < l.size → meets start last l ≡ true → Meeting l start last
-meeting l start last w some h = let t = both_of _ _ h in meeting_by l start last l.addr refl w some t.0 t.1
+meeting l start last w some h = let t = and_parts _ _ h in meeting_by l start last l.addr refl w some t.0 t.1
 
 -- each range is nonempty
 nonempty : (from end : ℕ) (rs : List FlatRange) (r : FlatRange) → IsRanges from end rs → In r rs → r.start ≤ r.last

@@ -3,7 +3,7 @@ use Rattle.std.proofs.Common.{◌≡◌, ◌⊎◌, ℕ, zero, suc, ◌+◌, ◌
 use Rattle.std.proofs.Common.{inr, arith, if◌then◌else◌, Option, Some, None, ⊎_elim, eq-eqb}
 use Rattle.std.specs.Prelude.{◌==◌, IsSomeAnd, find, option_map, option_and_then}
 use Rattle.std.specs.List.{list_any}
-use Rattle.std.proofs.lemmas.Bool.{eqb-true, cases_lt}
+use Rattle.std.proofs.lemmas.Bool.{eqb-true, cases_lt, and_parts, or_left, or_right}
 use Rattle.mem_base.specs.declared.map.ids.RegionId.{RegionId}
 use Rattle.mem_base.specs.declared.map.ids.SpaceId.{SpaceId}
 use Rattle.mem_base.specs.declared.map.spots.Spot.{Spot}
@@ -15,7 +15,7 @@ use Rattle.view_laws.specs.Named.{Names}
 use Rattle.mem_base.specs.views.View.{PathAt}
 use Rattle.mem_base.specs.views.Flattened.{lone, goes_on, put_before, ranges_from, view_of}
 use Rattle.mem_base.specs.views.Naming.{has_leaf, names}
-use Rattle.view_laws.proofs.Tests.{both_of, or_left, or_right, none_is_not_some, same_region}
+use Rattle.view_laws.proofs.Tests.{none_is_not_some, same_region}
 
 abbrev leaf_is : RegionId → Option Spot → Bool
 leaf_is region None = false
@@ -65,7 +65,7 @@ leaf_after path region a (Some s) (r ∷ rs) h = go (goes_on path a s r) refl
     go : (b : Bool) → goes_on path a s r ≡ b
         → has_leaf region (if b then record { start = a; last = r.last; leaf = s.leaf; offset = s.offset; attrs = s.attrs } ∷ rs else lone a s ∷ r
         ∷ rs) ≡ true
-    go true e = let w = both_of _ _ e in let t = both_of _ _ w.0 in let u = both_of _ _ t.0 in let v = both_of _ _ u.0 in
+    go true e = let w = and_parts _ _ e in let t = and_parts _ _ w.0 in let u = and_parts _ _ t.0 in let v = and_parts _ _ u.0 in
         let same : r.leaf.0 ≡ s.leaf.0 = eqb-true _ _ v.1 in
         subst (λ (n : ℕ). ((n == region.0) || has_leaf region rs) ≡ true) same h
     go false e = or_right (s.leaf.0 == region.0) (has_leaf region (r ∷ rs)) h

@@ -101,7 +101,7 @@ each_in_turn lower upper (EventAdd l) = refl
 each_in_turn lower upper (EventDel l) = refl
 each_in_turn lower upper Commit = refl
 
-nobody : (es : List ListenerEvent) → flat_map (deliver_each []) es ≡ []
+pub nobody : (es : List ListenerEvent) → flat_map (deliver_each []) es ≡ []
 nobody [] = refl
 nobody (e ∷ es) = go (goes_down e) (nobody es)
   where

@@ -12,7 +12,8 @@ use Rattle.mem_base.specs.lists.Every.{Every}
 use Rattle.mem_base.specs.lists.Sorting.{put_by}
 use Rattle.mem_base.specs.views.Listening.{priority_order, ascending}
 use Rattle.mem_base.proofs.EveryLaws.{weaker, every_filter}
-use Rattle.view_laws.proofs.SortedLaws.{every_put}
+use Rattle.mem_base.proofs.SortingLaws.{lt_less}
+use Rattle.mem_base.proofs.ForestLaws.{every_put}
 
 order_total : IsTotalOrder priority_order
 order_total = on_total (λ (l : Listener). l.priority) int_cmp_total
@@ -28,19 +29,14 @@ abbrev pub IsUp : List Listener → Type 0
 IsUp [] = Unit {0}
 IsUp (x ∷ xs) = Every (IsNotAfter x) xs × IsUp xs
 
-is_less : (o : Ordering) → is_lt o ≡ true → o ≡ Less
-is_less Less e = refl
-is_less Equal e = cc
-is_less Greater e = cc
-
 before_not_after : (x y : Listener) → IsBefore x y → IsNotAfter x y
-before_not_after x y e = ap is_lt (order_total.antisymm y x ∙ ap ordering_reverse (is_less (priority_order x y) e))
+before_not_after x y e = ap is_lt (order_total.antisymm y x ∙ ap ordering_reverse (lt_less (priority_order x y) e))
 
 before_then : (x y z : Listener) → IsBefore x y → IsNotAfter y z → IsBefore x z
 before_then x y z e h = go (priority_order y z) refl
   where
     go : (o : Ordering) → priority_order y z ≡ o → IsBefore x z
-    go Less q = ap is_lt (order_total.trans x y z (is_less (priority_order x y) e) q)
+    go Less q = ap is_lt (order_total.trans x y z (lt_less (priority_order x y) e) q)
     go Equal q = ap is_lt (order_total.antisymm x z ∙ ap ordering_reverse (sym (order_total.congr y z x q)) ∙ sym (order_total.antisymm x y)) ∙ e
     go Greater q = absurd (let back : priority_order z y ≡ Less = order_total.antisymm z y ∙ ap ordering_reverse q in
         let no : is_lt (priority_order z y) ≡ true = ap is_lt back in cc)

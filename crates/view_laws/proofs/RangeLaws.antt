@@ -1,28 +1,24 @@
 -- Ranges that stand apart, and which of them are the same.
-use Rattle.std.proofs.Common.{◌≡◌, ℕ, ◌+◌, ◌<◌, ◌≤◌, ne_eqb, eq-eqb, Bool, true, false, ◌||◌, List, [], ◌∷◌, ◌++◌, sym, refl, ap, arith}
+use Rattle.std.proofs.Common.{◌≡◌, ℕ, ◌+◌, ◌<◌, ◌≤◌, eq-eqb, Bool, true, false, ◌||◌, List, [], ◌∷◌, ◌++◌, sym, refl, ap, arith}
 use Rattle.std.specs.Prelude.{filter, not}
 use Rattle.std.specs.List.{list_any}
-use Rattle.std.proofs.lemmas.Bool.{eqb-true}
+use Rattle.std.proofs.lemmas.Bool.{eqb-true, and_parts}
 use Rattle.mem_base.specs.declared.views.flat.FlatRange.{FlatRange}
-use Rattle.mem_base.specs.lists.Booleans.{bool_eq}
 use Rattle.mem_base.specs.lists.Every.{Every}
 use Rattle.mem_base.specs.views.View.{IsRanges}
 use Rattle.mem_base.specs.views.Walk.{is_same_range}
 use Rattle.mem_base.specs.views.Replay.{is_equal_range, with_log}
-use Rattle.view_laws.proofs.Tests.{both_of}
+use Rattle.mem_base.proofs.BoolLaws.{bool_same}
+use Rattle.mem_base.proofs.ViewLaws.{ranges_past, same_itself, not_same}
 
 -- each range is nonempty and ends before all after it
 abbrev pub Apart : List FlatRange → Type 0
 Apart [] = Unit {0}
 Apart (r ∷ rs) = (r.start ≤ r.last) × Every (λ q. r.last < q.start) rs × Apart rs
 
-past : (from end a : ℕ) (rs : List FlatRange) → a < from → IsRanges from end rs → Every (λ q. a < q.start) rs
-past from end a [] l h = tt
-past from end a (r ∷ rs) l h = let m = h.0 in let n = h.1 in (omega arith, past (r.last + 1) end a rs (omega arith) h.3)
-
 pub apart : (from end : ℕ) (rs : List FlatRange) → IsRanges from end rs → Apart rs
 apart from end [] h = tt
-apart from end (r ∷ rs) h = (h.1, past (r.last + 1) end r.last rs (omega arith) h.3, apart (r.last + 1) end rs h.3)
+apart from end (r ∷ rs) h = (h.1, ranges_past (r.last + 1) end r.last rs (omega arith) h.3, apart (r.last + 1) end rs h.3)
 
 -- what two ranges that are the same have in common
 pub record Same (r q : FlatRange) : Type 0 where
@@ -35,48 +31,22 @@ pub record Same (r q : FlatRange) : Type 0 where
   pub romd : r.attrs.romd ≡ q.attrs.romd
   pub unmergeable : r.attrs.unmergeable ≡ q.attrs.unmergeable
 
-same_bool : (x y : Bool) → bool_eq x y ≡ true → x ≡ y
-same_bool true true e = refl
-same_bool true false e = absurd (grind arith)
-same_bool false true e = absurd (grind arith)
-same_bool false false e = refl
-
-bool_itself : (x : Bool) → bool_eq x x ≡ true
-bool_itself true = refl
-bool_itself false = refl
-
 pub same_of : (r q : FlatRange) → is_same_range r q ≡ true → Same r q
 same_of r q h =
-    let a = both_of _ _ h in let b = both_of _ _ a.0 in let c = both_of _ _ b.0 in let d = both_of _ _ c.0 in
-    let e = both_of _ _ a.1 in let f = both_of _ _ e.0 in let g = both_of _ _ f.0 in record {
+    let a = and_parts _ _ h in let b = and_parts _ _ a.0 in let c = and_parts _ _ b.0 in let d = and_parts _ _ c.0 in
+    let e = and_parts _ _ a.1 in let f = and_parts _ _ e.0 in let g = and_parts _ _ f.0 in record {
       start = eqb-true _ _ d.0;
       last = eqb-true _ _ d.1;
       leaf = eqb-true _ _ c.1;
       offset = eqb-true _ _ b.1;
-      readonly = same_bool _ _ g.0;
-      nonvolatile = same_bool _ _ g.1;
-      romd = same_bool _ _ f.1;
-      unmergeable = same_bool _ _ e.1;
+      readonly = bool_same _ _ g.0;
+      nonvolatile = bool_same _ _ g.1;
+      romd = bool_same _ _ f.1;
+      unmergeable = bool_same _ _ e.1;
     }
-
-pub same_itself : (r : FlatRange) → is_same_range r r ≡ true
-same_itself r = rw (
-  eq-eqb r.start r.start refl,
-  eq-eqb r.last r.last refl,
-  eq-eqb r.leaf.0 r.leaf.0 refl,
-  eq-eqb r.offset r.offset refl,
-  bool_itself r.attrs.readonly,
-  bool_itself r.attrs.nonvolatile,
-  bool_itself r.attrs.romd,
-  bool_itself r.attrs.unmergeable,
-) refl
 
 pub equal_itself : (r : FlatRange) → is_equal_range r r ≡ true
 equal_itself r = rw (same_itself r, eq-eqb r.attrs.log r.attrs.log refl) refl
-
--- ranges that begin elsewhere are not the same
-pub not_same : (r q : FlatRange) → (r.start ≡ q.start → ⊥) → is_same_range r q ≡ false
-not_same r q ne = rw (ne_eqb r.start q.start ne) refl
 
 pub not_equal : (r q : FlatRange) → (r.start ≡ q.start → ⊥) → is_equal_range r q ≡ false
 not_equal r q ne = rw (not_same r q ne) refl

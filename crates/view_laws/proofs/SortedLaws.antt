@@ -6,20 +6,8 @@ use Rattle.std.specs.declared.cmp.Ordering.{Ordering}
 use Rattle.std.specs.Ordering.{is_lt}
 use Rattle.mem_base.specs.lists.Every.{Every}
 use Rattle.mem_base.specs.lists.Sorting.{put_by, sorted_by}
-use Rattle.view_laws.proofs.Tests.{or_left, or_right}
 use Rattle.view_laws.proofs.LiveLaws.{In}
-
-pub every_put : {K : Type 0} (P : K → Type 0) (R : K → K → Ordering) (x : K) (xs : List K) → P x → Every P xs → Every P (put_by R x xs)
-every_put P R x [] p h = (p, tt)
-every_put P R x (y ∷ ys) p h = go (is_lt (R x y)) (every_put P R x ys p h.1)
-  where
-    go : (b : Bool) → Every P (put_by R x ys) → Every P (if b then x ∷ y ∷ ys else y ∷ put_by R x ys)
-    go true rest = (p, h)
-    go false rest = (h.0, rest)
-
-pub every_sorted : {K : Type 0} (P : K → Type 0) (R : K → K → Ordering) (xs : List K) → Every P xs → Every P (sorted_by R xs)
-every_sorted P R [] h = tt
-every_sorted P R (x ∷ xs) h = every_put P R x (sorted_by R xs) h.0 (every_sorted P R xs h.1)
+use Rattle.std.proofs.lemmas.Bool.{or_left, or_right}
 
 pub every_filter : {A : Type 0} (P Q : A → Type 0) (test : A → Bool) (xs : List A) → ((x : A) → test x ≡ true → P x → Q x) → Every P xs
     → Every Q (filter test xs)

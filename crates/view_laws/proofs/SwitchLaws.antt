@@ -23,14 +23,18 @@ use Rattle.mem_base.specs.views.Flattened.{view_of}
 use Rattle.mem_base.specs.views.Listening.{Switch, switch, switch_order, switches, switched, joining, leaving, calls_of, change_of}
 use Rattle.mem_base.proofs.PlaceLaws.{rising-filter}
 use Rattle.mem_base.proofs.EveryLaws.{weaker, both as every_both}
-use Rattle.view_laws.proofs.Tests.{none_is_not_some, same_some, true_is_not_false, not_true, not_of_false}
+use Rattle.view_laws.proofs.Tests.{none_is_not_some}
 use Rattle.view_laws.proofs.RangeLaws.{Apart}
 use Rattle.view_laws.proofs.WalkLaws.{walk_replays_apart}
 use Rattle.view_laws.proofs.LiveLaws.{In, unique, every_in, put_in, put_out, put_rising, same_live, order_itself, not_itself}
 use Rattle.view_laws.proofs.ViewRanges.{view_apart}
 use Rattle.view_laws.proofs.LiveMembers.{lists_live}
-use Rattle.view_laws.proofs.SortedLaws.{every_put, every_sorted, filter_in, filter_out, each_in, map_in, map_out, append_in, append_left}
+use Rattle.view_laws.proofs.SortedLaws.{filter_in, filter_out, each_in, map_in, map_out, append_in, append_left}
 use Rattle.view_laws.proofs.SortedLaws.{append_right, sorted_in, sorted_out}
+use Rattle.std.proofs.lemmas.Option.{same_Some}
+use Rattle.mem_base.proofs.BoolLaws.{true_is_not_false}
+use Rattle.std.proofs.lemmas.Bool.{not-true, not_from_false}
+use Rattle.mem_base.proofs.ForestLaws.{every_put, every_sorted}
 
 abbrev pub heard : List FlatRange → List Live → Bool → ListenerState
 heard ranges lives begun = record { ranges = ranges; lives = lives; begun = begun }
@@ -49,7 +53,7 @@ none_stays (e ∷ es) = none_stays es
 
 pub range_calls : (es : List RangeEvent) (rs qs : List FlatRange) (ls : List Live) (b : Bool) → ranges_after_all (Some rs) es ≡ Some qs
     → listener_after_all (Some (heard rs ls b)) (map (λ e. Range e) es) ≡ Some (heard qs ls b)
-range_calls [] rs qs ls b h = ap (λ (zs : List FlatRange). Some (heard zs ls b)) (same_some rs qs h)
+range_calls [] rs qs ls b h = ap (λ (zs : List FlatRange). Some (heard zs ls b)) (same_Some rs qs h)
 range_calls (e ∷ es) rs qs ls b h = go (ranges_after rs e) h (λ zs k. range_calls es zs qs ls b k)
   where
     go : (o : Option (List FlatRange)) → ranges_after_all o es ≡ Some qs
@@ -160,7 +164,7 @@ module _ (rs : List FlatRange) (b : Bool) where
   switch_one false x zs ls r d f fs rest =
       let test : Live → Bool = λ y. not (is_same_live x y) in
       let new = filter test ls in
-      let kept : (y : Live) → In y ls → (x ≡ y → ⊥) → In y new = λ y m ne. filter_out test y ls m (not_of_false (is_same_live x y) (differs x y ne)) in
+      let kept : (y : Live) → In y ls → (x ≡ y → ⊥) → In y new = λ y m ne. filter_out test y ls m (not_from_false (is_same_live x y) (differs x y ne)) in
       let fits : Every (Fits new) zs = weaker (λ z. Differ (switch false x) z × Fits ls z) (Fits new)
       (λ z k. (λ on m. k.1.0 on (filter_in test z.live ls m).0, λ off. kept z.live (k.1.1 off) k.0)) zs
       (every_both (Differ (switch false x)) (Fits ls) zs d fs) in
@@ -181,7 +185,7 @@ module _ (rs : List FlatRange) (b : Bool) where
       }
     where
       other : (x y : Live) → x ≡ y → not (is_same_live x y) ≡ true → ⊥
-      other x y e h = true_is_not_false (is_same_live x y) (subst (λ (z : Live). is_same_live x z ≡ true) e (same_itself x)) (not_true (is_same_live x y) h)
+      other x y e h = true_is_not_false (is_same_live x y) (subst (λ (z : Live). is_same_live x z ≡ true) e (same_itself x)) (not-true (is_same_live x y) h)
 
   switch_all : (zs : List Switch) (ls : List Live) → IsRising live_order ls → EveryPair Differ zs → Every (Fits ls) zs → Switched rs b ls zs
   switch_all [] ls r d f = record {
@@ -235,13 +239,13 @@ switches_replay rs b old new p q =
     let lost_test : Live → Bool = λ x. not (list_any (is_same_live x) new) in
     let gained_test : Live → Bool = λ x. not (list_any (is_same_live x) old) in
     let lost_out : (x : Live) → In x old → (In x new → ⊥) → In x (without old new) = λ x m ne. filter_out lost_test x old m
-    (not_of_false _ (not_among x new ne)) in
+    (not_from_false _ (not_among x new ne)) in
     let gained_out : (x : Live) → In x new → (In x old → ⊥) → In x (without new old) = λ x m ne. filter_out gained_test x new m
-    (not_of_false _ (not_among x old ne)) in
+    (not_from_false _ (not_among x old ne)) in
     let lost_in : (x : Live) → In x (without old new) → In x old × (In x new → ⊥) = λ x m. let t = filter_in lost_test x old m in
-    (t.0, λ n. true_is_not_false (list_any (is_same_live x) new) (among x new n) (not_true _ t.1)) in
+    (t.0, λ n. true_is_not_false (list_any (is_same_live x) new) (among x new n) (not-true _ t.1)) in
     let gained_in : (x : Live) → In x (without new old) → In x new × (In x old → ⊥) = λ x m. let t = filter_in gained_test x new m in
-    (t.0, λ n. true_is_not_false (list_any (is_same_live x) old) (among x old n) (not_true _ t.1)) in
+    (t.0, λ n. true_is_not_false (list_any (is_same_live x) old) (among x old n) (not-true _ t.1)) in
     let off_in : (z : Switch) → In z (map (switch false) (without old new)) → (z.on ≡ false) × In z.live (without old new) = λ z m. let t =
     map_in (switch false) z (without old new) m in (ap (λ (z : Switch). z.on) t.is, subst (λ (z : Switch). In z.live (without old new)) (sym t.is) t.there) in
     let on_in : (z : Switch) → In z (map (switch true) (without new old)) → (z.on ≡ true) × In z.live (without new old) = λ z m. let t =

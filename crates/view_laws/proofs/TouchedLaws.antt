@@ -7,7 +7,7 @@ use Rattle.std.specs.List.{list_any}
 use Rattle.std.specs.declared.cmp.Ordering.{Ordering}
 use Rattle.std.specs.declared.cmp.Ordering.TheVariants.{Less, Equal, Greater}
 use Rattle.std.specs.Ordering.{is_lt, is_eq, int_cmp}
-use Rattle.std.proofs.lemmas.Bool.{eqb-true}
+use Rattle.std.proofs.lemmas.Bool.{eqb-true, or_parts, not-false, and_parts, or_left, or_right}
 use Rattle.mem_base.specs.declared.map.ids.RegionId.{RegionId}
 use Rattle.mem_base.specs.declared.map.ids.SpaceId.{SpaceId}
 use Rattle.mem_base.specs.declared.map.forests.Node.{Node}
@@ -31,16 +31,13 @@ use Rattle.mem_base.specs.map.Touched.{is_reached, is_reached_from, reached, is_
 use Rattle.mem_base.specs.map.Touched.{is_same_device, is_same_kind, looks_alike, stays_alike, is_touched}
 use Rattle.mem_base.specs.views.Flattened.{ranges_from, view_of}
 use Rattle.mem_base.proofs.ForestLaws.{id_of, node_of-itself}
-use Rattle.view_laws.proofs.Tests.{both_of, or_left, or_right, none_is_not_some, same_some, true_is_not_false, same_region}
+use Rattle.view_laws.proofs.Tests.{none_is_not_some, same_region}
 use Rattle.view_laws.proofs.LiveLaws.{In, every_in, same_int}
 use Rattle.view_laws.proofs.SortedLaws.{any_in, filter_in, filter_out, each_in, map_in, map_out, sorted_out}
+use Rattle.mem_base.proofs.BoolLaws.{bool_same, true_is_not_false}
+use Rattle.std.proofs.lemmas.Option.{same_Some}
 
 -- what tests call the same is the same
-
-pub bool_same : (x y : Bool) → bool_eq x y ≡ true → x ≡ y
-bool_same true y h = sym h
-bool_same false true h = absurd (grind arith)
-bool_same false false h = refl
 
 device_kind_same : (x y : DeviceKind) → is_same_device_kind x y ≡ true → x ≡ y
 device_kind_same Latch Latch h = refl
@@ -51,8 +48,8 @@ device_kind_same x y h = absurd (grind arith)
 
 ops_same : (x y : Ops) → is_same_ops x y ≡ true → x ≡ y
 ops_same x y h =
-    let g = both_of _ _ h in let f = both_of _ _ g.0 in let e = both_of _ _ f.0 in
-    let d = both_of _ _ e.0 in let c = both_of _ _ d.0 in let b = both_of _ _ c.0 in
+    let g = and_parts _ _ h in let f = and_parts _ _ g.0 in let e = and_parts _ _ f.0 in
+    let d = and_parts _ _ e.0 in let c = and_parts _ _ d.0 in let b = and_parts _ _ c.0 in
     let valid_min = eqb-true x.valid_min y.valid_min b.0 in let valid_max = eqb-true x.valid_max y.valid_max b.1 in
     let valid_unaligned = bool_same x.valid_unaligned y.valid_unaligned c.1 in
     let impl_min = eqb-true x.impl_min y.impl_min d.1 in let impl_max = eqb-true x.impl_max y.impl_max e.1 in
@@ -69,7 +66,7 @@ ops_same x y h =
 
 device_same : (x y : Device) → is_same_device x y ≡ true → x ≡ y
 device_same x y h =
-    let b = both_of _ _ h in let a = both_of _ _ b.0 in
+    let b = and_parts _ _ h in let a = and_parts _ _ b.0 in
     let kind = device_kind_same x.kind y.kind a.0 in let regs = eqb-true x.regs y.regs a.1 in let ops = ops_same x.ops y.ops b.1 in
     λ i. record { kind = kind i; regs = regs i; ops = ops i }
 
@@ -81,7 +78,7 @@ kind_same (RomDevice x) (RomDevice y) h = ap (λ (d : Device). RomDevice d) (dev
 kind_same (Io x) (Io y) h = ap (λ (d : Device). Io d) (device_same x y h)
 kind_same Iommu Iommu h = refl
 kind_same (Alias r x) (Alias q y) h =
-    let p = both_of _ _ h in let target = same_region r q (eqb-true r.0 q.0 p.0) in let offset = eqb-true x y p.1 in λ i. Alias (target i) (offset i)
+    let p = and_parts _ _ h in let target = same_region r q (eqb-true r.0 q.0 p.0) in let offset = eqb-true x y p.1 in λ i. Alias (target i) (offset i)
 kind_same Reserve Reserve h = refl
 kind_same Host Host h = refl
 kind_same x y h = absurd (grind arith)
@@ -103,9 +100,9 @@ is_equal Greater h = absurd (grind arith)
 
 alike_shape : (n m : Node) → n.id ≡ m.id → looks_alike n m ≡ true → shape n ≡ shape m
 alike_shape n m same h =
-    let l = both_of _ _ h in let k = both_of _ _ l.0 in let j = both_of _ _ k.0 in let i = both_of _ _ j.0 in
-    let g = both_of _ _ i.0 in let f = both_of _ _ g.0 in let e = both_of _ _ f.0 in let d = both_of _ _ e.0 in
-    let c = both_of _ _ d.0 in let b = both_of _ _ c.0 in let a = both_of _ _ b.0 in
+    let l = and_parts _ _ h in let k = and_parts _ _ l.0 in let j = and_parts _ _ k.0 in let i = and_parts _ _ j.0 in
+    let g = and_parts _ _ i.0 in let f = and_parts _ _ g.0 in let e = and_parts _ _ f.0 in let d = and_parts _ _ e.0 in
+    let c = and_parts _ _ d.0 in let b = and_parts _ _ c.0 in let a = and_parts _ _ b.0 in
     let kind = kind_same n.kind m.kind a.0 in let size = eqb-true n.size m.size a.1 in
     let parent = region_same n.parent m.parent b.1 in let offset = eqb-true n.offset m.offset c.1 in
     let priority = same_int n.priority m.priority (is_equal (int_cmp n.priority m.priority) d.1) in let placing = eqb-true n.placing m.placing e.1 in
@@ -258,7 +255,7 @@ found_in_list [] q n e = none_is_not_some n e
 found_in_list (x ∷ xs) q n e = go (has_id q x) e (found_in_list xs q n)
   where
     go : (b : Bool) → (if b then Some x else node_of xs q) ≡ Some n → (node_of xs q ≡ Some n → In n xs) → In n (x ∷ xs)
-    go true e rest = inl (sym (same_some x n e))
+    go true e rest = inl (sym (same_Some x n e))
     go false e rest = inr (rest e)
 
 -- which regions a step leads to
@@ -450,14 +447,6 @@ module _ (f g : Forest) (up : IsAscending f.nodes) (vp : IsAscending g.nodes) (g
 
 -- of a space
 
-or_false : (a b : Bool) → (a || b) ≡ false → (a ≡ false) × (b ≡ false)
-or_false true b h = absurd (grind arith)
-or_false false b h = (refl, h)
-
-not_false_is : (b : Bool) → not b ≡ false → b ≡ true
-not_false_is true h = refl
-not_false_is false h = absurd (grind arith)
-
 any_both : (test : RegionId → Bool) (xs ys : List RegionId) → list_any test (xs ++ ys) ≡ false → (list_any test xs ≡ false) × (list_any test ys ≡ false)
 any_both test [] ys h = (refl, h)
 any_both test (x ∷ xs) ys h = go (test x) h (any_both test xs ys)
@@ -474,13 +463,13 @@ none_of_reached test p [] q n h e k = none_is_not_some n e
 none_of_reached test p (x ∷ xs) q n h e k = go (has_id q x) (p x) refl h e (λ w. none_of_reached test p xs q n w)
   where
     rest_of : (b : Bool) → list_any test (ids_of (if b then x ∷ filter p xs else filter p xs)) ≡ false → list_any test (ids_of (filter p xs)) ≡ false
-    rest_of true h = (or_false (test x.id) _ h).1
+    rest_of true h = (or_parts (test x.id) _ h).1
     rest_of false h = h
 
     go : (b c : Bool) → p x ≡ c → list_any test (ids_of (if c then x ∷ filter p xs else filter p xs)) ≡ false → (if b then Some x else node_of xs q) ≡ Some n
         → (list_any test (ids_of (filter p xs)) ≡ false → node_of xs q ≡ Some n → p n ≡ true → test n.id ≡ false) → test n.id ≡ false
-    go true true s h e rest = subst (λ (y : Node). test y.id ≡ false) (same_some x n e) (or_false (test x.id) _ h).0
-    go true false s h e rest = true_is_not_false (p n) k (subst (λ (y : Node). p y ≡ false) (same_some x n e) s)
+    go true true s h e rest = subst (λ (y : Node). test y.id ≡ false) (same_Some x n e) (or_parts (test x.id) _ h).0
+    go true false s h e rest = true_is_not_false (p n) k (subst (λ (y : Node). p y ≡ false) (same_Some x n e) s)
     go false c s h e rest = rest (rest_of c h) e k
 
 module _ (f g : Forest) (s : SpaceId) (up : IsAscending f.nodes) (vp : IsAscending g.nodes) (calm : is_touched f g s ≡ false) where
@@ -489,13 +478,13 @@ module _ (f g : Forest) (s : SpaceId) (up : IsAscending f.nodes) (vp : IsAscendi
 
   parts : ((not (is_same_region (root_of f s) (root_of g s)) || not (bool_eq f.global g.global)) ≡ false) ×
       (list_any changed (reached f s ++ reached g s) ≡ false)
-  parts = or_false _ _ calm
+  parts = or_parts _ _ calm
 
   same_root : root_of f s ≡ root_of g s
-  same_root = region_same (root_of f s) (root_of g s) (not_false_is _ (or_false _ _ parts.0).0)
+  same_root = region_same (root_of f s) (root_of g s) (not-false _ (or_parts _ _ parts.0).0)
 
   same_global : f.global ≡ g.global
-  same_global = bool_same f.global g.global (not_false_is _ (or_false _ _ parts.0).1)
+  same_global = bool_same f.global g.global (not-false _ (or_parts _ _ parts.0).1)
 
   lists : (list_any changed (reached f s) ≡ false) × (list_any changed (reached g s) ≡ false)
   lists = any_both changed (reached f s) (reached g s) parts.1
@@ -516,7 +505,7 @@ module _ (f g : Forest) (s : SpaceId) (up : IsAscending f.nodes) (vp : IsAscendi
           let comes : is_reached f s n.id ≡ true =
           subst (λ (x : RegionId). is_reached f s x ≡ true) (sym id) (subst (λ (o : Option RegionId). is_reached_from f.nodes o q ≡ true) (sym a) long) in
           subst (λ (x : RegionId). alike f g up vp same_global x ≡ true) id
-          (not_false_is _ (none_of_reached changed (λ n. is_reached f s n.id) f.nodes q n lists.0 e comes))
+          (not-false _ (none_of_reached changed (λ n. is_reached f s n.id) f.nodes q n lists.0 e comes))
 
       here : (q : RegionId) → reaches_by (steps_of g.nodes) (suc most_depth) r q ≡ true → (o : Option Node) → node_of g.nodes q ≡ o → is_some o ≡ true
           → alike f g up vp same_global q ≡ true
@@ -527,7 +516,7 @@ module _ (f g : Forest) (s : SpaceId) (up : IsAscending f.nodes) (vp : IsAscendi
           let comes : is_reached g s n.id ≡ true =
           subst (λ (x : RegionId). is_reached g s x ≡ true) (sym id) (subst (λ (o : Option RegionId). is_reached_from g.nodes o q ≡ true) (sym b) long) in
           subst (λ (x : RegionId). alike f g up vp same_global x ≡ true) id
-          (not_false_is _ (none_of_reached changed (λ n. is_reached g s n.id) g.nodes q n lists.1 e comes))
+          (not-false _ (none_of_reached changed (λ n. is_reached g s n.id) g.nodes q n lists.1 e comes))
 
   pub untouched_found : (a : ℕ) → found_at f s a ≡ found_at g s a
   untouched_found a = go (root_of f s) refl (sym same_root)

@@ -15,9 +15,12 @@ use Rattle.mem_base.specs.lists.Sorting.{put_by}
 use Rattle.mem_base.specs.views.Walk.{is_same_range, has_more_bits, log_started, log_stopped, added_or_kept, deleted, shown_again, walk}
 use Rattle.mem_base.specs.views.Replay.{is_equal_range, meets_range, range_order, with_log, relogged, if_fits, ranges_after, ranges_after_all}
 use Rattle.mem_base.proofs.EveryLaws.{weaker, every_push}
-use Rattle.view_laws.proofs.Tests.{same_some, true_is_not_false, none_is_not_some}
-use Rattle.view_laws.proofs.RangeLaws.{Apart, apart, Same, same_of, same_itself, equal_itself, not_same, not_equal, with_its_log}
+use Rattle.view_laws.proofs.Tests.{none_is_not_some}
+use Rattle.view_laws.proofs.RangeLaws.{Apart, apart, Same, same_of, equal_itself, not_equal, with_its_log}
 use Rattle.view_laws.proofs.RangeLaws.{any_middle, none_any, takes_out}
+use Rattle.std.proofs.lemmas.Option.{same_Some}
+use Rattle.mem_base.proofs.BoolLaws.{true_is_not_false}
+use Rattle.mem_base.proofs.ViewLaws.{same_itself, not_same}
 
 -- events one after another
 
@@ -102,7 +105,7 @@ found_same r (q ∷ qs) x h = go (is_same_range r q) refl h (found_same r qs x)
   where
     go : (b : Bool) → is_same_range r q ≡ b → (if b then Some q else find (is_same_range r) qs) ≡ Some x
         → (find (is_same_range r) qs ≡ Some x → is_same_range r x ≡ true) → is_same_range r x ≡ true
-    go true e h rest = subst (λ (z : FlatRange). is_same_range r z ≡ true) (same_some q x h) e
+    go true e h rest = subst (λ (z : FlatRange). is_same_range r z ≡ true) (same_Some q x h) e
     go false e h rest = rest h
 
 found_after : (a : ℕ) (r : FlatRange) (qs : List FlatRange) (x : FlatRange) → Every (λ q. a < q.start) qs → find (is_same_range r) qs ≡ Some x → a < x.start
@@ -110,7 +113,7 @@ found_after a r [] x k h = none_is_not_some x h
 found_after a r (q ∷ qs) x k h = go (is_same_range r q) h (found_after a r qs x k.1)
   where
     go : (b : Bool) → (if b then Some q else find (is_same_range r) qs) ≡ Some x → (find (is_same_range r) qs ≡ Some x → a < x.start) → a < x.start
-    go true h rest = subst (λ (z : FlatRange). a < z.start) (same_some q x h) k.0
+    go true h rest = subst (λ (z : FlatRange). a < z.start) (same_Some q x h) k.0
     go false h rest = rest h
 
 any_same_after : (q : FlatRange) (rs : List FlatRange) → Every (λ r. q.start < r.start) rs → list_any (is_same_range q) rs ≡ false

@@ -9,6 +9,7 @@ use Rattle.mem_base.specs.views.View.{IsRanges}
 use Rattle.view_picture.specs.declared.rows.Row.{Row}
 use Rattle.view_picture.specs.declared.rows.Row.TheVariants.{Range, Hole}
 use Rattle.view_picture.specs.Rows.{Tiles, last_of, ranges_of, start_of, with_hole}
+use Rattle.mem_base.proofs.ViewLaws.{IsRanges-within}
 
 tiles_both : (from mid end : ℕ) (xs ys : List Row) → Tiles from mid xs → Tiles mid end ys → Tiles from end (xs ++ ys)
 tiles_both from mid end [] ys h k = subst (λ (n : ℕ). Tiles n end ys) (sym h) k
@@ -53,20 +54,12 @@ pub record Ahead (next : ℕ) (r : FlatRange) (rest : List FlatRange) : Type 0 w
   pub top : r.last < 2 ^ 64
   pub after : IsRanges (r.last + 1) (2 ^ 64) rest
 
-lies_below : (from end : ℕ) (rs : List FlatRange) → IsRanges from end rs → from ≤ end
-lies_below from end [] h = h
-lies_below from end (r ∷ rs) h =
-    let rest : r.last + 1 ≤ end = lies_below (r.last + 1) end rs h.3 in
-    let low : from ≤ r.start = h.0 in
-    let order : r.start ≤ r.last = h.1 in
-    omega (arith, rest, low, order)
-
 pub ahead : (ranges : List FlatRange) (i next : ℕ) (rows : List Row) (d : FlatRange) → i < length ranges → RowsSoFar ranges i next rows
     → Ahead next (get_or ranges i d) (drop (i + 1) ranges)
 ahead ranges i next rows d below h =
     let at : IsRanges next (2 ^ 64) (get_or ranges i d ∷ drop (i + 1) ranges) =
     subst (IsRanges next (2 ^ 64)) (drop_at ranges i d below) h.rest in
-    let after : (get_or ranges i d).last + 1 ≤ 2 ^ 64 = lies_below ((get_or ranges i d).last + 1) (2 ^ 64) (drop (i + 1) ranges) at.3 in
+    let after : (get_or ranges i d).last + 1 ≤ 2 ^ 64 = IsRanges-within ((get_or ranges i d).last + 1) (2 ^ 64) (drop (i + 1) ranges) at.3 in
     record { low = at.0; order = at.1; top = omega (arith, after); after = at.3 }
   where
     drop_at : (xs : List FlatRange) (i : ℕ) (d : FlatRange) → i < length xs → drop i xs ≡ get_or xs i d ∷ drop (i + 1) xs
@@ -90,7 +83,7 @@ row_more ranges i next rows after d below h e =
 pub closed_tiles : (ranges : List FlatRange) (i next : ℕ) (rows : List Row) → length ranges ≤ i → RowsSoFar ranges i next rows → 2 ^ 64 ≤ next
     → Tiles 0 (2 ^ 64) rows
 closed_tiles ranges i next rows all h top =
-    let below : next ≤ 2 ^ 64 = lies_below next (2 ^ 64) (drop i ranges) h.rest in
+    let below : next ≤ 2 ^ 64 = IsRanges-within next (2 ^ 64) (drop i ranges) h.rest in
     let same : next ≡ 2 ^ 64 = omega (arith, below, top) in
     subst (λ (n : ℕ). Tiles 0 n rows) same h.tiles
 

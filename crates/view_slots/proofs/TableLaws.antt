@@ -15,47 +15,9 @@ use Rattle.mem_base.specs.views.View.{IsRanges, holds, seen, shown}
 use Rattle.view_slots.specs.Edges.{HasEnds, NoEdge}
 use Rattle.view_slots.specs.Slots.{Adds, AlikeKeep, CutsInto, IsPiece, is_slot, memory_alone}
 use Rattle.view_slots.proofs.PieceLaws.{or_none, pieces_end, pieces_lie, pieces_show}
+use Rattle.mem_base.proofs.ViewLaws.{ranges_join, shown_join, shown-before, shown-past}
 
 -- Lists of ranges, one after another
-
-both_lie : (from mid end : ℕ) (xs ys : List FlatRange) → IsRanges from mid xs → IsRanges mid end ys → IsRanges from end (xs ++ ys)
-both_lie from mid end [] [] h k = omega (arith, h, k)
-both_lie from mid end [] (y ∷ ys) h k = (omega (arith, h, k.0), k.1, k.2, k.3)
-both_lie from mid end (x ∷ xs) ys h k = (h.0, h.1, h.2, both_lie (x.last + 1) mid end xs ys h.3 k)
-
-both_show : (xs ys : List FlatRange) (a : ℕ) → shown (xs ++ ys) a ≡ option_or (shown xs a) (shown ys a)
-both_show [] ys a = refl
-both_show (x ∷ xs) ys a = ap (option_or (seen x a)) (both_show xs ys a) ∙ again (seen x a) (shown xs a) (shown ys a)
-  where
-    again : (o p q : Option Spot) → option_or o (option_or p q) ≡ option_or (option_or o p) q
-    again None p q = refl
-    again (Some s) p q = refl
-
--- what lies from an address on shows nothing before it, and what ends before it nothing from there on
-nothing_before : (from end : ℕ) (xs : List FlatRange) (a : ℕ) → IsRanges from end xs → a < from → shown xs a ≡ None
-nothing_before from end [] a h below = refl
-nothing_before from end (x ∷ xs) a h below =
-    let first : from ≤ x.start = h.0 in
-    let order : x.start ≤ x.last = h.1 in
-    let no : holds x a ≡ false = grind (arith, nat_tests, first, below) in
-    ap (λ b. option_or (cond b (Some (record { leaf = x.leaf; offset = x.offset + (a - x.start); attrs = x.attrs })) None) (shown xs a)) no
-    ∙ nothing_before (x.last + 1) end xs a h.3 (omega (arith, first, order, below))
-
-nothing_after : (from end : ℕ) (xs : List FlatRange) (a : ℕ) → IsRanges from end xs → end ≤ a → shown xs a ≡ None
-nothing_after from end [] a h above = refl
-nothing_after from end (x ∷ xs) a h above =
-    let top : x.last + 1 ≤ end = ends_by (x.last + 1) end xs h.3 in
-    let no : holds x a ≡ false = grind (arith, nat_tests, top, above) in
-    ap (λ b. option_or (cond b (Some (record { leaf = x.leaf; offset = x.offset + (a - x.start); attrs = x.attrs })) None) (shown xs a)) no
-    ∙ nothing_after (x.last + 1) end xs a h.3 above
-  where
-    ends_by : (from end : ℕ) (xs : List FlatRange) → IsRanges from end xs → from ≤ end
-    ends_by from end [] h = h
-    ends_by from end (x ∷ xs) h =
-        let rest : x.last + 1 ≤ end = ends_by (x.last + 1) end xs h.3 in
-        let low : from ≤ x.start = h.0 in
-        let order : x.start ≤ x.last = h.1 in
-        omega (arith, rest, low, order)
 
 -- the ranges before the last one, and the last one
 pub record Before (from end : ℕ) (xs : List FlatRange) (r : FlatRange) : Type 0 where
@@ -118,16 +80,16 @@ one_show : (names : Names) (others : List RegionId) (rs out ps : List FlatRange)
     → is_slot names others r.leaf r.attrs ≡ b → shown out a ≡ memory_alone names others (shown rs a) → shown ps a ≡ cond b (seen r a) None
     → shown (out ++ ps) a ≡ memory_alone names others (shown (rs ++ r ∷ []) a)
 one_show names others rs out ps r end a b at is before now =
-    both_show out ps a ∙ ap (λ o. option_or o (shown ps a)) before
+    shown_join out ps a ∙ ap (λ o. option_or o (shown ps a)) before
     ∙ ap (option_or (memory_alone names others (shown rs a))) (now ∙ sym (seen_memory names others r a b is))
     ∙ sym (alone_or names others (shown rs a) (seen r a) apart)
-    ∙ ap (memory_alone names others) (sym (both_show rs (r ∷ []) a ∙ ap (option_or (shown rs a)) (or_none (seen r a))))
+    ∙ ap (memory_alone names others) (sym (shown_join rs (r ∷ []) a ∙ ap (option_or (shown rs a)) (or_none (seen r a))))
   where
     apart : (shown rs a ≡ None) ⊎ (seen r a ≡ None)
     apart = by (nat_le r.start a) refl
       where
         by : (c : Bool) → nat_le r.start a ≡ c → (shown rs a ≡ None) ⊎ (seen r a ≡ None)
-        by true e = inl (nothing_after 0 r.start rs a at.front (let above : r.start ≤ a = grind (arith, nat_tests, e) in above))
+        by true e = inl (shown-past 0 r.start rs a at.front (let above : r.start ≤ a = grind (arith, nat_tests, e) in above))
         by false e = inr (let no : holds r a ≡ false = grind (arith, nat_tests, e) in
             ap (λ c. cond c (Some (record { leaf = r.leaf; offset = r.offset + (a - r.start); attrs = r.attrs })) None) no)
 
@@ -152,7 +114,7 @@ pub table_cuts : (edges : List ℕ) (names : Names) (others : List RegionId) (rs
     → IsTable edges names others (rs ++ r ∷ []) new
 table_cuts edges names others rs out new ps r is ends e cut t = subst (IsTable edges names others (rs ++ r ∷ [])) (sym e) (record {
   lie = λ end h. (let at = last_one 0 end rs r h in
-      both_lie 0 r.start end out ps (t.lie r.start at.front)
+      ranges_join 0 r.start end out ps (t.lie r.start at.front)
       (longer r.start (r.last + 1) end ps at.end_by (pieces_lie edges r ps at.order at.fits cut)));
   show = λ end h a. (let at = last_one 0 end rs r h in
       one_show names others rs out ps r end a true at is (t.show r.start at.front a) (pieces_show edges r ps a cut));

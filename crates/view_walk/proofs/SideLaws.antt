@@ -1,6 +1,6 @@
 -- How the two parts of a walk go on with the next range.
 use Rattle.std.proofs.Common.{◌≡◌, ℕ, ◌<◌, ◌≤◌, ◌+◌, Bool, true, false, ◌&&◌, cond, List, [], ◌∷◌, ◌++◌, Option, Some, None, map, refl, sym}
-use Rattle.std.proofs.Common.{ap, ◌∙◌, subst, arith, nat_le, eqb, eqb-true, eq-eqb, ne_eqb, append_assoc, append-nil, drop, drop-cons, drop-drop}
+use Rattle.std.proofs.Common.{ap, ◌∙◌, subst, arith, nat_le, eqb, eqb-true, eq-eqb, append_assoc, append-nil, drop, drop-cons, drop-drop}
 use Rattle.std.proofs.Common.{get_or, length, add-one, ◌^◌}
 use Rattle.view_walk.specs.declared.sides.Side.{Side}
 use Rattle.view_walk.specs.declared.sides.Side.TheVariants.{OldOnly, Both, NewOnly}
@@ -18,33 +18,24 @@ use Rattle.mem_base.specs.lists.Booleans.{bool_eq}
 use Rattle.mem_base.specs.lists.Every.{Every}
 use Rattle.mem_base.specs.views.View.{IsRanges}
 use Rattle.mem_base.specs.views.Walk.{is_same_range, added_or_kept, deleted, shown_again, walk}
+use Rattle.mem_base.proofs.BoolLaws.{number_swap}
+use Rattle.mem_base.proofs.ViewLaws.{ranges_past, same_itself, not_same}
+use Rattle.mem_base.proofs.EveryLaws.{weaker}
 
 -- each range begins before all later ones
 abbrev pub Rises : List FlatRange → Type 0
 Rises [] = Unit {0}
 Rises (r ∷ rs) = Every (λ q. r.start < q.start) rs × Rises rs
 
-later : (from end a : ℕ) (rs : List FlatRange) → a < from → IsRanges from end rs → Every (λ q. a < q.start) rs
-later from end a [] l h = tt
-later from end a (r ∷ rs) l h = let m = h.0 in let n = h.1 in (omega arith, later (r.last + 1) end a rs (omega arith) h.3)
-
 pub rises : (from end : ℕ) (rs : List FlatRange) → IsRanges from end rs → Rises rs
 rises from end [] h = tt
-rises from end (r ∷ rs) h = let n = h.1 in (later (r.last + 1) end r.start rs (omega arith) h.3, rises (r.last + 1) end rs h.3)
-
-weaker : {A : Type 0} (P Q : A → Type 0) → ((x : A) → P x → Q x) → (xs : List A) → Every P xs → Every Q xs
-weaker P Q f [] h = tt
-weaker P Q f (x ∷ xs) h = (f x h.0, weaker P Q f xs h.1)
-
--- ranges that begin apart are not the same
-apart : (r q : FlatRange) → (r.start ≡ q.start → ⊥) → is_same_range r q ≡ false
-apart r q ne = rw (ne_eqb r.start q.start ne) refl
+rises from end (r ∷ rs) h = let n = h.1 in (ranges_past (r.last + 1) end r.start rs (omega arith) h.3, rises (r.last + 1) end rs h.3)
 
 before : (r q : FlatRange) → r.start < q.start → is_same_range r q ≡ false
-before r q l = apart r q (λ e. omega arith)
+before r q l = not_same r q (λ e. omega arith)
 
 after : (r q : FlatRange) → q.start < r.start → is_same_range r q ≡ false
-after r q l = apart r q (λ e. omega arith)
+after r q l = not_same r q (λ e. omega arith)
 
 -- an old range that is no new one
 old_deleted : (o : FlatRange) (os ns : List FlatRange) → Every (λ n. is_same_range o n ≡ false) ns → deleted (o ∷ os) ns ≡ Delete o ∷ deleted os ns
@@ -87,9 +78,6 @@ both_found : (o n : FlatRange) (os ns : List FlatRange) → is_same_range n o �
     ++ shown_again (o ∷ os) ns
 both_found o n os ns e = rw e refl
 
-eqb_sym : (a b : ℕ) → eqb a b ≡ eqb b a
-eqb_sym a b = grind (arith, nat_tests)
-
 bool_eq_sym : (a b : Bool) → bool_eq a b ≡ bool_eq b a
 bool_eq_sym true true = refl
 bool_eq_sym true false = refl
@@ -98,10 +86,10 @@ bool_eq_sym false false = refl
 
 same_sym : (r q : FlatRange) → is_same_range r q ≡ is_same_range q r
 same_sym r q =
-    let a = eqb_sym r.start q.start in
-    let b = eqb_sym r.last q.last in
-    let c = eqb_sym r.leaf.0 q.leaf.0 in
-    let d = eqb_sym r.offset q.offset in
+    let a = number_swap r.start q.start in
+    let b = number_swap r.last q.last in
+    let c = number_swap r.leaf.0 q.leaf.0 in
+    let d = number_swap r.offset q.offset in
     let e = bool_eq_sym r.attrs.readonly q.attrs.readonly in
     let f = bool_eq_sym r.attrs.nonvolatile q.attrs.nonvolatile in
     let g = bool_eq_sym r.attrs.romd q.attrs.romd in
@@ -179,22 +167,6 @@ walking_both old new steps shown o n os ns e w =
       rising_old = w.rising_old.1;
       rising_new = w.rising_new.1;
     }
-
-bool_eq_itself : (a : Bool) → bool_eq a a ≡ true
-bool_eq_itself true = refl
-bool_eq_itself false = refl
-
-same_itself : (r : FlatRange) → is_same_range r r ≡ true
-same_itself r =
-    let a = eq-eqb r.start r.start refl in
-    let b = eq-eqb r.last r.last refl in
-    let c = eq-eqb r.leaf.0 r.leaf.0 refl in
-    let d = eq-eqb r.offset r.offset refl in
-    let e = bool_eq_itself r.attrs.readonly in
-    let f = bool_eq_itself r.attrs.nonvolatile in
-    let g = bool_eq_itself r.attrs.romd in
-    let h = bool_eq_itself r.attrs.unmergeable in
-    rw (a, b, c, d, e, f, g, h) refl
 
 -- the next range of one and the same view
 pub walking_kept : (view : List FlatRange) (shown : List RangeEvent) (i : ℕ) (r d : FlatRange) → i < length view → r ≡ get_or view i d

@@ -4,12 +4,12 @@ use Rattle.std.specs.Prelude.{is_some}
 use Rattle.mem_base.specs.declared.map.ids.PassId.{PassId}
 use Rattle.mem_base.specs.machine.Passes.{pass_of}
 use Rattle.mem_base.specs.machine.World.{World}
-use Rattle.view_laws.proofs.Tests.{true_is_not_false}
 use Rattle.world_laws.specs.Entered.{EntersHeld}
 use Rattle.world_laws.proofs.Entering.{entered_generations_are_held}
 use Rattle.world_core.specs.Hands.{IsInside}
 use Rattle.world_hand.specs.Reached.{IsReached}
 use Rattle.world_hand.proofs.WithoutLaws.{enters_without}
+use Rattle.mem_base.proofs.BoolLaws.{true_is_not_false}
 
 -- a pass that entered a number is in a generation that is kept
 pub inside_of : (w : World) (pass : PassId) → IsReached w → is_some (pass_of w.passes pass).entered ≡ true → IsInside w pass

@@ -1,7 +1,7 @@
 -- Events on cells: the place of a cell that may be stepped on, and a cell of a new region that is cleared.
-use Rattle.std.proofs.Common.{◌≡◌, ℕ, zero, suc, ◌+◌, ◌<◌, ◌≤◌, Bool, true, false, List, [], ◌∷◌, length, filter, refl, sym, ap, subst, ◌∙◌}
+use Rattle.std.proofs.Common.{◌≡◌, ℕ, ◌+◌, ◌<◌, ◌≤◌, Bool, true, false, List, length, filter, refl, sym, ap, subst, ◌∙◌}
 use Rattle.std.proofs.Common.{arith, if◌then◌else◌, ltb-true, ltb-false, Option, Some, None}
-use Rattle.std.specs.Prelude.{not, ◌&&◌, ◌||◌, ◌==◌, nat_lt, slice_set, option_and_then, IfSome}
+use Rattle.std.specs.Prelude.{not, ◌&&◌, ◌||◌, nat_lt, option_and_then, IfSome}
 use Rattle.mem_base.specs.declared.map.ids.RegionId.{RegionId}
 use Rattle.mem_base.specs.declared.map.ids.PassId.{PassId}
 use Rattle.mem_base.specs.declared.map.kinds.Client.{Client}
@@ -21,7 +21,6 @@ use Rattle.mem_base.specs.machine.Generations.{Generation, entered_generation}
 use Rattle.mem_base.specs.machine.Guards.{is_notifier, may_reach, may_mark}
 use Rattle.mem_base.specs.machine.Reaps.{writer}
 use Rattle.mem_base.specs.machine.World.{World, world, possible, world_after, place_in_world, if_placed, touched_blocks}
-use Rattle.view_laws.proofs.Tests.{both_of, true_is_not_false}
 use Rattle.turn_laws.proofs.Coupled.{IsWhole}
 use Rattle.world_laws.proofs.Lists.{found_has}
 use Rattle.kept_generations.specs.KeptState.{KeptState, generations_of}
@@ -35,6 +34,9 @@ use Rattle.world_core.specs.Cleared.{word_cleared}
 use Rattle.world_core.proofs.PlaceLaws.{own_region}
 use Rattle.world_core.proofs.ReachedLaws.{reached_after}
 use Rattle.world_core.proofs.WordLaws.{cells_change, far}
+use Rattle.world_laws.proofs.Keeping.{step_past}
+use Rattle.std.proofs.lemmas.Bool.{and_parts}
+use Rattle.mem_base.proofs.BoolLaws.{true_is_not_false}
 
 -- a place that is found is whole
 whole_of : (w : World) → IsReached w → (r : RegionId) (p : Place) → place_in_world w r ≡ Some p → IsWhole (places_of w.writer.desk) p
@@ -46,11 +48,11 @@ reached_in ps None p c same s h = true_is_not_false false h refl
 reached_in ps (Some x) p c same s h = go (names x.forest c.region && is_data_or_register p c.word) refl h
   where
     go : (b : Bool) → (names x.forest c.region && is_data_or_register p c.word) ≡ b → (b || is_notifier c) ≡ true → c.word < p.words
-    go true e h = let t = both_of (names x.forest c.region) (is_data_or_register p c.word) e in
+    go true e h = let t = and_parts (names x.forest c.region) (is_data_or_register p c.word) e in
         let l : c.word < data_words p.bytes + p.regs = ltb-true c.word (data_words p.bytes + p.regs) t.1 in
         let wide : data_words p.bytes + p.regs ≤ p.words = s.wide in
         omega (arith, l, wide)
-    go false e h = let t = both_of _ _ h in
+    go false e h = let t = and_parts _ _ h in
         let l : c.word < notifier_count = ltb-true c.word notifier_count t.1 in
         let m : p.words ≡ notifier_count = s.notifiers (subst (λ (z : RegionId). is_notifiers z ≡ true) (sym same) t.0) in
         omega (arith, l, m)
@@ -75,7 +77,7 @@ module _ (w : World) (h : IsReached w) where
 
   marked : (o : Option Generation) (p : Place) (r : RegionId) (page : ℕ) → may_mark o p r page ≡ true → page < pages_in p
   marked None p r page e = true_is_not_false false e refl
-  marked (Some x) p r page e = ltb-true page (pages_in p) (both_of _ _ e).1
+  marked (Some x) p r page e = ltb-true page (pages_in p) (and_parts _ _ e).1
 
   -- the page of a mark that may be made
   pub page_in : (pass : PassId) (r : RegionId) (client : Client) (page : ℕ) (p : Place) → place_in_world w r ≡ Some p
@@ -93,20 +95,6 @@ module _ (w : World) (h : IsReached w) where
       (ap (λ (o : Option Place). if_placed o (λ q. may_mark (entered_generation w.writer.generations w.passes pass) q r page)) (sym none) ∙ may) refl
 
 -- a step past the cells of a region changes none
-
-set_past : (ws : List ℕ) (i x : ℕ) → length ws ≤ i → slice_set ws i x ≡ ws
-set_past [] i x l = refl
-set_past (w ∷ ws) zero x l = absurd (omega arith)
-set_past (w ∷ ws) (suc i) x l = ap (λ (zs : List ℕ). w ∷ zs) (set_past ws i x (omega arith))
-
-step_past : (blocks : List Block) (r : RegionId) (i : ℕ) (step : WordStep) → length (cells_in blocks r) ≤ i → blocks_after blocks r i step ≡ blocks
-step_past [] r i step l = refl
-step_past (b ∷ bs) r i step l = go (b.region.0 == r.0) (step_past bs r i step) l
-  where
-    go : (t : Bool) → (length (cells_in bs r) ≤ i → blocks_after bs r i step ≡ bs) → length (if t then b.words else cells_in bs r) ≤ i
-        → (if t then (record b { words = words_after b.words i step }) ∷ bs else b ∷ blocks_after bs r i step) ≡ b ∷ bs
-    go true rest l = let e = set_past b.words i _ l in λ j. record { region = b.region; words = e j } ∷ bs
-    go false rest l = ap (λ (zs : List Block). b ∷ zs) (rest l)
 
 -- a cell of a new region is cleared
 

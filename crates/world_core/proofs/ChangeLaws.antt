@@ -40,6 +40,7 @@ use Rattle.world_core.proofs.MadeCellLaws.{made_only}
 use Rattle.world_core.proofs.MadeCellLaws as made
 use Rattle.world_core.proofs.ReachedLaws.{reached_after}
 use Rattle.world_core.proofs.RestLaws.{Rested, filled}
+use Rattle.mem_base.proofs.BoolLaws.{or_nothing}
 
 -- the parts make a world, and the event leads there with this answer
 pub record ChangesWorld (w : World) (c : Config) (answer : Result Applied Refusal) (d : WriterState) (k : KeptState) (ws : List ℕ)
@@ -207,10 +208,6 @@ module _ (s : Inside) (w : World) (f : Rested s w) (c : Config) (may : possible 
 
 -- where nothing is due or unfilled and not every pass was swept, only what publishes nothing may happen
 
-either_false : (b : Bool) → (b || false) ≡ b
-either_false true = refl
-either_false false = refl
-
 pub by_sweeps : (rests swept told publishes : Bool) → rests ≡ true → swept ≡ false → told ≡ publishes → not told ≡ rests && (not publishes || swept)
 by_sweeps rests swept told publishes e f g =
-    ap not g ∙ sym (either_false (not publishes)) ∙ (λ i. sym e i && (not publishes || sym f i))
+    ap not g ∙ sym (or_nothing (not publishes)) ∙ (λ i. sym e i && (not publishes || sym f i))

@@ -1,6 +1,6 @@
 -- The cells of a region that is made are 0, and those of the others stay.
 use Rattle.std.proofs.Common.{◌≡◌, ◌≢◌, ℕ, ◌+◌, ◌<◌, ◌≤◌, Bool, true, false, List, [], ◌∷◌, ◌++◌, map, length}
-use Rattle.std.proofs.Common.{Option, Some, None, refl, sym, ap, subst, ◌∙◌, arith, append-nil, inl, inr, ne_eqb, eq-eqb}
+use Rattle.std.proofs.Common.{Option, Some, None, refl, sym, ap, subst, ◌∙◌, arith, append-nil, ne_eqb, eq-eqb}
 use Rattle.std.specs.Prelude.{◌==◌, if◌then◌else◌, flat_map, IfSome}
 use Rattle.mem_base.specs.declared.map.ids.RegionId.{RegionId}
 use Rattle.mem_base.specs.declared.map.forests.Forest.{Forest}
@@ -11,7 +11,7 @@ use Rattle.mem_base.specs.declared.map.calls.Config.{Config}
 use Rattle.mem_base.specs.declared.map.calls.Config.TheVariants as configs
 use Rattle.mem_base.specs.declared.access.cells.Place.{Place}
 use Rattle.mem_base.specs.declared.access.cells.Cell.{Cell}
-use Rattle.mem_base.specs.lists.Every.{Every, HasElement}
+use Rattle.mem_base.specs.lists.Every.{Every}
 use Rattle.mem_base.specs.map.Limits.{notifier_count, most_made}
 use Rattle.mem_base.specs.access.Places.{Extent, extent_of, words_of, place_from, first_fit, notifiers_place, past, is_notifiers}
 use Rattle.mem_base.specs.access.PlacesByRegion.{place_in}
@@ -23,7 +23,7 @@ use Rattle.history_laws.specs.BackedForests.{BacksForest}
 use Rattle.world_laws.proofs.Lists.{found_has}
 use Rattle.mem_base.specs.access.PlaceCells.{blocks_at}
 use Rattle.place_words.specs.Blocks.{AreWithin}
-use Rattle.place_words.proofs.CellLaws.{new_cleared, places_keep}
+use Rattle.place_words.proofs.CellLaws.{new_cleared, places_keep, all_have}
 use Rattle.backing_pool.specs.Backing.{Backing}
 use Rattle.transact.specs.Backed.{BackedState, all_places, backing_at, places_for, forest_at}
 use Rattle.writer_desk.specs.Writers.{backing_by, applied_by}
@@ -45,10 +45,6 @@ no_place r (q ∷ qs) h = rw (ne_eqb q.region.0 r.0 h.0) (no_place r qs h.1)
 last_place : (p : Place) (qs : List Place) → AreOthers p.region qs → place_in (qs ++ p ∷ []) p.region ≡ Some p
 last_place p [] h = rw (eq-eqb p.region.0 p.region.0 refl) refl
 last_place p (q ∷ qs) h = rw (ne_eqb q.region.0 p.region.0 h.0) (last_place p qs h.1)
-
-pub all_have : {A : Type 0} (xs : List A) → Every (HasElement xs) xs
-all_have [] = tt
-all_have (x ∷ xs) = (inl refl, weaker (HasElement xs) (HasElement (x ∷ xs)) (λ y m. inr m) xs (all_have xs))
 
 module _ (ws : List ℕ) (s : BackedState) (wide : length ws ≡ s.backing.pool_words + notifier_count)
     (f : Forest) (back : BacksForest s.backing.pool_words f s.backing.places)

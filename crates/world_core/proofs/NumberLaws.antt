@@ -17,12 +17,12 @@ use Rattle.mem_base.specs.machine.Desk.{Desk}
 use Rattle.mem_base.specs.machine.Configs.{configured}
 use Rattle.mem_base.specs.machine.World.{World, opening, possible, number_in, world_after, after_telling}
 use Rattle.mem_base.specs.machine.History.{PureEntry, after_entry, after_entries, IsLegalFrom}
-use Rattle.view_laws.proofs.Tests.{both_of, not_true}
 use Rattle.history_laws.proofs.Outcomes.{Tells, outcome}
 use Rattle.world_laws.proofs.Running.{Sound, sound, sound_after}
 use Rattle.transact.proofs.MadeLaws.{counted_after, closed_made}
 use Rattle.world_hand.specs.Reached.{IsReached}
-use Rattle.world_hand.proofs.Completing.{nothing_left}
+use Rattle.std.proofs.lemmas.Bool.{and_parts, not-true}
+use Rattle.turn_laws.proofs.PrivateSteps.{nothing_unfilled}
 
 -- a flag that is on counts as one
 abbrev pub one : Bool → ℕ
@@ -107,7 +107,7 @@ few_after w k l (events.Place v) may = l
 few_after w k l events.Publish may =
     let d : Desk = w.writer.desk in
     let due : w.writer.generations.current + (one d.pending + one true) ≤ d.forest.calls =
-    subst (λ (b : Bool). w.writer.generations.current + (one d.pending + one b) ≤ d.forest.calls) (both_of _ _ may).0 l in
+    subst (λ (b : Bool). w.writer.generations.current + (one d.pending + one b) ≤ d.forest.calls) (and_parts _ _ may).0 l in
     omega (arith, due)
 few_after w k l (events.Word hand x step) may = l
 few_after w k l (events.Mark v r client page) may = l
@@ -115,10 +115,10 @@ few_after w k l (events.Harvest r client index) may = l
 few_after w k l (events.Fill x) may = l
 few_after w k l (events.Config c) may =
     let d : Desk = w.writer.desk in
-    let rest = both_of _ _ (both_of _ _ may).0 in
-    let off : d.due ≡ false = not_true d.due rest.0 in
+    let rest = and_parts _ _ (and_parts _ _ may).0 in
+    let off : d.due ≡ false = not-true d.due rest.0 in
     few_after_config w.writer.generations.current d c (configured w.writer.generations d c).desk (configured w.writer.generations d c).answer off l
-    (outcome w.writer.generations d k.holds.sound off (nothing_left d.unfilled rest.1) c).tells
+    (outcome w.writer.generations d k.holds.sound off (nothing_unfilled d.unfilled rest.1) c).tells
 few_after w k l events.Reap may = l
 
 few_from : (w : World) (xs : List PureEntry) → Sound w → FewPublishes w.writer.generations.current w.writer.desk → IsLegalFrom w xs

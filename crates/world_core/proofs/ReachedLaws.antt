@@ -15,7 +15,6 @@ use Rattle.mem_base.specs.access.Places.{notifiers_place}
 use Rattle.mem_base.specs.map.Calls.{empty}
 use Rattle.mem_base.specs.map.Limits.{notifier_count}
 use Rattle.mem_base.specs.machine.Reaps.{first_writer}
-use Rattle.view_laws.proofs.Tests.{both_of, both}
 use Rattle.generation.specs.Published.{published}
 use Rattle.place_words.specs.Blocks.{AreWithin}
 use Rattle.place_words.proofs.CellLaws.{first_zero}
@@ -26,6 +25,7 @@ use Rattle.world_core.specs.Worlds.{Aside, aside, world_of, IsWorld}
 use Rattle.world_hand.specs.Reached.{IsReached}
 use Rattle.world_hand.proofs.Completing.{reached_on}
 use Rattle.world_laws.proofs.PassKeeping.{not_entered}
+use Rattle.std.proofs.lemmas.Bool.{and_parts, and_from}
 
 -- a possible event leads on
 pub reached_after : (w : World) (e : Event) → IsReached w → possible w e ≡ true → IsReached (world_after w e)
@@ -52,7 +52,7 @@ passes_change d k l ws x states e h is may goes = record {
 pub may_enter : (w : World) (pass : PassId) → IsReached w → possible w (events.Look pass) ≡ true
     → possible (world_after (world_after w (events.Look pass)) (events.Announce pass)) (events.Enter pass) ≡ true
 may_enter w pass r may =
-    let t = both_of _ _ may in
+    let t = and_parts _ _ may in
     let near : pass.0 < length w.passes = ltb-true pass.0 (length w.passes) t.0 in
     let p = pass_of w.passes pass in
     let looked : PassState = pass_after p (events.Look pass) w.writer.generations.current in
@@ -67,7 +67,7 @@ may_enter w pass r may =
     let told : is_some (pass_of second pass).announced ≡ true =
     ap (λ (q : PassState). is_some q.announced) two ∙ ap (λ (q : PassState). is_some q.looked) one in
     let out : is_none p.entered ≡ true = not_entered p (λ n e. let k = ((reached_is_orderly w r).each pass near).entered n e in (k.0, k.1)) t.1 in
-    both _ _ (both _ _ there told) (ap (λ (q : PassState). is_none q.entered) two ∙ ap (λ (q : PassState). is_none q.entered) one ∙ out)
+    and_from _ _ (and_from _ _ there told) (ap (λ (q : PassState). is_none q.entered) two ∙ ap (λ (q : PassState). is_none q.entered) one ∙ out)
 
 -- the parts at first make the first world
 pub parts_at_first : (pool_words passes : ℕ) → world_of (first_state pool_words) (first_kept passes (published 0 empty []))

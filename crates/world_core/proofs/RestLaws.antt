@@ -17,7 +17,6 @@ use Rattle.mem_base.specs.machine.Reaps.{Writer, writer}
 use Rattle.mem_base.specs.machine.ShownWorlds.{world_shown}
 use Rattle.mem_base.specs.machine.Turns.{entries_of_turn, turn}
 use Rattle.mem_base.specs.machine.World.{World, is_at_rest, world}
-use Rattle.view_laws.proofs.Tests.{both_of, length_map}
 use Rattle.history_laws.specs.Released.{DropsOnce}
 use Rattle.history_laws.proofs.DroppedLaws.{regions_are_dropped_once}
 use Rattle.turn_laws.proofs.Coupled.{seen}
@@ -34,13 +33,16 @@ use Rattle.writer_run.proofs.EntryLaws.{same_flags}
 use Rattle.world_hand.specs.Reached.{IsReached}
 use Rattle.world_hand.specs.declared.hand.PureHand.{PureHand}
 use Rattle.world_hand.specs.Run.{HasMade, HasRun, shared_of}
-use Rattle.world_hand.proofs.Completing.{CompletesCall, completes_call, nothing_left, reached_holds}
+use Rattle.world_hand.proofs.Completing.{CompletesCall, completes_call, reached_holds}
 use Rattle.world_hand.proofs.FlagLaws.{FlaggedTurn, flag_turn, flagged, left_with, would_with}
 use Rattle.world_hand.proofs.WithoutLaws.{drops_without}
 use Rattle.world_core.specs.declared.world.World.TheInside.{Inside}
 use Rattle.world_core.specs.Worlds.{aside, beside, filled_world, state_of, unswept, world_of, IsFilledWorld, IsWorld}
 use Rattle.world_core.specs.Rests.{StaysAtRest}
 use Rattle.world_core.proofs.ReachedLaws.{reached_is_orderly}
+use Rattle.std.proofs.lemmas.Bool.{and_parts}
+use Rattle.mem_base.proofs.ListLaws.{length_map}
+use Rattle.turn_laws.proofs.PrivateSteps.{nothing_unfilled}
 
 drops_once : (w : World) → IsReached w → DropsOnce w.writer
 drops_once w r = drops_without r.taken w
@@ -72,9 +74,9 @@ pub record Rested (s : Inside) (w : World) : Type 0 where
 
 pub rested : (s : Inside) (w : World) → IsShown s → shown s ≡ w → is_at_rest w.writer.desk ≡ true → Rested s w
 rested s w h view rest =
-    let t = both_of _ _ (ap (λ (v : World). is_at_rest v.writer.desk) view ∙ rest) in
+    let t = and_parts _ _ (ap (λ (v : World). is_at_rest v.writer.desk) view ∙ rest) in
     let no_due : s.due ≡ None = go s.due t.0 in
-    let none : s.unfilled.cells ≡ [] = nothing_left s.unfilled.cells t.1 in record {
+    let none : s.unfilled.cells ≡ [] = nothing_unfilled s.unfilled.cells t.1 in record {
       none_due = no_due;
       none_left = none;
       world = subst (λ (z : Option Readied × List Cell). IsWorld (state_of s.desk z.0) s.hand.kept s.hand.words (aside s.desk.dropped.items z.1))

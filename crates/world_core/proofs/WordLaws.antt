@@ -21,7 +21,6 @@ use Rattle.mem_base.proofs.EveryLaws.{every_element}
 use Rattle.mem_base.specs.machine.Passes.{pass_of}
 use Rattle.mem_base.specs.machine.Generations.{Generation, entered_generation}
 use Rattle.mem_base.specs.machine.World.{World, world, possible, reply, number_in, world_after, touched_blocks, touch_at, old_at}
-use Rattle.view_laws.proofs.Tests.{true_is_not_false}
 use Rattle.history_laws.specs.BackedForests.{BacksForest}
 use Rattle.turn_laws.proofs.PassSteps.{touch_there}
 use Rattle.world_laws.specs.Standing.{StandsIn}
@@ -41,6 +40,7 @@ use Rattle.world_hand.specs.Reached.{IsReached}
 use Rattle.world_hand.proofs.WithoutLaws.{enters_without}
 use Rattle.world_hand.proofs.Completing.{all_apart, all_within, backs, reached_holds}
 use Rattle.world_core.proofs.ReachedLaws.{reached_after}
+use Rattle.mem_base.proofs.BoolLaws.{true_is_not_false}
 
 -- steps on the words of places
 

@@ -1,9 +1,8 @@
 -- A turn whose entries the pure machine makes one after another, from a world to which a legal history leads, is the call of the
 -- pure machine in that world.
 use Rattle.std.proofs.Common.{◌≡◌, ℕ, ◌+◌, ◌<◌, ◌≤◌, true, false, List, [], ◌∷◌, ◌++◌, length, append_assoc, refl, sym, ap, subst, ◌∙◌, arith, inl, Some}
-use Rattle.std.specs.Prelude.{◌==◌, slice_index}
-use Rattle.std.proofs.lemmas.Bool.{eqb-false, eqb-true}
-use Rattle.mem_base.specs.declared.access.cells.Cell.{Cell}
+use Rattle.std.specs.Prelude.{slice_index}
+use Rattle.std.proofs.lemmas.Bool.{eqb-false, and_parts, not-true}
 use Rattle.mem_base.specs.declared.access.cells.Place.{Place}
 use Rattle.mem_base.specs.declared.access.cells.WordStep.TheVariants.{Take}
 use Rattle.mem_base.specs.declared.machine.events.Event.{Event}
@@ -29,7 +28,6 @@ use Rattle.mem_base.specs.machine.Turns.{entries_of_turn, turn}
 use Rattle.mem_base.specs.machine.World.{World, is_at_rest, number_in, opening, reply, world, world_after}
 use Rattle.mem_base.proofs.EveryLaws.{every_push, weaker}
 use Rattle.map_laws.proofs.PairLaws.{pairs_push}
-use Rattle.view_laws.proofs.Tests.{both_of, not_true}
 use Rattle.history_laws.specs.BackedForests.{BacksForest, ShowsOwnPlaces}
 use Rattle.history_laws.proofs.Idles.{Idle}
 use Rattle.history_laws.proofs.PureAppends.{after_both, legal_both}
@@ -50,10 +48,7 @@ use Rattle.world_hand.specs.Taken.{told_before, with_calls}
 use Rattle.world_hand.proofs.SameTurns.{SameTurn, legal_replies, same_turn}
 use Rattle.world_hand.proofs.TakenLaws.{call_without, entries_before, fitting_before, legal_before}
 use Rattle.world_hand.proofs.WithoutLaws.{holds_without, places_without}
-
-pub nothing_left : (cells : List Cell) → (length cells == 0) ≡ true → cells ≡ []
-nothing_left [] h = refl
-nothing_left (c ∷ cs) h = absurd (omega (arith, eqb-true _ _ h))
+use Rattle.turn_laws.proofs.PrivateSteps.{nothing_unfilled}
 
 -- places of regions below a pool's end, and the notifiers' after it
 
@@ -84,9 +79,9 @@ backs w r = let shown = reached_places w r in
     subst (λ (n : ℕ). BacksForest n w.writer.desk.forest w.writer.desk.places) (sym shown.pool) shown.backs
 
 pub reached_idle : (w : World) → IsReached w → is_at_rest w.writer.desk ≡ true → Idle w.writer
-reached_idle w r rest = let h = reached_holds w r in let o = h.kept.coupled.order in let t = both_of _ _ rest in record {
-  due = not_true w.writer.desk.due t.0;
-  filled = nothing_left w.writer.desk.unfilled t.1;
+reached_idle w r rest = let h = reached_holds w r in let o = h.kept.coupled.order in let t = and_parts _ _ rest in record {
+  due = not-true w.writer.desk.due t.0;
+  filled = nothing_unfilled w.writer.desk.unfilled t.1;
   flagged = o.all_flagged ∙ sym o.all_known;
   sound = h.sound;
 }
@@ -201,7 +196,7 @@ module _ (w : World) (ws : List ℕ) (r : IsReached w) (shown : w.blocks ≡ blo
     reached = reached_on w (completed w k).entries after r call.legal call.ends
 
     cells : after.blocks ≡ blocks_at done.after (places_of after.writer.desk)
-    cells = cells_are reached.pool_words after done.after done.coupled (nothing_left after.writer.desk.unfilled (both_of _ _ call.rests).1)
+    cells = cells_are reached.pool_words after done.after done.coupled (nothing_unfilled after.writer.desk.unfilled (and_parts _ _ call.rests).1)
         (subst HasItsCells reached.leads (its_cells reached.pool_words reached.passes reached.entries)) (reached_places after reached)
 
     module _ (ns : List ℕ) (t : Shared) (run : HasRun (seen w ws) (entries_of_turn (turn w.writer k ns)) t) where

@@ -3,7 +3,7 @@ use Rattle.std.proofs.Common.{◌≡◌, ℕ, zero, suc, ◌+◌, ◌-◌, ◌<�
 use Rattle.std.proofs.Common.{sym, refl, ap, ◌∙◌, subst, inl, inr, arith, ⊎_elim, if◌then◌else◌, Option, Some, None}
 use Rattle.std.specs.Prelude.{slice_get, nat_le, nat_lt, ◌==◌, ◌^◌}
 use Rattle.std.specs.List.{list_any}
-use Rattle.std.proofs.lemmas.Bool.{cases_lt, eqb-true, ltb-true, lt-ltb, le-leb}
+use Rattle.std.proofs.lemmas.Bool.{cases_lt, eqb-true, ltb-true, lt-ltb, le-leb, and_from, or_left, or_right}
 use Rattle.mem_base.specs.declared.map.ids.PassId.{PassId}
 use Rattle.mem_base.specs.declared.map.ids.RegionId.{RegionId}
 use Rattle.mem_base.specs.declared.access.cells.Place.{Place}
@@ -21,7 +21,7 @@ use Rattle.mem_base.specs.machine.Desk.{Desk, places_of}
 use Rattle.mem_base.specs.machine.World.{World, opening, if_placed}
 use Rattle.mem_base.specs.machine.History.{PureEntry, after_entries, IsLegal, IsOrderly}
 use Rattle.mem_base.proofs.EveryLaws.{weaker, every_element}
-use Rattle.view_laws.proofs.Tests.{both, or_left, or_right, same_some, none_is_not_some}
+use Rattle.view_laws.proofs.Tests.{none_is_not_some}
 use Rattle.history_laws.proofs.HeldLaws.{keeps_held}
 use Rattle.history_laws.proofs.Idles.{IsSoundDesk}
 use Rattle.history_laws.proofs.OrderLaws.{order}
@@ -29,24 +29,21 @@ use Rattle.history_laws.proofs.PlaceLaws.{some_is}
 use Rattle.turn_laws.proofs.Coupled.{Stands, AllStand}
 use Rattle.world_laws.specs.Entered.{IsEnteredIn, IsHeldAt, EntersHeld, MayStep}
 use Rattle.world_laws.proofs.Keeping.{Holds, holds}
+use Rattle.turn_laws.proofs.PassSteps.{least_low}
+use Rattle.std.proofs.lemmas.Option.{same_Some}
 
 -- lists
 
 taken : {A : Type 0} (xs : List A) (i m : ℕ) (x : A) → i < m → slice_get xs i ≡ Some x → HasElement (take m xs) x
 taken [] i m x l e = none_is_not_some x e
 taken (y ∷ ys) i zero x l e = absurd (omega arith)
-taken (y ∷ ys) zero (suc m) x l e = inl (same_some y x e)
+taken (y ∷ ys) zero (suc m) x l e = inl (same_Some y x e)
 taken (y ∷ ys) (suc i) (suc m) x l e = inr (taken ys i m x (omega arith) e)
 
 any_at : (n : ℕ) (ks : List PassTrack) (v : ℕ) → v < length ks → (get_or ks v nothing_known).lowest ≤ n → list_any (λ k. nat_le k.lowest n) ks ≡ true
 any_at n [] v l m = absurd (omega arith)
 any_at n (k ∷ ks) zero l m = or_left (nat_le k.lowest n) (list_any (λ k. nat_le k.lowest n) ks) (le-leb k.lowest n m)
 any_at n (k ∷ ks) (suc v) l m = or_right (nat_le k.lowest n) (list_any (λ k. nat_le k.lowest n) ks) (any_at n ks v (omega arith) m)
-
-least_low : (c : ℕ) (ks : List PassTrack) (v : ℕ) → v < length ks → least_lowest c ks ≤ (get_or ks v nothing_known).lowest
-least_low c [] v l = absurd (omega arith)
-least_low c (k ∷ ks) zero l = omega arith
-least_low c (k ∷ ks) (suc v) l = let x = least_low c ks v (omega arith) in omega arith
 
 idle_past : (ps : List PassState) (v : ℕ) → length ps ≤ v → get_or ps v idle ≡ idle
 idle_past [] v l = refl
@@ -67,7 +64,7 @@ module _ (w : World) (k : IsOrderly w) (v : PassId) where
 
   held_number : (number : ℕ) → (pass_of w.passes v).entered ≡ Some number → is_held g number ≡ true
   held_number number e = let l = near number e in let t = (k.each v l).entered number e in
-      or_right (number == g.current) _ (both (nat_le number g.current) _ (le-leb number g.current t.4)
+      or_right (number == g.current) _ (and_from (nat_le number g.current) _ (le-leb number g.current t.4)
       (any_at number g.passes v.0 (subst (λ (m : ℕ). v.0 < m) (sym k.all_known) l) t.3))
 
   held_at : (number : ℕ) (x : Generation) → (pass_of w.passes v).entered ≡ Some number → generation_of g number ≡ Some x → IsHeldAt w number x
@@ -104,7 +101,7 @@ notifiers_found : (made : ℕ) (ps : List Place) (np q : Place) (r : RegionId) �
 notifiers_found made [] np q r few k n e = go (np.region.0 == r.0) e
   where
     go : (b : Bool) → (if b then Some np else None) ≡ Some q → q ≡ np
-    go true e = sym (same_some np q e)
+    go true e = sym (same_Some np q e)
     go false e = none_is_not_some q e
 notifiers_found made (p ∷ ps) np q r few k n e = go (p.region.0 == r.0) refl e (notifiers_found made ps np q r few k.1 n)
   where
@@ -128,16 +125,16 @@ module _ (w : World) (k : Holds w) (v : PassId) (x : Generation) (is : IsEntered
           let a : data_words p.bytes + p.regs ≤ p.words = s.whole.wide in
           let b : p.words ≡ 64 = s.whole.notifiers n in
           or_right (names x.forest p.region && is_data_or_register p word) (is_notifier (cell p.region word))
-          (both (is_notifiers p.region) (nat_lt word notifier_count) n (lt-ltb word 64 (omega (arith, l, a, b))))
+          (and_from (is_notifiers p.region) (nat_lt word notifier_count) n (lt-ltb word 64 (omega (arith, l, a, b))))
       go false n named = or_left (names x.forest p.region && is_data_or_register p word) (is_notifier (cell p.region word))
-          (both (names x.forest p.region) (is_data_or_register p word) named h)
+          (and_from (names x.forest p.region) (is_data_or_register p word) named h)
 
   mark : (page : ℕ) → page < pages_in p → may_mark (Some x) p p.region page ≡ true
   mark page l = go (is_notifiers p.region) refl s.named
     where
       go : (b : Bool) → is_notifiers p.region ≡ b → (b || names x.forest p.region) ≡ true → may_mark (Some x) p p.region page ≡ true
       go true n named = let none : pages_in p ≡ 0 = no_pages w.writer.desk k.sound p s.whole.stands n in absurd (omega (arith, l, none))
-      go false n named = both (names x.forest p.region) (nat_lt page (pages_in p)) named (lt-ltb page (pages_in p) l)
+      go false n named = and_from (names x.forest p.region) (nat_lt page (pages_in p)) named (lt-ltb page (pages_in p) l)
 
   may_step : MayStep w v x p
   may_step = record {

@@ -1,8 +1,8 @@
 -- Each possible event keeps the pure machine beside some words, so the places of held generations stand.
 use Rattle.std.proofs.Common.{◌≡◌, ℕ, zero, suc, ◌+◌, ◌<◌, ◌≤◌, Bool, true, false, ◌&&◌, ◌||◌, List, [], ◌∷◌, length}
 use Rattle.std.proofs.Common.{sym, refl, ap, ◌∙◌, subst, arith, ⊎_elim, if◌then◌else◌, Option, Some, None}
-use Rattle.std.specs.Prelude.{slice_set, option_and_then, not, ◌*◌, ◌/◌, nat_lt, ◌==◌}
-use Rattle.std.proofs.lemmas.Bool.{cases_lt, ltb-true, le-leb}
+use Rattle.std.specs.Prelude.{slice_set, option_and_then, ◌*◌, ◌/◌, nat_lt, ◌==◌}
+use Rattle.std.proofs.lemmas.Bool.{cases_lt, ltb-true, le-leb, and_parts, and_from}
 use mathlib.Core.Logic.{dite}
 use native.Mathlib.Decide.{ℕ_discrete}
 use Rattle.mem_base.specs.declared.map.ids.RegionId.{RegionId}
@@ -19,7 +19,7 @@ use Rattle.mem_base.specs.map.Limits.{notifier_count}
 use Rattle.mem_base.specs.lists.Every.{Every}
 use Rattle.mem_base.specs.access.PlacesByRegion.{place_in}
 use Rattle.mem_base.specs.access.Places.{is_notifiers, is_data_or_register, data_words, mark_words, mark_word, pages_in}
-use Rattle.mem_base.specs.access.Cells.{cell, is_same_cell, Touch, touch, Block, has_block, touch_of, cells_in, blocks_after, words_after}
+use Rattle.mem_base.specs.access.Cells.{cell, Touch, touch, Block, has_block, touch_of, cells_in, blocks_after, words_after}
 use Rattle.mem_base.specs.views.Naming.{names}
 use Rattle.mem_base.specs.machine.Generations.{Generation, held_generations, entered_generation}
 use Rattle.mem_base.specs.machine.Guards.{is_notifier, may_reach, may_mark}
@@ -27,7 +27,7 @@ use Rattle.mem_base.specs.machine.Desk.{places_of}
 use Rattle.mem_base.specs.machine.World.{World, possible, world_after, reply, number_in, after_telling, if_placed, opening, touched_blocks, touch_at}
 use Rattle.mem_base.specs.machine.History.{PureEntry, after_entry, after_entries, IsLegalFrom, IsLegal}
 use Rattle.mem_base.proofs.EveryLaws.{weaker}
-use Rattle.view_laws.proofs.Tests.{both_of, both, same_place, none_is_not_some, same_region}
+use Rattle.view_laws.proofs.Tests.{same_place, none_is_not_some, same_region}
 use Rattle.history_laws.proofs.OrderLaws.{order_after}
 use Rattle.history_laws.proofs.Idles.{IsSoundDesk, opens_idle, fresh}
 use Rattle.history_laws.proofs.PublishedLaws.{sound_after}
@@ -35,7 +35,7 @@ use Rattle.turn_laws.proofs.Backed.{IsBacked, waits}
 use Rattle.turn_laws.proofs.Coupled.{Stands, AllStand, IsWhole, Coupled}
 use Rattle.turn_laws.proofs.PassSteps.{looks, announces, enters, leaves, backed_touch, bare_touch}
 use Rattle.turn_laws.proofs.WriterSteps as steps
-use Rattle.turn_laws.proofs.FillSteps.{less_cell, others_wait, fills}
+use Rattle.turn_laws.proofs.FillSteps.{less_cell, others_wait, fills, fewer_wait}
 use Rattle.turn_laws.proofs.Replaced.{its_region}
 use Rattle.turn_laws.proofs.ReapSteps.{reaps}
 use Rattle.turn_laws.proofs.PrivateSteps.{configures}
@@ -75,10 +75,10 @@ module _ (w : World) (words : List ℕ) (k : Coupled w words) where
   reached (Some x) p c same s h = go (names x.forest c.region && is_data_or_register p c.word) refl h
     where
       go : (b : Bool) → (names x.forest c.region && is_data_or_register p c.word) ≡ b → (b || is_notifier c) ≡ true → c.word < p.words
-      go true e h = let t = both_of (names x.forest c.region) (is_data_or_register p c.word) e in
+      go true e h = let t = and_parts (names x.forest c.region) (is_data_or_register p c.word) e in
           let l : c.word < data_words p.bytes + p.regs = ltb-true c.word (data_words p.bytes + p.regs) t.1 in
           let m = s.wide in omega arith
-      go false e h = let t = both_of _ _ h in let l : c.word < notifier_count = ltb-true c.word notifier_count t.1 in
+      go false e h = let t = and_parts _ _ h in let l : c.word < notifier_count = ltb-true c.word notifier_count t.1 in
           let m : p.words ≡ notifier_count =
           s.notifiers (subst (λ (z : RegionId). is_notifiers z ≡ true) (sym (same_region p.region c.region same)) t.0) in omega arith
 
@@ -100,7 +100,7 @@ module _ (w : World) (words : List ℕ) (k : Coupled w words) where
 
   marked_page : (o : Option Generation) (p : Place) (r : RegionId) (page : ℕ) → may_mark o p r page ≡ true → page < pages_in p
   marked_page None p r page h = absurd (grind arith)
-  marked_page (Some x) p r page h = ltb-true _ _ (both_of _ _ h).1
+  marked_page (Some x) p r page h = ltb-true _ _ (and_parts _ _ h).1
 
   by_mark : (v : PassId) (r : RegionId) (client : Client) (page : ℕ) (o : Option Place) → place_in (places_of w.writer.desk) r ≡ o
       → if_placed o (λ p. may_mark (entered_generation w.writer.generations w.passes v) p r page) ≡ true
@@ -128,24 +128,14 @@ module _ (w : World) (words : List ℕ) (k : Coupled w words) where
 
 -- a cell is cleared
 
-fewer_wait : (c : Cell) (r : RegionId) (i : ℕ) (cells : List Cell) → waits cells r i ≡ false → waits (less_cell c cells) r i ≡ false
-fewer_wait c r i [] h = refl
-fewer_wait c r i (x ∷ xs) h = go (is_same_cell c x) (is_same_cell (cell r i) x) refl (fewer_wait c r i xs) h
-  where
-    go : (b a : Bool) → is_same_cell (cell r i) x ≡ a → (waits xs r i ≡ false → waits (less_cell c xs) r i ≡ false) → (a || waits xs r i) ≡ false
-        → waits (if not b then x ∷ less_cell c xs else less_cell c xs) r i ≡ false
-    go b true e rest h = absurd (grind arith)
-    go true false e rest h = rest h
-    go false false e rest h = rw e (rest h)
-
 -- a step past the cells of a region changes none
 
-set_past : (ws : List ℕ) (i x : ℕ) → length ws ≤ i → slice_set ws i x ≡ ws
+pub set_past : (ws : List ℕ) (i x : ℕ) → length ws ≤ i → slice_set ws i x ≡ ws
 set_past [] i x l = refl
 set_past (w ∷ ws) zero x l = absurd (omega arith)
 set_past (w ∷ ws) (suc i) x l = ap (λ (zs : List ℕ). w ∷ zs) (set_past ws i x (omega arith))
 
-step_past : (blocks : List Block) (r : RegionId) (i : ℕ) (step : WordStep) → length (cells_in blocks r) ≤ i → blocks_after blocks r i step ≡ blocks
+pub step_past : (blocks : List Block) (r : RegionId) (i : ℕ) (step : WordStep) → length (cells_in blocks r) ≤ i → blocks_after blocks r i step ≡ blocks
 step_past [] r i step l = refl
 step_past (b ∷ bs) r i step l = go (b.region.0 == r.0) (step_past bs r i step) l
   where
@@ -203,9 +193,9 @@ kept_after w k s (events.Announce v) may = record { words = k.words; coupled = (
 kept_after w k s (events.Enter v) may = record { words = k.words; coupled = (enters w k.words k.coupled v may).coupled }
 kept_after w k s (events.Leave v) may = record { words = k.words; coupled = (leaves w k.words k.coupled v may).coupled }
 kept_after w k s (events.Sweep v) may = record { words = k.words; coupled = (steps.sweeps w k.words k.coupled v may).coupled }
-kept_after w k s (events.Place v) may = let t = both_of _ _ may in let near = k.coupled.order.each v (ltb-true _ _ (both_of _ _ t.1).0) in
-    record { words = k.words; coupled = (steps.places w k.words k.coupled t.0 v (both _ _ (le-leb _ _ (near.due_near t.0)) t.1)).coupled }
-kept_after w k s events.Publish may = let t = both_of _ _ may in
+kept_after w k s (events.Place v) may = let t = and_parts _ _ may in let near = k.coupled.order.each v (ltb-true _ _ (and_parts _ _ t.1).0) in
+    record { words = k.words; coupled = (steps.places w k.words k.coupled t.0 v (and_from _ _ (le-leb _ _ (near.due_near t.0)) t.1)).coupled }
+kept_after w k s events.Publish may = let t = and_parts _ _ may in
     record { words = k.words; coupled = (steps.publishes w k.words k.coupled t.0 t.1).coupled }
 kept_after w k s (events.Word (hands.Pass v) c step) may = by_pass w k.words k.coupled v c step (place_in (places_of w.writer.desk) c.region) refl may
 kept_after w k s (events.Word hands.Writer c step) may = by_writer w k.words k.coupled c step (place_in (places_of w.writer.desk) c.region) refl may

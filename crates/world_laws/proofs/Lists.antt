@@ -7,7 +7,8 @@ use Rattle.mem_base.specs.declared.access.cells.Place.{Place}
 use Rattle.mem_base.specs.lists.Every.{Every}
 use Rattle.mem_base.specs.lists.Runs.{Run, runs, put_before}
 use Rattle.mem_base.specs.access.PlacesByRegion.{place_in}
-use Rattle.view_laws.proofs.Tests.{same_some, none_is_not_some}
+use Rattle.view_laws.proofs.Tests.{none_is_not_some}
+use Rattle.std.proofs.lemmas.Option.{same_Some}
 
 -- each run starts among the numbers
 pub starts_below : (with_next : ℕ → Bool) (a n : ℕ) → Every (λ r. r.start < a + n) (runs with_next a n)
@@ -28,5 +29,5 @@ found_has P [] r p k e = none_is_not_some p e
 found_has P (q ∷ qs) r p k e = go (q.region.0 == r.0) e (found_has P qs r p k.1)
   where
     go : (b : Bool) → (if b then Some q else place_in qs r) ≡ Some p → (place_in qs r ≡ Some p → P p) → P p
-    go true e rest = subst P (same_some q p e) k.0
+    go true e rest = subst P (same_Some q p e) k.0
     go false e rest = rest e

@@ -3,7 +3,7 @@ use Rattle.std.proofs.Common.{◌≡◌, ℕ, ◌+◌, ◌<◌, ◌≤◌, ne_eq
 use Rattle.std.proofs.Common.{sym, refl, ap, ◌∙◌, subst, arith, if◌then◌else◌, Option, Some, None}
 use Rattle.std.specs.Prelude.{not, nat_lt, ◌==◌, ◌/◌, ◌%◌, ◌^◌, ◌-◌}
 use Rattle.std.specs.List.{range_with_len}
-use Rattle.std.proofs.lemmas.Bool.{eqb-true, lt-ltb}
+use Rattle.std.proofs.lemmas.Bool.{lt-ltb, and_from, and_parts, or_right, not-true}
 use Rattle.std.proofs.lemmas.Bool.Decides.{nat_tests}
 use Rattle.mem_base.specs.declared.map.ids.RegionId.{RegionId}
 use Rattle.mem_base.specs.declared.map.kinds.Client.{Client}
@@ -15,7 +15,6 @@ use Rattle.mem_base.specs.declared.map.calls.Config.{Config}
 use Rattle.mem_base.specs.declared.map.refusals.Refusal.{Refusal}
 use Rattle.mem_base.specs.declared.map.refusals.Refusal.TheVariants.{WrongKind, BadSize}
 use Rattle.mem_base.specs.declared.access.cells.Place.{Place}
-use Rattle.mem_base.specs.declared.access.cells.Cell.{Cell}
 use Rattle.mem_base.specs.declared.machine.events.Event.{Event}
 use Rattle.mem_base.specs.declared.machine.events.Event.TheVariants as events
 use Rattle.mem_base.specs.lists.Every.{Every}
@@ -40,7 +39,7 @@ use Rattle.mem_base.proofs.ForestLaws.{every_node_of}
 use Rattle.map_laws.proofs.RefusalLaws.{each_none, known_node, refuse_where-none}
 use Rattle.map_laws.proofs.SizeLaws.{size_whole}
 use Rattle.map_laws.proofs.SoundCallLaws.{IsClosedForest-made}
-use Rattle.view_laws.proofs.Tests.{both, both_of, or_right, not_true, none_is_not_some}
+use Rattle.view_laws.proofs.Tests.{none_is_not_some}
 use Rattle.history_laws.specs.BackedForests.{BacksForest}
 use Rattle.history_laws.proofs.Outcomes.{Distinct, outcome}
 use Rattle.history_laws.proofs.PlaceLaws.{place_of_region, some_is}
@@ -53,6 +52,7 @@ use Rattle.history_laws.proofs.PureAppends.{run_ends, ends_then}
 use Rattle.world_laws.proofs.Running.{AllMay, Sound, sound, sound_run, legal_run, legal_then}
 use Rattle.world_laws.proofs.OrderRows.{sweeps_may, swept_desk, publishes_may, published_desk, fills_may, filled_desk}
 use Rattle.world_laws.proofs.OrderRows.{loads_may, loads_rest, harvests_may, harvests_rest}
+use Rattle.turn_laws.proofs.PrivateSteps.{nothing_unfilled}
 
 -- events that are possible, after which nothing is due or unfilled
 record Runs (w : World) (es : List Event) : Type 0 where
@@ -76,10 +76,6 @@ as_call w k g =
       rests = g.after.rests;
     }
 
-nothing_left : (cells : List Cell) → (length cells == 0) ≡ true → cells ≡ []
-nothing_left [] h = refl
-nothing_left (c ∷ cs) h = absurd (omega (arith, eqb-true _ _ h))
-
 -- a call, a begin, a commit, and a listener that joins or leaves
 
 module _ (v : World) (k : Sound v) (rest : is_at_rest v.writer.desk ≡ true) (c : Config) where
@@ -87,11 +83,11 @@ module _ (v : World) (k : Sound v) (rest : is_at_rest v.writer.desk ≡ true) (c
   u = world_after v (events.Config c)
 
   off : v.writer.desk.due ≡ false
-  off = not_true v.writer.desk.due (both_of _ _ rest).0
+  off = not-true v.writer.desk.due (and_parts _ _ rest).0
 
   after_config : (b : Bool) → u.writer.desk.due ≡ b → Runs u (if b then publishes u.writer.generations else map (λ c. events.Fill c) u.writer.desk.unfilled)
   after_config b due =
-      let o = outcome v.writer.generations v.writer.desk k.holds.sound off (nothing_left v.writer.desk.unfilled (both_of _ _ rest).1) c in
+      let o = outcome v.writer.generations v.writer.desk k.holds.sound off (nothing_unfilled v.writer.desk.unfilled (and_parts _ _ rest).1) c in
       go b due o.none_due o.distinct
     where
       go : (b : Bool) → u.writer.desk.due ≡ b → (u.writer.desk.due ≡ true → u.writer.desk.unfilled ≡ []) → Distinct u.writer.desk.unfilled
@@ -131,7 +127,7 @@ module _ (w : World) (k : Sound w) (rest : is_at_rest w.writer.desk ≡ true) wh
           → Goes w es (events.Config c ∷ []) (events_after (world_after v (events.Config c)).writer (configure c)))
       by es may rests ok = let v = (run_events w es).world in record {
         before = may;
-        private = (both (is_at_rest v.writer.desk) _ rests ok, tt);
+        private = (and_from (is_at_rest v.writer.desk) _ rests ok, tt);
         after = after_config v (sound_run es w k may) rests c (world_after v (events.Config c)).writer.desk.due refl;
       }
 
@@ -143,7 +139,7 @@ module _ (w : World) (k : Sound w) (rest : is_at_rest w.writer.desk ≡ true) wh
   reaps : IsLegalCall w reap
   reaps = as_call w reap record {
     before = may_sweep;
-    private = (both (is_at_rest swept.writer.desk) _ swept_rests swept_all, tt);
+    private = (and_from (is_at_rest swept.writer.desk) _ swept_rests swept_all, tt);
     after = record { may = tt; rests = swept_rests };
   }
 

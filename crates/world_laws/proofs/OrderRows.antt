@@ -1,9 +1,9 @@
 -- Rows of the writer's events of one sort: that they are possible, and what they leave.
-use Rattle.std.proofs.Common.{◌≡◌, ℕ, zero, suc, ◌+◌, ◌<◌, ◌≤◌, eq-eqb, true, false, List, [], ◌∷◌, length, map, get_or}
+use Rattle.std.proofs.Common.{◌≡◌, ℕ, zero, suc, ◌+◌, ◌<◌, ◌≤◌, true, false, List, [], ◌∷◌, length, map, get_or}
 use Rattle.std.proofs.Common.{set, length-set, get_or-set_same, get_or-set_other, sym, refl, ap, ◌∙◌, subst, arith, Option, Some}
 use Rattle.std.specs.Prelude.{filter, not, nat_lt}
 use Rattle.std.specs.List.{list_any, range_with_len}
-use Rattle.std.proofs.lemmas.Bool.{lt-ltb}
+use Rattle.std.proofs.lemmas.Bool.{lt-ltb, and_from, not_from_false}
 use mathlib.Core.Logic.{dite}
 use native.Mathlib.Decide.{ℕ_discrete}
 use Rattle.mem_base.specs.declared.map.ids.RegionId.{RegionId}
@@ -26,12 +26,11 @@ use Rattle.mem_base.specs.machine.Desk.{places_of}
 use Rattle.mem_base.specs.machine.Reaps.{Writer}
 use Rattle.mem_base.specs.machine.World.{World, reply, number_in, world_after, if_placed}
 use Rattle.mem_base.specs.machine.History.{run_events}
-use Rattle.view_laws.proofs.Tests.{both, not_of_false}
 use Rattle.view_laws.proofs.RangeLaws.{keeps_all}
 use Rattle.history_laws.proofs.ReleasedLaws.{ids}
 use Rattle.history_laws.proofs.Outcomes.{Distinct}
 use Rattle.turn_laws.proofs.Rows as played
-use Rattle.turn_laws.proofs.Rows.{with_swept, with_due, with_unfilled, sweeps_of, publishes_of, fills_of, flags_after, writer_played}
+use Rattle.turn_laws.proofs.Rows.{with_swept, with_due, with_unfilled, sweeps_of, publishes_of, fills_of, flags_after, writer_played, same_cell}
 use Rattle.world_laws.proofs.Running.{AllMay}
 
 -- sweeps
@@ -58,7 +57,7 @@ swept_desk vs w = ap (λ (h : Writer). h.desk) (as_played (sweeps_of vs) w) ∙ 
 
 all_on : (ks : List PassTrack) → ((v : ℕ) → v < length ks → (get_or ks v nothing_known).placed ≡ true) → all_placed ks ≡ true
 all_on [] h = refl
-all_on (k ∷ ks) h = both k.placed (all_placed ks) (h 0 (omega arith)) (all_on ks (λ v l. h (suc v) (omega arith)))
+all_on (k ∷ ks) h = and_from k.placed (all_placed ks) (h 0 (omega arith)) (all_on ks (λ v l. h (suc v) (omega arith)))
 
 pub publishes_may : (a n : ℕ) (w : World) → w.writer.desk.due ≡ true → length w.writer.generations.passes ≡ length w.passes
     → a + n ≡ length w.writer.generations.passes
@@ -66,12 +65,12 @@ pub publishes_may : (a n : ℕ) (w : World) → w.writer.desk.due ≡ true → l
     → ((v : ℕ) → v < a → (get_or w.writer.generations.passes v nothing_known).placed ≡ true)
     → AllMay w (publishes_of (ids a n))
 publishes_may a zero w due same all off on =
-    (both w.writer.desk.due (all_placed w.writer.generations.passes) due (all_on w.writer.generations.passes (λ v l. on v (omega arith))), tt)
+    (and_from w.writer.desk.due (all_placed w.writer.generations.passes) due (all_on w.writer.generations.passes (λ v l. on v (omega arith))), tt)
 publishes_may a (suc n) w due same all off on =
     let ks = w.writer.generations.passes in
     let size : length (set ks a (record (get_or ks a nothing_known) { placed = true })) ≡ length ks = length-set ks a _ in (
-      both w.writer.desk.due _ due (both (nat_lt a (length w.passes)) _ (lt-ltb a (length w.passes) (omega arith))
-          (not_of_false (get_or ks a nothing_known).placed (off a (omega arith)))),
+      and_from w.writer.desk.due _ due (and_from (nat_lt a (length w.passes)) _ (lt-ltb a (length w.passes) (omega arith))
+          (not_from_false (get_or ks a nothing_known).placed (off a (omega arith)))),
       publishes_may (a + 1) n (world_after w (events.Place (pass_id a))) due (size ∙ same) (omega arith)
           (λ v l. ap (λ (k : PassTrack). k.placed) (get_or-set_other ks a v _ nothing_known (λ e. omega arith)) ∙ off v (omega arith))
           (λ v l. dite (ℕ_discrete v a)
@@ -85,9 +84,6 @@ published_desk [] w = refl
 published_desk (v ∷ vs) w = published_desk vs (world_after w (events.Place v))
 
 -- fills
-
-same_cell : (c : Cell) → is_same_cell c c ≡ true
-same_cell c = rw (eq-eqb c.region.0 c.region.0 refl, eq-eqb c.word c.word refl) refl
 
 left_to_fill : (w : World) (c : Cell) (cs : List Cell) → w.writer.desk.unfilled ≡ c ∷ cs → Distinct (c ∷ cs)
     → (world_after w (events.Fill c)).writer.desk.unfilled ≡ cs

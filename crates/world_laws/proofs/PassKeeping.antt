@@ -15,7 +15,8 @@ use Rattle.mem_base.specs.machine.World.{World, possible, world_after}
 use Rattle.mem_base.specs.machine.History.{run_events}
 use Rattle.mem_base.specs.machine.Composites.{enters, leaves, enters_unless, leaves_unless, is_entered, steps_in, accessed}
 use Rattle.mem_base.specs.machine.Completions.{KeepsWriter, may_access}
-use Rattle.view_laws.proofs.Tests.{both, both_of, or_left, or_right, true_is_not_false}
+use Rattle.std.proofs.lemmas.Bool.{and_from, and_parts, or_left, or_right}
+use Rattle.mem_base.proofs.BoolLaws.{true_is_not_false}
 
 -- the world after some events, each with the world's own reply
 abbrev pub after_events : World → List Event → World
@@ -25,7 +26,7 @@ after_events w es = (run_events w es).world
 pub entered_by : (w : World) (pass : PassId) → possible w (events.Look pass) ≡ true
     → is_some (pass_of (after_events w (enters pass)).passes pass).entered ≡ true
 entered_by w pass may =
-    let near : pass.0 < length w.passes = ltb-true pass.0 (length w.passes) (both_of _ _ may).0 in
+    let near : pass.0 < length w.passes = ltb-true pass.0 (length w.passes) (and_parts _ _ may).0 in
     let looked : PassState = pass_after (pass_of w.passes pass) (events.Look pass) w.writer.generations.current in
     let first = with_pass w.passes pass looked in
     let announced : PassState = pass_after (pass_of first pass) (events.Announce pass) 0 in
@@ -88,7 +89,7 @@ pub left_looks : (w : World) (pass : PassId) → is_pass w.passes pass ≡ true 
 left_looks w pass near =
     let l : pass.0 < length w.passes = ltb-true pass.0 (length w.passes) near in
     let is : pass_of (with_pass w.passes pass idle) pass ≡ idle = get_or-set_same w.passes pass.0 idle idle l in
-    both _ _ (ap (λ (n : ℕ). nat_lt pass.0 n) (length-set w.passes pass.0 idle) ∙ near) (ap (λ (p : PassState). is_none p.announced) is)
+    and_from _ _ (ap (λ (n : ℕ). nat_lt pass.0 n) (length-set w.passes pass.0 idle) ∙ near) (ap (λ (p : PassState). is_none p.announced) is)
 
 idle_may : (w : World) (pass : PassId) → is_pass w.passes pass ≡ true → may_access (after_events w (leaves pass)) pass ≡ true
 idle_may w pass near = or_right _ _ (left_looks w pass near)
@@ -109,7 +110,7 @@ enter_keeps w v pass may is = subst (λ (u : World). KeepsWriter w u) (sym is)
 
 pub leave_keeps : (w v : World) (pass : PassId) → possible w (events.Leave pass) ≡ true → v ≡ after_events w (leaves pass) → KeepsWriter w v
 leave_keeps w v pass may is = subst (λ (u : World). KeepsWriter w u) (sym is)
-    (keeps pass w (after_events w (leaves pass)) (leaves_others w pass) (λ m. idle_may w pass (both_of _ _ may).0))
+    (keeps pass w (after_events w (leaves pass)) (leaves_others w pass) (λ m. idle_may w pass (and_parts _ _ may).0))
 
 -- an access
 
@@ -154,7 +155,7 @@ access_keeps_by false w pass space addr transfer e may =
     let ds : List AccessStep = steps_in u pass space addr transfer in
     let v : World = (run_events u (events_of_steps pass ds)).world in
     let k : KeepsAll u v = steps_keep pass ds u in
-    let near : is_pass w.passes pass ≡ true = (both_of _ _ (may_look _ _ may e)).0 in
+    let near : is_pass w.passes pass ≡ true = (and_parts _ _ (may_look _ _ may e)).0 in
     let same : length v.passes ≡ length w.passes = (all_others pass u v k).count ∙ (enters_others w pass).count in
     keeps pass w (after_events v (leaves pass))
     (others_then pass w u (after_events v (leaves pass)) (enters_others w pass)

@@ -6,9 +6,10 @@ use Rattle.mem_base.specs.lists.Every.{Every}
 use Rattle.mem_base.specs.machine.Generations.{PassTrack, nothing_known, with_placed}
 use Rattle.mem_base.specs.machine.World.{World, opening, possible, number_in, world_after, after_telling}
 use Rattle.mem_base.specs.machine.History.{PureEntry, after_entry, after_entries, IsLegalFrom, IsLegal, run_events}
-use Rattle.view_laws.proofs.Tests.{both_of, not_true, true_is_not_false}
 use Rattle.mem_base.proofs.EveryLaws.{every_get, every_set}
 use Rattle.world_laws.proofs.Keeping.{Holds, holds_after, holds_at_first}
+use Rattle.std.proofs.lemmas.Bool.{and_parts, not-true}
+use Rattle.mem_base.proofs.BoolLaws.{true_is_not_false}
 
 -- each event is possible where it stands
 abbrev pub AllMay : World → List Event → Type 0
@@ -54,13 +55,13 @@ unplaced_after w k (events.Enter v) may off = k.unplaced off
 unplaced_after w k (events.Leave v) may off = k.unplaced off
 unplaced_after w k (events.Sweep v) may off = let ks = w.writer.generations.passes in
     every_set (λ k. k.placed ≡ false) ks v.0 _ (every_get (λ k. k.placed ≡ false) ks v.0 nothing_known refl (k.unplaced off)) (k.unplaced off)
-unplaced_after w k (events.Place v) may off = true_is_not_false w.writer.desk.due (both_of _ _ may).0 off
+unplaced_after w k (events.Place v) may off = true_is_not_false w.writer.desk.due (and_parts _ _ may).0 off
 unplaced_after w k events.Publish may off = none_placed w.writer.generations.passes
 unplaced_after w k (events.Word h c step) may off = k.unplaced off
 unplaced_after w k (events.Mark v r client page) may off = k.unplaced off
 unplaced_after w k (events.Harvest r client index) may off = k.unplaced off
 unplaced_after w k (events.Fill c) may off = k.unplaced off
-unplaced_after w k (events.Config x) may off = k.unplaced (not_true w.writer.desk.due (both_of _ _ (both_of _ _ may).0).0)
+unplaced_after w k (events.Config x) may off = k.unplaced (not-true w.writer.desk.due (and_parts _ _ (and_parts _ _ may).0).0)
 unplaced_after w k events.Reap may off = k.unplaced off
 
 pub sound_after : (w : World) → Sound w → (e : Event) → possible w e ≡ true → Sound (world_after w e)

@@ -1,5 +1,5 @@
 -- A harvest of marks is a turn.
-use Rattle.std.proofs.Common.{◌≡◌, ℕ, zero, suc, ◌+◌, ◌-◌, ◌*◌, ◌<◌, ◌≤◌, Bool, true, false, if◌then◌else◌, List, [], ◌∷◌, ◌++◌, length, map, filter, drop}
+use Rattle.std.proofs.Common.{◌≡◌, ℕ, zero, suc, ◌+◌, ◌-◌, ◌*◌, ◌<◌, ◌≤◌, if◌then◌else◌, List, [], ◌∷◌, ◌++◌, length, map, filter, drop}
 use Rattle.std.proofs.Common.{Option, Some, None, Ok, Err, refl, sym, ap, subst, ◌∙◌, arith, append_assoc, append-nil}
 use Rattle.std.specs.List.{range_with_len}
 use Rattle.mem_base.specs.declared.map.ids.RegionId.{RegionId}
@@ -20,14 +20,15 @@ use Rattle.mem_base.specs.machine.Orders.{harvest, harvests, harvest_refusal, ma
 use Rattle.mem_base.specs.machine.Reaps.{Writer}
 use Rattle.mem_base.specs.machine.Turns.{played, history_entry, replies_of}
 use Rattle.mem_base.specs.map.Refusals.{or_refused}
-use Rattle.view_laws.proofs.Tests.{length_map}
 use Rattle.writer_desk.specs.Listened.{ListenedState}
 use Rattle.writer_run.specs.Entries.{entries_with, at}
 use Rattle.writer_run.specs.Hands.{AreHarvested, harvests_below}
 use Rattle.writer_desk.specs.declared.idle.IdleDesk.{IdleDesk}
 use Rattle.writer_run.specs.Parts.{part_of}
 use Rattle.writer_run.specs.Turns.{IsTurn}
-use Rattle.writer_run.proofs.LoadLaws.{entries_both, length_snoc}
+use Rattle.writer_run.proofs.LoadLaws.{entries_both}
+use Rattle.map_laws.proofs.PairLaws.{length-filter, length-push}
+use Rattle.mem_base.proofs.ListLaws.{length_map}
 
 -- one mark word more
 
@@ -71,7 +72,7 @@ pub harvests_more : (p : Place) (client : Client) (index : ℕ) (makes makes_the
     → AreHarvested p client (index + 1) makes_then pages_then
 harvests_more p client index makes makes_then pages pages_then bits k more goes =
     let sizes : length k.replies ≡ index = k.each in
-    let one : length (k.replies ++ bits ∷ []) ≡ length k.replies + 1 = length_snoc k.replies bits in
+    let one : length (k.replies ++ bits ∷ []) ≡ length k.replies + 1 = length-push k.replies bits in
     let base : 0 + length k.replies * 64 ≡ index * 64 = omega (arith, sizes) in record {
       replies = k.replies ++ bits ∷ [];
       each = omega (arith, sizes, one);
@@ -84,18 +85,10 @@ harvests_more p client index makes makes_then pages pages_then bits k more goes 
 
 -- room for the pages
 
-filter_few : {A : Type 0} (test : A → Bool) (xs : List A) → length (filter test xs) ≤ length xs
-filter_few test [] = omega arith
-filter_few test (x ∷ xs) = go (test x) (filter_few test xs)
-  where
-    go : (b : Bool) → length (filter test xs) ≤ length xs → length (if b then x ∷ filter test xs else filter test xs) ≤ suc (length xs)
-    go true l = omega arith
-    go false l = omega arith
-
 -- a mark word tells at most 64 pages
 pub pages_few : (base bits : ℕ) → length (pages_of base bits) ≤ 64
 pages_few base bits =
-    let few : length (filter (is_marked bits) (range_with_len 0 64)) ≤ length (range_with_len 0 64) = filter_few (is_marked bits) (range_with_len 0 64) in
+    let few : length (filter (is_marked bits) (range_with_len 0 64)) ≤ length (range_with_len 0 64) = length-filter (is_marked bits) (range_with_len 0 64) in
     let many : length (range_with_len 0 64) ≡ 64 = range_length 0 64 in
     let same : length (pages_of base bits) ≡ length (filter (is_marked bits) (range_with_len 0 64)) =
     length_map (λ bit. base + bit) (filter (is_marked bits) (range_with_len 0 64)) in

@@ -16,10 +16,11 @@ use Rattle.mem_base.specs.lists.Every.{Every}
 use Rattle.mem_base.specs.access.Places.{Extent, extent_of, words_of, place_from, first_fit}
 use Rattle.mem_base.specs.access.PlacesByRegion.{place_in}
 use Rattle.mem_base.specs.machine.Desk.{cells_of}
-use Rattle.view_laws.proofs.Tests.{none_is_not_some, same_some}
+use Rattle.view_laws.proofs.Tests.{none_is_not_some}
 use Rattle.transact.specs.Backed.{BackedState, places_for, forest_at}
 use Rattle.writer_desk.specs.Writers.{Beside, unfilled_by, backing_by, applied_by, beside_by}
 use Rattle.writer_desk.specs.Writers.{made_place, dropped_with}
+use Rattle.std.proofs.lemmas.Option.{same_Some}
 
 -- the cells that are not cleared yet after an accepted event, where all were before it
 abbrev pub unfilled_with : BackedState → Config → List Cell
@@ -67,7 +68,7 @@ region_of_place (q ∷ qs) r p e = go (q.region.0 == r.0) refl e (region_of_plac
   where
     go : (b : Bool) → (q.region.0 == r.0) ≡ b → (if b then Some q else place_in qs r) ≡ Some p → (place_in qs r ≡ Some p → p.region ≡ r) → p.region ≡ r
     go true here is rest =
-        let same : q ≡ p = same_some q p is in
+        let same : q ≡ p = same_Some q p is in
         let number : q.region.0 ≡ r.0 = eqb-true q.region.0 r.0 here in
         ap (λ (x : Place). x.region) (sym same) ∙ ap (λ (n : ℕ). region_id n) number
     go false here is rest = rest is
@@ -89,7 +90,7 @@ found_has P [] r p k e = none_is_not_some p e
 found_has P (q ∷ qs) r p k e = go (q.region.0 == r.0) e (found_has P qs r p k.1)
   where
     go : (b : Bool) → (if b then Some q else place_in qs r) ≡ Some p → (place_in qs r ≡ Some p → P p) → P p
-    go true is rest = subst P (same_some q p is) k.0
+    go true is rest = subst P (same_Some q p is) k.0
     go false is rest = rest is
 
 -- the same of the place of a region that was made

@@ -20,7 +20,6 @@ use Rattle.mem_base.specs.machine.Orders.{reap, sweeps, pass_ids}
 use Rattle.mem_base.specs.machine.Publishing.{forest_in}
 use Rattle.mem_base.specs.machine.Reaps.{Writer, writer, is_named, is_among, released, reaped}
 use Rattle.mem_base.specs.machine.Turns.{Played, WriterCall, turn, private_entries, entries_of_turn}
-use Rattle.view_laws.proofs.Tests.{length_map}
 use Rattle.mem_base.proofs.EveryLaws.{weaker}
 use Rattle.history_laws.proofs.DroppedLaws.{IsGone}
 use Rattle.history_laws.proofs.Idles.{Idle}
@@ -36,6 +35,7 @@ use Rattle.writer_run.specs.Reaped.{without_regions}
 use Rattle.writer_run.specs.Turns.{IsTurn}
 use Rattle.writer_run.proofs.DropLaws.{reaped_gone, gone_then}
 use Rattle.writer_run.proofs.EntryLaws.{Keeps, same_flags, sweeps_keep, after_sweeps, played_sweeps}
+use Rattle.mem_base.proofs.ListLaws.{length_map}
 
 -- places without those of some regions
 

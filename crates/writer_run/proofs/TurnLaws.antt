@@ -34,7 +34,7 @@ use Rattle.mem_base.specs.machine.Publishing.{Settled, would_publish, held_up, h
 use Rattle.mem_base.specs.machine.Reaps.{Writer, writer}
 use Rattle.mem_base.specs.machine.Turns.{Played, WriterCall, played, turn, private_entries, entries_of_turn}
 use Rattle.mem_base.proofs.EveryLaws.{weaker, every_push}
-use Rattle.view_laws.proofs.Tests.{none_is_not_some, true_is_not_false, length_map}
+use Rattle.view_laws.proofs.Tests.{none_is_not_some}
 use Rattle.view_laws.proofs.SortedLaws.{every_filter}
 use Rattle.history_laws.proofs.Idles.{Idle}
 use Rattle.history_laws.proofs.Outcomes.{Distinct, outcome}
@@ -57,6 +57,8 @@ use Rattle.writer_run.proofs.DropLaws.{configured_gone, gone_then}
 use Rattle.writer_run.proofs.EntryLaws.{Keeps, Publishes, same_flags, after_both, sweeps_keep, after_sweeps, played_sweeps, published_by, publishes_leave}
 use Rattle.writer_run.proofs.EntryLaws.{played_publishes, publishes_make, fills_keep, played_fills}
 use Rattle.writer_run.proofs.MadeLaws.{unfilled_with, kept_beside, cells_at, unfilled_is, made_has, made_among, same_first, pool_stays}
+use Rattle.mem_base.proofs.BoolLaws.{true_is_not_false}
+use Rattle.mem_base.proofs.ListLaws.{length_map}
 
 -- the call is a turn, and the parts belong together after it
 pub record Leaves (w : Writer) (k : Config) (makes : List HistoryEntry → Type 0) (answer : Answer) (s : ListenedState) (dropped : List RegionId)

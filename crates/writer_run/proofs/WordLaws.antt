@@ -32,7 +32,7 @@ use Rattle.mem_base.specs.map.Forest.{IsMade}
 use Rattle.mem_base.specs.map.Limits.{notifier_count}
 use Rattle.mem_base.proofs.EveryLaws.{weaker}
 use Rattle.mem_base.specs.map.Refusals.{or_refused}
-use Rattle.view_laws.proofs.Tests.{none_is_not_some, same_some}
+use Rattle.view_laws.proofs.Tests.{none_is_not_some}
 use Rattle.history_laws.specs.BackedForests.{BacksForest}
 use Rattle.transact.specs.Preparing.{AreDeskPlaces}
 use Rattle.transact.specs.Backed.{all_places}
@@ -43,6 +43,7 @@ use Rattle.writer_run.specs.Parts.{part_of, AreParts}
 use Rattle.writer_run.specs.Turns.{IsTurn}
 use Rattle.writer_run.proofs.MadeLaws.{found_has, same_first}
 use Rattle.writer_run.proofs.RoomLaws.{has_room, has_marks}
+use Rattle.std.proofs.lemmas.Option.{same_Some}
 
 notifiers_found : (made : ℕ) (ps : List Place) (np : Place) → made ≤ 4294967294 → Every (λ p. p.region.0 < made) ps → np.region ≡ notifiers
     → place_in (ps ++ np ∷ []) notifiers ≡ Some np
@@ -103,7 +104,7 @@ module _ (from : IdleDesk) (g : Generations) (words : ℕ) (parts : AreParts fro
         → (i : ℕ) → i < offset + count → i / 8 < p.words
     room made r offset count none p found =
         let h = has_room f back.pool_words s.backed.backing.places backs made r offset count none in
-        subst (λ (q : Place). (i : ℕ) → i < offset + count → i / 8 < q.words) (same_some h.place p (sym h.here ∙ found)) h.room
+        subst (λ (q : Place). (i : ℕ) → i < offset + count → i / 8 < q.words) (same_Some h.place p (sym h.here ∙ found)) h.room
 
     pub never : IsMade f → (r : RegionId) (offset count : ℕ) → load_refusal f r offset count ≡ None → place_in s.backed.backing.places r ≡ None → ⊥
     never made r offset count none found =
@@ -115,7 +116,7 @@ module _ (from : IdleDesk) (g : Generations) (words : ℕ) (parts : AreParts fro
         → p.words ≡ words_of (extent p.bytes p.regs)
     sized made r none p found =
         let h = has_marks f back.pool_words s.backed.backing.places backs made r none in
-        subst (λ (q : Place). q.words ≡ words_of (extent q.bytes q.regs)) (same_some h.place p (sym h.here ∙ found)) h.sized
+        subst (λ (q : Place). q.words ≡ words_of (extent q.bytes q.regs)) (same_Some h.place p (sym h.here ∙ found)) h.sized
 
     pub has_place : IsMade f → (r : RegionId) → harvest_refusal f r ≡ None → place_in s.backed.backing.places r ≡ None → ⊥
     has_place made r none found =

@@ -1,7 +1,8 @@
 use Rattle.std.proofs.Common.{ap, ◌∙◌}
 use Rattle.std.specs.Prelude.{is_some}
-use Rattle.bounded_write.proofs.EndLaws.{ended_cabinet, written}
+use Rattle.bounded_write.proofs.EndLaws.{written}
 use Rattle.bounded_write.proofs.accesses.write_bounded.Goals as goal
+use Rattle.io_window.proofs.CallLaws.{ended_cabinet}
 
 pub returns-clause-written : goal.returns-clause-written
 returns-clause-written c =

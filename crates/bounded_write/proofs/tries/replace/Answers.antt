@@ -1,7 +1,7 @@
 use Rattle.epoch_rule.specs.declared.touches.Touch.TheVariants.{Look}
-use Rattle.bounded_write.proofs.HandLaws.{may_word}
 use Rattle.bounded_write.proofs.WordLaws.{tried_by}
 use Rattle.bounded_write.proofs.tries.replace.Goals as goal
+use Rattle.vcpu_pass.proofs.HandLaws.{may_word}
 
 pub exchange-requires-clause-may : goal.exchange-requires-clause-may
 exchange-requires-clause-may c =

@@ -1,7 +1,7 @@
 use Rattle.mem_base.specs.declared.access.cells.WordStep.TheVariants.{Replace, Or}
 use Rattle.epoch_rule.specs.declared.touches.Touch.TheVariants.{Step}
-use Rattle.bounded_write.proofs.HandLaws.{may_word}
 use Rattle.bounded_write.proofs.tries.write_whole.Goals as goal
+use Rattle.vcpu_pass.proofs.HandLaws.{may_word}
 
 pub store8-requires-clause-may : goal.store8-requires-clause-may
 store8-requires-clause-may c =

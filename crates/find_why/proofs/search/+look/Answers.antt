@@ -11,8 +11,9 @@ use Rattle.find_why.specs.declared.looks.Look.{Look}
 use Rattle.find_why.specs.Reasons.{place_in}
 use Rattle.find_why.specs.Seen.{Sees, unless, tried_in, later, IsShallow}
 use Rattle.find_why.proofs.SeenLaws.{SoFar, sight, tried, ends_before, disabled_at, looked_at, comes_later, next_child}
-use Rattle.find_why.proofs.WithinLaws.{no_depth, step_within, target_there, target_within, next_at, found_itself}
+use Rattle.find_why.proofs.WithinLaws.{no_depth, step_within, target_there, target_within, next_at}
 use Rattle.find_why.proofs.search.+look.Goals as goal
+use Rattle.mem_base.proofs.NodeLaws.{found_itself}
 
 abbrev no_sibling : Sibling
 no_sibling = record { id = record { 0 = 0 }; priority = pos 0; placing = 0 }

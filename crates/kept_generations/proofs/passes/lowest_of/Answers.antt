@@ -1,7 +1,7 @@
 use Rattle.std.proofs.Common.{◌≤◌, arith}
 use Rattle.mem_base.specs.machine.Generations.{least_lowest}
-use Rattle.kept_generations.proofs.SweepLaws.{least_within}
 use Rattle.kept_generations.proofs.passes.lowest_of.Goals as goal
+use Rattle.mem_base.proofs.PassTurnLaws.{least_within}
 
 pub loop-track-init : goal.loop-track-init
 loop-track-init c =

@@ -1,7 +1,8 @@
 use Rattle.race_block.specs.Desks.{line_meant}
-use Rattle.race_block.proofs.DeskLaws.{asked, on_failure, stops_after, stops_first}
+use Rattle.race_block.proofs.DeskLaws.{asked, stops_after, stops_first}
 use Rattle.race_block.proofs.desks.ask_line.Goals as goal
 use Rattle.std.proofs.Common.{refl}
+use Rattle.mem_base.proofs.OptionLaws.{on_failure}
 
 pub returns-in_err-task-clause-stopped : goal.returns-in_err-task-clause-stopped
 returns-in_err-task-clause-stopped g c =

@@ -1,9 +1,10 @@
 use Rattle.std.proofs.Common.{[], ◌∷◌, ◌++◌, refl, sym, ap, ◌∙◌}
 use Rattle.generation.specs.Published.{Published}
 use Rattle.epoch_rule.specs.Values.{PassValue}
-use Rattle.view_laws.proofs.Tests.{none_is_not_some, same_some}
+use Rattle.view_laws.proofs.Tests.{none_is_not_some}
 use Rattle.race_inside.proofs.BackLaws.{none_come, one_comes}
 use Rattle.race_inside.proofs.seats.+unseat_passes.Goals as goal
+use Rattle.std.proofs.lemmas.Option.{same_Some}
 
 pub returns-in_default-clause-back : goal.returns-in_default-clause-back
 returns-in_default-clause-back t c =
@@ -16,7 +17,7 @@ returns-in-Some-cpu-clause-back t c =
     c.unseat_passes.new.actors.items c.args.waiting.now.items c.take_cpu-cpu.new.waiting.items c.args.cpus.now.items c.unseat_passes.new.cpus.items
     c.push_reserved.new.self.items c.take_cpu-cpu.result c.in-Some.ensures.cases.0 c.take_cpu-cpu.ensures c.unseat_passes.ensures.back
     (λ x e. c.push_reserved.ensures.items
-    ∙ ap (λ (y : PassValue Published). c.unseat_passes.new.cpus.items ++ y ∷ []) (same_some c.in-Some-cpu.cpu x (sym c.in-Some-cpu.is ∙ e)))
+    ∙ ap (λ (y : PassValue Published). c.unseat_passes.new.cpus.items ++ y ∷ []) (same_Some c.in-Some-cpu.cpu x (sym c.in-Some-cpu.is ∙ e)))
 
 pub returns-in_default-cpu-clause-back : goal.returns-in_default-cpu-clause-back
 returns-in_default-cpu-clause-back t c =

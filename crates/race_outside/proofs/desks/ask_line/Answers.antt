@@ -3,8 +3,8 @@ use Rattle.desk_lock.specs.Records.{RecordState}
 use Rattle.race_outside.specs.Asked.{TakesOwn}
 use Rattle.desk_lock.proofs.RecordLaws.{later_joins}
 use Rattle.race_outside.proofs.DeskLaws.{own_fits}
-use Rattle.race_outside.proofs.StoppingLaws.{on_failure}
 use Rattle.race_outside.proofs.desks.ask_line.Goals as goal
+use Rattle.mem_base.proofs.OptionLaws.{on_failure}
 
 pub own_order-requires : goal.own_order-requires
 own_order-requires g c = own_fits c.args.known.now (0, c.args.command.now) c.in_ok-task.task c.in_ok-task.ensures c.requires.fits

@@ -12,8 +12,9 @@ use Rattle.race_outside.proofs.ReadyLaws.{have_met}
 use Rattle.race_outside.specs.Asked.{line_asked}
 use Rattle.race_outside.specs.Outside.{StepsOn, StopsIn}
 use Rattle.race_outside.proofs.DeskLaws.{asked_steps}
-use Rattle.race_outside.proofs.StoppingLaws.{asking_stops, lost_stops, on_both, on_failure}
+use Rattle.race_outside.proofs.StoppingLaws.{asking_stops, lost_stops, on_both}
 use Rattle.race_outside.proofs.desks.desk_line.Goals as goal
+use Rattle.mem_base.proofs.OptionLaws.{on_failure}
 
 pub meet_all-requires-clause-own : goal.meet_all-requires-clause-own
 meet_all-requires-clause-own g c k d near = c.requires.ready.own k d near ∙ sym c.ask_line-asked.ensures.later.grew.cabinet

@@ -6,8 +6,9 @@ use Rattle.desk_lock.specs.Records.{RecordState}
 use Rattle.desk_lock.proofs.RecordLaws.{later_joins}
 use Rattle.race_lines.specs.PassLines.{said_of}
 use Rattle.race_outside.proofs.PassLaws.{between_ready, done_between, done_steps, either_way, nothing_between, nothing_steps, steps_written, still_own}
-use Rattle.race_outside.proofs.StoppingLaws.{lost_stops, nothing_stops, on_failure}
+use Rattle.race_outside.proofs.StoppingLaws.{lost_stops, nothing_stops}
 use Rattle.race_outside.proofs.passes.pass_line.Goals as goal
+use Rattle.mem_base.proofs.OptionLaws.{on_failure}
 
 pub returns-in_default-clause-stopped : goal.returns-in_default-clause-stopped
 returns-in_default-clause-stopped g c =

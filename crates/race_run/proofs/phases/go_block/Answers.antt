@@ -3,8 +3,9 @@ use Rattle.mem_base.specs.script.Race.{Phase, block}
 use Rattle.race_outside.specs.Outside.{StopsIn}
 use Rattle.race_run.specs.Racing.{Goes}
 use Rattle.race_run.proofs.LineLaws.{none_by, some_by}
-use Rattle.race_run.proofs.RacingLaws.{goes_done, goes_none, on_err}
+use Rattle.race_run.proofs.RacingLaws.{goes_done, goes_none}
 use Rattle.race_run.proofs.phases.go_block.Goals as goal
+use Rattle.mem_base.proofs.OptionLaws.{on_failure}
 
 pub returns-then-is_empty-clause-goes : goal.returns-then-is_empty-clause-goes
 returns-then-is_empty-clause-goes g c =
@@ -21,4 +22,4 @@ returns-clause-goes g c =
     (sym (some_by c.args.lines.now c.is_empty.result c.is_empty.ensures c.if-is_empty.false))
     (goes_done g.S.Sink.written g.S.Sink.holds g.S.Sink.faults c.args.sink.now c.say-said.new.sink (block c.args.lines.now) c.args.racer
     (record { desk = r.0; cpus = r.1; known = r.2; bounce = c.args.racer.bounce }) c.new-text.result c.block-desk.new.text r.3 c.say-said.result e.later
-    c.new-text.ensures e.step (on_err r.3 (StopsIn c.args.racer.desk c.args.racer.known (block c.args.lines.now) r.0) e.stopped) c.say-said.ensures.wrote c.say-said.ensures.memory)
+    c.new-text.ensures e.step (on_failure r.3 (StopsIn c.args.racer.desk c.args.racer.known (block c.args.lines.now) r.0) e.stopped) c.say-said.ensures.wrote c.say-said.ensures.memory)

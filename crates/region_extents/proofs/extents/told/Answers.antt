@@ -4,8 +4,8 @@ use Rattle.mem_base.proofs.ForestLaws.{id_of}
 use Rattle.region_slots.specs.Slots.{nodes_of}
 use Rattle.region_extents.specs.Extents.{alone}
 use Rattle.region_extents.proofs.SettledLaws.{told_there, told_missing}
-use Rattle.region_slots.proofs.SlotsBasics.{some_element}
 use Rattle.region_extents.proofs.extents.told.Goals as goal
+use Rattle.region_slots.proofs.SlotsLaws.{some_element}
 
 pub returns-in-Some : goal.returns-in-Some
 returns-in-Some c =

@@ -3,7 +3,6 @@ use Rattle.std.specs.Prelude.{is_some}
 use Rattle.mem_base.specs.declared.map.ids.RegionId.{RegionId}
 use Rattle.region_slots.specs.declared.slots.Slot.{Slot}
 use Rattle.region_slots.specs.Slots.{nodes_of}
-use Rattle.region_slots.proofs.SlotsBasics.{some_element}
 use Rattle.region_extents.specs.declared.extents.Extent.{Extent}
 use Rattle.region_extents.specs.Extents.{told_of}
 use Rattle.region_extents.specs.Kept.{steps_plus, with_child}
@@ -11,6 +10,7 @@ use Rattle.region_extents.proofs.SettledLaws.{told_there}
 use Rattle.region_extents.proofs.RaiseLaws.{replaced_settled, found_slot, first_given}
 use Rattle.region_extents.proofs.JoinedLaws.{kept_but_parent}
 use Rattle.region_extents.proofs.kept.joined.Goals as goal
+use Rattle.region_slots.proofs.SlotsLaws.{some_element}
 
 pub await_users-requires-clause-there : goal.await_users-requires-clause-there
 await_users-requires-clause-there c =

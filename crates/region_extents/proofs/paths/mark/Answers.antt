@@ -4,10 +4,10 @@ use Rattle.mem_base.specs.declared.map.forests.Node.{Node}
 use Rattle.mem_base.proofs.ForestLaws.{id_of}
 use Rattle.region_slots.specs.declared.slots.Slot.{Slot}
 use Rattle.region_slots.specs.Slots.{nodes_of}
-use Rattle.region_slots.proofs.SlotsBasics.{some_element}
 use Rattle.region_slots.proofs.PlaceLaws.{length_nodes}
 use Rattle.region_extents.proofs.ReachLaws.{marked_at, marked_none, missing_apart}
 use Rattle.region_extents.proofs.paths.mark.Goals as goal
+use Rattle.region_slots.proofs.SlotsLaws.{some_element}
 
 pub returns-in-Some-clause-marked : goal.returns-in-Some-clause-marked
 returns-in-Some-clause-marked c =

@@ -1,8 +1,8 @@
 use Rattle.std.proofs.Common.{◌∙◌, sym, ap, get_or}
 use Rattle.region_extents.specs.declared.extents.Extent.{Extent}
 use Rattle.region_extents.proofs.ExtentsLaws.{extent_found, extent_missing}
-use Rattle.region_slots.proofs.SlotsBasics.{some_element}
 use Rattle.region_extents.proofs.rounds.extent_at.Goals as goal
+use Rattle.region_slots.proofs.SlotsLaws.{some_element}
 
 pub returns-in-Some : goal.returns-in-Some
 returns-in-Some c =

@@ -5,9 +5,9 @@ use Rattle.mem_base.proofs.ForestLaws.{id_of}
 use Rattle.std.proofs.lemmas.List.{length-map}
 use Rattle.region_slots.specs.declared.slots.Slot.{Slot}
 use Rattle.region_slots.specs.Slots.{nodes_of}
-use Rattle.region_slots.proofs.SlotsBasics.{some_element}
 use Rattle.region_extents.specs.Kept.{aliases_of}
 use Rattle.region_tree.proofs.tree.aliases_at.Goals as goal
+use Rattle.region_slots.proofs.SlotsLaws.{some_element}
 
 pub returns : goal.returns
 returns c =

@@ -1,6 +1,7 @@
 use Rattle.std.proofs.Common.{None}
-use Rattle.scope_run.proofs.Facts.{both_ok, if_err, memory_on}
+use Rattle.scope_run.proofs.Facts.{both_ok, memory_on}
 use Rattle.scope_json.proofs.linting.lint.Goals as goal
+use Rattle.mem_base.proofs.OptionLaws.{if_err}
 
 pub returns-in-Ok-clause-told : goal.returns-in-Ok-clause-told
 returns-in-Ok-clause-told c = both_ok c.lint_script.result _ _ _ (λ t d m. (c.in-Ok.script, c.in-Ok.ensures, (d, m)))

@@ -1,9 +1,10 @@
 use Rattle.std.proofs.Common.{Some, option_map}
 use Rattle.std.proofs.lemmas.Result.{IfOk-weaker}
 use Rattle.serde_json.specs.View.{view}
-use Rattle.scope_run.proofs.Facts.{fails_on, if_err, of_state, stops_on}
+use Rattle.scope_run.proofs.Facts.{fails_on, of_state, stops_on}
 use Rattle.scope_json.specs.Whys.{TellsWhy}
 use Rattle.scope_json.proofs.whys.why.Goals as goal
+use Rattle.mem_base.proofs.OptionLaws.{if_err}
 
 pub returns-in-Ok-clause-told : goal.returns-in-Ok-clause-told
 returns-in-Ok-clause-told c = IfOk-weaker c.why_in.result _ _ (λ a t. of_state c.args.script.now c.in-Ok.map

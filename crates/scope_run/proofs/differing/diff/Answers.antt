@@ -1,8 +1,9 @@
 use Rattle.std.proofs.lemmas.Result.{IfOk-weaker}
 use Rattle.scope_run.specs.Diffs.{TellsDiff}
 use Rattle.scope_run.specs.Scripts.{OfScript, told_by}
-use Rattle.scope_run.proofs.Facts.{if_err, of_state, second_fails, stops_on_first}
+use Rattle.scope_run.proofs.Facts.{of_state, second_fails, stops_on_first}
 use Rattle.scope_run.proofs.differing.diff.Goals as goal
+use Rattle.mem_base.proofs.OptionLaws.{if_err}
 
 pub returns-in-Ok-clause-told : goal.returns-in-Ok-clause-told
 returns-in-Ok-clause-told c = IfOk-weaker c.diff_with.result _ _

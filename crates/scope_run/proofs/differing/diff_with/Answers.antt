@@ -2,8 +2,9 @@ use Rattle.std.proofs.lemmas.Result.{IfOk-weaker}
 use Rattle.scope_run.specs.Diffs.{TellsDiff}
 use Rattle.scope_run.specs.Scripts.{FailsOnSecond}
 use Rattle.std.proofs.Common.{subst, sym}
-use Rattle.scope_run.proofs.Facts.{if_err, of_state, stops_on_second}
+use Rattle.scope_run.proofs.Facts.{of_state, stops_on_second}
 use Rattle.scope_run.proofs.differing.diff_with.Goals as goal
+use Rattle.mem_base.proofs.OptionLaws.{if_err}
 
 pub returns-in-Ok-clause-told : goal.returns-in-Ok-clause-told
 returns-in-Ok-clause-told c = IfOk-weaker c.diff_in.result _ _

@@ -1,7 +1,8 @@
 use Rattle.std.proofs.Common.{◌≡◌, None, Some, is_some, true}
 use Rattle.mem_base.specs.script.States.{space_named}
-use Rattle.scope_run.proofs.Facts.{fails_on, if_err, of_state, on_ok, stops_on}
+use Rattle.scope_run.proofs.Facts.{fails_on, of_state, on_ok, stops_on}
 use Rattle.scope_run.proofs.drawing.draw.Goals as goal
+use Rattle.mem_base.proofs.OptionLaws.{if_err}
 
 pub returns-in-Ok-clause-named : goal.returns-in-Ok-clause-named
 returns-in-Ok-clause-named c = on_ok _ _ c.draw_in.result

@@ -1,7 +1,8 @@
 use Rattle.std.proofs.Common.{None}
 use Rattle.std.proofs.lemmas.Result.{IfOk-weaker}
-use Rattle.scope_run.proofs.Facts.{if_err, memory_on}
+use Rattle.scope_run.proofs.Facts.{memory_on}
 use Rattle.scope_run.proofs.linting.lint.Goals as goal
+use Rattle.mem_base.proofs.OptionLaws.{if_err}
 
 pub returns-in-Ok-clause-told : goal.returns-in-Ok-clause-told
 returns-in-Ok-clause-told c = IfOk-weaker c.lint_script.result _ _ (λ a t. (c.in-Ok.parsed, c.in-Ok.ensures, t)) c.lint_script.ensures.text

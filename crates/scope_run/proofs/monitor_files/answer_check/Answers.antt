@@ -2,10 +2,10 @@ use Rattle.std.proofs.Common.{subst}
 use Rattle.std.proofs.lemmas.Result.{IfOk-weaker}
 use Rattle.scope_run.specs.Files.{Tells}
 use Rattle.scope_run.specs.Requests.{Holding}
-use Rattle.scope_run.proofs.Facts.{if_err}
 use Rattle.scope_run.proofs.FileLaws.{told_as}
 use Rattle.scope_run.proofs.MonitorLaws.{check_fails}
 use Rattle.scope_run.proofs.monitor_files.answer_check.Goals as goal
+use Rattle.mem_base.proofs.OptionLaws.{if_err}
 
 pub returns-clause-told : goal.returns-clause-told
 returns-clause-told g c =

@@ -3,10 +3,10 @@ use Rattle.mem_base.specs.script.Spelling.{Text}
 use Rattle.scope_run.specs.Files.{Tells}
 use Rattle.scope_run.specs.Imports.{FailsImport}
 use Rattle.scope_run.specs.Requests.{Holding, TellsIfNamed}
-use Rattle.scope_run.proofs.Facts.{if_err}
 use Rattle.scope_run.proofs.FileLaws.{told_as}
 use Rattle.scope_run.proofs.MonitorLaws.{import_fails}
 use Rattle.scope_run.proofs.monitor_files.answer_import.Goals as goal
+use Rattle.mem_base.proofs.OptionLaws.{if_err}
 
 pub returns-clause-fails : goal.returns-clause-fails
 returns-clause-fails g c =

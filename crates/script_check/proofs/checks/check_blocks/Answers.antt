@@ -1,6 +1,7 @@
 use Rattle.std.proofs.lemmas.Result.{IfOk-weaker}
-use Rattle.script_check.proofs.CheckLaws.{if_err, memory_explains, told_of_text}
+use Rattle.script_check.proofs.CheckLaws.{memory_explains, told_of_text}
 use Rattle.script_check.proofs.checks.check_blocks.Goals as goal
+use Rattle.mem_base.proofs.OptionLaws.{if_err}
 
 pub returns-in-Ok-clause-told : goal.returns-in-Ok-clause-told
 returns-in-Ok-clause-told c = IfOk-weaker c.check_map.result _ _

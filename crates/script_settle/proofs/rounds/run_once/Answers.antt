@@ -1,7 +1,8 @@
 use Rattle.std.proofs.lemmas.Result.{IfOk-weaker}
 use Rattle.mem_base.specs.script.Scripts.{script_of}
-use Rattle.script_settle.proofs.RefusedLaws.{has_refused, if_err, memory_is_bad}
+use Rattle.script_settle.proofs.RefusedLaws.{has_refused, memory_is_bad}
 use Rattle.script_settle.proofs.rounds.run_once.Goals as goal
+use Rattle.mem_base.proofs.OptionLaws.{if_err}
 
 pub returns-in-Ok-clause-refused : goal.returns-in-Ok-clause-refused
 returns-in-Ok-clause-refused c = IfOk-weaker c.round_of.result _ _

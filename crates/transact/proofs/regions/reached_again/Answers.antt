@@ -4,7 +4,6 @@ use Rattle.mem_base.specs.lists.Every.{Every}
 use Rattle.mem_base.specs.map.Region.{node_of}
 use Rattle.mem_base.specs.map.Search.{root_of}
 use Rattle.mem_base.specs.map.Touched.{is_same_region}
-use Rattle.view_laws.proofs.Tests.{both_of}
 use Rattle.view_laws.proofs.TouchedLaws.{region_same}
 use Rattle.change_laws.specs.Meeting.{OthersStay}
 use Rattle.change_laws.specs.Reaching.{KeepsWays}
@@ -17,6 +16,7 @@ use Rattle.transact.proofs.MadeLaws.{ordered_made}
 use Rattle.transact.proofs.RegionLaws.{reached_ascend}
 use Rattle.transact.proofs.TouchedLaws.{known_some}
 use Rattle.transact.proofs.regions.reached_again.Goals as goal
+use Rattle.std.proofs.lemmas.Bool.{and_parts}
 
 pub returns : goal.returns
 returns c =
@@ -25,7 +25,7 @@ returns c =
     let s = c.args.space in
     let known = known_some f s c.args.known.now c.in-Some-known_at.regions.now c.requires.known c.in-Some-known_at.ensures in
     let others : OthersStay f g c.in-Some.noted = search rules in
-    let same = both_of (is_same_region (root_of f s) (root_of g s)) (bool_eq f.global g.global) (sym c.if-is_same_space.ensures) in
+    let same = and_parts (is_same_region (root_of f s) (root_of g s)) (bool_eq f.global g.global) (sym c.if-is_same_space.ensures) in
     let kept : Every (λ r. keeps_ways (node_of f.nodes r) (node_of g.nodes r) ≡ true) c.in-Some.noted =
     subst (Every (λ r. keeps_ways (node_of f.nodes r) (node_of g.nodes r) ≡ true)) c.as_slice.ensures (c.keep_ways.ensures c.if-keep_ways.true) in
     let ways : KeepsWays c.in-Some.noted f g = record {

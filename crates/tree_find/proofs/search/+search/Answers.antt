@@ -8,8 +8,9 @@ use Rattle.region_slots.proofs.ToldLaws.{children_are}
 use Rattle.tree_find.specs.Children.{tried}
 use Rattle.map_laws.proofs.SearchLaws.{found_in_zero, found_in_missing, found_in_step}
 use Rattle.mem_base.proofs.ForestLaws.{found_by_id, id_of}
-use Rattle.tree_find.proofs.FoundLaws.{found_itself, no_path, none_found, no_child, next_placed, not_held, found_first, found_later}
+use Rattle.tree_find.proofs.FoundLaws.{no_path, none_found, no_child, next_placed, not_held, found_first, found_later}
 use Rattle.tree_find.proofs.search.+search.Goals as goal
+use Rattle.mem_base.proofs.NodeLaws.{found_itself}
 
 pub find_from-returns-in_err-node-clause-spot : goal.find_from-returns-in_err-node-clause-spot
 find_from-returns-in_err-node-clause-spot t c =

@@ -5,9 +5,10 @@ use Rattle.mem_base.specs.access.Places.{is_free}
 use Rattle.backing_pool.specs.Holes.{AreHoles}
 use Rattle.backing_pool.specs.Backing.{Backing, AreBacked, RegionsAscend}
 use Rattle.backing_pool.proofs.HoleLaws.{holes_ascend}
-use Rattle.backing_pool.proofs.PlaceLaws.{without, all_stay, not_found, pair_filter}
+use Rattle.backing_pool.proofs.PlaceLaws.{without, all_stay, not_found}
 use Rattle.backing_pool.proofs.PoolLaws.{backing, place_found, place_left, ends_fit, given_holes, given_backed, place_end}
 use Rattle.backing_pool.proofs.pool.Pool.give.Goals as goal
+use Rattle.mem_base.proofs.SortingLaws.{pairs_filter}
 
 pub returns-in_err-at-clause-given : goal.returns-in_err-at-clause-given
 returns-in_err-at-clause-given c =
@@ -41,7 +42,7 @@ invariant_of-self c =
     c.in_ok-at.ensures.place refl within c.remove-place.ensures.value c.self.invariant.backed.apart in
     record {
       fits = c.self.invariant.fits;
-      ascends = λ e. subst RegionsAscend (sym left) (pair_filter (λ (p q : Place). p.region.0 < q.region.0)
+      ascends = λ e. subst RegionsAscend (sym left) (pairs_filter (λ (p q : Place). p.region.0 < q.region.0)
           (λ (p : Place). not (p.region.0 == c.args.region.0)) places
           (c.self.invariant.ascends e));
       backed = subst (λ ps. AreBacked (backing c.self.inside.words ps)) (sym left)

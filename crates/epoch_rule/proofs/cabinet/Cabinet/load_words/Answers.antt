@@ -1,4 +1,4 @@
-use Rattle.epoch_rule.proofs.Common.{arith, ℕ, ◌≤◌, ◌<◌, sym, ap, ◌∙◌, subst, IsEdition, past, same_some, Sizes, value_in, IsLegal}
+use Rattle.epoch_rule.proofs.Common.{arith, ℕ, ◌≤◌, ◌<◌, sym, ap, ◌∙◌, subst, IsEdition, past, same_Some, Sizes, value_in, IsLegal}
 use Rattle.epoch_rule.proofs.PassLaws.{same_sizes, entered_at, stands_still, suits_on}
 use Rattle.epoch_rule.proofs.TouchLaws.{one_of, fits_extent}
 use Rattle.epoch_rule.proofs.cabinet.Cabinet.load_words.Goals as goal
@@ -15,7 +15,7 @@ load_each-requires-clause-room g c =
     there inv.3 in
     let fits : past place ≤ c.pass.inside.seat.me.0.sizes.words =
     one_of (λ q. past q ≤ c.pass.inside.seat.me.0.sizes.words) place (g.E.Edition.places may.0) s.roomy may.2 in
-    let same = same_some _ _ (sym (ap value_in c.in-Some.is) ∙ there) in
+    let same = same_Some _ _ (sym (ap value_in c.in-Some.is) ∙ there) in
     let law = subst (λ e. IsEdition (g.E.Edition.forest e) (g.E.Edition.places e)) (c.deref.ensures ∙ same) c.number.ensures.shown in
     let held = fits_extent (g.E.Edition.forest may.0) (g.E.Edition.places may.0) place law may.2 in
     let inside = c.requires.inside in omega arith

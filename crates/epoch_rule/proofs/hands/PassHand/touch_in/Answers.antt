@@ -1,5 +1,5 @@
 use Rattle.epoch_rule.proofs.Common.{arith, ◌≡◌, ℕ, ◌+◌, ◌<◌, ◌≤◌, sym, refl, ap, ◌∙◌, subst, TableId, past, Sizes, pass_id, IsTouch, IsEnteredIn, Suits}
-use Rattle.epoch_rule.proofs.Common.{value_in, IsEdition, same_some, Pass}
+use Rattle.epoch_rule.proofs.Common.{value_in, IsEdition, same_Some, Pass}
 use Rattle.epoch_rule.proofs.PassLaws.{entered_at, stands_still, suits_on, near_in, same_sizes}
 use Rattle.epoch_rule.proofs.TouchLaws.{one_of, reach_inside, fits_extent, ready_pass, kept, pass_kept, shown}
 use Rattle.epoch_rule.proofs.hands.PassHand.touch_in.Given.{Over}
@@ -14,7 +14,7 @@ entered g c = entered_at g.E.Edition.counted g.E.Edition.forest g.E.Edition.plac
 
 law : (g : Over) (c : After-number g) → IsEdition (g.E.Edition.forest c.requires.may.0) (g.E.Edition.places c.requires.may.0)
 law g c =
-    let same = same_some _ _ (sym (ap value_in c.in-Some.is) ∙ (ap (λ v. v.edition) c.self.view_is ∙ c.requires.may.1)) in
+    let same = same_Some _ _ (sym (ap value_in c.in-Some.is) ∙ (ap (λ v. v.edition) c.self.view_is ∙ c.requires.may.1)) in
     subst (λ e. IsEdition (g.E.Edition.forest e) (g.E.Edition.places e)) (c.deref.ensures ∙ same) c.number.ensures.shown
 
 -- the touch is one of the place, by the pass's own number

@@ -3,9 +3,9 @@ use Rattle.std.specs.Prelude.{slice_index_or}
 use Rattle.atomic_table.specs.Seated.{TableId}
 use Rattle.epoch_rule.specs.Values.{NoteValue}
 use Rattle.race_block.specs.Desks.{AreNotesOf}
-use Rattle.view_laws.proofs.Tests.{true_is_not_false}
 use Rattle.race_block.proofs.DeskRunLaws.{all_done, first_done, step_done, step_stops}
 use Rattle.race_block.proofs.desks.DeskActor.run.Goals as goal
+use Rattle.mem_base.proofs.BoolLaws.{true_is_not_false}
 
 pub loop-at-init : goal.loop-at-init
 loop-at-init g c =

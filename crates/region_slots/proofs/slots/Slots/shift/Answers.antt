@@ -13,15 +13,14 @@ use Rattle.mem_base.specs.declared.map.forests.Forest.{Forest}
 use Rattle.region_slots.specs.declared.slots.Slot.{Slot}
 use Rattle.region_slots.specs.declared.children.Child.{Child}
 use Rattle.region_slots.specs.Slots.{nodes_of, placed_of, rank_in, others, AreKept, AreByPriority}
-use Rattle.region_slots.proofs.SlotsLaws.{found_node, moved_id, children_at, pair_kept, pair_nodes, pair_read, moved_nowhere, moved_here}
+use Rattle.region_slots.proofs.SlotsLaws.{found_node, children_at, pair_kept, pair_nodes, pair_read, moved_nowhere, moved_here}
 use Rattle.region_slots.proofs.SlotsLaws.{moved_elsewhere, children_by_priority, others_by_priority}
 use Rattle.region_slots.proofs.slots.Slots.shift.Goals as goal
+use Rattle.std.proofs.lemmas.Bool.{eq-eqb}
+use Rattle.map_laws.proofs.MoveLaws.{moved_id}
 
 differ : (a b : ℕ) → a ≢ b → eqb a b ≡ false
 differ a b h = grind (arith, nat_tests)
-
-agree : (a b : ℕ) → a ≡ b → eqb a b ≡ true
-agree a b h = grind (arith, nat_tests)
 
 pub returns-then-index-offset-clause-ok : goal.returns-then-index-offset-clause-ok
 returns-then-index-offset-clause-ok c =
@@ -37,7 +36,7 @@ returns-then-index-offset-clause-ok c =
     let offset : m.offset ≡ c.args.offset = ap (λ (n : Node). n.offset) (sym same) ∙ ap (λ (s : Slot). s.node.offset) (sym c.index.ensures)
     ∙ c.if-index-offset.true in
     subst (λ ns. ns ≡ changed_at c.args.child (moved c.args.offset c.args.placing) ns) in_forest.same_nodes
-    (moved_nowhere f c.args.placing in_forest.forest in_forest.same_placings c.args.child c.args.offset m there (agree _ _ offset))
+    (moved_nowhere f c.args.placing in_forest.forest in_forest.same_placings c.args.child c.args.offset m there (eq-eqb _ _ offset))
 
 pub replace-requires : goal.replace-requires
 replace-requires c =

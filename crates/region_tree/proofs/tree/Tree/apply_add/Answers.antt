@@ -11,8 +11,9 @@ use Rattle.region_extents.proofs.StretchLaws.{slots_show_steps}
 use Rattle.region_extents.proofs.BesideLaws.{aliases_changed}
 use Rattle.region_tree.specs.Tree.{forest_of, IsWhole}
 use Rattle.region_tree.proofs.AddLaws.{early, refused_early, joined_add, after_free, IsJoinedAdd}
-use Rattle.region_tree.proofs.WholeLaws.{whole_accepted, none_of}
+use Rattle.region_tree.proofs.WholeLaws.{whole_accepted}
 use Rattle.region_tree.proofs.tree.Tree.apply_add.Goals as goal
+use Rattle.mem_base.proofs.OptionLaws.{none_of}
 
 pub returns-in-Some-clause-refused : goal.returns-in-Some-clause-refused
 returns-in-Some-clause-refused c _ = refused_early c.args.self.now c.args.parent c.args.offset c.args.child c.args.priority c.in-Some.why

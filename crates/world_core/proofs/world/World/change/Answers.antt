@@ -4,7 +4,6 @@ use Rattle.mem_base.specs.declared.map.ids.RegionId.{RegionId}
 use Rattle.mem_base.specs.declared.map.refusals.Refusal.TheVariants.{Memory}
 use Rattle.mem_base.specs.access.Places.{past}
 use Rattle.mem_base.specs.machine.Publishing.{held_up}
-use Rattle.view_laws.proofs.Tests.{both_of}
 use Rattle.kept_generations.specs.KeptState.{generations_of}
 use Rattle.transact.specs.Backed.{BackedState}
 use Rattle.writer_desk.specs.Writers.{WriterState, writer_state, dropped_with, made_place}
@@ -15,9 +14,10 @@ use Rattle.world_core.proofs.ChangeLaws.{ChangesWorld, accepted_so, made_there, 
 use Rattle.world_core.proofs.RestLaws.{Rested, rested}
 use Rattle.world_core.proofs.world.World.change.Goals.{After-configured, After-unsweep, After-unsweep-in_default}
 use Rattle.world_core.proofs.world.World.change.Goals as goal
+use Rattle.std.proofs.lemmas.Bool.{and_parts}
 
 pub configured-requires-clause-rest : goal.configured-requires-clause-rest
-configured-requires-clause-rest c = (rested c.self.inside c.args.self.now c.self.invariant c.self.view_is (both_of _ _ c.requires.may).0).none_due
+configured-requires-clause-rest c = (rested c.self.inside c.args.self.now c.self.invariant c.self.view_is (and_parts _ _ c.requires.may).0).none_due
 
 pub configured-requires-clause-held : goal.configured-requires-clause-held
 configured-requires-clause-held c =
@@ -25,7 +25,7 @@ configured-requires-clause-held c =
     λ e. held_tells c.self.inside.hand.kept.current 0 c.self.inside.hand.kept.tracks (sym told ∙ e)
 
 start : (c : After-configured) → Rested c.self.inside c.args.self.now
-start c = rested c.self.inside c.args.self.now c.self.invariant c.self.view_is (both_of _ _ c.requires.may).0
+start c = rested c.self.inside c.args.self.now c.self.invariant c.self.view_is (and_parts _ _ c.requires.may).0
 
 abbrev after : After-configured → WriterState
 after c = state_with c.configured.new.desk c.configured.new.due
@@ -44,7 +44,7 @@ accepts : (c : After-unsweep) → ChangesWorld c.args.self.now c.args.config.now
     c.unsweep.new.self c.clear_made.new.words (aside c.note_drop.new.dropped.items c.note_made.new.unfilled.cells)
 accepts c =
     let s = c.self.inside in
-    accepted_so s c.args.self.now (rested s c.args.self.now c.self.invariant c.self.view_is (both_of _ _ c.requires.may).0) c.args.config.now c.requires.may
+    accepted_so s c.args.self.now (rested s c.args.self.now c.self.invariant c.self.view_is (and_parts _ _ c.requires.may).0) c.args.config.now c.requires.may
     c.held_up-held.result c.held_up-held.ensures (state_with c.configured.new.desk c.configured.new.due) c.in-Ok.applied
     (c.in-Ok.ensures.configured (λ q. cc)) c.in-Ok.ensures.accepted c.configured.ensures.ready c.clear_made.new.words
     (c.clear_made.ensures.words ∙ ap (λ (b : BackedState). cleared_at s.hand.words (made_place b.backing.places c.in-Ok.applied)) c.backed.ensures)
@@ -78,7 +78,7 @@ refuses : (c : After-unsweep-in_default) → ChangesWorld c.args.self.now c.args
 refuses c =
     let s = c.self.inside in
     let u = c.in-Err.ensures.unchanged in
-    refused_so s c.args.self.now (rested s c.args.self.now c.self.invariant c.self.view_is (both_of _ _ c.requires.may).0) c.args.config.now c.requires.may
+    refused_so s c.args.self.now (rested s c.args.self.now c.self.invariant c.self.view_is (and_parts _ _ c.requires.may).0) c.args.config.now c.requires.may
     c.held_up-held.result c.held_up-held.ensures (state_with c.configured.new.desk c.configured.new.due)
     (λ i. writer_state (u.0.0 i) (u.0.1 i) (u.1 i)) c.in-Err.why
     (c.in-Err.ensures.configured (λ q. let memory : c.in-Err.why ≡ Memory = cc in c.in_default.not-Memory memory))

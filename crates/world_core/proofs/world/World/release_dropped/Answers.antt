@@ -5,7 +5,6 @@ use Rattle.mem_base.specs.declared.machine.events.Event.TheVariants as events
 use Rattle.mem_base.specs.lists.Every.{Every}
 use Rattle.mem_base.specs.map.Region.{node_of}
 use Rattle.mem_base.specs.machine.World.{World, possible, world_after}
-use Rattle.view_laws.proofs.Tests.{both_of}
 use Rattle.kept_generations.specs.KeptState.{generations_of}
 use Rattle.transact.specs.Preparing.{Readied}
 use Rattle.transact.specs.Backed.{forest_at}
@@ -15,17 +14,18 @@ use Rattle.world_core.proofs.ReapLaws.{IsReleased, released_by}
 use Rattle.world_core.proofs.RestLaws.{Rested, parts_of, rested}
 use Rattle.world_core.proofs.world.World.release_dropped.Goals.{After-unsweep}
 use Rattle.world_core.proofs.world.World.release_dropped.Goals as goal
+use Rattle.std.proofs.lemmas.Bool.{and_parts}
 
 pub release_unnamed-requires : goal.release_unnamed-requires
 release_unnamed-requires c =
     let s = c.self.inside in record {
       gone = subst (λ (rs : List RegionId). Every (λ r. node_of (forest_at s.desk.listened.backed).nodes r ≡ None) rs) (sym c.as_slice.ensures.value)
           (none_there s.desk (generations_of s.hand.kept) (length s.hand.words)
-          (parts_of s c.args.self.now c.self.invariant c.self.view_is (both_of _ _ c.requires).0));
+          (parts_of s c.args.self.now c.self.invariant c.self.view_is (and_parts _ _ c.requires).0));
     }
 
 start : (c : After-unsweep) → Rested c.self.inside c.args.self.now
-start c = rested c.self.inside c.args.self.now c.self.invariant c.self.view_is (both_of _ _ c.requires).0
+start c = rested c.self.inside c.args.self.now c.self.invariant c.self.view_is (and_parts _ _ c.requires).0
 
 releases : (c : After-unsweep) → IsReleased c.self.inside.desk.listened c.self.inside.hand.kept c.self.inside.hand.words c.self.inside.desk.dropped.items
     (start c).world c.release_unnamed.new.desk c.unsweep.new.self c.keep_named.new.regions.items
