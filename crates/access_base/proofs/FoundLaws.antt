@@ -10,7 +10,7 @@ use Rattle.mem_base.specs.declared.map.forests.Node.{Node}
 use Rattle.mem_base.specs.declared.map.forests.Forest.{Forest}
 use Rattle.mem_base.specs.declared.map.spots.Spot.{Spot}
 use Rattle.mem_base.specs.declared.map.kinds.Kind.{Kind}
-use Rattle.mem_base.specs.declared.map.kinds.Kind.TheVariants.{Container, Ram, Rom, RomDevice, Io, Iommu, Alias, Reserve, Host}
+use Rattle.mem_base.specs.declared.map.kinds.Kind.TheVariants.{Container, Alias}
 use Rattle.mem_base.specs.map.Limits.{most_depth}
 use Rattle.mem_base.specs.map.Region.{node_of}
 use Rattle.mem_base.specs.map.Order.{children_of}
@@ -30,14 +30,8 @@ in_node nodes n (Some m) a e l = let same : m ≡ n = cc in subst (λ (x : Node)
 itself_inside : (nodes : List Node) (n : Node) (global : Bool) (k : Kind) (a : ℕ) → node_of nodes n.id ≡ Some n → a < n.size
     → Inside nodes (itself global k n a)
 itself_inside nodes n global Container a e l = tt
-itself_inside nodes n global Ram a e l = in_node nodes n (node_of nodes n.id) a e l
-itself_inside nodes n global Rom a e l = in_node nodes n (node_of nodes n.id) a e l
-itself_inside nodes n global (RomDevice device) a e l = in_node nodes n (node_of nodes n.id) a e l
-itself_inside nodes n global (Io device) a e l = in_node nodes n (node_of nodes n.id) a e l
-itself_inside nodes n global Iommu a e l = in_node nodes n (node_of nodes n.id) a e l
 itself_inside nodes n global (Alias target offset) a e l = tt
-itself_inside nodes n global Reserve a e l = in_node nodes n (node_of nodes n.id) a e l
-itself_inside nodes n global Host a e l = in_node nodes n (node_of nodes n.id) a e l
+itself_inside nodes n global _ a e l = in_node nodes n (node_of nodes n.id) a e l
 
 passed_inside : (nodes : List Node) (n : Node) (o : Option Found) → Inside nodes o → Inside nodes (option_map (passed n) o)
 passed_inside nodes n None h = tt

@@ -147,12 +147,7 @@ module _ (g : Published) (k : IsEdition g.forest g.places) where
         go Ram e d = omega (arith, d)
         go Rom e d = omega (arith, d)
         go (RomDevice device) e d = omega (arith, d)
-        go Container e d = cc
-        go (Io device) e d = cc
-        go Iommu e d = cc
-        go (Alias target offset) e d = cc
-        go Reserve e d = cc
-        go Host e d = cc
+        go _ e d = cc
 
     pub good : (device : Device) → device_of n.kind ≡ Some device → IsGood device
     good device e =
@@ -215,11 +210,7 @@ module _ (g : Published) (k : IsEdition g.forest g.places) where
           go (Io device) e =
               let some : 1 ≤ device.regs = some_registers device (good device (ap device_of e)) in
               absurd (leaf_has_place none (subst (λ x. 0 < words_of (extent_of x n.size)) (sym e) (omega (arith, some))))
-          go Container e = refl
-          go Iommu e = refl
-          go (Alias target offset) e = refl
-          go Reserve e = refl
-          go Host e = refl
+          go _ e = refl
 
 -- the notifiers that ioeventfds set
 

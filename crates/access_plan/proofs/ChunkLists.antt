@@ -10,7 +10,7 @@ use Rattle.mem_base.specs.access.Trails.{trail_of, chunks, first_length, shares_
 use Rattle.mem_base.specs.access.Plans.{Reached, reached}
 use Rattle.plan_laws.proofs.FirstRuns.{first_is}
 use Rattle.access_plan.specs.declared.lists.Reach.{Reach}
-use Rattle.access_plan.specs.declared.lists.Reach.TheVariants.{Memory, Callback, Notifier, Mark, Nothing}
+use Rattle.access_plan.specs.declared.lists.Reach.TheVariants.{Memory}
 use Rattle.access_plan.specs.HostPlans.{answerer_with_host, chunk_by}
 use Rattle.access_plan.specs.Lists.{meant}
 
@@ -34,10 +34,7 @@ chunk_then f w s a t done n count leads less to is =
 -- what a list of a read means does not depend on how many bytes are read
 one_read : (n : ℕ) (r : Reach) → meant (reading 0) r ≡ meant (reading n) r
 one_read n (Memory region offset at len) = refl
-one_read n (Callback region offset size request at len) = refl
-one_read n (Notifier number at len) = refl
-one_read n (Mark region client page) = refl
-one_read n (Nothing at len) = refl
+one_read n _ = refl
 
 pub all_read : (n : ℕ) (rs : List Reach) → map (meant (reading 0)) rs ≡ map (meant (reading n)) rs
 all_read n [] = refl

@@ -159,12 +159,7 @@ module _ (f : Forest) (spot : Spot) (write : Bool) (n : Node) (is : node_of f.no
   own_bytes Ram h m = refl
   own_bytes Rom h m = refl
   own_bytes (RomDevice device) h m = refl
-  own_bytes Host h m = cc
-  own_bytes Container h m = cc
-  own_bytes (Io device) h m = cc
-  own_bytes Iommu h m = cc
-  own_bytes (Alias target offset) h m = cc
-  own_bytes Reserve h m = cc
+  own_bytes _ h m = cc
 
   has_own : is_host_kind n.kind ≡ false → (w : Answerer) → IsSound f spot w → HasMemory false f spot w
   has_own h who.Memory sound =

@@ -3,7 +3,7 @@ use Rattle.std.proofs.Common.{◌≡◌, ℕ, ◌+◌, ◌/◌, ◌%◌, ◌<◌
 use Rattle.std.specs.Prelude.{IfSome, IsSome, IsSomeAnd}
 use Rattle.mem_base.specs.declared.map.ids.RegionId.{RegionId}
 use Rattle.mem_base.specs.declared.map.kinds.Kind.{Kind}
-use Rattle.mem_base.specs.declared.map.kinds.Kind.TheVariants.{Container, Ram, Rom, RomDevice, Io, Iommu, Alias, Reserve, Host}
+use Rattle.mem_base.specs.declared.map.kinds.Kind.TheVariants.{Ram, RomDevice, Io}
 use Rattle.mem_base.specs.declared.map.kinds.Device.{Device}
 use Rattle.mem_base.specs.declared.map.forests.Node.{Node}
 use Rattle.mem_base.specs.declared.access.cells.Place.{Place}
@@ -29,23 +29,12 @@ register_words (RomDevice d) device size e some =
 register_words (Io d) device size e some =
     let same : d ≡ device = cc in let l : 1 ≤ d.regs = subst (λ (x : Device). 1 ≤ x.regs) (sym same) some in omega (arith, l)
 register_words Ram device size e some = cc
-register_words Rom device size e some = cc
-register_words Container device size e some = cc
-register_words Iommu device size e some = cc
-register_words (Alias target offset) device size e some = cc
-register_words Reserve device size e some = cc
-register_words Host device size e some = cc
+register_words _ device size e some = cc
 
 registers : (kind : Kind) (device : Device) (size : ℕ) → device_of kind ≡ Some device → (extent_of kind size).regs ≡ device.regs
 registers (RomDevice d) device size e = let same : d ≡ device = cc in ap (λ (x : Device). x.regs) same
 registers (Io d) device size e = let same : d ≡ device = cc in ap (λ (x : Device). x.regs) same
-registers Ram device size e = cc
-registers Rom device size e = cc
-registers Container device size e = cc
-registers Iommu device size e = cc
-registers (Alias target offset) device size e = cc
-registers Reserve device size e = cc
-registers Host device size e = cc
+registers _ device size e = cc
 
 module _ (g : Published) (k : IsEdition g.forest g.places) (r : RegionId) (n : Node) (is : node_of g.forest.nodes r ≡ Some n) where
   -- memory has a place
@@ -97,12 +86,7 @@ module _ (g : Published) (k : IsEdition g.forest g.places) (r : RegionId) (n : N
           let all : 0 ≡ data_words p.bytes = ap (λ m. data_words (extent_of m n.size).bytes) (sym h) ∙ ap data_words bytes in
           ap (λ m. by_kind m n offset size q) h ∙ (λ i. by_register (id i) (same i) (all i) offset size q ∷ [])
       does Ram h e offset size q = cc
-      does Rom h e offset size q = cc
-      does Container h e offset size q = cc
-      does Iommu h e offset size q = cc
-      does (Alias target at) h e offset size q = cc
-      does Reserve h e offset size q = cc
-      does Host h e offset size q = cc
+      does _ h e offset size q = cc
 
 -- of a region of which it is known what it is
 

@@ -15,7 +15,7 @@ use Rattle.mem_base.specs.declared.map.forests.Node.{Node}
 use Rattle.mem_base.specs.declared.map.forests.Forest.{Forest}
 use Rattle.mem_base.specs.declared.map.spots.Spot.{Spot}
 use Rattle.mem_base.specs.declared.map.kinds.Kind.{Kind}
-use Rattle.mem_base.specs.declared.map.kinds.Kind.TheVariants.{Container, Ram, Rom, RomDevice, Io, Iommu, Alias, Reserve, Host}
+use Rattle.mem_base.specs.declared.map.kinds.Kind.TheVariants.{Ram, Rom, RomDevice, Io}
 use Rattle.mem_base.specs.declared.map.kinds.Client.{Client}
 use Rattle.mem_base.specs.declared.map.kinds.Device.{Device}
 use Rattle.mem_base.specs.declared.map.kinds.Ops.{Ops}
@@ -277,11 +277,7 @@ module _ (f : Forest) where
     base = 0;
     does = λ offset size r. ap (λ o. by_region o offset size r) e ∙ ap (λ q. by_kind q n offset size r) k;
   })
-  leaf_own Container n spot w t k e = (tt, tt)
-  leaf_own Iommu n spot w t k e = (tt, tt)
-  leaf_own (Alias target offset) n spot w t k e = (tt, tt)
-  leaf_own Reserve n spot w t k e = (tt, tt)
-  leaf_own Host n spot w t k e = (tt, tt)
+  leaf_own _ n spot w t k e = (tt, tt)
 
   target_own : (x : Target) (w : Bool) (t : Transfer) → Every (IsOwn f) (reached (answerer f w x) t)
   target_own Unassigned w t = (tt, tt)
@@ -324,13 +320,7 @@ same_calls (Some m) p offset size n big = kind m.kind
         × (result_of (by_kind k m offset size (answers 0 false)) ≡ result_of (by_kind k m offset size (answers n big)))
     kind (RomDevice device) = step m.id (data_words m.size) (step_of device offset size None)
     kind (Io device) = step m.id 0 (step_of device offset size None)
-    kind Container = (refl, refl)
-    kind Ram = (refl, refl)
-    kind Rom = (refl, refl)
-    kind Iommu = (refl, refl)
-    kind (Alias target at) = (refl, refl)
-    kind Reserve = (refl, refl)
-    kind Host = (refl, refl)
+    kind _ = (refl, refl)
 
 module _ (f : Forest) (p : PassId) where
   abbrev events_for : List Reached → List Event

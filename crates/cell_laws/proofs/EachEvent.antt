@@ -182,19 +182,9 @@ module _ (w : World) (k : Sure w) where
   -- the place of a region after an event
   pub place_stays : (e : Event) (r : RegionId) (p : Place) → place_in_world w r ≡ Some p → releases w.writer e r ≡ false
       → place_in_world (world_after w e) r ≡ Some p
-  place_stays (events.Look v) r p here stay = here
-  place_stays (events.Announce v) r p here stay = here
-  place_stays (events.Enter v) r p here stay = here
-  place_stays (events.Leave v) r p here stay = here
-  place_stays (events.Sweep v) r p here stay = here
-  place_stays (events.Place v) r p here stay = here
-  place_stays events.Publish r p here stay = here
-  place_stays (events.Word h c step) r p here stay = here
-  place_stays (events.Mark v s client page) r p here stay = here
-  place_stays (events.Harvest s client index) r p here stay = here
-  place_stays (events.Fill c) r p here stay = here
   place_stays (events.Config c) r p here stay = config_kept c r p here
   place_stays events.Reap r p here stay = stays_kept r (not_from_false _ stay) ∙ here
+  place_stays _ r p here stay = here
 
   -- a place after an event was there before, or it is new
   pub record IsNewPlace (e : Event) (r : RegionId) : Type 0 where
@@ -223,19 +213,9 @@ module _ (w : World) (k : Sure w) where
 
   pub found_before : (e : Event) (r : RegionId) (p : Place) → place_in_world (world_after w e) r ≡ Some p
       → (place_in_world w r ≡ Some p) ⊎ IsNewPlace e r
-  found_before (events.Look v) r p is = inl is
-  found_before (events.Announce v) r p is = inl is
-  found_before (events.Enter v) r p is = inl is
-  found_before (events.Leave v) r p is = inl is
-  found_before (events.Sweep v) r p is = inl is
-  found_before (events.Place v) r p is = inl is
-  found_before events.Publish r p is = inl is
-  found_before (events.Word h c step) r p is = inl is
-  found_before (events.Mark v s client page) r p is = inl is
-  found_before (events.Harvest s client index) r p is = inl is
-  found_before (events.Fill c) r p is = inl is
   found_before (events.Config c) r p is = new_place c r p (place_in (places_of d) r) refl is
   found_before events.Reap r p is = inl (reap_found r p is)
+  found_before _ r p is = inl is
 
   -- the value of a cell after an event
   pub value_after : (e : Event) (r : RegionId) (p : Place) (i : ℕ) → place_in_world w r ≡ Some p → place_in_world (world_after w e) r ≡ Some p → i < p.words
@@ -249,13 +229,6 @@ module _ (w : World) (k : Sure w) where
       inside = subst (λ (n : ℕ). i < n) (sym long) l
 
       go : (e : Event) → place_in_world (world_after w e) r ≡ Some p → cell_value (world_after w e) r i ≡ stepped (step_on w e r i) (cell_value w r i)
-      go (events.Look v) there = refl
-      go (events.Announce v) there = refl
-      go (events.Enter v) there = refl
-      go (events.Leave v) there = refl
-      go (events.Sweep v) there = refl
-      go (events.Place v) there = refl
-      go events.Publish there = refl
       go (events.Word h c step) there = touched_value w.blocks c.region (touch_at w (events.Word h c step) (Some c.region)) r i inside
       go (events.Mark v s client page) there = touched_value w.blocks s (touch_at w (events.Mark v s client page) (Some s)) r i inside
       go (events.Harvest s client index) there = touched_value w.blocks s (touch_at w (events.Harvest s client index) (Some s)) r i inside
@@ -263,6 +236,7 @@ module _ (w : World) (k : Sure w) where
       go (events.Config c) there = ap (λ (ws : List ℕ). slice_index ws i)
           (words_stay w.blocks (places_of (configured w.writer.generations d c).desk) r p there long)
       go events.Reap there = ap (λ (ws : List ℕ). slice_index ws i) (words_stay w.blocks (places_of (reaped w.writer)) r p there long)
+      go _ there = refl
 
   -- no step is made on a cell of a region that has no place
   no_touch : (s r : RegionId) (i : ℕ) (e : Event) → place_in_world w r ≡ None → step_by r i (Some s) (touch_at w e (Some s)) ≡ None
@@ -285,18 +259,7 @@ module _ (w : World) (k : Sure w) where
   -- regions are numbered on
   pub made_on : (e : Event) → d.forest.made ≤ (world_after w e).writer.desk.forest.made
   made_on (events.Config c) = (configured_grows w.writer.generations d k.holds.sound c).made
-  made_on (events.Look v) = omega arith
-  made_on (events.Announce v) = omega arith
-  made_on (events.Enter v) = omega arith
-  made_on (events.Leave v) = omega arith
-  made_on (events.Sweep v) = omega arith
-  made_on (events.Place v) = omega arith
-  made_on events.Publish = omega arith
-  made_on (events.Word h c step) = omega arith
-  made_on (events.Mark v s client page) = omega arith
-  made_on (events.Harvest s client index) = omega arith
-  made_on (events.Fill c) = omega arith
-  made_on events.Reap = omega arith
+  made_on _ = omega arith
 
   -- a region that is released was made
   among_gone : (rs : List RegionId) (test : RegionId → Bool) (r : RegionId) → Every (IsGone d.forest) rs
@@ -346,14 +309,4 @@ module _ (w : World) (k : Sure w) where
           go b true e rest h = absurd (grind arith)
           go true false e rest h = rest h
           go false false e rest h = rw e (rest h)
-  filled_stays (events.Look v) r p here f = f
-  filled_stays (events.Announce v) r p here f = f
-  filled_stays (events.Enter v) r p here f = f
-  filled_stays (events.Leave v) r p here f = f
-  filled_stays (events.Sweep v) r p here f = f
-  filled_stays (events.Place v) r p here f = f
-  filled_stays events.Publish r p here f = f
-  filled_stays (events.Word h c step) r p here f = f
-  filled_stays (events.Mark v s client page) r p here f = f
-  filled_stays (events.Harvest s client index) r p here f = f
-  filled_stays events.Reap r p here f = f
+  filled_stays _ r p here f = f

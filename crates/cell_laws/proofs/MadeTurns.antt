@@ -24,17 +24,7 @@ made_writer h events.Publish n fits k = record {
   desk = k.desk;
   kept = (k.desk, every_taken (λ (x : Generation). IsMade x.forest) 7 h.generations.kept k.kept);
 }
-made_writer h (events.Look v) n fits k = record { desk = k.desk; kept = k.kept }
-made_writer h (events.Announce v) n fits k = record { desk = k.desk; kept = k.kept }
-made_writer h (events.Enter v) n fits k = record { desk = k.desk; kept = k.kept }
-made_writer h (events.Leave v) n fits k = record { desk = k.desk; kept = k.kept }
-made_writer h (events.Sweep v) n fits k = record { desk = k.desk; kept = k.kept }
-made_writer h (events.Place v) n fits k = record { desk = k.desk; kept = k.kept }
-made_writer h (events.Word g c step) n fits k = record { desk = k.desk; kept = k.kept }
-made_writer h (events.Mark v r client page) n fits k = record { desk = k.desk; kept = k.kept }
-made_writer h (events.Harvest r client index) n fits k = record { desk = k.desk; kept = k.kept }
-made_writer h (events.Fill c) n fits k = record { desk = k.desk; kept = k.kept }
-made_writer h events.Reap n fits k = record { desk = k.desk; kept = k.kept }
+made_writer h _ n fits k = record { desk = k.desk; kept = k.kept }
 
 made_played : (es : List Event) (h : Writer) (ns : List ℕ) → Every FitsEvent es → HasMadeForests h → HasMadeForests (played h es ns).writer
 made_played [] h ns fits k = k

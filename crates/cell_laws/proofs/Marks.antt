@@ -162,20 +162,12 @@ module _ (w : World) (p : Place) (client : Client) (page : ℕ) (here : place_in
       same_cell e f = λ j. record { region = same_region c.region r e j; word = f j }
 
   pub mark_gentle : (e : Event) → possible w e ≡ true → takes_mark p client page e ≡ false → IsOnData w e → Gentle (step_on w e r i)
-  mark_gentle (events.Look v) may spared on = nothing
-  mark_gentle (events.Announce v) may spared on = nothing
-  mark_gentle (events.Enter v) may spared on = nothing
-  mark_gentle (events.Leave v) may spared on = nothing
-  mark_gentle (events.Sweep v) may spared on = nothing
-  mark_gentle (events.Place v) may spared on = nothing
-  mark_gentle events.Publish may spared on = nothing
   mark_gentle (events.Word (hands.Pass v) c step) may spared on = by_pass v c step (place_in_world w c.region) refl may
   mark_gentle (events.Word hands.Writer c step) may spared on = by_writer c step (place_in_world w c.region) refl on
   mark_gentle (events.Mark v s other leaf) may spared on = by_mark v s other leaf (place_in_world w s) refl
   mark_gentle (events.Harvest s other index) may spared on = by_harvest s other index (place_in_world w s) refl spared
   mark_gentle (events.Fill c) may spared on = by_fill c (place_in_world w c.region) refl may
-  mark_gentle (events.Config c) may spared on = nothing
-  mark_gentle events.Reap may spared on = nothing
+  mark_gentle _ may spared on = nothing
 
   -- what takes the word tells the mark
   harvest_tells : (s : RegionId) (other : Client) (index : ℕ) → takes_mark p client page (events.Harvest s other index) ≡ true

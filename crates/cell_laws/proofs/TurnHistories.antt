@@ -153,18 +153,7 @@ module _ (pool_words : ℕ) (w : World) (k : Holds w) (shown : ShowsOwnPlaces po
   on_data_at (events.Word hands.Writer c step) may s = λ p here.
       data_word c p here (sym (ap (λ (o : Option Place). if_placed o (λ q. nat_lt c.word q.words)) here) ∙ may) s
   on_data_at (events.Word (hands.Pass v) c step) may s = tt
-  on_data_at (events.Look v) may s = tt
-  on_data_at (events.Announce v) may s = tt
-  on_data_at (events.Enter v) may s = tt
-  on_data_at (events.Leave v) may s = tt
-  on_data_at (events.Sweep v) may s = tt
-  on_data_at (events.Place v) may s = tt
-  on_data_at events.Publish may s = tt
-  on_data_at (events.Mark v r client page) may s = tt
-  on_data_at (events.Harvest r client index) may s = tt
-  on_data_at (events.Fill c) may s = tt
-  on_data_at (events.Config c) may s = tt
-  on_data_at events.Reap may s = tt
+  on_data_at _ may s = tt
 
 -- histories in parts
 

@@ -4,19 +4,17 @@ use Rattle.std.proofs.lemmas.Cmp.{int_cmp_total, tied_itself}
 use Rattle.mem_base.specs.declared.map.ids.RegionId.{RegionId}
 use Rattle.mem_base.specs.declared.map.forests.Node.{Node}
 use Rattle.mem_base.specs.declared.map.kinds.Kind.{Kind}
-use Rattle.mem_base.specs.declared.map.kinds.Kind.TheVariants.{Container, Ram, Rom, RomDevice, Io, Iommu, Alias, Reserve, Host}
+use Rattle.mem_base.specs.declared.map.kinds.Kind.TheVariants.{RomDevice, Io, Alias}
 use Rattle.mem_base.specs.declared.map.kinds.Device.{Device}
 use Rattle.mem_base.specs.declared.map.kinds.DeviceKind.{DeviceKind}
-use Rattle.mem_base.specs.declared.map.kinds.DeviceKind.TheVariants.{Latch, Count, Bell, Fault}
+use Rattle.mem_base.specs.declared.map.kinds.DeviceKind.TheVariants.{Latch}
 use Rattle.mem_base.specs.declared.map.kinds.Ops.{Ops}
 use Rattle.mem_base.specs.map.Touched.{is_same_region, is_same_device_kind, is_same_ops, is_same_device, is_same_kind, looks_alike, stays_alike}
 use Rattle.mem_base.proofs.BoolLaws.{bool_itself, number_itself}
 
 device_kind_itself : (k : DeviceKind) → is_same_device_kind k k ≡ true
 device_kind_itself Latch = refl
-device_kind_itself Count = refl
-device_kind_itself Bell = refl
-device_kind_itself Fault = refl
+device_kind_itself _ = refl
 
 ops_itself : (x : Ops) → is_same_ops x x ≡ true
 ops_itself x =
@@ -28,15 +26,10 @@ device_itself : (x : Device) → is_same_device x x ≡ true
 device_itself x = let a = device_kind_itself x.kind in let b = number_itself x.regs in let c = ops_itself x.ops in rw (a, b, c) refl
 
 kind_itself : (k : Kind) → is_same_kind k k ≡ true
-kind_itself Container = refl
-kind_itself Ram = refl
-kind_itself Rom = refl
 kind_itself (RomDevice x) = device_itself x
 kind_itself (Io x) = device_itself x
-kind_itself Iommu = refl
 kind_itself (Alias r x) = let a = number_itself r.0 in let b = number_itself x in rw (a, b) refl
-kind_itself Reserve = refl
-kind_itself Host = refl
+kind_itself _ = refl
 
 region_itself : (o : Option RegionId) → is_same_region o o ≡ true
 region_itself None = refl

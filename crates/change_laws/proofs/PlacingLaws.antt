@@ -71,14 +71,7 @@ unmet_part rs below test (c ∷ cs) a m = go (test c) (or_parts _ _ m) (unmet_pa
 -- of a node and of one that differs in its place, the search reads the same
 itself_inner : (global : Bool) (k : Kind) (n : Node) (a : ℕ) → itself global k n a ≡ itself global k (inner n) a
 itself_inner global Container n a = refl
-itself_inner global Ram n a = refl
-itself_inner global Rom n a = refl
-itself_inner global (RomDevice d) n a = refl
-itself_inner global (Io d) n a = refl
-itself_inner global Iommu n a = refl
-itself_inner global (Alias target offset) n a = refl
-itself_inner global Reserve n a = refl
-itself_inner global Host n a = refl
+itself_inner global _ n a = refl
 
 module _ (rs : List RegionId) (f g : Forest) (up : IsAscending f.nodes) (vp : IsAscending g.nodes) (global : f.global ≡ g.global)
     (stay : OthersStay f g rs) (places : (r : RegionId) → is_among rs r ≡ true → DiffersInPlace (node_of f.nodes r) (node_of g.nodes r)) where

@@ -7,7 +7,7 @@ use Rattle.std.proofs.lemmas.Bool.Decides.{nat_tests}
 use Rattle.mem_base.specs.declared.map.ids.RegionId.{RegionId}
 use Rattle.mem_base.specs.declared.map.ids.SpaceId.{SpaceId}
 use Rattle.mem_base.specs.declared.map.kinds.Kind.{Kind}
-use Rattle.mem_base.specs.declared.map.kinds.Kind.TheVariants.{Container, Ram, Rom, RomDevice, Io, Iommu, Alias, Reserve, Host}
+use Rattle.mem_base.specs.declared.map.kinds.Kind.TheVariants.{Alias}
 use Rattle.mem_base.specs.declared.map.forests.Node.{Node}
 use Rattle.mem_base.specs.declared.map.forests.Forest.{Forest}
 use Rattle.mem_base.specs.lists.Every.{Every}
@@ -139,15 +139,8 @@ listed_aliases nodes xs r aliases is all n e t =
     subst (λ o. IfSome o (HasThrough xs)) e one
 
 targets_it : (r : RegionId) (k : Kind) → targets r k ≡ true → target_of k ≡ Some r
-targets_it r Container h = absurd (grind arith)
-targets_it r Ram h = absurd (grind arith)
-targets_it r Rom h = absurd (grind arith)
-targets_it r (RomDevice d) h = absurd (grind arith)
-targets_it r (Io d) h = absurd (grind arith)
-targets_it r Iommu h = absurd (grind arith)
 targets_it r (Alias t offset) h = ap (λ (q : RegionId). Some q) (same_region t r (eqb-true t.0 r.0 h))
-targets_it r Reserve h = absurd (grind arith)
-targets_it r Host h = absurd (grind arith)
+targets_it r _ h = absurd (grind arith)
 
 -- a region that is not there has no aliases
 pub no_aliases : (f : Forest) (xs : List Reach) (r : RegionId) → IsClosedForest f → node_of f.nodes r ≡ None → (n : Node) → node_of f.nodes n.id ≡ Some n →

@@ -52,24 +52,7 @@ use Rattle.std.proofs.lemmas.Option.{same_Some}
 
 applied_right : (f : Forest) (call : Call) → IsAppliedTo call (answer_of f call)
 applied_right f (calls.Region kind size) = tt
-applied_right f (calls.Space space root) = tt
-applied_right f (calls.Add parent offset child priority) = tt
-applied_right f (calls.Del parent child) = tt
-applied_right f (calls.Move child offset) = tt
-applied_right f (calls.Resize region size) = tt
-applied_right f (calls.Retarget alias offset) = tt
-applied_right f (calls.Enable region on) = tt
-applied_right f (calls.Readonly region on) = tt
-applied_right f (calls.Nonvolatile region on) = tt
-applied_right f (calls.Unmergeable region on) = tt
-applied_right f (calls.Romd region on) = tt
-applied_right f (calls.Log region client on) = tt
-applied_right f (calls.Global on) = tt
-applied_right f (calls.Map region iova size space translated perm) = tt
-applied_right f (calls.Unmap region iova) = tt
-applied_right f (calls.Event region event) = tt
-applied_right f (calls.Unevent region offset size matched value) = tt
-applied_right f (calls.Drop region) = tt
+applied_right f _ = tt
 
 abbrev AnswersCall : Call → Result Applied Refusal → Type 0
 AnswersCall call (Ok x) = IsAppliedTo call x
@@ -94,24 +77,7 @@ made_right d f region x call h = go (eqb (words_of x) 0) (first_fit d.pool_words
 
 kept_right : (d : Desk) (call : Call) (f : Forest) → AnswersCall call (kept_back d call f).answer
 kept_right d (calls.Region kind size) f = made_right d f (record { 0 = d.forest.made }) (extent_of kind size) (calls.Region kind size) tt
-kept_right d (calls.Space space root) f = tt
-kept_right d (calls.Add parent offset child priority) f = tt
-kept_right d (calls.Del parent child) f = tt
-kept_right d (calls.Move child offset) f = tt
-kept_right d (calls.Resize region size) f = tt
-kept_right d (calls.Retarget alias offset) f = tt
-kept_right d (calls.Enable region on) f = tt
-kept_right d (calls.Readonly region on) f = tt
-kept_right d (calls.Nonvolatile region on) f = tt
-kept_right d (calls.Unmergeable region on) f = tt
-kept_right d (calls.Romd region on) f = tt
-kept_right d (calls.Log region client on) f = tt
-kept_right d (calls.Global on) f = tt
-kept_right d (calls.Map region iova size space translated perm) f = tt
-kept_right d (calls.Unmap region iova) f = tt
-kept_right d (calls.Event region event) f = tt
-kept_right d (calls.Unevent region offset size matched value) f = tt
-kept_right d (calls.Drop region) f = tt
+kept_right d _ f = tt
 
 call_right : (g : Generations) (d : Desk) (call : Call) (r : Result Forest Refusal) → AnswersCall call (after_call g d call r).answer
 call_right g d call (Err why) = tt
@@ -165,14 +131,12 @@ answer_right w orders.Commit ns other =
     let u : Writer = (played w (events_before w (configure configs.Commit)) ns).writer in
     commit_answered (number_due (after_private u (events.Config configs.Commit ∷ []))) (configured u.generations u.desk configs.Commit).answer
     (new_due (after_private u (events.Config configs.Commit ∷ []))) other
-answer_right w orders.Reap ns other = tt
 answer_right w (orders.Listen listener space priority) ns other =
     plain_right (orders.Listen listener space priority) tt tt _ other (λ why may n. (may, n))
 answer_right w (orders.Unlisten listener) ns other = plain_right (orders.Unlisten listener) tt tt _ other (λ why may n. (may, n))
 answer_right w (orders.Load region offset bytes) ns other = plain_right (orders.Load region offset bytes) tt tt _ other (λ why may n. (may, n))
 answer_right w (orders.Harvest region client) ns other = harvest_answered region client _ other
-answer_right w (orders.Notified number) ns other = tt
-answer_right w orders.Look ns other = tt
+answer_right w _ ns other = tt
 
 -- want of memory is no reason why bytes are not loaded
 

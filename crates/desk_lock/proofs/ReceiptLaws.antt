@@ -126,12 +126,7 @@ module _ (v w : ConfigState) (legal : IsLegal w.seat.sizes w.seat.seen) (turns :
       }
   call_told call (answers.Called applied None) current ns right tells is part none = record { seen = tt; shows = tt; current = none }
   call_told call (answers.Refused why) current ns right tells is part none = record { seen = tt; shows = tt; current = none }
-  call_told call answers.Done current ns right tells is part none = absurd right
-  call_told call (answers.Committed number) current ns right tells is part none = absurd right
-  call_told call (answers.Released regions) current ns right tells is part none = absurd right
-  call_told call (answers.Pages pages) current ns right tells is part none = absurd right
-  call_told call (answers.Value value) current ns right tells is part none = absurd right
-  call_told call (answers.Looked number) current ns right tells is part none = absurd right
+  call_told call _ current ns right tells is part none = absurd right
 
   commit_told : (answer : DeskAnswer) (current : Option Published) (ns : List ℕ) → IsAnswerTo orders.Commit answer
       → TellsNumber v.part orders.Commit answer → answer ≡ told (turn_of v.part orders.Commit ns).answer
@@ -142,12 +137,7 @@ module _ (v w : ConfigState) (legal : IsLegal w.seat.sizes w.seat.seen) (turns :
       (commit_published v.part ns number t.0 is) in record { seen = p.0; shows = tt; current = none }
   commit_told (answers.Committed None) current ns right tells is part none = record { seen = tt; shows = tt; current = none }
   commit_told (answers.Refused why) current ns right tells is part none = record { seen = tt; shows = tt; current = none }
-  commit_told answers.Done current ns right tells is part none = absurd right
-  commit_told (answers.Called applied number) current ns right tells is part none = absurd right
-  commit_told (answers.Released regions) current ns right tells is part none = absurd right
-  commit_told (answers.Pages pages) current ns right tells is part none = absurd right
-  commit_told (answers.Value value) current ns right tells is part none = absurd right
-  commit_told (answers.Looked number) current ns right tells is part none = absurd right
+  commit_told _ current ns right tells is part none = absurd right
 
   -- a look tells the current number, and hands that generation out
   look_told : (answer : DeskAnswer) (current : Option Published) → answer ≡ answers.Looked v.part.generations.current → w.part ≡ v.part

@@ -136,14 +136,7 @@ made_space f space root none =
 -- an alias that goes on elsewhere is one still
 alias_shown : (offset : ℕ) (k : Kind) → not (is_alias k) ≡ false → (target : RegionId) × (retargeted offset k ≡ kinds.Alias target offset)
 alias_shown offset (kinds.Alias target old) e = (target, refl)
-alias_shown offset kinds.Container e = cc
-alias_shown offset kinds.Ram e = cc
-alias_shown offset kinds.Rom e = cc
-alias_shown offset (kinds.RomDevice x) e = cc
-alias_shown offset (kinds.Io x) e = cc
-alias_shown offset kinds.Iommu e = cc
-alias_shown offset kinds.Reserve e = cc
-alias_shown offset kinds.Host e = cc
+alias_shown offset _ e = cc
 
 moved_shown : (offset placing : ℕ) (n : Node) → (moved offset placing n).offset ≡ offset
 moved_shown offset placing n = go (eqb n.offset offset) refl

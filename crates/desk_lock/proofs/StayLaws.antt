@@ -35,13 +35,7 @@ first_is_empty seen = ap (λ (g : Generation). g.forest) (generation_stays [] se
 module _ (seen later : List HistoryEntry) (begins : IsPrefix seen later) where
   looked_stays : (answer : DeskAnswer) → HasSeenTold seen (number_told answer) → number_looked answer < length (generations_published later)
   looked_stays (answers.Looked number) h = published_more seen later begins number h.inside
-  looked_stays answers.Done h = some_published later
-  looked_stays (answers.Called applied number) h = some_published later
-  looked_stays (answers.Committed number) h = some_published later
-  looked_stays (answers.Released regions) h = some_published later
-  looked_stays (answers.Pages pages) h = some_published later
-  looked_stays (answers.Value value) h = some_published later
-  looked_stays (answers.Refused why) h = some_published later
+  looked_stays _ h = some_published later
 
   no_newer : (o : Option ℕ) → HasSeenTold seen o → IsNoNewer later o
   no_newer None h = tt
@@ -52,13 +46,7 @@ module _ (seen later : List HistoryEntry) (begins : IsPrefix seen later) where
   call_stays call (answers.Called applied (Some number)) h s =
       let P : Generation → Type 0 = λ g. ShowsCall g.forest call in subst P (sym (generation_stays seen later begins number h.inside)) s
   call_stays call (answers.Called applied None) h s = tt
-  call_stays call answers.Done h s = tt
-  call_stays call (answers.Committed number) h s = tt
-  call_stays call (answers.Released regions) h s = tt
-  call_stays call (answers.Pages pages) h s = tt
-  call_stays call (answers.Value value) h s = tt
-  call_stays call (answers.Looked number) h s = tt
-  call_stays call (answers.Refused why) h s = tt
+  call_stays call _ h s = tt
 
   order_stays : (order : DeskOrder) (answer : DeskAnswer) → HasSeenTold seen (number_told answer) → ShowsOrder order answer seen → ShowsOrder order answer later
   order_stays (orders.Call call) answer h s = call_stays call answer h s

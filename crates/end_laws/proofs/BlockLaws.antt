@@ -54,19 +54,13 @@ abbrev pub HasItsCells : World → Type 0
 HasItsCells w = regions_in w.blocks ≡ regions_at (places_of w.writer.desk)
 
 cells_telling : (w : World) (e : Event) (n : ℕ) → HasItsCells w → HasItsCells (after_telling w e n)
-cells_telling w (events.Look v) n k = k
-cells_telling w (events.Announce v) n k = k
-cells_telling w (events.Enter v) n k = k
-cells_telling w (events.Leave v) n k = k
-cells_telling w (events.Sweep v) n k = k
-cells_telling w (events.Place v) n k = k
-cells_telling w events.Publish n k = k
 cells_telling w (events.Word h c step) n k = touched_regions w.blocks (Some c.region) (touch_at w (events.Word h c step) (Some c.region)) ∙ k
 cells_telling w (events.Mark v r client page) n k = touched_regions w.blocks (Some r) (touch_at w (events.Mark v r client page) (Some r)) ∙ k
 cells_telling w (events.Harvest r client index) n k = touched_regions w.blocks (Some r) (touch_at w (events.Harvest r client index) (Some r)) ∙ k
 cells_telling w (events.Fill c) n k = touched_regions w.blocks (Some c.region) (touch_at w (events.Fill c) (Some c.region)) ∙ k
 cells_telling w (events.Config c) n k = made_regions w.blocks (places_of (after_telling w (events.Config c) n).writer.desk)
 cells_telling w events.Reap n k = made_regions w.blocks (places_of (after_telling w events.Reap n).writer.desk)
+cells_telling w _ n k = k
 
 cells_from : (xs : List PureEntry) (w : World) → HasItsCells w → HasItsCells (after_entries w xs)
 cells_from [] w k = k

@@ -79,12 +79,10 @@ marks_inside p clients.Migration page fits near = omega arith
 -- what a pass may touch is a word of the place
 pub reach_inside : (p : Place) (v word : ℕ) (touch : Touch) → p.words ≡ words_of (extent p.bytes p.regs) → IsTouch (hands.Pass (pass_id v)) p word touch
     → IsReach p word touch → word < p.words
-reach_inside p v word touches.Look fits kind reach = let l = ltb-true _ _ reach in omega arith
-reach_inside p v word (touches.Step step) fits kind reach = let l = ltb-true _ _ reach in omega arith
-reach_inside p v word (touches.Try old first bytes value) fits kind reach = let l = ltb-true _ _ reach in omega arith
 reach_inside p v word touches.Fill fits kind reach = absurd kind
 reach_inside p v word (touches.Mark client page) fits kind reach = let l = marks_inside p client page fits reach in let same = kind.1 in omega arith
 reach_inside p v word (touches.Harvest client index) fits kind reach = absurd kind.0
+reach_inside p v word _ fits kind reach = let l = ltb-true _ _ reach in omega arith
 
 -- the steps on words that may be, where the pass is entered in such a generation
 pass_steps : (s : Shared) (v : ℕ) (f : Forest) (ps : List Place) (p : Place) (word : ℕ) (touch : Touch) → IsEdition f ps
@@ -115,12 +113,9 @@ kinds hands.Writer p word (touches.Harvest _ _) k = record { mine = refl; is = r
 kinds (hands.Pass v) p word (touches.Harvest _ _) k = absurd k.0
 
 pub word_is : (hand : Hand) (p : Place) (word : ℕ) (touch : Touch) → IsTouch hand p word touch → (touch_at (event_of hand p word touch) p).word ≡ p.start + word
-word_is hand p word touches.Look k = refl
-word_is hand p word (touches.Step step) k = refl
-word_is hand p word (touches.Try old first bytes value) k = refl
-word_is hand p word touches.Fill k = refl
 word_is hand p word (touches.Mark client page) k = ap (λ (n : ℕ). p.start + n) (sym k.1)
 word_is hand p word (touches.Harvest client index) k = ap (λ (n : ℕ). p.start + n) (sym k.1)
+word_is hand p word _ k = refl
 
 -- a pass is ready
 entered_seen : {E : Type 0} (number : E → ℕ) (forest : E → Forest) (places : E → List Place) (z : Sizes) (log : List HistoryEntry) (p : ℕ) (v : View) (e : E)
@@ -146,13 +141,10 @@ ready_pass number forest places z p v e at word touch law role near s room kind 
 -- the writer is ready
 writer_steps : (s : Shared) (p : Place) (word : ℕ) (touch : Touch) → IsTouch hands.Writer p word touch → word < p.words → past p ≤ length s.words
     → shared_possible s (event_of hands.Writer p word touch) (At p) ≡ true
-writer_steps s p word touches.Look kind l m = and_from _ _ (eq-eqb _ _ refl) (and_from _ _ (lt-ltb _ _ l) (le-leb _ _ m))
-writer_steps s p word (touches.Step step) kind l m = and_from _ _ (eq-eqb _ _ refl) (and_from _ _ (lt-ltb _ _ l) (le-leb _ _ m))
-writer_steps s p word (touches.Try old first bytes value) kind l m = and_from _ _ (eq-eqb _ _ refl) (and_from _ _ (lt-ltb _ _ l) (le-leb _ _ m))
-writer_steps s p word touches.Fill kind l m = and_from _ _ (eq-eqb _ _ refl) (and_from _ _ (lt-ltb _ _ l) (le-leb _ _ m))
 writer_steps s p word (touches.Mark client page) kind l m = absurd kind.0
 writer_steps s p word (touches.Harvest client index) kind l m =
     and_from _ _ (eq-eqb _ _ refl) (and_from _ _ (lt-ltb _ _ (subst (λ (n : ℕ). n < p.words) kind.1 l)) (le-leb _ _ m))
+writer_steps s p word _ kind l m = and_from _ _ (eq-eqb _ _ refl) (and_from _ _ (lt-ltb _ _ l) (le-leb _ _ m))
 
 pub ready_writer : (z : Sizes) (v : View) (at : Place) (word : ℕ) (touch : Touch) → v.role ≡ Some 0 → IsTouch hands.Writer at word touch → WriterMay z at word
     → IsReady z v hands.Writer at word touch
@@ -194,11 +186,9 @@ wrote_none hand v m w was sizes h = subst (λ (y : Sizes × List HistoryEntry). 
 
 shown_step : (hand : Hand) (p : Place) (word : ℕ) (s : WordStep) (v : View) (r : ℕ) (w : View) → ToldStep hand p word s v r w
     → ShowsStep hand v.sizes p word s v.seen r w.seen
-shown_step hand p word steps.Load v r w h = wrote hand v _ _ r w refl h
 shown_step hand p word (steps.Replace first bytes value) v r w h = (h.0, (h.1.0, wrote hand v _ _ h.1.0 w refl h.1.1))
-shown_step hand p word steps.AddOne v r w h = wrote hand v _ _ r w refl h
 shown_step hand p word (steps.Or bits) v r w h = wrote hand v _ _ r w refl h
-shown_step hand p word steps.Take v r w h = wrote hand v _ _ r w refl h
+shown_step hand p word _ v r w h = wrote hand v _ _ r w refl h
 
 pub shown : (hand : Hand) (p : Place) (word : ℕ) (touch : Touch) (v : View) (r : ℕ) (w : View) → IsTouch hand p word touch → Told hand p word touch v r w
     → ShowsTouch hand v.sizes p word touch v.seen r w.seen
@@ -260,11 +250,7 @@ kept hand p word touch v r w k h = ⊎_elim
 
 still_pass : (hand : Hand) (p : Place) (word : ℕ) (touch : Touch) (s : PassState) (q : ℕ) → pass_after s (event_of hand p word touch) q ≡ s
 still_pass hand p word touches.Look s q = refl
-still_pass hand p word (touches.Step step) s q = refl
-still_pass hand p word (touches.Try old first bytes value) s q = refl
-still_pass hand p word touches.Fill s q = refl
-still_pass hand p word (touches.Mark client page) s q = refl
-still_pass hand p word (touches.Harvest client index) s q = refl
+still_pass hand p word _ s q = refl
 
 pub pass_kept : (u : ℕ) (p : Place) (word : ℕ) (touch : Touch) (v : View) (r : ℕ) (w : View) → IsTouch (hands.Pass (pass_id u)) p word touch
     → Told (hands.Pass (pass_id u)) p word touch v r w → pass_seen u w ≡ pass_seen u v

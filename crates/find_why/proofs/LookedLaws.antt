@@ -8,7 +8,7 @@ use Rattle.mem_base.specs.lists.Every.{Every}
 use Rattle.mem_base.proofs.EveryLaws.{weaker, every_push}
 use Rattle.find_why.specs.declared.looks.Look.{Look}
 use Rattle.find_why.specs.declared.looks.Outcome.{Outcome}
-use Rattle.find_why.specs.declared.looks.Outcome.TheVariants.{Answers, Hole, Disabled, BeginsAfter, EndsBefore, TriedLater}
+use Rattle.find_why.specs.declared.looks.Outcome.TheVariants.{Answers, Hole}
 use Rattle.find_why.specs.declared.looks.Tried.{Tried}
 use Rattle.find_why.specs.Looked.{Some_of, IsLook, IsFollowed, AreFollowed, IsLooked, AreLooked, Grows, answering}
 
@@ -42,10 +42,7 @@ covers_reversed (x ∷ xs) P (inr h) = subst (λ l. Some_of P l) (sym (reverse_o
 pub followed_in : (old new : List Look) → Covers old new → (r : RegionId) (o : Outcome) → IsFollowed old r o → IsFollowed new r o
 followed_in old new g r (Answers a) h = g (IsLook r a true) h
 followed_in old new g r (Hole a) h = g (IsLook r a false) h
-followed_in old new g r Disabled h = tt
-followed_in old new g r BeginsAfter h = tt
-followed_in old new g r EndsBefore h = tt
-followed_in old new g r TriedLater h = tt
+followed_in old new g r _ h = tt
 
 pub all_followed_in : (old new : List Look) → Covers old new → (tried : List Tried) → AreFollowed old tried → AreFollowed new tried
 all_followed_in old new g tried h = weaker (λ t. IsFollowed old t.region t.outcome) (λ t. IsFollowed new t.region t.outcome)

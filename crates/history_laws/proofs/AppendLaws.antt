@@ -104,15 +104,7 @@ passes_stay ps (events.Look u) r = length-set ps u.0 _
 passes_stay ps (events.Announce u) r = length-set ps u.0 _
 passes_stay ps (events.Enter u) r = length-set ps u.0 _
 passes_stay ps (events.Leave u) r = length-set ps u.0 _
-passes_stay ps (events.Sweep u) r = refl
-passes_stay ps (events.Place u) r = refl
-passes_stay ps events.Publish r = refl
-passes_stay ps (events.Word h c step) r = refl
-passes_stay ps (events.Mark u region client page) r = refl
-passes_stay ps (events.Harvest region client index) r = refl
-passes_stay ps (events.Fill c) r = refl
-passes_stay ps (events.Config c) r = refl
-passes_stay ps events.Reap r = refl
+passes_stay ps _ r = refl
 
 -- the pass v is what its own entries make
 pub pass_owns : (xs : List HistoryEntry) (s : Shared) (v : ℕ) → v < length s.passes
@@ -133,15 +125,13 @@ steps_generations g (events.Look u) x r os = still g (history_entry (events.Look
 steps_generations g (events.Announce u) x r os = still g (history_entry (events.Announce u) x r) os refl _
 steps_generations g (events.Enter u) x r os = still g (history_entry (events.Enter u) x r) os refl _
 steps_generations g (events.Leave u) x r os = still g (history_entry (events.Leave u) x r) os refl _
-steps_generations g (events.Sweep u) x r os = refl
-steps_generations g (events.Place u) x r os = refl
-steps_generations g events.Publish x r os = refl
 steps_generations g (events.Word h c step) x r os = still g (history_entry (events.Word h c step) x r) os refl _
 steps_generations g (events.Mark u region client page) x r os = still g (history_entry (events.Mark u region client page) x r) os refl _
 steps_generations g (events.Harvest region client index) x r os = still g (history_entry (events.Harvest region client index) x r) os refl true
 steps_generations g (events.Fill c) x r os = still g (history_entry (events.Fill c) x r) os refl true
 steps_generations g (events.Config c) x r os = still g (history_entry (events.Config c) x r) os refl true
 steps_generations g events.Reap x r os = still g (history_entry events.Reap x r) os refl true
+steps_generations g _ x r os = refl
 
 -- the generations are what the writer's own entries make
 pub generations_own : (xs : List HistoryEntry) (s : Shared) → (after_shared_entries s xs).generations ≡ generations_after_all s.generations (own_entries 0 xs)

@@ -10,7 +10,7 @@ use Rattle.mem_base.specs.declared.map.ids.ListenerId.{ListenerId}
 use Rattle.mem_base.specs.declared.map.forests.Node.{Node}
 use Rattle.mem_base.specs.declared.map.forests.Forest.{Forest}
 use Rattle.mem_base.specs.declared.map.kinds.Kind.{Kind}
-use Rattle.mem_base.specs.declared.map.kinds.Kind.TheVariants.{Container, Ram, Rom, RomDevice, Io, Iommu, Alias, Reserve, Host}
+use Rattle.mem_base.specs.declared.map.kinds.Kind.TheVariants.{Ram, Rom, RomDevice, Alias}
 use Rattle.mem_base.specs.declared.map.calls.Applied.{Applied}
 use Rattle.mem_base.specs.declared.map.calls.Applied.TheVariants.{Done, Made}
 use Rattle.mem_base.specs.declared.map.calls.Call.{Call}
@@ -97,26 +97,14 @@ moved_extent offset placing n = go (n.offset == offset)
 
 retargeted_extent : (offset : ℕ) (k : Kind) (size : ℕ) → extent_of (retargeted offset k) size ≡ extent_of k size
 retargeted_extent offset (Alias target old) size = refl
-retargeted_extent offset Container size = refl
-retargeted_extent offset Ram size = refl
-retargeted_extent offset Rom size = refl
-retargeted_extent offset (RomDevice d) size = refl
-retargeted_extent offset (Io d) size = refl
-retargeted_extent offset Iommu size = refl
-retargeted_extent offset Reserve size = refl
-retargeted_extent offset Host size = refl
+retargeted_extent offset _ size = refl
 
 -- only regions that are no memory are resized
 resized_extent : (k : Kind) (old new : ℕ) → is_memory k ≡ false → extent_of k new ≡ extent_of k old
 resized_extent Ram old new h = absurd (grind arith)
 resized_extent Rom old new h = absurd (grind arith)
 resized_extent (RomDevice d) old new h = absurd (grind arith)
-resized_extent Container old new h = refl
-resized_extent (Io d) old new h = refl
-resized_extent Iommu old new h = refl
-resized_extent (Alias target offset) old new h = refl
-resized_extent Reserve old new h = refl
-resized_extent Host old new h = refl
+resized_extent _ old new h = refl
 
 no_memory : (f : Forest) (region : RegionId) (n : Node) → wrong_kind (λ k. not (is_memory k)) f region ≡ None → node_of f.nodes region ≡ Some n
     → is_memory n.kind ≡ false

@@ -248,22 +248,12 @@ module _ (g : Generations) (d : Desk) (forest : IsOrderedForest d.forest) (k : D
   configured_dropped (configs.Unlisten id) = unless_dropped _ _ Done (without_dropped d.listening.listeners id)
 
 pub dropped_after : (w : World) (e : Event) (n : ℕ) → IsSoundDesk w.writer.desk → Dropped w.writer.desk → Dropped (after_telling w e n).writer.desk
-dropped_after w (events.Look v) n s k = k
-dropped_after w (events.Announce v) n s k = k
-dropped_after w (events.Enter v) n s k = k
-dropped_after w (events.Leave v) n s k = k
-dropped_after w (events.Sweep v) n s k = k
-dropped_after w (events.Place v) n s k = k
-dropped_after w events.Publish n s k = k
-dropped_after w (events.Word h c step) n s k = k
-dropped_after w (events.Mark v region client page) n s k = k
-dropped_after w (events.Harvest region client index) n s k = k
-dropped_after w (events.Fill c) n s k = k
 dropped_after w (events.Config c) n s k = configured_dropped w.writer.generations w.writer.desk s.forest k c
 dropped_after w events.Reap n s k = let d = w.writer.desk in record {
   rising = rising_filter (is_named w.writer.generations) d.dropped k.rising;
   gone = every_filter (IsGone d.forest) (is_named w.writer.generations) d.dropped k.gone;
 }
+dropped_after w _ n s k = k
 
 dropped_from : (w : World) (xs : List PureEntry) → IsSoundDesk w.writer.desk → Dropped w.writer.desk → IsLegalFrom w xs
     → Dropped (after_entries w xs).writer.desk

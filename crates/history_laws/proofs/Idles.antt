@@ -73,7 +73,6 @@ no_place pool_words made [] few h = rw (ne_eqb (2 ^ 32 - 1) made (λ e. omega ar
 no_place pool_words made (p ∷ ps) few h = rw (ne_eqb p.region.0 made (λ e. let l = h.0 in omega arith)) (no_place pool_words made ps few h.1)
 
 pub fresh : (d : Desk) → IsSoundDesk d → (c : Config) → IsFresh d c
-fresh d k configs.Begin = tt
 fresh d k (configs.Call call) = λ f e. new call f e
   where
     new : (call : Call) (f : Forest) → forest_after d.forest call ≡ Ok f → IsNew d call
@@ -84,9 +83,7 @@ fresh d k (configs.Call call) = λ f e. new call f e
         let below = known_below d.forest region k.forest (is_known d.forest region each.0) in
         let few = k.few in ne_eqb region.0 (2 ^ 32 - 1) (λ e. omega arith)
     new call f e = tt
-fresh d k configs.Commit = tt
-fresh d k (configs.Listen listener space priority) = tt
-fresh d k (configs.Unlisten listener) = tt
+fresh d k _ = tt
 
 -- at first
 pub opens_idle : (pool_words passes : ℕ) → Idle (first_writer pool_words passes)

@@ -413,10 +413,6 @@ order_after w k (events.Place v) n may is = let d = w.writer.desk in let g = w.w
     places_all d.due d.swept g w.passes k v (ltb-true _ _ (and_parts _ _ (and_parts _ _ may).1).0)
 order_after w k events.Publish n may is = let d = w.writer.desk in let g = w.writer.generations in
     publishes_all d.swept g w.passes _ (subst (λ (b : Bool). AllInOrder b d.swept g w.passes) (and_parts _ _ may).0 k)
-order_after w k (events.Word h c step) n may is = k
-order_after w k (events.Mark v region client page) n may is = k
-order_after w k (events.Harvest region client index) n may is = k
-order_after w k (events.Fill c) n may is = k
 order_after w k (events.Config c) n may is = let d = w.writer.desk in let g = w.writer.generations in
     let m = and_parts _ _ may in
     let off = not-true d.due (and_parts _ _ m.0).0 in
@@ -429,6 +425,7 @@ order_after w k events.Reap n may is = let d = w.writer.desk in let g = w.writer
     let off = not-true d.due (and_parts _ _ m.0).0 in
     privates_all d.due d.swept d.swept g w.passes (subst (λ (b : Bool). AllInOrder b d.swept g w.passes) off k) refl
     (λ on. not_due d off on)
+order_after w k _ n may is = k
 
 pub order_from : (w : World) (xs : List PureEntry) → IsOrderly w → IsLegalFrom w xs → IsOrderly (after_entries w xs)
 order_from w [] k l = k

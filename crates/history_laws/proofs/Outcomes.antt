@@ -341,17 +341,11 @@ due_forests b f = if b then f ∷ [] else []
 
 accepted_ok : (c : Config) (a : Applied) → accepted_one (events.Config c) (answers c (Ok a)) ≡ c ∷ []
 accepted_ok configs.Begin a = refl
-accepted_ok (configs.Call call) a = refl
-accepted_ok configs.Commit a = refl
-accepted_ok (configs.Listen listener space priority) a = refl
-accepted_ok (configs.Unlisten listener) a = refl
+accepted_ok _ a = refl
 
 accepted_err : (c : Config) (why : Refusal) → accepted_one (events.Config c) (answers c (Err why)) ≡ []
 accepted_err configs.Begin why = refl
-accepted_err (configs.Call call) why = refl
-accepted_err configs.Commit why = refl
-accepted_err (configs.Listen listener space priority) why = refl
-accepted_err (configs.Unlisten listener) why = refl
+accepted_err _ why = refl
 
 commits_one : (s : TransactionState) (c : Config) (ks : List Config) → committed_from s (c ∷ ks) ≡ due_forests (commits s c)
     (transaction_after s c).forest ++ committed_from (transaction_after s c) ks

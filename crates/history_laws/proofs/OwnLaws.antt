@@ -12,16 +12,9 @@ writer_by (events.Look u) = ne_eqb (u.0 + 1) 0 (λ q. omega arith)
 writer_by (events.Announce u) = ne_eqb (u.0 + 1) 0 (λ q. omega arith)
 writer_by (events.Enter u) = ne_eqb (u.0 + 1) 0 (λ q. omega arith)
 writer_by (events.Leave u) = ne_eqb (u.0 + 1) 0 (λ q. omega arith)
-writer_by (events.Sweep u) = refl
-writer_by (events.Place u) = refl
-writer_by events.Publish = refl
 writer_by (events.Word (hands.Pass u) c step) = ne_eqb (u.0 + 1) 0 (λ q. omega arith)
-writer_by (events.Word hands.Writer c step) = refl
 writer_by (events.Mark u region client page) = ne_eqb (u.0 + 1) 0 (λ q. omega arith)
-writer_by (events.Harvest region client index) = refl
-writer_by (events.Fill c) = refl
-writer_by (events.Config c) = refl
-writer_by events.Reap = refl
+writer_by _ = refl
 
 pub own_writers : (xs : List HistoryEntry) → own_entries 0 xs ≡ writers_of xs
 own_writers [] = refl

@@ -8,7 +8,7 @@ use Rattle.mem_base.specs.declared.map.ids.RegionId.{RegionId}
 use Rattle.mem_base.specs.declared.map.forests.Node.{Node}
 use Rattle.mem_base.specs.declared.map.forests.Forest.{Forest}
 use Rattle.mem_base.specs.declared.map.kinds.Kind.{Kind}
-use Rattle.mem_base.specs.declared.map.kinds.Kind.TheVariants.{Container, Ram, Rom, RomDevice, Io, Iommu, Alias, Reserve, Host}
+use Rattle.mem_base.specs.declared.map.kinds.Kind.TheVariants.{Container, Alias}
 use Rattle.mem_base.specs.declared.access.cells.Place.{Place}
 use Rattle.mem_base.specs.map.Limits.{most_depth}
 use Rattle.mem_base.specs.map.Region.{IsAscending, node_of}
@@ -42,14 +42,8 @@ passed_there nodes n (Some x) h = h
 
 itself_there : (nodes : List Node) (n : Node) (global : Bool) (k : Kind) (a : ℕ) → IsSome (node_of nodes n.id) → LeafThere nodes (itself global k n a)
 itself_there nodes n global Container a h = tt
-itself_there nodes n global Ram a h = h
-itself_there nodes n global Rom a h = h
-itself_there nodes n global (RomDevice d) a h = h
-itself_there nodes n global (Io d) a h = h
-itself_there nodes n global Iommu a h = h
 itself_there nodes n global (Alias target offset) a h = tt
-itself_there nodes n global Reserve a h = h
-itself_there nodes n global Host a h = h
+itself_there nodes n global _ a h = h
 
 or_there : (nodes : List Node) (o p : Option Found) → LeafThere nodes o → LeafThere nodes p → LeafThere nodes (option_or o p)
 or_there nodes None p h k = k

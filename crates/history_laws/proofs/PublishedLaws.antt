@@ -141,16 +141,8 @@ steady h m fs due forest current kept k = record {
 
 -- each event leaves a sound desk
 pub sound_after : (w : World) (e : Event) (n : ℕ) → possible w e ≡ true → IsSoundDesk w.writer.desk → IsSoundDesk (after_telling w e n).writer.desk
-sound_after w (events.Look v) n may k = k
-sound_after w (events.Announce v) n may k = k
-sound_after w (events.Enter v) n may k = k
-sound_after w (events.Leave v) n may k = k
 sound_after w (events.Sweep v) n may k = record { forest = k.forest; few = k.few; places = k.places; pending = k.pending }
-sound_after w (events.Place v) n may k = k
 sound_after w events.Publish n may k = record { forest = k.forest; few = k.few; places = k.places; pending = k.pending }
-sound_after w (events.Word h c step) n may k = k
-sound_after w (events.Mark v region client page) n may k = k
-sound_after w (events.Harvest region client index) n may k = k
 sound_after w (events.Fill c) n may k = record { forest = k.forest; few = k.few; places = k.places; pending = k.pending }
 sound_after w (events.Config c) n may k =
     let d = w.writer.desk in let rest = and_parts _ _ (and_parts _ _ may).0 in
@@ -163,19 +155,13 @@ sound_after w events.Reap n may k = record {
       (λ p e l. l) k.places;
   pending = k.pending;
 }
+sound_after w _ n may k = k
 
 next : (w : World) (fs : List Forest) (ks : List Config) (e : Event) (n : ℕ) (r : Result Reply Refusal) → possible w e ≡ true → r ≡ reply w e
     → IsSoundDesk w.writer.desk → CarriesForests w.writer fs → Next w.writer (after_telling w e n).writer e r fs ks
-next w fs ks (events.Look v) n r may is s k = (fs, k, refl)
-next w fs ks (events.Announce v) n r may is s k = (fs, k, refl)
-next w fs ks (events.Enter v) n r may is s k = (fs, k, refl)
-next w fs ks (events.Leave v) n r may is s k = (fs, k, refl)
 next w fs ks (events.Sweep v) n r may is s k = (fs, steady w.writer _ fs refl refl refl refl k, refl)
 next w fs ks (events.Place v) n r may is s k = (fs, steady w.writer _ fs refl refl refl refl k, refl)
 next w fs ks events.Publish n r may is s k = (fs, published_next w.writer _ fs (and_parts _ _ may).0 k _ refl refl refl, refl)
-next w fs ks (events.Word h c step) n r may is s k = (fs, k, refl)
-next w fs ks (events.Mark v region client page) n r may is s k = (fs, k, refl)
-next w fs ks (events.Harvest region client index) n r may is s k = (fs, k, refl)
 next w fs ks (events.Fill c) n r may is s k = (fs, steady w.writer _ fs refl refl refl refl k, refl)
 next w fs ks (events.Config c) n r may is s k =
     let d = w.writer.desk in let g = w.writer.generations in
@@ -189,6 +175,7 @@ next w fs ks (events.Config c) n r may is s k =
           ∙ sym (append_assoc fs (due_forests m.desk.due m.desk.forest) (committed_from (stands m.desk) ks)),
     )
 next w fs ks events.Reap n r may is s k = (fs, steady w.writer _ fs refl refl refl refl k, refl)
+next w fs ks _ n r may is s k = (fs, k, refl)
 
 carries_from : (w : World) (xs : List PureEntry) (fs : List Forest) → IsSoundDesk w.writer.desk → CarriesForests w.writer fs → IsLegalFrom w xs
     → CarriesForests (after_entries w xs).writer (fs ++ committed_from (stands w.writer.desk) (accepted xs))
@@ -219,18 +206,8 @@ generations_are_committed pool_words passes xs l = carries_from (opening pool_wo
 commits_next : (w : World) (ks : List Config) (e : Event) (n : ℕ) (r : Result Reply Refusal) → possible w e ≡ true → r ≡ reply w e → IsSoundDesk w.writer.desk →
     let m = (after_telling w e n).writer.desk in
     forest_due w.writer.desk ++ committed_from (stands w.writer.desk) (accepted_one e r ++ ks) ≡ forest_at w e ++ (forest_due m ++ committed_from (stands m) ks)
-commits_next w ks (events.Look v) n r may is s = refl
-commits_next w ks (events.Announce v) n r may is s = refl
-commits_next w ks (events.Enter v) n r may is s = refl
-commits_next w ks (events.Leave v) n r may is s = refl
-commits_next w ks (events.Sweep v) n r may is s = refl
-commits_next w ks (events.Place v) n r may is s = refl
 commits_next w ks events.Publish n r may is s = let d = w.writer.desk in
     ap (λ (b : Bool). due_forests b d.forest ++ committed_from (stands d) ks) (and_parts _ _ may).0
-commits_next w ks (events.Word h c step) n r may is s = refl
-commits_next w ks (events.Mark v region client page) n r may is s = refl
-commits_next w ks (events.Harvest region client index) n r may is s = refl
-commits_next w ks (events.Fill c) n r may is s = refl
 commits_next w ks (events.Config c) n r may is s =
     let d = w.writer.desk in let g = w.writer.generations in
     let rest = and_parts _ _ (and_parts _ _ may).0 in
@@ -239,7 +216,7 @@ commits_next w ks (events.Config c) n r may is s =
     ap (λ (b : Bool). due_forests b d.forest ++ committed_from (stands d) (accepted_one (events.Config c) r ++ ks)) off
     ∙ ap (λ (r : Result Reply Refusal). committed_from (stands d) (accepted_one (events.Config c) r ++ ks)) is
     ∙ told_commits d m.desk c m.answer ks o.tells
-commits_next w ks events.Reap n r may is s = refl
+commits_next w ks _ n r may is s = refl
 
 commits_from : (w : World) (xs : List PureEntry) → IsSoundDesk w.writer.desk → IsLegalFrom w xs
     → forest_due w.writer.desk ++ committed_from (stands w.writer.desk) (accepted xs) ≡ forests_published w xs ++ forest_due (after_entries w xs).writer.desk

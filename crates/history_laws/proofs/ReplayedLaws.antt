@@ -324,10 +324,7 @@ module _ (g : Generations) (d : Desk) (off : d.due ≡ false) (k : IsTold d.fore
 
   no_join : (c : Config) (why : Refusal) (id : ListenerId) → joins_by id (events.Config c) (answers c (Err why)) ≡ false
   no_join configs.Begin why id = refl
-  no_join (configs.Call call) why id = refl
-  no_join configs.Commit why id = refl
-  no_join (configs.Listen listener space priority) why id = refl
-  no_join (configs.Unlisten listener) why id = refl
+  no_join _ why id = refl
 
   refusing : (c : Config) (why : Refusal) → Step c (refused_desk d why)
   refusing c why = record { told = undue d off k; goes_on = stays d.listening _ (no_join c why) }

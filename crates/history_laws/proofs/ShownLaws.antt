@@ -40,19 +40,10 @@ module _ (pool_words : ℕ) (w : World) (k : KeepsPlaces pool_words w) where
 
   backs_shows : (e : Event) (n : ℕ) → Backs pool_words (after_telling w e n).writer.desk × Every (Shown pool_words)
       (after_telling w e n).writer.generations.kept
-  backs_shows (events.Look v) n = (k.backs, k.shown)
-  backs_shows (events.Announce v) n = (k.backs, k.shown)
-  backs_shows (events.Enter v) n = (k.backs, k.shown)
-  backs_shows (events.Leave v) n = (k.backs, k.shown)
-  backs_shows (events.Sweep v) n = (k.backs, k.shown)
-  backs_shows (events.Place v) n = (k.backs, k.shown)
   backs_shows events.Publish n = (k.backs, (carried, every_taken (Shown pool_words) (most_generations - 1) w.writer.generations.kept k.shown))
-  backs_shows (events.Word h c step) n = (k.backs, k.shown)
-  backs_shows (events.Mark v region client page) n = (k.backs, k.shown)
-  backs_shows (events.Harvest region client index) n = (k.backs, k.shown)
-  backs_shows (events.Fill c) n = (k.backs, k.shown)
   backs_shows (events.Config c) n = (configured_backs pool_words w.writer.generations w.writer.desk k.sound k.backs c, k.shown)
   backs_shows events.Reap n = (reap_backs pool_words w.writer k.dropped k.backs, k.shown)
+  backs_shows _ n = (k.backs, k.shown)
 
   keeps_after : (e : Event) (n : ℕ) → possible w e ≡ true → KeepsPlaces pool_words (after_telling w e n)
   keeps_after e n may = let t = backs_shows e n in record {

@@ -6,7 +6,7 @@ use Rattle.std.proofs.Math.Seq.{take-length}
 use Rattle.mem_base.specs.declared.map.ids.SpaceId.{SpaceId}
 use Rattle.mem_base.specs.declared.map.spots.Spot.{Spot}
 use Rattle.mem_base.specs.declared.map.kinds.Kind.{Kind}
-use Rattle.mem_base.specs.declared.map.kinds.Kind.TheVariants.{Container, Ram, Rom, RomDevice, Io, Iommu, Alias, Reserve, Host}
+use Rattle.mem_base.specs.declared.map.kinds.Kind.TheVariants.{Ram, Rom, RomDevice}
 use Rattle.mem_base.specs.declared.map.forests.Node.{Node}
 use Rattle.mem_base.specs.declared.map.forests.Forest.{Forest}
 use Rattle.mem_base.specs.declared.access.accesses.Target.{Target}
@@ -38,12 +38,7 @@ direct_kind Ram n spot t e = refl
 direct_kind Rom n spot t e = refl
 direct_kind (RomDevice device) n spot t e =
     ap (λ (b : Bool). if b then in_memory spot t else in_device n device (data_words n.size) spot.offset (length_of t) t) e
-direct_kind Container n spot t e = cc
-direct_kind (Io device) n spot t e = cc
-direct_kind Iommu n spot t e = cc
-direct_kind (Alias target offset) n spot t e = cc
-direct_kind Reserve n spot t e = cc
-direct_kind Host n spot t e = cc
+direct_kind _ n spot t e = cc
 
 pub direct_target : (f : Forest) (x : Target) (t : Transfer) → is_direct_target f (is_write t) x ≡ true
     → (spot : Spot) × (x ≡ Leaf spot) × (at_target f x t ≡ in_memory spot t)
@@ -57,18 +52,12 @@ direct_target f (Leaf spot) t e = (spot, refl, go (node_of f.nodes spot.leaf) e)
 -- what is written directly is not read-only
 written_kind : (k : Kind) (spot : Spot) → is_direct_kind k true spot.attrs ≡ true → spot.attrs.readonly ≡ false
 written_kind Ram spot e = not-true spot.attrs.readonly e
-written_kind Rom spot e = cc
 written_kind (RomDevice device) spot e = go spot.attrs.romd e
   where
     go : (b : Bool) → (b && false) ≡ true → spot.attrs.readonly ≡ false
     go true e = cc
     go false e = cc
-written_kind Container spot e = cc
-written_kind (Io device) spot e = cc
-written_kind Iommu spot e = cc
-written_kind (Alias target offset) spot e = cc
-written_kind Reserve spot e = cc
-written_kind Host spot e = cc
+written_kind _ spot e = cc
 
 written_node : (o : Option Node) (spot : Spot) → is_direct_node o true spot.attrs ≡ true → spot.attrs.readonly ≡ false
 written_node None spot e = cc

@@ -4,7 +4,7 @@ use Rattle.mem_base.specs.declared.map.ids.RegionId.{RegionId}
 use Rattle.mem_base.specs.declared.map.spots.Attrs.{Attrs}
 use Rattle.mem_base.specs.declared.map.spots.Spot.{Spot}
 use Rattle.mem_base.specs.declared.map.kinds.Kind.{Kind}
-use Rattle.mem_base.specs.declared.map.kinds.Kind.TheVariants.{Container, Ram, Rom, RomDevice, Io, Iommu, Alias, Reserve, Host}
+use Rattle.mem_base.specs.declared.map.kinds.Kind.TheVariants.{Ram, Rom, RomDevice}
 use Rattle.mem_base.specs.declared.map.forests.Node.{Node}
 use Rattle.mem_base.specs.declared.access.cells.Place.{Place}
 use Rattle.mem_base.specs.map.Kinds.{has_bytes}
@@ -23,12 +23,7 @@ direct_bytes : (k : Kind) (write : Bool) (attrs : Attrs) → is_direct_kind k wr
 direct_bytes Ram write attrs e = refl
 direct_bytes Rom write attrs e = refl
 direct_bytes (RomDevice device) write attrs e = refl
-direct_bytes Container write attrs e = cc
-direct_bytes (Io device) write attrs e = cc
-direct_bytes Iommu write attrs e = cc
-direct_bytes (Alias target offset) write attrs e = cc
-direct_bytes Reserve write attrs e = cc
-direct_bytes Host write attrs e = cc
+direct_bytes _ write attrs e = cc
 
 module _ (g : Published) (k : IsEdition g.forest g.places) (r : RegionId) (n : Node) (named : names g.forest r ≡ true)
     (is : node_of g.forest.nodes r ≡ Some n) (write : Bool) (attrs : Attrs) (direct : is_direct_kind n.kind write attrs ≡ true) where

@@ -28,9 +28,7 @@ kept ps qs = filter (λ p. list_any (is_same_part p) qs) ps
 
 same_perm : (p : Perm) → is_same_perm p p ≡ true
 same_perm Nothing = refl
-same_perm Read = refl
-same_perm Write = refl
-same_perm Both = refl
+same_perm _ = refl
 
 is_perm : (p q : Perm) → is_same_perm p q ≡ true → p ≡ q
 is_perm Nothing Nothing e = refl

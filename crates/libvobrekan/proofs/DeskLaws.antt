@@ -47,10 +47,7 @@ turned_on_handle before c d k put answer told places out after had is there turn
 
 pub memory_told : (event : Config) → (answer_told (answer_by event (Err refusal.Memory))).code ≡ code_memory
 memory_told configs.Begin = refl
-memory_told (configs.Call call) = refl
-memory_told configs.Commit = refl
-memory_told (configs.Listen listener space priority) = refl
-memory_told (configs.Unlisten listener) = refl
+memory_told _ = refl
 
 pub told_memory : (event : Config) (r : Result (Applied × Option ℕ) Refusal) → (answer_told (answer_by event r)).code ≡ code_memory
     → r ≡ Err refusal.Memory

@@ -7,7 +7,7 @@ use Rattle.mem_base.specs.declared.map.ids.SpaceId.{SpaceId}
 use Rattle.mem_base.specs.declared.map.forests.Node.{Node}
 use Rattle.mem_base.specs.declared.map.forests.Forest.{Forest}
 use Rattle.mem_base.specs.declared.map.kinds.Kind.{Kind}
-use Rattle.mem_base.specs.declared.map.kinds.Kind.TheVariants.{Container, Ram, Rom, RomDevice, Io, Iommu, Alias, Reserve, Host}
+use Rattle.mem_base.specs.declared.map.kinds.Kind.TheVariants.{Container, Alias}
 use Rattle.mem_base.specs.map.Limits.{most_depth}
 use Rattle.mem_base.specs.map.Region.{node_of}
 use Rattle.mem_base.specs.map.Order.{children_of}
@@ -22,14 +22,8 @@ passed_to_leaf n most (Some x) h = (let l = h.0 in omega arith, ends x.0.leaf n.
 
 itself_to_leaf : (n : Node) (most : ℕ) (global : Bool) (k : Kind) (a : ℕ) → IsPathToLeaf (suc most) (option_map (passed n) (itself global k n a))
 itself_to_leaf n most global Container a = tt
-itself_to_leaf n most global Ram a = (omega arith, refl)
-itself_to_leaf n most global Rom a = (omega arith, refl)
-itself_to_leaf n most global (RomDevice device) a = (omega arith, refl)
-itself_to_leaf n most global (Io device) a = (omega arith, refl)
-itself_to_leaf n most global Iommu a = (omega arith, refl)
 itself_to_leaf n most global (Alias target offset) a = tt
-itself_to_leaf n most global Reserve a = (omega arith, refl)
-itself_to_leaf n most global Host a = (omega arith, refl)
+itself_to_leaf n most global _ a = (omega arith, refl)
 
 or_to_leaf : (most : ℕ) (o p : Option Found) → IsPathToLeaf most o → IsPathToLeaf most p → IsPathToLeaf most (option_or o p)
 or_to_leaf most None p h k = k

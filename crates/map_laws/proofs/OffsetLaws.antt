@@ -10,7 +10,7 @@ use Rattle.mem_base.specs.declared.map.forests.Forest.{Forest}
 use Rattle.mem_base.specs.declared.map.spots.Spot.{Spot}
 use Rattle.mem_base.specs.declared.map.calls.Call.{Call}
 use Rattle.mem_base.specs.declared.map.kinds.Kind.{Kind}
-use Rattle.mem_base.specs.declared.map.kinds.Kind.TheVariants.{Container, Ram, Rom, RomDevice, Io, Iommu, Alias, Reserve, Host}
+use Rattle.mem_base.specs.declared.map.kinds.Kind.TheVariants.{Container, Alias}
 use Rattle.mem_base.specs.lists.Every.{Every}
 use Rattle.mem_base.specs.map.Limits.{most_depth}
 use Rattle.mem_base.specs.map.Region.{node_of}
@@ -36,14 +36,8 @@ passed_below n (Some x) h = h
 
 itself_below : (n : Node) (global : Bool) (k : Kind) (a : ℕ) → a < 2 ^ 64 → IsBelow (itself global k n a)
 itself_below n global Container a l = tt
-itself_below n global Ram a l = l
-itself_below n global Rom a l = l
-itself_below n global (RomDevice device) a l = l
-itself_below n global (Io device) a l = l
-itself_below n global Iommu a l = l
 itself_below n global (Alias target offset) a l = tt
-itself_below n global Reserve a l = l
-itself_below n global Host a l = l
+itself_below n global _ a l = l
 
 or_below : (o p : Option Found) → IsBelow o → IsBelow p → IsBelow (option_or o p)
 or_below None p h k = k

@@ -12,7 +12,7 @@ use Rattle.mem_base.specs.map.Region.{IsAscending, node_of, has_id}
 use Rattle.mem_base.proofs.EveryLaws.{every_at}
 use Rattle.mem_base.proofs.ForestLaws.{node_of-itself, id_of}
 use Rattle.mem_base.specs.declared.map.kinds.Kind.{Kind}
-use Rattle.mem_base.specs.declared.map.kinds.Kind.TheVariants.{Alias, Container, Ram, Rom, RomDevice, Io, Iommu, Reserve, Host}
+use Rattle.mem_base.specs.declared.map.kinds.Kind.TheVariants.{Alias, Ram, Rom, RomDevice}
 use Rattle.mem_base.specs.map.Kinds.{target_of, has_bytes}
 use Rattle.mem_base.specs.map.Order.{children_of, ids_of}
 use Rattle.mem_base.specs.map.Steps.{steps_at}
@@ -84,9 +84,4 @@ pub whole_bytes : (kind : Kind) (size : ℕ) → has_bytes kind ≡ true → (ex
 whole_bytes Ram size e = refl
 whole_bytes Rom size e = refl
 whole_bytes (RomDevice device) size e = refl
-whole_bytes Container size e = cc
-whole_bytes (Io device) size e = cc
-whole_bytes Iommu size e = cc
-whole_bytes (Alias target offset) size e = cc
-whole_bytes Reserve size e = cc
-whole_bytes Host size e = cc
+whole_bytes _ size e = cc

@@ -15,7 +15,7 @@ use Rattle.mem_base.specs.declared.map.forests.Node.{Node}
 use Rattle.mem_base.specs.declared.map.forests.Forest.{Forest}
 use Rattle.mem_base.specs.declared.map.spots.Spot.{Spot}
 use Rattle.mem_base.specs.declared.map.kinds.Kind.{Kind}
-use Rattle.mem_base.specs.declared.map.kinds.Kind.TheVariants.{Container, Ram, Rom, RomDevice, Io, Iommu, Alias, Reserve, Host}
+use Rattle.mem_base.specs.declared.map.kinds.Kind.TheVariants.{Ram, Rom, RomDevice, Io}
 use Rattle.mem_base.specs.declared.map.kinds.Ops.{Ops}
 use Rattle.mem_base.specs.declared.map.ioevents.Ioevent.{Ioevent}
 use Rattle.mem_base.specs.declared.access.accesses.Target.{Target}
@@ -79,11 +79,7 @@ module _ (f : Forest) (w : Bool) (x : Spot) (region : RegionId) (offset : ℕ) (
       let o : device.ops ≡ ops = cc in
       let v : n.events ≡ events = cc in
       (cc, cc, λ m. (λ i. by_device x.leaf (x.offset + m) (o i) (v i)))
-  at_kind Container n e = absurd (no_one e)
-  at_kind Iommu n e = absurd (no_one e)
-  at_kind (Alias target at) n e = absurd (no_one e)
-  at_kind Reserve n e = absurd (no_one e)
-  at_kind Host n e = absurd (no_one e)
+  at_kind _ n e = absurd (no_one e)
 
   device_at : answerer f w (Leaf x) ≡ by_device region offset ops events → IsDeviceAt f w x region offset ops events
   device_at e = let t = go (node_of f.nodes x.leaf) e in record { leaf = t.0; here = t.1; further_on = t.2 }
@@ -360,11 +356,7 @@ module _ (f : Forest) (w : Bool) (s : SpaceId) where
           direct true = tt
           direct false = good_sizes f.nodes n device region (ap device_of e)
       kind (Io device) n e region = good_sizes f.nodes n device region (ap device_of e)
-      kind Container n e region = tt
-      kind Iommu n e region = tt
-      kind (Alias target at) n e region = tt
-      kind Reserve n e region = tt
-      kind Host n e region = tt
+      kind _ n e region = tt
 
       go : (o : Option Node) → node_of f.nodes x.leaf ≡ o → HasSizes (answerer_in o x w)
       go None e = tt

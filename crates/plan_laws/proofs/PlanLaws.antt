@@ -9,7 +9,7 @@ use Rattle.mem_base.specs.declared.map.forests.Node.{Node}
 use Rattle.mem_base.specs.declared.map.forests.Forest.{Forest}
 use Rattle.mem_base.specs.declared.map.spots.Spot.{Spot}
 use Rattle.mem_base.specs.declared.map.kinds.Kind.{Kind}
-use Rattle.mem_base.specs.declared.map.kinds.Kind.TheVariants.{Container, Ram, Rom, RomDevice, Io, Iommu, Alias, Reserve, Host}
+use Rattle.mem_base.specs.declared.map.kinds.Kind.TheVariants.{Ram, Rom, RomDevice, Io}
 use Rattle.mem_base.specs.declared.map.kinds.Client.{Client}
 use Rattle.mem_base.specs.declared.map.kinds.Device.{Device}
 use Rattle.mem_base.specs.declared.access.accesses.Target.{Target}
@@ -144,11 +144,7 @@ module _ (f : Forest) where
     where
       is : (offset size : ℕ) (r : Request) → by_region (node_of f.nodes spot.leaf) offset size r ≡ by_register n.id device 0 offset size r ∷ []
       is offset size r = ap (λ o. by_region o offset size r) e ∙ ap (λ q. by_kind q n offset size r) k
-  leaf_at Container n spot t k e = nobody_is t
-  leaf_at Iommu n spot t k e = nobody_is t
-  leaf_at (Alias target offset) n spot t k e = nobody_is t
-  leaf_at Reserve n spot t k e = nobody_is t
-  leaf_at Host n spot t k e = nobody_is t
+  leaf_at _ n spot t k e = nobody_is t
 
   target_at : (x : Target) (t : Transfer) → does (reached (answerer f (is_write t) x) t) ≡ whole.at_target f x t
   target_at Unassigned t = nobody_is t

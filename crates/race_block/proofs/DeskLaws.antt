@@ -47,16 +47,8 @@ use Rattle.race_block.specs.Desks.{Gives, GivesOwn, HasHeard, IsAsked, OrderFits
 -- a notifier of an order that fits
 
 has_notifier : (order : DeskOrder) → FitsDeskOrder order → HasNotifier order
-has_notifier orders.Begin h = tt
-has_notifier (orders.Call call) h = tt
-has_notifier orders.Commit h = tt
-has_notifier orders.Reap h = tt
-has_notifier (orders.Listen listener space priority) h = tt
-has_notifier (orders.Unlisten listener) h = tt
-has_notifier (orders.Load region offset bytes) h = tt
-has_notifier (orders.Harvest region client) h = tt
 has_notifier (orders.Notified number) h = h
-has_notifier orders.Look h = tt
+has_notifier _ h = tt
 
 pub order_fits : (k : Known) (c : Command) (x : Result LineTask Refused) → FitsCommand c → Resolves k x (task_of k c) → OrderFits x
 order_fits k c (Err why) fits r = tt
@@ -76,14 +68,8 @@ order_fits k c (Ok (Copied space addr len to to_addr)) fits r = tt
 
 told_by : (answer : DeskAnswer) (xs ys : List HistoryEntry) → IsPrefix xs ys → HasSeenTold xs (number_told answer)
     → number_looked answer < length (generations_published ys)
-told_by answers.Done xs ys h k = some_published ys
-told_by (answers.Called applied number) xs ys h k = some_published ys
-told_by (answers.Committed number) xs ys h k = some_published ys
-told_by (answers.Released regions) xs ys h k = some_published ys
-told_by (answers.Pages pages) xs ys h k = some_published ys
-told_by (answers.Value value) xs ys h k = some_published ys
 told_by (answers.Looked number) xs ys h k = published_more xs ys h number k.inside
-told_by (answers.Refused why) xs ys h k = some_published ys
+told_by _ xs ys h k = some_published ys
 
 -- what a look hands out is the generation of the number that it tells
 record IsLooked (number : ℕ) (g : Published) (ys : List HistoryEntry) : Type 0 where
@@ -92,27 +78,16 @@ record IsLooked (number : ℕ) (g : Published) (ys : List HistoryEntry) : Type 0
 
 looked_by : (answer : DeskAnswer) (g : Published) (xs ys : List HistoryEntry) → IsPrefix xs ys → IsAnswerTo orders.Look answer
     → HasSeenTold xs (number_told answer) → HandsOut orders.Look answer (Some g) xs → IsLooked (number_looked answer) g ys
-looked_by answers.Done g xs ys h a k o = absurd a
-looked_by (answers.Called applied number) g xs ys h a k o = absurd a
-looked_by (answers.Committed number) g xs ys h a k o = absurd a
-looked_by (answers.Released regions) g xs ys h a k o = absurd a
-looked_by (answers.Pages pages) g xs ys h a k o = absurd a
-looked_by (answers.Value value) g xs ys h a k o = absurd a
 looked_by (answers.Looked number) g xs ys h a k o = record {
   number_is = sym o.0;
   forest_is = ap (λ (x : Generation). x.forest) (generation_stays xs ys h number k.inside) ∙ sym o.1;
 }
 looked_by (answers.Refused why) g xs ys h a k o = absurd a.0
+looked_by _ g xs ys h a k o = absurd a
 
 pub hands_out : (answer : DeskAnswer) (xs : List HistoryEntry) → HandsOut orders.Look answer None xs → ⊥
 hands_out answers.Done xs h = h
-hands_out (answers.Called applied number) xs h = h
-hands_out (answers.Committed number) xs h = h
-hands_out (answers.Released regions) xs h = h
-hands_out (answers.Pages pages) xs h = h
-hands_out (answers.Value value) xs h = h
-hands_out (answers.Looked number) xs h = h
-hands_out (answers.Refused why) xs h = h
+hands_out _ xs h = h
 
 -- a line, by its task
 abbrev line_at : List Generation → Known → ℕ → Resolved Task → List DeskEntry → DeskLine

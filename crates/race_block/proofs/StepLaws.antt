@@ -81,11 +81,7 @@ pub stays_inside : (task : PassTask) (c : Clerk) (v : PassValue Published) (got 
     → HasDone task c v got d w → IsInItsGeneration w × (w.cabinet ≡ v.cabinet)
 stays_inside (Refused why) c v got d w inside h = subst (λ (z : PassValue Published). IsInItsGeneration z × (z.cabinet ≡ v.cabinet)) (sym h.2) (inside, refl)
 stays_inside (Order order) c v got d w inside h = (h.1.inside, h.1.grew.cabinet)
-stays_inside Enter c v got d w inside h = (h.does.inside, h.does.grew.cabinet)
-stays_inside Leave c v got d w inside h = (h.does.inside, h.does.grew.cabinet)
-stays_inside (Read space addr len) c v got d w inside h = (h.does.inside, h.does.grew.cabinet)
-stays_inside (Write space addr bytes) c v got d w inside h = (h.does.inside, h.does.grew.cabinet)
-stays_inside (Copy from addr len to to_addr) c v got d w inside h = (h.does.inside, h.does.grew.cabinet)
+stays_inside _ c v got d w inside h = (h.does.inside, h.does.grew.cabinet)
 
 take_more : (xs : List BlockLine) (at : ℕ) (x : BlockLine) → at < length xs → slice_index_or xs at x ≡ x → take (at + 1) xs ≡ take at xs ++ x ∷ []
 take_more [] at x l is = absurd (omega (arith, l))
@@ -112,28 +108,14 @@ underway_then xs c v at d e w x all more line h less is s =
 -- what an order published
 
 above : (order : DeskOrder) (applied : Applied) (number : ℕ) → IsAnswerTo order (answers.Called applied (Some number)) → 0 < number
-above orders.Begin applied number h = absurd h
 above (orders.Call call) applied number h = h.1
-above orders.Commit applied number h = absurd h
-above orders.Reap applied number h = absurd h
-above (orders.Listen listener space priority) applied number h = absurd h
-above (orders.Unlisten listener) applied number h = absurd h
-above (orders.Load region offset bytes) applied number h = absurd h
-above (orders.Harvest region client) applied number h = absurd h
-above (orders.Notified number') applied number h = absurd h
-above orders.Look applied number h = absurd h
+above _ applied number h = absurd h
 
 published_seen : (order : DeskOrder) (answer : DeskAnswer) (seen : List HistoryEntry) → IsAnswerTo order answer → HasSeenTold seen (number_told answer)
     → StandsPublished seen (number_published answer)
-published_seen order answers.Done seen h k = tt
 published_seen order (answers.Called applied None) seen h k = tt
 published_seen order (answers.Called applied (Some number)) seen h k = k.stands (above order applied number h)
-published_seen order (answers.Committed number) seen h k = tt
-published_seen order (answers.Released regions) seen h k = tt
-published_seen order (answers.Pages pages) seen h k = tt
-published_seen order (answers.Value value) seen h k = tt
-published_seen order (answers.Looked number) seen h k = tt
-published_seen order (answers.Refused why) seen h k = tt
+published_seen order _ seen h k = tt
 
 any_more : (number : ℕ) (xs ys : List HistoryEntry) → list_any (publishes_number number) xs ≡ true → list_any (publishes_number number) (xs ++ ys) ≡ true
 any_more number [] ys h = absurd (grind arith)

@@ -1,6 +1,6 @@
 -- The desk goes on with its lines: each asks for its order, if any, and then what is current.
 use Rattle.std.proofs.Common.{◌≡◌, ℕ, ◌≤◌, true, eqb, List, [], ◌∷◌, ◌++◌, length, map, refl, sym, ap, ◌∙◌, subst, arith}
-use Rattle.std.proofs.Common.{Result, Ok, Err, append_assoc, append-nil, length-append, lt_of_lt_of_le}
+use Rattle.std.proofs.Common.{Result, Ok, append_assoc, append-nil, length-append, lt_of_lt_of_le}
 use Rattle.std.proofs.lemmas.List.{map-append}
 use Rattle.std.specs.List.{list_any}
 use Rattle.mem_base.specs.declared.machine.events.HistoryEntry.{HistoryEntry}
@@ -101,17 +101,14 @@ pub record DeskOn (pool : ℕ) (os : List Answered) (s : Stand) (phase : Phase) 
   pub at : DeskIs s course lines now
 
 asks_fit : (task : Result Task Text) → FitsTask task → Every FitsDeskOrder (orders_of task ++ orders.Look ∷ [])
-asks_fit (Err why) h = (tt, tt)
-asks_fit (Ok tasks.idle) h = (tt, tt)
 asks_fit (Ok (tasks.ordered order name)) h = (h, (tt, tt))
 asks_fit (Ok (tasks.shown s)) h = (tt, tt)
 asks_fit (Ok (tasks.found s addr)) h = (tt, tt)
 asks_fit (Ok (tasks.watched name r first last)) h = (tt, tt)
 asks_fit (Ok (tasks.unwatched id)) h = (tt, tt)
-asks_fit (Ok tasks.entered) h = (tt, tt)
-asks_fit (Ok tasks.left) h = (tt, tt)
 asks_fit (Ok (tasks.accessed s addr transfer)) h = (tt, tt)
 asks_fit (Ok (tasks.copied from addr n to to_addr)) h = (tt, tt)
+asks_fit _ h = (tt, tt)
 
 -- one more line, of which this was got already
 pub desk_line_with : (pool : ℕ) (os : List Answered) (s : Stand) (phase : Phase) → HasClerk phase desk_number → (c : Course) (front : List Line) (now : Known)

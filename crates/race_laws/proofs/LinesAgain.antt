@@ -1,6 +1,6 @@
 -- The lines that a pass has done, once more: what holds of them stays whatever follows.
 use Rattle.std.proofs.Common.{◌≡◌, ℕ, zero, suc, ◌+◌, ◌<◌, ◌≤◌, Bool, true, false, cond, List, [], ◌∷◌, ◌++◌, length, map, drop, take, flat_map}
-use Rattle.std.proofs.Common.{refl, sym, ap, ◌∙◌, subst, arith, Option, Some, None, Result, Ok, Err, not, ◌||◌, length-append}
+use Rattle.std.proofs.Common.{refl, sym, ap, ◌∙◌, subst, arith, Option, Some, None, Result, Ok, not, ◌||◌, length-append}
 use Rattle.std.specs.List.{list_any, before_first, position_or_len}
 use Rattle.std.specs.Prelude.{nat_le}
 use Rattle.mem_base.specs.declared.map.ids.PassId.{PassId}
@@ -62,17 +62,14 @@ no_first (x ∷ xs) ys h = absurd (let same : 0 ≡ length (x ∷ xs ++ ys) = ap
 
 entry_free : (gs hs : List Generation) (names others : Names) (pass : PassId) (n : ℕ) (task : Result Task Text) (t u : PassTurn) (e d f : DeskEntry)
     → (line_of_pass gs names pass n task t e).asks ≡ [] → line_of_pass hs others pass n task u d ≡ line_of_pass hs others pass n task u f
-entry_free gs hs names others pass n (Err why) t u e d f h = refl
-entry_free gs hs names others pass n (Ok tasks.idle) t u e d f h = refl
 entry_free gs hs names others pass n (Ok (tasks.ordered order name)) t u e d f h = absurd (let same : 1 ≡ 0 = ap length h in omega (arith, same))
 entry_free gs hs names others pass n (Ok (tasks.shown s)) t u e d f h = refl
 entry_free gs hs names others pass n (Ok (tasks.found s a)) t u e d f h = refl
 entry_free gs hs names others pass n (Ok (tasks.watched name r first last)) t u e d f h = refl
 entry_free gs hs names others pass n (Ok (tasks.unwatched id)) t u e d f h = refl
-entry_free gs hs names others pass n (Ok tasks.entered) t u e d f h = refl
-entry_free gs hs names others pass n (Ok tasks.left) t u e d f h = refl
 entry_free gs hs names others pass n (Ok (tasks.accessed s a transfer)) t u e d f h = refl
 entry_free gs hs names others pass n (Ok (tasks.copied from a m to c)) t u e d f h = refl
+entry_free gs hs names others pass n _ t u e d f h = refl
 
 entry_same : (gs hs : List Generation) (names others : Names) (pass : PassId) (n : ℕ) (task : Result Task Text) (t u : PassTurn)
     (got more : List DeskEntry) (rest : List DeskOrder)

@@ -64,16 +64,8 @@ shared_now pool xs = after_shared_entries (shared_opening (pool + notifier_count
 
 -- what fits fits as an order of the writer
 pub call_fits : (order : DeskOrder) (replies : List ℕ) → FitsDeskOrder order → HasFittingCall (call_of order, replies)
-call_fits orders.Begin replies h = tt
 call_fits (orders.Call call) replies h = h
-call_fits orders.Commit replies h = tt
-call_fits orders.Reap replies h = tt
-call_fits (orders.Listen listener space priority) replies h = tt
-call_fits (orders.Unlisten listener) replies h = tt
-call_fits (orders.Load region offset bytes) replies h = tt
-call_fits (orders.Harvest region client) replies h = tt
-call_fits (orders.Notified number) replies h = tt
-call_fits orders.Look replies h = tt
+call_fits _ replies h = tt
 
 -- any order may follow
 
@@ -87,16 +79,9 @@ module _ (pool : ℕ) (os : List Answered) (xs : List HistoryEntry) (s : Stands 
   made = turns_make_forests pool most_passes os s.fits
 
   order_fits : (order : DeskOrder) → FitsDeskOrder order → IsFitting (world_shown (writer_now pool os) (shared_now pool xs)) (call_of order)
-  order_fits orders.Begin h = tt
-  order_fits (orders.Call call) h = tt
-  order_fits orders.Commit h = tt
-  order_fits orders.Reap h = tt
-  order_fits (orders.Listen listener space priority) h = tt
-  order_fits (orders.Unlisten listener) h = tt
   order_fits (orders.Load region offset bytes) h = made.desk
-  order_fits (orders.Harvest region client) h = tt
   order_fits (orders.Notified number) h = h
-  order_fits orders.Look h = tt
+  order_fits _ h = tt
 
   pub order_goes : (order : DeskOrder) → FitsDeskOrder order → OrderGoes pool os xs (call_of order)
   order_goes order h =

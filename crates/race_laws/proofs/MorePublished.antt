@@ -77,19 +77,9 @@ IsUnder count (Some number) = number < count
 
 event_under : (count : ℕ) (p : PassState) (e : Event) (number : ℕ) → IsUnder count p.entered → number_of_enter e number < count
     → IsUnder count (pass_after p e number).entered
-event_under count p (events.Look v) number h l = h
-event_under count p (events.Announce v) number h l = h
 event_under count p (events.Enter v) number h l = l
 event_under count p (events.Leave v) number h l = tt
-event_under count p (events.Sweep v) number h l = h
-event_under count p (events.Place v) number h l = h
-event_under count p events.Publish number h l = h
-event_under count p (events.Word hand c step) number h l = h
-event_under count p (events.Mark v region client page) number h l = h
-event_under count p (events.Harvest region client index) number h l = h
-event_under count p (events.Fill c) number h l = h
-event_under count p (events.Config c) number h l = h
-event_under count p events.Reap number h l = h
+event_under count p _ number h l = h
 
 pub entries_under : (count : ℕ) (p : PassState) (xs : List HistoryEntry) → IsUnder count p.entered → Every (EntersBelow count) xs
     → IsUnder count (pass_after_all p xs).entered

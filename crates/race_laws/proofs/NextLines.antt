@@ -1,6 +1,6 @@
 -- One more line of the desk or of a pass, after those that it has done.
 use Rattle.std.proofs.Common.{◌≡◌, ℕ, ◌+◌, ◌<◌, List, [], ◌∷◌, ◌++◌, length, map, drop, flat_map, refl, sym, ap, ◌∙◌, subst, arith}
-use Rattle.std.proofs.Common.{Option, Some, None, Result, Ok, Err, append-nil, append_assoc, length-append}
+use Rattle.std.proofs.Common.{Option, Some, None, Result, Ok, append-nil, append_assoc, length-append}
 use Rattle.std.proofs.lemmas.List.{map-append, drop_at, length-map}
 use Rattle.std.proofs.lemmas.Grind.{flat_map-append}
 use lib.ListN.{get_or-append}
@@ -77,21 +77,16 @@ orders_of (Ok (tasks.ordered order name)) = order ∷ []
 orders_of _ = []
 
 first_counts : (task : Result Task Text) → asked_first task ≡ length (orders_of task)
-first_counts (Err why) = refl
-first_counts (Ok tasks.idle) = refl
 first_counts (Ok (tasks.ordered order name)) = refl
 first_counts (Ok (tasks.shown s)) = refl
 first_counts (Ok (tasks.found s addr)) = refl
 first_counts (Ok (tasks.watched name r first last)) = refl
 first_counts (Ok (tasks.unwatched id)) = refl
-first_counts (Ok tasks.entered) = refl
-first_counts (Ok tasks.left) = refl
 first_counts (Ok (tasks.accessed s addr transfer)) = refl
 first_counts (Ok (tasks.copied from addr n to to_addr)) = refl
+first_counts _ = refl
 
 pub own_asks : (k : Known) (n : ℕ) (task : Result Task Text) (e : DeskEntry) (number : ℕ) (f : Forest) → (own_line k n task e number f).asks ≡ orders_of task
-own_asks k n (Err why) e number f = refl
-own_asks k n (Ok tasks.idle) e number f = refl
 own_asks k n (Ok (tasks.ordered order name)) e number f = refl
 own_asks k n (Ok (tasks.shown s)) e number f = refl
 own_asks k n (Ok (tasks.found s addr)) e number f = refl
@@ -101,10 +96,9 @@ own_asks k n (Ok (tasks.watched name r first last)) e number f = go (new_watcher
     go w None = refl
     go w (Some why) = refl
 own_asks k n (Ok (tasks.unwatched id)) e number f = refl
-own_asks k n (Ok tasks.entered) e number f = refl
-own_asks k n (Ok tasks.left) e number f = refl
 own_asks k n (Ok (tasks.accessed s addr transfer)) e number f = refl
 own_asks k n (Ok (tasks.copied from addr m to to_addr)) e number f = refl
+own_asks k n _ e number f = refl
 
 -- a line by the entries that it reads, and the current generation
 abbrev line_by : Known → ℕ → Result Task Text → DeskEntry → DeskEntry → Generation → DeskLine

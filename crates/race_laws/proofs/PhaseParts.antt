@@ -81,14 +81,7 @@ writer_actor (events.Enter v) h = absurd (grind arith)
 writer_actor (events.Leave v) h = absurd (grind arith)
 writer_actor (events.Mark v region client page) h = absurd (grind arith)
 writer_actor (events.Word (hands.Pass v) c step) h = absurd (grind arith)
-writer_actor (events.Word hands.Writer c step) h = refl
-writer_actor (events.Sweep v) h = refl
-writer_actor (events.Place v) h = refl
-writer_actor events.Publish h = refl
-writer_actor (events.Harvest region client index) h = refl
-writer_actor (events.Fill c) h = refl
-writer_actor (events.Config k) h = refl
-writer_actor events.Reap h = refl
+writer_actor _ h = refl
 
 none_of_pass : (v : ℕ) (xs : List HistoryEntry) → own_entries (v + 1) (writers_of xs) ≡ []
 none_of_pass v [] = refl

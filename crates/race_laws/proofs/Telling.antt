@@ -107,9 +107,7 @@ device_kind_of ns =
 
 device_kind_again : (x : DeviceKind) → device_kind_of (code_device_kind x) ≡ x
 device_kind_again device_kinds.Latch = refl
-device_kind_again device_kinds.Count = refl
-device_kind_again device_kinds.Bell = refl
-device_kind_again device_kinds.Fault = refl
+device_kind_again _ = refl
 
 abbrev code_device : Device → List ℕ
 code_device d = d.regs ∷ d.ops.valid_min ∷ d.ops.valid_max ∷ code_bool d.ops.valid_unaligned ∷ d.ops.impl_min ∷ d.ops.impl_max
@@ -185,9 +183,7 @@ perm_of ns =
 
 perm_again : (x : Perm) → perm_of (code_perm x) ≡ x
 perm_again perms.Nothing = refl
-perm_again perms.Read = refl
-perm_again perms.Write = refl
-perm_again perms.Both = refl
+perm_again _ = refl
 
 abbrev code_kind : Kind → List ℕ
 code_kind kinds.Container = 0 ∷ []
@@ -213,15 +209,9 @@ kind_of ns =
     else kinds.Host
 
 kind_again : (x : Kind) → kind_of (code_kind x) ≡ x
-kind_again kinds.Container = refl
-kind_again kinds.Ram = refl
-kind_again kinds.Rom = refl
 kind_again (kinds.RomDevice a) = (λ i. kinds.RomDevice (device_again a i))
 kind_again (kinds.Io a) = (λ i. kinds.Io (device_again a i))
-kind_again kinds.Iommu = refl
-kind_again (kinds.Alias a b) = refl
-kind_again kinds.Reserve = refl
-kind_again kinds.Host = refl
+kind_again _ = refl
 
 abbrev code_what : What → List ℕ
 code_what (whats.Region a) = 0 ∷ a.0 ∷ []
@@ -242,11 +232,7 @@ what_of ns =
 
 what_again : (x : What) → what_of (code_what x) ≡ x
 what_again (whats.Region a) = refl
-what_again (whats.Space a) = refl
-what_again (whats.Listener a) = refl
-what_again (whats.Watcher a) = refl
-what_again (whats.Entry a) = refl
-what_again (whats.Event a) = refl
+what_again _ = refl
 
 abbrev code_user : User → List ℕ
 code_user (users.Region a) = 0 ∷ a.0 ∷ []
@@ -284,13 +270,7 @@ which_of ns =
 
 which_again : (x : Which) → which_of (code_which x) ≡ x
 which_again whiches.Regions = refl
-which_again whiches.Made = refl
-which_again whiches.Spaces = refl
-which_again whiches.Listeners = refl
-which_again whiches.Entries = refl
-which_again whiches.Events = refl
-which_again whiches.Calls = refl
-which_again whiches.Watchers = refl
+which_again _ = refl
 
 abbrev code_refusal : Refusal → List ℕ
 code_refusal (refusals.Unknown a) = 0 ∷ code_what a
@@ -342,25 +322,9 @@ refusal_of ns =
 refusal_again : (x : Refusal) → refusal_of (code_refusal x) ≡ x
 refusal_again (refusals.Unknown a) = (λ i. refusals.Unknown (what_again a i))
 refusal_again (refusals.NameTaken a) = (λ i. refusals.NameTaken (what_again a i))
-refusal_again (refusals.HasContainer a) = refl
-refusal_again (refusals.NotChild a) = refl
-refusal_again (refusals.AliasParent a) = refl
-refusal_again (refusals.Loop a) = refl
-refusal_again (refusals.TooDeep a) = refl
-refusal_again (refusals.TooWide a) = refl
-refusal_again refusals.BadSize = refl
-refusal_again refusals.BadOps = refl
-refusal_again (refusals.WrongKind a) = refl
-refusal_again refusals.NoTransaction = refl
-refusal_again refusals.TooNested = refl
 refusal_again (refusals.InUse a) = (λ i. refusals.InUse (user_again a i))
-refusal_again (refusals.PageOverlap a) = refl
-refusal_again refusals.BadPage = refl
 refusal_again (refusals.LimitReached a b) = (λ i. refusals.LimitReached (which_again a i) b)
-refusal_again (refusals.NoBacking a) = refl
-refusal_again (refusals.Held a b) = refl
-refusal_again refusals.EventTaken = refl
-refusal_again refusals.Memory = refl
+refusal_again _ = refl
 
 abbrev code_applied : Applied → List ℕ
 code_applied (applieds.Made a) = 0 ∷ a.0 ∷ []
@@ -420,12 +384,7 @@ call_of ns =
 
 call_again : (x : Call) → call_of (code_call x) ≡ x
 call_again (calls.Region a b) = (λ i. calls.Region (kind_again a i) b)
-call_again (calls.Space a b) = refl
 call_again (calls.Add a b c d) = (λ i. calls.Add a b c (int_again d i))
-call_again (calls.Del a b) = refl
-call_again (calls.Move a b) = refl
-call_again (calls.Resize a b) = refl
-call_again (calls.Retarget a b) = refl
 call_again (calls.Enable a b) = (λ i. calls.Enable a (bool_again b i))
 call_again (calls.Readonly a b) = (λ i. calls.Readonly a (bool_again b i))
 call_again (calls.Nonvolatile a b) = (λ i. calls.Nonvolatile a (bool_again b i))
@@ -434,10 +393,9 @@ call_again (calls.Romd a b) = (λ i. calls.Romd a (bool_again b i))
 call_again (calls.Log a b c) = (λ i. calls.Log a (client_again b i) (bool_again c i))
 call_again (calls.Global a) = (λ i. calls.Global (bool_again a i))
 call_again (calls.Map a b c d e f) = (λ i. calls.Map a b c d e (perm_again f i))
-call_again (calls.Unmap a b) = refl
 call_again (calls.Event a b) = (λ i. calls.Event a (ioevent_again b i))
 call_again (calls.Unevent a b c d e) = (λ i. calls.Unevent a b c (bool_again d i) e)
-call_again (calls.Drop a) = refl
+call_again _ = refl
 
 abbrev code_order : DeskOrder → List ℕ
 code_order orders.Begin = 0 ∷ []
@@ -465,16 +423,11 @@ order_of ns =
     else orders.Look
 
 order_again : (x : DeskOrder) → order_of (code_order x) ≡ x
-order_again orders.Begin = refl
 order_again (orders.Call a) = (λ i. orders.Call (call_again a i))
-order_again orders.Commit = refl
-order_again orders.Reap = refl
 order_again (orders.Listen a b c) = (λ i. orders.Listen a b (int_again c i))
-order_again (orders.Unlisten a) = refl
 order_again (orders.Load a b c) = (λ i. orders.Load a b (numbers_again c i))
 order_again (orders.Harvest a b) = (λ i. orders.Harvest a (client_again b i))
-order_again (orders.Notified a) = refl
-order_again orders.Look = refl
+order_again _ = refl
 
 abbrev code_answer : DeskAnswer → List ℕ
 code_answer answers.Done = 0 ∷ []
@@ -498,14 +451,12 @@ answer_of ns =
     else answers.Refused (refusal_of (drop 1 ns))
 
 answer_again : (x : DeskAnswer) → answer_of (code_answer x) ≡ x
-answer_again answers.Done = refl
 answer_again (answers.Called a b) = (λ i. answers.Called (applied_again a i) (option_again b i))
 answer_again (answers.Committed a) = (λ i. answers.Committed (option_again a i))
 answer_again (answers.Released a) = (λ i. answers.Released (regions_again a i))
 answer_again (answers.Pages a) = (λ i. answers.Pages (numbers_again a i))
-answer_again (answers.Value a) = refl
-answer_again (answers.Looked a) = refl
 answer_again (answers.Refused a) = (λ i. answers.Refused (refusal_again a i))
+answer_again _ = refl
 
 -- lists of numbers can be told apart, and so all that is written as one
 

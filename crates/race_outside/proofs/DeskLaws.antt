@@ -50,16 +50,8 @@ use Rattle.race_outside.specs.Outside.{StepsOn, stand_of}
 
 -- an order that fits takes a notifier that there is
 pub has_notifier : (order : DeskOrder) → FitsDeskOrder order → HasNotifier order
-has_notifier orders.Begin h = tt
-has_notifier (orders.Call call) h = tt
-has_notifier orders.Commit h = tt
-has_notifier orders.Reap h = tt
-has_notifier (orders.Listen listener space priority) h = tt
-has_notifier (orders.Unlisten listener) h = tt
-has_notifier (orders.Load region offset bytes) h = tt
-has_notifier (orders.Harvest region client) h = tt
 has_notifier (orders.Notified number) h = h
-has_notifier orders.Look h = tt
+has_notifier _ h = tt
 
 pub own_fits : (k : Known) (line : Line) (task : Result LineTask Refused) → Resolves k task (task_of k line.1) → FitsCommand line.1 → FitsOwn task
 own_fits k line (Ok (Ordered order naming)) r fits =
@@ -80,13 +72,7 @@ own_fits k line (Err why) r fits = tt
 looked : (a : DeskAnswer) (g : Published) (seen : List HistoryEntry) → HandsOut orders.Look a (Some g) seen
     → (g.number ≡ number_looked a) × (g.forest ≡ (generation_published seen g.number).forest)
 looked (answers.Looked number) g seen h = (h.0, h.1 ∙ ap (λ (n : ℕ). (generation_published seen n).forest) (sym h.0))
-looked answers.Done g seen h = absurd h
-looked (answers.Called applied number) g seen h = absurd h
-looked (answers.Committed number) g seen h = absurd h
-looked (answers.Released regions) g seen h = absurd h
-looked (answers.Pages pages) g seen h = absurd h
-looked (answers.Value value) g seen h = absurd h
-looked (answers.Refused why) g seen h = absurd h
+looked _ g seen h = absurd h
 
 module _ (v m w : RecordState) (k : Known) (line : Line) (got : Option Receipt) (g : Published) where
   -- which orders were given for a line, and what they told

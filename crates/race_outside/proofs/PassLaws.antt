@@ -66,10 +66,7 @@ use Rattle.race_outside.specs.Passes.{Changed, DoesPassLine, HasActed, HasDoneLi
 -- what is kept of an answer says what the answer writes
 said_answer : (names : Names) (pass : PassId) (n : ℕ) (answer : LineAnswer) → said_of names pass n (said_by answer) ≡ says (answer_text pass answer)
 said_answer names pass n (answers.Entered number) = refl
-said_answer names pass n answers.Left = refl
-said_answer names pass n (answers.Read access bytes) = refl
-said_answer names pass n (answers.Wrote access) = refl
-said_answer names pass n (answers.Copied access) = refl
+said_answer names pass n _ = refl
 
 -- a fact of all virtual CPUs, where one of them changed
 pub all_between : (P : PassValue Published → Type 0) (p : ℕ) (a b : PassValue Published) (olds news : List (PassValue Published)) → Changed p a b olds news

@@ -1,5 +1,5 @@
 -- A line outside the block as one step of a race.
-use Rattle.std.proofs.Common.{◌≡◌, ℕ, List, [], ◌∷◌, ◌++◌, map, refl, sym, ap, subst, ◌∙◌, Ok, Err, Option, Some, None}
+use Rattle.std.proofs.Common.{◌≡◌, ℕ, List, [], ◌∷◌, ◌++◌, map, refl, sym, ap, subst, ◌∙◌, Ok, Option, Some, None}
 use Rattle.mem_base.specs.declared.map.forests.Forest.{Forest}
 use Rattle.mem_base.specs.declared.map.refusals.Refusal.{Refusal}
 use Rattle.mem_base.specs.declared.machine.records.DeskEntry.{DeskEntry}
@@ -9,7 +9,7 @@ use Rattle.mem_base.specs.machine.Generations.{Generation}
 use Rattle.mem_base.specs.machine.Records.{recorded}
 use Rattle.mem_base.specs.script.Spelling.{Text}
 use Rattle.mem_base.specs.script.Watching.{Watcher, watch_refusal}
-use Rattle.mem_base.specs.script.Tasks.{Known, Resolved, Task, accessed, copied, entered, found, idle, left, ordered, shown, task_of, unwatched, watched}
+use Rattle.mem_base.specs.script.Tasks.{Known, Resolved, Task, accessed, copied, found, ordered, shown, task_of, unwatched, watched}
 use Rattle.mem_base.specs.script.RaceLines.{DeskLine, catching_up, entry_at, generation_numbered, new_watcher, said_text, watch_line}
 use Rattle.mem_base.specs.script.Race.{Course, alone}
 use Rattle.race_laws.specs.SoFar.{IsRaceSoFar}
@@ -29,18 +29,15 @@ watch_asks k line f g name w None = refl
 watch_asks k line f g name w (Some why) = refl
 
 line_asks : (k : Known) (line : ℕ) (task : Resolved Task) (e : DeskEntry) (number : ℕ) (f : Forest) → (desk_line_by k line task e number f).asks ≡ orders_of task
-line_asks k line (Err why) e number f = refl
-line_asks k line (Ok idle) e number f = refl
 line_asks k line (Ok (ordered order name)) e number f = refl
 line_asks k line (Ok (shown s)) e number f = refl
 line_asks k line (Ok (found s addr)) e number f = refl
 line_asks k line (Ok (watched name region first last)) e number f =
     watch_asks k line f f name (new_watcher k region first last) (watch_refusal k.watchers first last)
 line_asks k line (Ok (unwatched id)) e number f = refl
-line_asks k line (Ok entered) e number f = refl
-line_asks k line (Ok left) e number f = refl
 line_asks k line (Ok (accessed s addr transfer)) e number f = refl
 line_asks k line (Ok (copied from addr n to to_addr)) e number f = refl
+line_asks k line _ e number f = refl
 
 pub desk_lines_step : DeskLinesStep
 desk_lines_step pool done s text line given number f race g =

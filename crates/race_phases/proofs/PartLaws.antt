@@ -51,116 +51,27 @@ prefix_within q (x ∷ xs) = go (q x) (prefix_within q xs)
 -- Where commands may stand
 
 abbrev IsPlainRule : PlaceRule → Type 0
-IsPlainRule First = Unit {0}
-IsPlainRule OutsideBlock = Unit {0}
-IsPlainRule Anywhere = Unit {0}
 IsPlainRule OpensBlock = ⊥
 IsPlainRule ClosesBlock = ⊥
+IsPlainRule _ = Unit {0}
 
 abbrev IsMarker : Command → Type 0
 IsMarker c = ((is_par c ≡ true) × (rule_of c ≡ OpensBlock)) ⊎ ((is_end c ≡ true) × (is_par c ≡ false) × (rule_of c ≡ ClosesBlock))
 
 plain_rule : (c : Command) → is_plain c ≡ true → IsPlainRule (rule_of c)
-plain_rule (commands.Machine size) e = tt
-plain_rule (commands.RegionContainer name size) e = tt
-plain_rule (commands.RegionRam name size) e = tt
-plain_rule (commands.RegionRom name size) e = tt
-plain_rule (commands.RegionRomDevice name size device) e = tt
-plain_rule (commands.RegionIo name size device) e = tt
-plain_rule (commands.RegionIommu name size) e = tt
-plain_rule (commands.RegionAlias name size target offset) e = tt
-plain_rule (commands.RegionReserve name size) e = tt
-plain_rule (commands.Space name root) e = tt
-plain_rule (commands.Change change) e = tt
-plain_rule (commands.Load region offset bytes) e = tt
-plain_rule (commands.Drop region) e = tt
-plain_rule commands.Begin e = tt
-plain_rule commands.Commit e = tt
-plain_rule commands.Reap e = tt
-plain_rule (commands.Listen name space priority) e = tt
-plain_rule (commands.Unlisten name) e = tt
-plain_rule (commands.Watch name region first last) e = tt
-plain_rule (commands.Unwatch name) e = tt
-plain_rule (commands.Show space) e = tt
-plain_rule (commands.At space addr) e = tt
-plain_rule (commands.Notified number) e = tt
-plain_rule (commands.Dirty region client) e = tt
-plain_rule (commands.PassEnter pass) e = tt
-plain_rule (commands.PassLeave pass) e = tt
-plain_rule (commands.PassRead pass space addr len) e = tt
-plain_rule (commands.PassWrite pass space addr bytes) e = tt
-plain_rule (commands.PassDo pass change) e = tt
-plain_rule (commands.PassDma pass space addr len to_space to_addr) e = tt
 plain_rule commands.Par e = true_is_not_false true refl (sym e)
 plain_rule commands.End e = true_is_not_false true refl (sym e)
+plain_rule _ e = tt
 
 rule_plain : (c : Command) → IsPlainRule (rule_of c) → is_plain c ≡ true
-rule_plain (commands.Machine size) e = refl
-rule_plain (commands.RegionContainer name size) e = refl
-rule_plain (commands.RegionRam name size) e = refl
-rule_plain (commands.RegionRom name size) e = refl
-rule_plain (commands.RegionRomDevice name size device) e = refl
-rule_plain (commands.RegionIo name size device) e = refl
-rule_plain (commands.RegionIommu name size) e = refl
-rule_plain (commands.RegionAlias name size target offset) e = refl
-rule_plain (commands.RegionReserve name size) e = refl
-rule_plain (commands.Space name root) e = refl
-rule_plain (commands.Change change) e = refl
-rule_plain (commands.Load region offset bytes) e = refl
-rule_plain (commands.Drop region) e = refl
-rule_plain commands.Begin e = refl
-rule_plain commands.Commit e = refl
-rule_plain commands.Reap e = refl
-rule_plain (commands.Listen name space priority) e = refl
-rule_plain (commands.Unlisten name) e = refl
-rule_plain (commands.Watch name region first last) e = refl
-rule_plain (commands.Unwatch name) e = refl
-rule_plain (commands.Show space) e = refl
-rule_plain (commands.At space addr) e = refl
-rule_plain (commands.Notified number) e = refl
-rule_plain (commands.Dirty region client) e = refl
-rule_plain (commands.PassEnter pass) e = refl
-rule_plain (commands.PassLeave pass) e = refl
-rule_plain (commands.PassRead pass space addr len) e = refl
-rule_plain (commands.PassWrite pass space addr bytes) e = refl
-rule_plain (commands.PassDo pass change) e = refl
-rule_plain (commands.PassDma pass space addr len to_space to_addr) e = refl
 rule_plain commands.Par e = absurd e
 rule_plain commands.End e = absurd e
+rule_plain _ e = refl
 
 marker : (c : Command) → is_plain c ≡ false → IsMarker c
-marker (commands.Machine size) e = true_is_not_false true refl e
-marker (commands.RegionContainer name size) e = true_is_not_false true refl e
-marker (commands.RegionRam name size) e = true_is_not_false true refl e
-marker (commands.RegionRom name size) e = true_is_not_false true refl e
-marker (commands.RegionRomDevice name size device) e = true_is_not_false true refl e
-marker (commands.RegionIo name size device) e = true_is_not_false true refl e
-marker (commands.RegionIommu name size) e = true_is_not_false true refl e
-marker (commands.RegionAlias name size target offset) e = true_is_not_false true refl e
-marker (commands.RegionReserve name size) e = true_is_not_false true refl e
-marker (commands.Space name root) e = true_is_not_false true refl e
-marker (commands.Change change) e = true_is_not_false true refl e
-marker (commands.Load region offset bytes) e = true_is_not_false true refl e
-marker (commands.Drop region) e = true_is_not_false true refl e
-marker commands.Begin e = true_is_not_false true refl e
-marker commands.Commit e = true_is_not_false true refl e
-marker commands.Reap e = true_is_not_false true refl e
-marker (commands.Listen name space priority) e = true_is_not_false true refl e
-marker (commands.Unlisten name) e = true_is_not_false true refl e
-marker (commands.Watch name region first last) e = true_is_not_false true refl e
-marker (commands.Unwatch name) e = true_is_not_false true refl e
-marker (commands.Show space) e = true_is_not_false true refl e
-marker (commands.At space addr) e = true_is_not_false true refl e
-marker (commands.Notified number) e = true_is_not_false true refl e
-marker (commands.Dirty region client) e = true_is_not_false true refl e
-marker (commands.PassEnter pass) e = true_is_not_false true refl e
-marker (commands.PassLeave pass) e = true_is_not_false true refl e
-marker (commands.PassRead pass space addr len) e = true_is_not_false true refl e
-marker (commands.PassWrite pass space addr bytes) e = true_is_not_false true refl e
-marker (commands.PassDo pass change) e = true_is_not_false true refl e
-marker (commands.PassDma pass space addr len to_space to_addr) e = true_is_not_false true refl e
 marker commands.Par e = inl (refl, refl)
 marker commands.End e = inr (refl, refl, refl)
+marker _ e = true_is_not_false true refl e
 
 abbrev IsBefore : Section → Type 0
 IsBefore Start = Unit {0}
@@ -202,11 +113,9 @@ block_plain n par next OpensBlock r e = absurd r
 block_plain n par next ClosesBlock r e = absurd r
 
 tail_plain : (n : ℕ) (next : Section) (rule : PlaceRule) → placed n Tail rule ≡ Some next → (Tail ≡ next) × IsPlainRule rule
-tail_plain n next First e = none_is_not_some next e
 tail_plain n next OutsideBlock e = (same_Some Tail next e, tt)
 tail_plain n next Anywhere e = (same_Some Tail next e, tt)
-tail_plain n next OpensBlock e = none_is_not_some next e
-tail_plain n next ClosesBlock e = none_is_not_some next e
+tail_plain n next _ e = none_is_not_some next e
 
 -- Lines, one after another
 

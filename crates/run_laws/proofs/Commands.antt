@@ -277,7 +277,6 @@ module _ (pool : ℕ) (xs : List PureEntry) where
                 (subst (λ (more : List PureEntry). LedOn pool xs w more) same whole)
 
     own : (line : ℕ) (c : Command) → FitsCommand c → Goes (asks state c) (own_step state line c)
-    own line (commands.Machine size) fits = stays state.world k
     own line (commands.RegionContainer name size) fits = make line name kinds.Container size fits
     own line (commands.RegionRam name size) fits = make line name kinds.Ram size fits
     own line (commands.RegionRom name size) fits = make line name kinds.Rom size fits
@@ -310,8 +309,7 @@ module _ (pool : ℕ) (xs : List PureEntry) where
         order line state.names (configure (configs.Call call)) (published_in pass) f
     own line (commands.PassDma pass space addr len to_space to_addr) fits =
         a_space line space _ _ λ s. a_space line to_space _ _ λ t. copying pass fits.0 s addr len t to_addr
-    own line commands.Par fits = stays state.world k
-    own line commands.End fits = stays state.world k
+    own line _ fits = stays state.world k
 
     pub step_settles : (line : ℕ) (c : Command) → FitsCommand c → Goes (asks state c) (step state line c)
     step_settles line c fits = go (is_desk_line c)

@@ -115,22 +115,12 @@ module _ (g : Generations) (d : Desk) (k : IsMade d.forest) where
 
 -- an event, whatever number it tells
 made_telling : (w : World) (e : Event) (n : ℕ) → FitsEvent e → HasMadeForests w.writer → HasMadeForests (after_telling w e n).writer
-made_telling w (events.Look v) n fits k = record { desk = k.desk; kept = k.kept }
-made_telling w (events.Announce v) n fits k = record { desk = k.desk; kept = k.kept }
-made_telling w (events.Enter v) n fits k = record { desk = k.desk; kept = k.kept }
-made_telling w (events.Leave v) n fits k = record { desk = k.desk; kept = k.kept }
-made_telling w (events.Sweep v) n fits k = record { desk = k.desk; kept = k.kept }
-made_telling w (events.Place v) n fits k = record { desk = k.desk; kept = k.kept }
 made_telling w events.Publish n fits k = record {
   desk = k.desk;
   kept = (k.desk, every_taken (λ (x : Generation). IsMade x.forest) 7 w.writer.generations.kept k.kept);
 }
-made_telling w (events.Word h c step) n fits k = record { desk = k.desk; kept = k.kept }
-made_telling w (events.Mark v r client page) n fits k = record { desk = k.desk; kept = k.kept }
-made_telling w (events.Harvest r client index) n fits k = record { desk = k.desk; kept = k.kept }
-made_telling w (events.Fill c) n fits k = record { desk = k.desk; kept = k.kept }
 made_telling w (events.Config c) n fits k = record { desk = configured_left w.writer.generations w.writer.desk k.desk c fits; kept = k.kept }
-made_telling w events.Reap n fits k = record { desk = k.desk; kept = k.kept }
+made_telling w _ n fits k = record { desk = k.desk; kept = k.kept }
 
 pub made_run : (es : List Event) (w : World) → Every FitsEvent es → HasMadeForests w.writer → HasMadeForests (run_events w es).world.writer
 made_run [] w fits k = k

@@ -64,11 +64,6 @@ stops_on_first first second (stops.Bad bad) fault is h = subst (FailsOnBoth firs
 stops_on_first first second stops.Memory fault is h = subst (FailsOnBoth first second) (sym is) tt
 
 pub second_fails : (first second : Text) (fault : Fault) → FailsOnSecond second fault → FailsOnBoth first second fault
-second_fails first second (faults.File which) x = x
 second_fails first second (faults.Script First bad) x = absurd x
 second_fails first second (faults.Script Second bad) x = x
-second_fails first second faults.NoSpace x = x
-second_fails first second faults.NoRegion x = x
-second_fails first second faults.NoAddress x = x
-second_fails first second (faults.Monitor stop) x = x
-second_fails first second faults.Memory x = x
+second_fails first second _ x = x

@@ -29,22 +29,15 @@ unread_file held failed name space region (faults.Script Second bad) x = absurd 
   where
     other : Second ≡ First → ⊥
     other e = cc
-unread_file held failed name space region faults.NoSpace x = absurd x
-unread_file held failed name space region faults.NoRegion x = absurd x
-unread_file held failed name space region faults.NoAddress x = absurd x
-unread_file held failed name space region (faults.Monitor stop) x = absurd x
 unread_file held failed name space region faults.Memory x = tt
+unread_file held failed name space region _ x = absurd x
 
 -- a command that fails on what a file holds
 pub command_file : (held : Holding) (failed : Type 0) (name : Text) (space region : Option Text) (bytes : Text) (fault : Fault)
     → Tells (held name) bytes → FailsOn bytes space region fault → FailsFile held failed name space region fault
 command_file held failed name space region bytes (faults.File which) t x = absurd x.2
-command_file held failed name space region bytes (faults.Script which bad) t x = (bytes, t, x)
-command_file held failed name space region bytes faults.NoSpace t x = (bytes, t, x)
-command_file held failed name space region bytes faults.NoRegion t x = (bytes, t, x)
-command_file held failed name space region bytes faults.NoAddress t x = (bytes, t, x)
-command_file held failed name space region bytes (faults.Monitor stop) t x = (bytes, t, x)
 command_file held failed name space region bytes faults.Memory t x = tt
+command_file held failed name space region bytes _ t x = (bytes, t, x)
 
 -- the same of `why`, which never says that the address is none once it was read
 pub unread_why : (held : Holding) (failed : Type 0) (script space addr : Text) (region : Option Text) (fault : Fault)
@@ -52,21 +45,15 @@ pub unread_why : (held : Holding) (failed : Type 0) (script space addr : Text) (
 unread_why held failed script space addr region (faults.File which) x = x
 unread_why held failed script space addr region (faults.Script which bad) x =
     unread_file held failed script (Some space) region (faults.Script which bad) x
-unread_why held failed script space addr region faults.NoSpace x = absurd x
-unread_why held failed script space addr region faults.NoRegion x = absurd x
-unread_why held failed script space addr region faults.NoAddress x = absurd x
-unread_why held failed script space addr region (faults.Monitor stop) x = absurd x
 unread_why held failed script space addr region faults.Memory x = tt
+unread_why held failed script space addr region _ x = absurd x
 
 pub command_why : (held : Holding) (failed : Type 0) (script space addr : Text) (region : Option Text) (bytes : Text) (fault : Fault)
     → Tells (held script) bytes → FailsOn bytes (Some space) region fault → FailsWhy held failed script space addr region fault
 command_why held failed script space addr region bytes (faults.File which) t x = absurd x.2
-command_why held failed script space addr region bytes (faults.Script which bad) t x = (bytes, t, x)
-command_why held failed script space addr region bytes faults.NoSpace t x = (bytes, t, x)
-command_why held failed script space addr region bytes faults.NoRegion t x = (bytes, t, x)
 command_why held failed script space addr region bytes faults.NoAddress t x = absurd x.2
-command_why held failed script space addr region bytes (faults.Monitor stop) t x = (bytes, t, x)
 command_why held failed script space addr region bytes faults.Memory t x = tt
+command_why held failed script space addr region bytes _ t x = (bytes, t, x)
 
 -- and of `diff`
 pub unread_first : (held : Holding) (failed : Type 0) (first second : Text) (fault : Fault) → IsUnread held failed first First fault
@@ -77,11 +64,8 @@ unread_first held failed first second (faults.Script Second bad) x = absurd (oth
   where
     other : Second ≡ First → ⊥
     other e = cc
-unread_first held failed first second faults.NoSpace x = absurd x
-unread_first held failed first second faults.NoRegion x = absurd x
-unread_first held failed first second faults.NoAddress x = absurd x
-unread_first held failed first second (faults.Monitor stop) x = absurd x
 unread_first held failed first second faults.Memory x = tt
+unread_first held failed first second _ x = absurd x
 
 pub unread_second : (held : Holding) (failed : Type 0) (first second : Text) (fault : Fault) → IsUnread held failed second Second fault
     → FailsDiff held failed first second fault
@@ -91,22 +75,16 @@ unread_second held failed first second (faults.Script First bad) x = absurd (oth
     other : First ≡ Second → ⊥
     other e = cc
 unread_second held failed first second (faults.Script Second bad) x = x.1
-unread_second held failed first second faults.NoSpace x = absurd x
-unread_second held failed first second faults.NoRegion x = absurd x
-unread_second held failed first second faults.NoAddress x = absurd x
-unread_second held failed first second (faults.Monitor stop) x = absurd x
 unread_second held failed first second faults.Memory x = tt
+unread_second held failed first second _ x = absurd x
 
 pub command_both : (held : Holding) (failed : Type 0) (first second old new : Text) (fault : Fault) → Tells (held first) old → Tells (held second) new
     → FailsOnBoth old new fault → FailsDiff held failed first second fault
 command_both held failed first second old new (faults.File which) t u x = absurd x
 command_both held failed first second old new (faults.Script First bad) t u x = (old, t, x)
 command_both held failed first second old new (faults.Script Second bad) t u x = (new, u, x)
-command_both held failed first second old new faults.NoSpace t u x = x
-command_both held failed first second old new faults.NoRegion t u x = x
-command_both held failed first second old new faults.NoAddress t u x = x
-command_both held failed first second old new (faults.Monitor stop) t u x = x
 command_both held failed first second old new faults.Memory t u x = tt
+command_both held failed first second old new _ t u x = x
 
 -- a failed read also counts where more was read after it
 pub memory_file : (held : Holding) (failed : Type 0) (name : Text) (space region : Option Text) (fault : Fault) → fault ≡ faults.Memory

@@ -21,16 +21,13 @@ not_first e = cc
 pub unread_later : (held : Holding) (failed more : Type 0) (name : Text) (which : Which) (fault : Fault) → (failed → more)
     → IsTextUnread held failed name which fault → IsTextUnread held more name which fault
 unread_later held failed more name which (faults.File file) f x = f x
-unread_later held failed more name which (faults.Script file bad) f x = x
-unread_later held failed more name which faults.NoSpace f x = x
-unread_later held failed more name which faults.NoRegion f x = x
-unread_later held failed more name which faults.NoAddress f x = x
 unread_later held failed more name which (faults.Monitor (BadLine file line)) f x = x
 unread_later held failed more name which (faults.Monitor (Long file)) f x = x
 unread_later held failed more name which (faults.Monitor NoSpaces) f x = x
 unread_later held failed more name which (faults.Monitor (Unknown at)) f x = x
 unread_later held failed more name which (faults.Monitor (Made bad)) f x = x
 unread_later held failed more name which faults.Memory f x = tt
+unread_later held failed more name which _ f x = x
 
 pub second_later : (held : Holding) (failed more : Type 0) (name : Option Text) (fault : Fault) → (failed → more) → IsSecondUnread held failed name fault
     → IsSecondUnread held more name fault
@@ -49,11 +46,6 @@ tells_import made text count something h e s = (
 -- of `import`
 pub unread_tree : (held : Holding) (failed : Type 0) (tree : Text) (flat spaces : Option Text) (fault : Fault) → IsTextUnread held failed tree First fault
     → FailsImporting held failed tree flat spaces fault
-unread_tree held failed tree flat spaces (faults.File which) x = x
-unread_tree held failed tree flat spaces (faults.Script which bad) x = x
-unread_tree held failed tree flat spaces faults.NoSpace x = x
-unread_tree held failed tree flat spaces faults.NoRegion x = x
-unread_tree held failed tree flat spaces faults.NoAddress x = x
 unread_tree held failed tree flat spaces (faults.Monitor (BadLine which line)) x = absurd x
 unread_tree held failed tree flat spaces (faults.Monitor (Long First)) x = x.1
 unread_tree held failed tree flat spaces (faults.Monitor (Long Second)) x = absurd (not_second x.0)
@@ -61,6 +53,7 @@ unread_tree held failed tree flat spaces (faults.Monitor NoSpaces) x = absurd x
 unread_tree held failed tree flat spaces (faults.Monitor (Unknown at)) x = absurd x
 unread_tree held failed tree flat spaces (faults.Monitor (Made bad)) x = absurd x
 unread_tree held failed tree flat spaces faults.Memory x = tt
+unread_tree held failed tree flat spaces _ x = x
 
 pub unread_flat : (held : Holding) (failed : Type 0) (tree : Text) (flat spaces : Option Text) (fault : Fault) → IsSecondUnread held failed flat fault
     → FailsImporting held failed tree flat spaces fault
@@ -82,10 +75,6 @@ pub import_fails : (held : Holding) (failed : Type 0) (tree : Text) (flat spaces
     → Tells (held tree) bytes → TellsIfNamed held flat printed → FailsImport bytes printed (wanted_in spaces) fault
     → FailsImporting held failed tree flat spaces fault
 import_fails held failed tree flat spaces bytes printed (faults.File which) t u x = absurd x
-import_fails held failed tree flat spaces bytes printed (faults.Script which bad) t u x = x
-import_fails held failed tree flat spaces bytes printed faults.NoSpace t u x = x
-import_fails held failed tree flat spaces bytes printed faults.NoRegion t u x = x
-import_fails held failed tree flat spaces bytes printed faults.NoAddress t u x = x
 import_fails held failed tree flat spaces bytes printed (faults.Monitor (BadLine First line)) t u x = (bytes, t, x)
 import_fails held failed tree flat spaces bytes printed (faults.Monitor (BadLine Second line)) t u x = (printed, u, x)
 import_fails held failed tree flat spaces bytes printed (faults.Monitor (Long First)) t u x = (bytes, t, x)
@@ -94,26 +83,20 @@ import_fails held failed tree flat spaces bytes printed (faults.Monitor NoSpaces
 import_fails held failed tree flat spaces bytes printed (faults.Monitor (Unknown at)) t u x = (bytes, t, x)
 import_fails held failed tree flat spaces bytes printed (faults.Monitor (Made bad)) t u x = x
 import_fails held failed tree flat spaces bytes printed faults.Memory t u x = tt
+import_fails held failed tree flat spaces bytes printed _ t u x = x
 
 -- of `check`
 pub unread_script : (held : Holding) (failed : Type 0) (script flat : Text) (fault : Fault) → IsUnread held failed script First fault
     → FailsChecking held failed script flat fault
-unread_script held failed script flat (faults.File which) x = x
 unread_script held failed script flat (faults.Script First bad) x = x.1
 unread_script held failed script flat (faults.Script Second bad) x = absurd (not_second x.0)
-unread_script held failed script flat faults.NoSpace x = x
-unread_script held failed script flat faults.NoRegion x = x
-unread_script held failed script flat faults.NoAddress x = x
 unread_script held failed script flat (faults.Monitor stop) x = absurd x
 unread_script held failed script flat faults.Memory x = tt
+unread_script held failed script flat _ x = x
 
 pub unread_printed : (held : Holding) (failed : Type 0) (script flat : Text) (fault : Fault) → IsTextUnread held failed flat Second fault
     → FailsChecking held failed script flat fault
-unread_printed held failed script flat (faults.File which) x = x
 unread_printed held failed script flat (faults.Script which bad) x = absurd x
-unread_printed held failed script flat faults.NoSpace x = x
-unread_printed held failed script flat faults.NoRegion x = x
-unread_printed held failed script flat faults.NoAddress x = x
 unread_printed held failed script flat (faults.Monitor (BadLine which line)) x = absurd x
 unread_printed held failed script flat (faults.Monitor (Long First)) x = absurd (not_first x.0)
 unread_printed held failed script flat (faults.Monitor (Long Second)) x = x.1
@@ -121,15 +104,13 @@ unread_printed held failed script flat (faults.Monitor NoSpaces) x = absurd x
 unread_printed held failed script flat (faults.Monitor (Unknown at)) x = absurd x
 unread_printed held failed script flat (faults.Monitor (Made bad)) x = absurd x
 unread_printed held failed script flat faults.Memory x = tt
+unread_printed held failed script flat _ x = x
 
 pub check_fails : (held : Holding) (failed : Type 0) (script flat bytes printed : Text) (fault : Fault) → Tells (held script) bytes
     → Tells (held flat) printed → FailsCheck bytes printed fault → FailsChecking held failed script flat fault
 check_fails held failed script flat bytes printed (faults.File which) t u x = absurd x
 check_fails held failed script flat bytes printed (faults.Script First bad) t u x = (bytes, t, x)
 check_fails held failed script flat bytes printed (faults.Script Second bad) t u x = x
-check_fails held failed script flat bytes printed faults.NoSpace t u x = x
-check_fails held failed script flat bytes printed faults.NoRegion t u x = x
-check_fails held failed script flat bytes printed faults.NoAddress t u x = x
 check_fails held failed script flat bytes printed (faults.Monitor (BadLine First line)) t u x = x
 check_fails held failed script flat bytes printed (faults.Monitor (BadLine Second line)) t u x = (printed, u, x)
 check_fails held failed script flat bytes printed (faults.Monitor (Long First)) t u x = x
@@ -138,3 +119,4 @@ check_fails held failed script flat bytes printed (faults.Monitor NoSpaces) t u 
 check_fails held failed script flat bytes printed (faults.Monitor (Unknown at)) t u x = x
 check_fails held failed script flat bytes printed (faults.Monitor (Made bad)) t u x = x
 check_fails held failed script flat bytes printed faults.Memory t u x = tt
+check_fails held failed script flat bytes printed _ t u x = x

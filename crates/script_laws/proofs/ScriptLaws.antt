@@ -106,15 +106,11 @@ placed_forgets a b Tail Anywhere = refl
 
 ends_forgets : (section : Section) → is_ok (ends_at section) ≡ is_ok (ends_at (forget section))
 ends_forgets Start = refl
-ends_forgets Setup = refl
-ends_forgets (Block par) = refl
-ends_forgets Tail = refl
+ends_forgets _ = refl
 
 ends_well : (section : Section) → is_ok (ends_at section) ≡ true → ends_at section ≡ Ok []
-ends_well Start h = refl
-ends_well Setup h = refl
 ends_well (Block par) h = absurd (true≢false (sym h))
-ends_well Tail h = refl
+ends_well _ h = refl
 
 same_next : (o : Option Section) (next : Section) → option_map forget (Some next) ≡ option_map forget o → (other : Section) × (o ≡ Some other)
     × (forget next ≡ forget other)

@@ -11,8 +11,8 @@ use Rattle.std.specs.Str.Parse.{AllDigits}
 use Rattle.std.proofs.lemmas.Bool.Decides.{nat_tests}
 use Rattle.std.proofs.lemmas.Option.{cond_some, option_and_then_some, none-some, same_Some}
 use Rattle.mem_base.specs.declared.map.kinds.Client.TheVariants.{Vga, Code, Migration}
-use Rattle.mem_base.specs.declared.map.translations.Perm.TheVariants.{Nothing, Read, Write, Both}
-use Rattle.mem_base.specs.declared.map.kinds.DeviceKind.TheVariants.{Latch, Count, Bell, Fault}
+use Rattle.mem_base.specs.declared.map.translations.Perm.TheVariants.{Nothing}
+use Rattle.mem_base.specs.declared.map.kinds.DeviceKind.TheVariants.{Latch}
 use Rattle.mem_base.specs.script.Spelling.{Text, between, byte_of, byte_pairs, bytes_of, digit_of, digits, is_name, leads_with_no_zero}
 use Rattle.mem_base.specs.script.Spelling.{length_of, machine_size, name_of, nonzero, number_of, pair_of, pass_of, priority_of, range_at}
 use Rattle.mem_base.specs.script.Spelling.{range_of, whole_pages}
@@ -126,15 +126,11 @@ client_law token Migration e = record { token = refl; reads = refl }
 
 pub perm_law : Law (value_in perms) perm_text
 perm_law token Nothing e = record { token = refl; reads = refl }
-perm_law token Read e = record { token = refl; reads = refl }
-perm_law token Write e = record { token = refl; reads = refl }
-perm_law token Both e = record { token = refl; reads = refl }
+perm_law token _ e = record { token = refl; reads = refl }
 
 pub device_kind_law : Law (value_in device_kinds) device_kind_text
 device_kind_law token Latch e = record { token = refl; reads = refl }
-device_kind_law token Count e = record { token = refl; reads = refl }
-device_kind_law token Bell e = record { token = refl; reads = refl }
-device_kind_law token Fault e = record { token = refl; reads = refl }
+device_kind_law token _ e = record { token = refl; reads = refl }
 
 -- Passes
 

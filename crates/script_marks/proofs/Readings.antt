@@ -94,19 +94,13 @@ own_of_line : (c : Cause) → own c ≡ true → of_line c ≡ Some c
 own_of_line causes.Word e = refl
 own_of_line causes.Name e = refl
 own_of_line causes.Number e = refl
-own_of_line causes.Byte e = absurd (true≢false (sym e))
-own_of_line causes.Count e = absurd (true≢false (sym e))
-own_of_line causes.Place e = absurd (true≢false (sym e))
-own_of_line causes.Long e = absurd (true≢false (sym e))
+own_of_line _ e = absurd (true≢false (sym e))
 
 own_some : (c : Cause) → own c ≡ true → is_own (Some c) ≡ true
 own_some causes.Word e = refl
 own_some causes.Name e = refl
 own_some causes.Number e = refl
-own_some causes.Byte e = e
-own_some causes.Count e = e
-own_some causes.Place e = e
-own_some causes.Long e = e
+own_some _ e = e
 
 told_of_line : (c : Cause) → (own c ≡ true) ⊎ (c ≡ causes.Count) → of_line c ≡ Some c
 told_of_line c (inl e) = own_of_line c e

@@ -12,7 +12,7 @@ use Rattle.mem_base.specs.declared.map.forests.Forest.{Forest}
 use Rattle.mem_base.specs.declared.map.forests.Node.{Node}
 use Rattle.mem_base.specs.declared.map.kinds.Device.{Device}
 use Rattle.mem_base.specs.declared.map.kinds.Kind.{Kind}
-use Rattle.mem_base.specs.declared.map.kinds.Kind.TheVariants.{Container, Ram, Rom, RomDevice, Io, Iommu, Alias, Reserve, Host}
+use Rattle.mem_base.specs.declared.map.kinds.Kind.TheVariants.{Container, Ram, Io, Alias}
 use Rattle.mem_base.specs.lists.Every.{Every}
 use Rattle.mem_base.specs.lists.Sorting.{put_by, sorted_by}
 use Rattle.mem_base.specs.map.Limits.{most_depth}
@@ -78,14 +78,7 @@ first_told memory below above same (c ∷ cs) a = λ i.
 
 itself_kept : (memory : List RegionId) (k : Kind) (n : Node) (a : ℕ) → itself false k (memory_node memory n) a ≡ itself false k n a
 itself_kept memory Container n a = refl
-itself_kept memory Ram n a = refl
-itself_kept memory Rom n a = refl
-itself_kept memory (RomDevice device) n a = refl
-itself_kept memory (Io device) n a = refl
-itself_kept memory Iommu n a = refl
-itself_kept memory (Alias target offset) n a = refl
-itself_kept memory Reserve n a = refl
-itself_kept memory Host n a = refl
+itself_kept memory _ n a = refl
 
 itself_told : (memory : List RegionId) (n : Node) (a : ℕ) → IsDeviceAmong memory n
     → itself false (memory_node memory n).kind (memory_node memory n) a ≡ itself false n.kind n a

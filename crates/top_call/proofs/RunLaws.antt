@@ -49,12 +49,8 @@ script_of-long bytes long = ap (λ b. cond b (script_from Start 1 (slice_split (
 
 -- what holds of every line at fault
 pub if_bad : (ending : Ending) (fact : BadScript → Type 0) → ((fault : BadScript) → fact fault) → IfBad ending fact
-if_bad endings.Done fact each = tt
-if_bad endings.Usage fact each = tt
 if_bad (endings.BadScript fault) fact each = each fault
-if_bad endings.ReadFault fact each = tt
-if_bad endings.WriteFault fact each = tt
-if_bad endings.Memory fact each = tt
+if_bad _ fact each = tt
 
 -- where a line at fault was said, or something failed
 pub if_said : (ending : Ending) (fault : BadScript) (fact : BadScript → Type 0)

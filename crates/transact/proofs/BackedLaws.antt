@@ -83,45 +83,11 @@ pub record Backs (f : Forest) (b : Backing) : Type 0 where
 -- a call that makes no region leaves their number, and makes no words
 made_same : (f : Forest) (call : Call) → makes call ≡ false → (changed f call).made ≡ f.made
 made_same f (calls.Region kind size) h = absurd (grind arith)
-made_same f (calls.Space space root) h = refl
-made_same f (calls.Add parent offset child priority) h = refl
-made_same f (calls.Del parent child) h = refl
-made_same f (calls.Move child offset) h = refl
-made_same f (calls.Resize region size) h = refl
-made_same f (calls.Retarget alias offset) h = refl
-made_same f (calls.Enable region on) h = refl
-made_same f (calls.Readonly region on) h = refl
-made_same f (calls.Nonvolatile region on) h = refl
-made_same f (calls.Unmergeable region on) h = refl
-made_same f (calls.Romd region on) h = refl
-made_same f (calls.Log region client on) h = refl
-made_same f (calls.Global on) h = refl
-made_same f (calls.Map region iova size space translated perm) h = refl
-made_same f (calls.Unmap region iova) h = refl
-made_same f (calls.Event region event) h = refl
-made_same f (calls.Unevent region offset size matched value) h = refl
-made_same f (calls.Drop region) h = refl
+made_same f _ h = refl
 
 none_made : (call : Call) → makes call ≡ false → extent_made call ≡ None
 none_made (calls.Region kind size) h = absurd (grind arith)
-none_made (calls.Space space root) h = refl
-none_made (calls.Add parent offset child priority) h = refl
-none_made (calls.Del parent child) h = refl
-none_made (calls.Move child offset) h = refl
-none_made (calls.Resize region size) h = refl
-none_made (calls.Retarget alias offset) h = refl
-none_made (calls.Enable region on) h = refl
-none_made (calls.Readonly region on) h = refl
-none_made (calls.Nonvolatile region on) h = refl
-none_made (calls.Unmergeable region on) h = refl
-none_made (calls.Romd region on) h = refl
-none_made (calls.Log region client on) h = refl
-none_made (calls.Global on) h = refl
-none_made (calls.Map region iova size space translated perm) h = refl
-none_made (calls.Unmap region iova) h = refl
-none_made (calls.Event region event) h = refl
-none_made (calls.Unevent region offset size matched value) h = refl
-none_made (calls.Drop region) h = refl
+none_made _ h = refl
 
 -- the same places
 pub same_backing : (f : Forest) (b : Backing) (call : Call) → new_places b (record { 0 = f.made }) (extent_made call) ≡ [] → backing_after f b call ≡ b
@@ -498,24 +464,7 @@ made_after made Done = made
 
 number_made : (f : Forest) (call : Call) → made_after f.made (answer_of f call) ≡ (changed f call).made
 number_made f (calls.Region kind size) = refl
-number_made f (calls.Space space root) = refl
-number_made f (calls.Add parent offset child priority) = refl
-number_made f (calls.Del parent child) = refl
-number_made f (calls.Move child offset) = refl
-number_made f (calls.Resize region size) = refl
-number_made f (calls.Retarget alias offset) = refl
-number_made f (calls.Enable region on) = refl
-number_made f (calls.Readonly region on) = refl
-number_made f (calls.Nonvolatile region on) = refl
-number_made f (calls.Unmergeable region on) = refl
-number_made f (calls.Romd region on) = refl
-number_made f (calls.Log region client on) = refl
-number_made f (calls.Global on) = refl
-number_made f (calls.Map region iova size space translated perm) = refl
-number_made f (calls.Unmap region iova) = refl
-number_made f (calls.Event region event) = refl
-number_made f (calls.Unevent region offset size matched value) = refl
-number_made f (calls.Drop region) = refl
+number_made f _ = refl
 
 pub counts_after : (f g : Forest) (call : Call) (x : Applied) → after f call ≡ Ok g → x ≡ answer_of f call → made_after f.made x ≡ g.made
 counts_after f g call x e a = ap (made_after f.made) a ∙ number_made f call ∙ sym (ap (λ (y : Forest). y.made) (after-accepted f g call e).1)
@@ -536,24 +485,7 @@ plain_desk s t call x made all k whole none e a same =
 
 pub not_region : (call : Call) → ((kind : Kind) (size : ℕ) → call ≢ calls.Region kind size) → words_made (extent_made call) ≡ 0
 not_region (calls.Region kind size) h = absurd (h kind size refl)
-not_region (calls.Space space root) h = refl
-not_region (calls.Add parent offset child priority) h = refl
-not_region (calls.Del parent child) h = refl
-not_region (calls.Move child offset) h = refl
-not_region (calls.Resize region size) h = refl
-not_region (calls.Retarget alias offset) h = refl
-not_region (calls.Enable region on) h = refl
-not_region (calls.Readonly region on) h = refl
-not_region (calls.Nonvolatile region on) h = refl
-not_region (calls.Unmergeable region on) h = refl
-not_region (calls.Romd region on) h = refl
-not_region (calls.Log region client on) h = refl
-not_region (calls.Global on) h = refl
-not_region (calls.Map region iova size space translated perm) h = refl
-not_region (calls.Unmap region iova) h = refl
-not_region (calls.Event region event) h = refl
-not_region (calls.Unevent region offset size matched value) h = refl
-not_region (calls.Drop region) h = refl
+not_region _ h = refl
 
 -- the desk when a region was released
 pub desk_released : (s : BackedState) (made : ℕ) (all : List Place) (region : RegionId) (p : Place) → IsBackedDesk s made all → IsMade (forest_at s)

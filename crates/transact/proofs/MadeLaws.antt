@@ -38,24 +38,7 @@ pub use Rattle.map_laws.proofs.MadeForests.{calls_both, closed_made, made_after,
 -- what a call changes is not the number of calls
 calls_stay : (f : Forest) (call : Call) → (changed f call).calls ≡ f.calls
 calls_stay f (calls.Region kind size) = refl
-calls_stay f (calls.Space space root) = refl
-calls_stay f (calls.Add parent offset child priority) = refl
-calls_stay f (calls.Del parent child) = refl
-calls_stay f (calls.Move child offset) = refl
-calls_stay f (calls.Resize region size) = refl
-calls_stay f (calls.Retarget alias offset) = refl
-calls_stay f (calls.Enable region on) = refl
-calls_stay f (calls.Readonly region on) = refl
-calls_stay f (calls.Nonvolatile region on) = refl
-calls_stay f (calls.Unmergeable region on) = refl
-calls_stay f (calls.Romd region on) = refl
-calls_stay f (calls.Log region client on) = refl
-calls_stay f (calls.Global on) = refl
-calls_stay f (calls.Map region iova size space translated perm) = refl
-calls_stay f (calls.Unmap region iova) = refl
-calls_stay f (calls.Event region event) = refl
-calls_stay f (calls.Unevent region offset size matched value) = refl
-calls_stay f (calls.Drop region) = refl
+calls_stay f _ = refl
 
 pub counted_after : (f g : Forest) (call : Call) → after f call ≡ Ok g → g.calls ≡ f.calls + 1
 counted_after f g call e = ap (λ (h : Forest). h.calls) (after-accepted f g call e).1 ∙ ap (λ n. n + 1) (calls_stay f call)

@@ -58,24 +58,7 @@ ascending_of g places list k e = subst AscendByRegion (sym e) (ascend_filter (is
 -- a change makes no region
 pub makes_none : (call : Call) → is_quiet call ≡ false → makes call ≡ false
 makes_none (calls.Region kind size) h = absurd (grind arith)
-makes_none (calls.Space space root) h = refl
-makes_none (calls.Add parent offset child priority) h = refl
-makes_none (calls.Del parent child) h = refl
-makes_none (calls.Move child offset) h = refl
-makes_none (calls.Resize region size) h = refl
-makes_none (calls.Retarget alias offset) h = refl
-makes_none (calls.Enable region on) h = refl
-makes_none (calls.Readonly region on) h = refl
-makes_none (calls.Nonvolatile region on) h = refl
-makes_none (calls.Unmergeable region on) h = refl
-makes_none (calls.Romd region on) h = refl
-makes_none (calls.Log region client on) h = refl
-makes_none (calls.Global on) h = refl
-makes_none (calls.Map region iova size space translated perm) h = refl
-makes_none (calls.Unmap region iova) h = refl
-makes_none (calls.Event region event) h = refl
-makes_none (calls.Unevent region offset size matched value) h = refl
-makes_none (calls.Drop region) h = refl
+makes_none _ h = refl
 
 -- the places of a desk serve after a change too
 pub places_after : (f g : Forest) (call : Call) (places : List Place) → after f call ≡ Ok g → is_quiet call ≡ false → AreDeskPlaces f places

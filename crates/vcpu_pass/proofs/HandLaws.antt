@@ -114,10 +114,7 @@ eight v = ap (λ b. b ∷ bytes_low_first 1 7 v) (byte_is 0 v)
 
 pub whole_step : (step : WordStep) → IsWriteStep step → IsNotPart step → IsWhole step
 whole_step (Replace first bytes value) k t = omega (arith, k.1, t)
-whole_step Load k t = tt
-whole_step AddOne k t = tt
-whole_step (Or bits) k t = tt
-whole_step Take k t = tt
+whole_step _ k t = tt
 
 at_least : (n : ℕ) → nat_lt n word_size ≡ false → 8 ≤ n
 at_least n h = grind (arith, nat_tests)

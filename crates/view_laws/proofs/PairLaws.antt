@@ -16,7 +16,7 @@ use Rattle.mem_base.specs.declared.views.listening.Listener.{Listener}
 use Rattle.mem_base.specs.declared.views.listening.Change.{Change}
 use Rattle.mem_base.specs.declared.views.listening.RangeEvent.TheVariants.{Delete, Add, Keep, LogStart, LogStop}
 use Rattle.mem_base.specs.declared.views.listening.ListenerEvent.{ListenerEvent}
-use Rattle.mem_base.specs.declared.views.listening.ListenerEvent.TheVariants.{Begin, Range, EventAdd, EventDel, Commit}
+use Rattle.mem_base.specs.declared.views.listening.ListenerEvent.TheVariants.{Begin, Range, Commit}
 use Rattle.mem_base.specs.lists.Every.{Every, EveryPair}
 use Rattle.mem_base.specs.map.Forest.{AreOtherSpaces}
 use Rattle.mem_base.specs.map.Search.{is_space}
@@ -91,15 +91,12 @@ in_turn ls lower upper (inr h) = ap ascending h.0 ∙ rw (is_before lower.priori
 
 -- one call to both
 each_in_turn : (lower upper : Listener) (e : ListenerEvent) → deliver_each (lower ∷ upper ∷ []) e ≡ told_in_turn lower upper e
-each_in_turn lower upper Begin = refl
 each_in_turn lower upper (Range (Delete r)) = refl
 each_in_turn lower upper (Range (Add r)) = refl
 each_in_turn lower upper (Range (Keep r)) = refl
 each_in_turn lower upper (Range (LogStart r from to)) = refl
 each_in_turn lower upper (Range (LogStop r from to)) = refl
-each_in_turn lower upper (EventAdd l) = refl
-each_in_turn lower upper (EventDel l) = refl
-each_in_turn lower upper Commit = refl
+each_in_turn lower upper _ = refl
 
 pub nobody : (es : List ListenerEvent) → flat_map (deliver_each []) es ≡ []
 nobody [] = refl

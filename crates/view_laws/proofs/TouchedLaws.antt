@@ -143,14 +143,7 @@ first_shapes below (c ∷ cs) a = ap (λ (x : Option Found). option_or (if nat_l
 
 itself_shape : (global : Bool) (k : Kind) (n : Node) (a : ℕ) → itself global k n a ≡ itself global k (shape n) a
 itself_shape global Container n a = refl
-itself_shape global Ram n a = refl
-itself_shape global Rom n a = refl
-itself_shape global (RomDevice d) n a = refl
-itself_shape global (Io d) n a = refl
-itself_shape global Iommu n a = refl
-itself_shape global (Alias target offset) n a = refl
-itself_shape global Reserve n a = refl
-itself_shape global Host n a = refl
+itself_shape global _ n a = refl
 
 step_is : (f : Forest) (below : Search) (n : Node) (a : ℕ) → at_node f below n a ≡ step f.global (map shape (children_of f.nodes n.id)) below (shape n) a
 step_is f below n a = ap (λ (x : Option Found). if n.enabled && nat_lt a n.size then option_map (passed n) x else None) (go n.kind)

@@ -109,10 +109,6 @@ module _ (ws : List ℕ) (s : BackedState) (wide : length ws ≡ s.backing.pool_
 
   pub clears : (c : Config) (g : Forest) → BacksForest (backing_by s c).pool_words g (backing_by s c).places
       → Clears (backing_by s c) (applied_by s c) (unfilled_with s c)
-  clears configs.Begin g new = none_made Done refl
-  clears configs.Commit g new = none_made Done refl
-  clears (configs.Listen listener space priority) g new = none_made Done refl
-  clears (configs.Unlisten listener) g new = none_made Done refl
   clears (configs.Call (calls.Region kind size)) g new = let x = extent_of kind size in
       region x (words_of x == 0) (first_fit s.backing.pool_words s.backing.places (words_of x)) g new
   clears (configs.Call (calls.Drop r)) g new = without_words Done refl
@@ -133,6 +129,7 @@ module _ (ws : List ℕ) (s : BackedState) (wide : length ws ≡ s.backing.pool_
   clears (configs.Call (calls.Unmap r iova)) g new = without_words Done refl
   clears (configs.Call (calls.Event r event)) g new = without_words Done refl
   clears (configs.Call (calls.Unevent r offset size matched value)) g new = without_words Done refl
+  clears _ g new = none_made Done refl
 
 -- only a call that makes a region gives one a place
 module _ (s : BackedState) (places : List Place) where
@@ -141,10 +138,6 @@ module _ (s : BackedState) (places : List Place) where
   any_way (Some p) = refl
 
   pub made_only : (c : Config) → IfSome (made_place places (applied_by s c)) (λ p. makes_region c ≡ true)
-  made_only configs.Begin = tt
-  made_only configs.Commit = tt
-  made_only (configs.Listen listener space priority) = tt
-  made_only (configs.Unlisten listener) = tt
   made_only (configs.Call (calls.Region kind size)) = any_way (made_place places (applied_by s (configs.Call (calls.Region kind size))))
   made_only (configs.Call (calls.Drop r)) = tt
   made_only (configs.Call (calls.Space space root)) = tt
@@ -164,3 +157,4 @@ module _ (s : BackedState) (places : List Place) where
   made_only (configs.Call (calls.Unmap r iova)) = tt
   made_only (configs.Call (calls.Event r event)) = tt
   made_only (configs.Call (calls.Unevent r offset size matched value)) = tt
+  made_only _ = tt

@@ -76,11 +76,9 @@ call_counts number s call l = go (forest_after s.forest call) refl
         (accepted_counts number s.forest.calls (s.depth == 0) (not (is_quiet call)) s.pending l)
 
 counts : (number : ℕ) (s : TransactionState) (c : Config) → number + one s.pending ≤ s.forest.calls → Counts number (transaction_after s c) (commits s c)
-counts number s configs.Begin l = omega (arith, l)
 counts number s (configs.Call call) l = call_counts number s call l
 counts number s configs.Commit l = commit_counts number s.forest.calls (s.depth == 1) s.pending l
-counts number s (configs.Listen listener space priority) l = omega (arith, l)
-counts number s (configs.Unlisten listener) l = omega (arith, l)
+counts number s _ l = omega (arith, l)
 
 -- a private event goes on so
 few_after_config : (number : ℕ) (d : Desk) (c : Config) (m : Desk) (answer : Result Applied Refusal) → d.due ≡ false → FewPublishes number d
@@ -98,28 +96,18 @@ few_after_config number d c m (Ok applied) off l t =
 
 few_after : (w : World) → Sound w → FewPublishes w.writer.generations.current w.writer.desk → (e : Event) → possible w e ≡ true
     → FewPublishes (world_after w e).writer.generations.current (world_after w e).writer.desk
-few_after w k l (events.Look v) may = l
-few_after w k l (events.Announce v) may = l
-few_after w k l (events.Enter v) may = l
-few_after w k l (events.Leave v) may = l
-few_after w k l (events.Sweep v) may = l
-few_after w k l (events.Place v) may = l
 few_after w k l events.Publish may =
     let d : Desk = w.writer.desk in
     let due : w.writer.generations.current + (one d.pending + one true) ≤ d.forest.calls =
     subst (λ (b : Bool). w.writer.generations.current + (one d.pending + one b) ≤ d.forest.calls) (and_parts _ _ may).0 l in
     omega (arith, due)
-few_after w k l (events.Word hand x step) may = l
-few_after w k l (events.Mark v r client page) may = l
-few_after w k l (events.Harvest r client index) may = l
-few_after w k l (events.Fill x) may = l
 few_after w k l (events.Config c) may =
     let d : Desk = w.writer.desk in
     let rest = and_parts _ _ (and_parts _ _ may).0 in
     let off : d.due ≡ false = not-true d.due rest.0 in
     few_after_config w.writer.generations.current d c (configured w.writer.generations d c).desk (configured w.writer.generations d c).answer off l
     (outcome w.writer.generations d k.holds.sound off (nothing_unfilled d.unfilled rest.1) c).tells
-few_after w k l events.Reap may = l
+few_after w k l _ may = l
 
 few_from : (w : World) (xs : List PureEntry) → Sound w → FewPublishes w.writer.generations.current w.writer.desk → IsLegalFrom w xs
     → FewPublishes (after_entries w xs).writer.generations.current (after_entries w xs).writer.desk

@@ -80,24 +80,7 @@ module _ (bs : List Bool) (g : Generations) where
 
   kept_with : (d : Desk) (call : Call) (f : Forest) → kept_back (with_swept bs d) call f ≡ settled_with bs (kept_back d call f)
   kept_with d (calls.Region kind size) f = made_with d f (record { 0 = d.forest.made }) (extent_of kind size)
-  kept_with d (calls.Drop r) f = refl
-  kept_with d (calls.Space space root) f = refl
-  kept_with d (calls.Add parent offset child priority) f = refl
-  kept_with d (calls.Del parent child) f = refl
-  kept_with d (calls.Move child offset) f = refl
-  kept_with d (calls.Resize r size) f = refl
-  kept_with d (calls.Retarget alias offset) f = refl
-  kept_with d (calls.Enable r on) f = refl
-  kept_with d (calls.Readonly r on) f = refl
-  kept_with d (calls.Nonvolatile r on) f = refl
-  kept_with d (calls.Unmergeable r on) f = refl
-  kept_with d (calls.Romd r on) f = refl
-  kept_with d (calls.Log r client on) f = refl
-  kept_with d (calls.Global on) f = refl
-  kept_with d (calls.Map r iova size space translated perm) f = refl
-  kept_with d (calls.Unmap r iova) f = refl
-  kept_with d (calls.Event r event) f = refl
-  kept_with d (calls.Unevent r offset size matched value) f = refl
+  kept_with d _ f = refl
 
   publishing_with : (d : Desk) (f : Forest) (a : Applied) → publishing g (with_swept bs d) f a ≡ settled_with bs (publishing g d f a)
   publishing_with d f a = unless_with (held_up g) d _ _ refl
@@ -154,10 +137,7 @@ module _ (bs : List Bool) (g : Generations) where
 
 pub would_with : (bs : List Bool) (d : Desk) (c : Config) → would_publish (with_swept bs d) c ≡ would_publish d c
 would_with bs d configs.Begin = refl
-would_with bs d (configs.Call call) = refl
-would_with bs d configs.Commit = refl
-would_with bs d (configs.Listen listener space priority) = refl
-would_with bs d (configs.Unlisten listener) = refl
+would_with bs d _ = refl
 
 -- the events before a private one are played the same
 

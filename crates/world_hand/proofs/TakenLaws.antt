@@ -36,7 +36,7 @@ use Rattle.mem_base.specs.machine.History.{PureEntry, Ran, IsLegalFrom, after_en
 use Rattle.mem_base.specs.machine.Orders.{Order, configure, current, events_after, events_before, harvest, journal, load, notified, private_of, reap, sweeps}
 use Rattle.mem_base.specs.machine.Passes.{passes_after}
 use Rattle.mem_base.specs.machine.Publishing.{Settled, current_forest, held_up, publishing, readied, refused_desk, settled, unless_refused, would_publish}
-use Rattle.mem_base.specs.machine.Reaps.{Writer, writer}
+use Rattle.mem_base.specs.machine.Reaps.{writer}
 use Rattle.mem_base.specs.machine.World.{World, after_telling, blocks_for, is_at_rest, number_in, old_at, possible, reply, touch_at, world, world_after}
 use Rattle.history_laws.proofs.PureAppends.{ends_then, run_ends}
 use Rattle.world_laws.specs.Legal.{IsFitting, IsLegalCall}
@@ -82,24 +82,7 @@ module _ (taken : List Delivery) where
 
     kept_before : (call : Call) (f : Forest) → kept_back (desk_before d) call f ≡ settled_before (kept_back d call f)
     kept_before (calls.Region kind size) f = made_before f (record { 0 = d.forest.made }) (extent_of kind size)
-    kept_before (calls.Space space root) f = refl
-    kept_before (calls.Add parent offset child priority) f = refl
-    kept_before (calls.Del parent child) f = refl
-    kept_before (calls.Move child offset) f = refl
-    kept_before (calls.Resize region size) f = refl
-    kept_before (calls.Retarget alias offset) f = refl
-    kept_before (calls.Enable region on) f = refl
-    kept_before (calls.Readonly region on) f = refl
-    kept_before (calls.Nonvolatile region on) f = refl
-    kept_before (calls.Unmergeable region on) f = refl
-    kept_before (calls.Romd region on) f = refl
-    kept_before (calls.Log region client on) f = refl
-    kept_before (calls.Global on) f = refl
-    kept_before (calls.Map region iova size space translated perm) f = refl
-    kept_before (calls.Unmap region iova) f = refl
-    kept_before (calls.Event region event) f = refl
-    kept_before (calls.Unevent region offset size matched value) f = refl
-    kept_before (calls.Drop region) f = refl
+    kept_before _ f = refl
 
     call_before : (call : Call) (x : Result Forest Refusal) → after_call g (desk_before d) call x ≡ settled_before (after_call g d call x)
     call_before call (Ok f) =
@@ -153,10 +136,7 @@ module _ (taken : List Delivery) where
 
   would_before : (d : Desk) (k : Config) → would_publish (desk_before d) k ≡ would_publish d k
   would_before d configs.Begin = refl
-  would_before d (configs.Call call) = refl
-  would_before d configs.Commit = refl
-  would_before d (configs.Listen listener space priority) = refl
-  would_before d (configs.Unlisten listener) = refl
+  would_before d _ = refl
 
   -- so does every event
 
@@ -164,59 +144,28 @@ module _ (taken : List Delivery) where
   before w = told_before taken w
 
   possible_before : (w : World) (e : Event) → possible (before w) e ≡ possible w e
-  possible_before w (events.Look pass) = refl
-  possible_before w (events.Announce pass) = refl
-  possible_before w (events.Enter pass) = refl
-  possible_before w (events.Leave pass) = refl
-  possible_before w (events.Sweep pass) = refl
-  possible_before w (events.Place pass) = refl
-  possible_before w events.Publish = refl
   possible_before w (events.Word (hands.Pass pass) c step) = refl
-  possible_before w (events.Word hands.Writer c step) = refl
-  possible_before w (events.Mark pass region client page) = refl
-  possible_before w (events.Harvest region client index) = refl
-  possible_before w (events.Fill c) = refl
   possible_before w (events.Config k) =
       ap (λ (b : Bool). is_at_rest w.writer.desk && (not b || is_all_swept w.writer.desk)) (would_before w.writer.desk k)
-  possible_before w events.Reap = refl
+  possible_before w _ = refl
 
   old_before : (w : World) (region : RegionId) (o : Option Touch) → old_at (before w) (Some region) o ≡ old_at w (Some region) o
   old_before w region None = refl
   old_before w region (Some t) = refl
 
   reply_before : (w : World) (e : Event) → reply (before w) e ≡ reply w e
-  reply_before w (events.Look pass) = refl
-  reply_before w (events.Announce pass) = refl
-  reply_before w (events.Enter pass) = refl
-  reply_before w (events.Leave pass) = refl
-  reply_before w (events.Sweep pass) = refl
-  reply_before w (events.Place pass) = refl
-  reply_before w events.Publish = refl
   reply_before w (events.Word hand c step) = ap (λ (n : ℕ). Ok (Old n)) (old_before w c.region (touch_at w (events.Word hand c step) (Some c.region)))
-  reply_before w (events.Mark pass region client page) = refl
   reply_before w (events.Harvest region client index) =
       ap (λ (n : ℕ). Ok (Old n)) (old_before w region (touch_at w (events.Harvest region client index) (Some region)))
-  reply_before w (events.Fill c) = refl
   reply_before w (events.Config k) = ap (λ (s : Settled). answers k s.answer) (configured_before w.writer.generations w.writer.desk k)
-  reply_before w events.Reap = refl
+  reply_before w _ = refl
 
   telling_before : (w : World) (e : Event) (n : ℕ) → after_telling (before w) e n ≡ before (after_telling w e n)
-  telling_before w (events.Look pass) n = refl
-  telling_before w (events.Announce pass) n = refl
-  telling_before w (events.Enter pass) n = refl
-  telling_before w (events.Leave pass) n = refl
-  telling_before w (events.Sweep pass) n = refl
-  telling_before w (events.Place pass) n = refl
-  telling_before w events.Publish n = refl
-  telling_before w (events.Word hand c step) n = refl
-  telling_before w (events.Mark pass region client page) n = refl
-  telling_before w (events.Harvest region client index) n = refl
-  telling_before w (events.Fill c) n = refl
   telling_before w (events.Config k) n =
       ap (λ (s : Settled). world (writer (unswept s.desk) (generations_after w.writer.generations (events.Config k) (carried_by w.writer.desk (events.Config k)) n))
       (passes_after w.passes (events.Config k) n) (blocks_for w.blocks (unswept s.desk)))
       (configured_before w.writer.generations w.writer.desk k)
-  telling_before w events.Reap n = refl
+  telling_before w _ n = refl
 
   -- and every history
 

@@ -10,7 +10,7 @@ use Rattle.mem_base.specs.declared.map.ids.PassId.{PassId}
 use Rattle.mem_base.specs.declared.map.kinds.Client.{Client}
 use Rattle.mem_base.specs.declared.map.kinds.Device.{Device}
 use Rattle.mem_base.specs.declared.map.kinds.Kind.{Kind}
-use Rattle.mem_base.specs.declared.map.kinds.Kind.TheVariants.{Container, Ram, Rom, RomDevice, Io, Iommu, Alias, Reserve, Host}
+use Rattle.mem_base.specs.declared.map.kinds.Kind.TheVariants.{Ram, Rom, RomDevice, Io}
 use Rattle.mem_base.specs.declared.map.forests.Node.{Node}
 use Rattle.mem_base.specs.declared.map.forests.Forest.{Forest}
 use Rattle.mem_base.specs.declared.map.spots.Spot.{Spot}
@@ -267,11 +267,7 @@ module _ (g : Published) (k : IsEdition g.forest g.places) where
     kind_reached (Io device) e = device_reached spot.leaf n named is p here device (good spot.leaf n named is device (ap device_of e))
         (regs_of_kind ∙ ap (λ x. (extent_of x n.size).regs) e) 0
         (sym (ap data_words (bytes_of_kind ∙ ap (λ x. (extent_of x n.size).bytes) e))) spot.offset (length_of t) t
-    kind_reached Container e = (tt, tt)
-    kind_reached Iommu e = (tt, tt)
-    kind_reached (Alias target offset) e = (tt, tt)
-    kind_reached Reserve e = (tt, tt)
-    kind_reached Host e = (tt, tt)
+    kind_reached _ e = (tt, tt)
 
   target_reached : (target : Target) (c : ℕ) → IsTargetRun g.forest target c → (t : Transfer) → length_of t ≤ c
       → AllReached (at_target g.forest target t)

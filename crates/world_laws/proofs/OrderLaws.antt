@@ -8,7 +8,7 @@ use Rattle.std.proofs.lemmas.Bool.Decides.{nat_tests}
 use Rattle.mem_base.specs.declared.map.ids.RegionId.{RegionId}
 use Rattle.mem_base.specs.declared.map.kinds.Client.{Client}
 use Rattle.mem_base.specs.declared.map.kinds.Kind.{Kind}
-use Rattle.mem_base.specs.declared.map.kinds.Kind.TheVariants.{Container, Ram, Rom, RomDevice, Io, Iommu, Alias, Reserve, Host}
+use Rattle.mem_base.specs.declared.map.kinds.Kind.TheVariants.{Ram, Rom, RomDevice}
 use Rattle.mem_base.specs.declared.map.forests.Node.{Node}
 use Rattle.mem_base.specs.declared.map.forests.Forest.{Forest}
 use Rattle.mem_base.specs.declared.map.calls.Config.{Config}
@@ -192,12 +192,7 @@ module _ (w : World) (k : Sound w) (rest : is_at_rest w.writer.desk ≡ true) wh
     held_data Ram size e = omega arith
     held_data Rom size e = omega arith
     held_data (RomDevice device) size e = omega arith
-    held_data Container size e = absurd (grind arith)
-    held_data (Io device) size e = absurd (grind arith)
-    held_data Iommu size e = absurd (grind arith)
-    held_data (Alias target offset) size e = absurd (grind arith)
-    held_data Reserve size e = absurd (grind arith)
-    held_data Host size e = absurd (grind arith)
+    held_data _ size e = absurd (grind arith)
 
     place_first : (ps : List Place) (np p : Place) (r : RegionId) → place_in ps r ≡ Some p → place_in (ps ++ np ∷ []) r ≡ Some p
     place_first [] np p r e = none_is_not_some p e

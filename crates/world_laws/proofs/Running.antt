@@ -49,20 +49,12 @@ none_at_first (suc n) = (refl, none_at_first n)
 
 unplaced_after : (w : World) → Sound w → (e : Event) → possible w e ≡ true → (world_after w e).writer.desk.due ≡ false
     → AreUnplaced (world_after w e).writer.generations.passes
-unplaced_after w k (events.Look v) may off = k.unplaced off
-unplaced_after w k (events.Announce v) may off = k.unplaced off
-unplaced_after w k (events.Enter v) may off = k.unplaced off
-unplaced_after w k (events.Leave v) may off = k.unplaced off
 unplaced_after w k (events.Sweep v) may off = let ks = w.writer.generations.passes in
     every_set (λ k. k.placed ≡ false) ks v.0 _ (every_get (λ k. k.placed ≡ false) ks v.0 nothing_known refl (k.unplaced off)) (k.unplaced off)
 unplaced_after w k (events.Place v) may off = true_is_not_false w.writer.desk.due (and_parts _ _ may).0 off
 unplaced_after w k events.Publish may off = none_placed w.writer.generations.passes
-unplaced_after w k (events.Word h c step) may off = k.unplaced off
-unplaced_after w k (events.Mark v r client page) may off = k.unplaced off
-unplaced_after w k (events.Harvest r client index) may off = k.unplaced off
-unplaced_after w k (events.Fill c) may off = k.unplaced off
 unplaced_after w k (events.Config x) may off = k.unplaced (not-true w.writer.desk.due (and_parts _ _ (and_parts _ _ may).0).0)
-unplaced_after w k events.Reap may off = k.unplaced off
+unplaced_after w k _ may off = k.unplaced off
 
 pub sound_after : (w : World) → Sound w → (e : Event) → possible w e ≡ true → Sound (world_after w e)
 sound_after w k e may = record { holds = holds_after w k.holds e may; unplaced = unplaced_after w k e may }

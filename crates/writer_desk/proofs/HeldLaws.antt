@@ -88,15 +88,8 @@ unknown : (f : Forest) (r : RegionId) → Other (unknown_region f r)
 unknown f r = record { other = refused_unless (is_some (node_of f.nodes r)) (Unknown (what.Region r)) refl }
 
 target : (f : Forest) (kind : Kind) → held_in (unknown_target f kind) ≡ false
-target f kinds.Container = refl
-target f kinds.Ram = refl
-target f kinds.Rom = refl
-target f (kinds.RomDevice d) = refl
-target f (kinds.Io d) = refl
-target f kinds.Iommu = refl
 target f (kinds.Alias region offset) = (unknown f region).other
-target f kinds.Reserve = refl
-target f kinds.Host = refl
+target f _ = refl
 
 device : (o : Option Device) → held_in (bad_device o) ≡ false
 device None = refl
@@ -293,24 +286,7 @@ made_or_not d f r x false = placed d f r x (first_fit d.pool_words d.places (wor
 
 kept : (d : Desk) (call : Call) (f : Forest) → held_or false (kept_back d call f).answer ≡ false
 kept d (calls.Region kind size) f = made_or_not d f (record { 0 = d.forest.made }) (extent_of kind size) (words_of (extent_of kind size) == 0)
-kept d (calls.Space space root) f = refl
-kept d (calls.Add parent offset child priority) f = refl
-kept d (calls.Del parent child) f = refl
-kept d (calls.Move child offset) f = refl
-kept d (calls.Resize region size) f = refl
-kept d (calls.Retarget alias offset) f = refl
-kept d (calls.Enable region on) f = refl
-kept d (calls.Readonly region on) f = refl
-kept d (calls.Nonvolatile region on) f = refl
-kept d (calls.Unmergeable region on) f = refl
-kept d (calls.Romd region on) f = refl
-kept d (calls.Log region client on) f = refl
-kept d (calls.Global on) f = refl
-kept d (calls.Map region iova size space translated perm) f = refl
-kept d (calls.Unmap region iova) f = refl
-kept d (calls.Event region event) f = refl
-kept d (calls.Unevent region offset size matched value) f = refl
-kept d (calls.Drop region) f = refl
+kept d _ f = refl
 
 abbrev call_after : Generations → Desk → Call → Bool → Bool → Result Forest Refusal → Settled
 call_after g d call outside quiet (Err why) = refused_desk d why

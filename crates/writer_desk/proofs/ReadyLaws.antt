@@ -25,44 +25,11 @@ use Rattle.writer_desk.proofs.HeardLaws.{delivered_heard}
 same_beside : (bk : BackedState) (b : Beside) (call : Call) → is_quiet call ≡ false → beside_by bk b (configs.Call call) ≡ b
 same_beside bk b (calls.Region kind size) h = cc
 same_beside bk b (calls.Drop r) h = cc
-same_beside bk b (calls.Space space root) h = refl
-same_beside bk b (calls.Add parent offset child priority) h = refl
-same_beside bk b (calls.Del parent child) h = refl
-same_beside bk b (calls.Move child offset) h = refl
-same_beside bk b (calls.Resize r size) h = refl
-same_beside bk b (calls.Retarget alias offset) h = refl
-same_beside bk b (calls.Enable r on) h = refl
-same_beside bk b (calls.Readonly r on) h = refl
-same_beside bk b (calls.Nonvolatile r on) h = refl
-same_beside bk b (calls.Unmergeable r on) h = refl
-same_beside bk b (calls.Romd r on) h = refl
-same_beside bk b (calls.Log r client on) h = refl
-same_beside bk b (calls.Global on) h = refl
-same_beside bk b (calls.Map r iova size space translated perm) h = refl
-same_beside bk b (calls.Unmap r iova) h = refl
-same_beside bk b (calls.Event r event) h = refl
-same_beside bk b (calls.Unevent r offset size matched value) h = refl
+same_beside bk b _ h = refl
 
 plain_answer : (f : Forest) (call : Call) → is_quiet call ≡ false → answer_of f call ≡ Done
 plain_answer f (calls.Region kind size) h = cc
-plain_answer f (calls.Drop r) h = refl
-plain_answer f (calls.Space space root) h = refl
-plain_answer f (calls.Add parent offset child priority) h = refl
-plain_answer f (calls.Del parent child) h = refl
-plain_answer f (calls.Move child offset) h = refl
-plain_answer f (calls.Resize r size) h = refl
-plain_answer f (calls.Retarget alias offset) h = refl
-plain_answer f (calls.Enable r on) h = refl
-plain_answer f (calls.Readonly r on) h = refl
-plain_answer f (calls.Nonvolatile r on) h = refl
-plain_answer f (calls.Unmergeable r on) h = refl
-plain_answer f (calls.Romd r on) h = refl
-plain_answer f (calls.Log r client on) h = refl
-plain_answer f (calls.Global on) h = refl
-plain_answer f (calls.Map r iova size space translated perm) h = refl
-plain_answer f (calls.Unmap r iova) h = refl
-plain_answer f (calls.Event r event) h = refl
-plain_answer f (calls.Unevent r offset size matched value) h = refl
+plain_answer f _ h = refl
 
 module _ (bk : BackedState) (li : Listening) (r : Readied)
     (told : r.changes ≡ heard_by (ascending li.listeners) (changes_between bk.desk.current.forest r.generation.forest)) where

@@ -30,19 +30,13 @@ unfilled_with s k = []
 -- what others keep after an accepted event
 pub kept_beside : (s : BackedState) (b : Beside) (k : Config) → b.unfilled ≡ [] → beside_by s b k
     ≡ (record { dropped = dropped_with k b.dropped; unfilled = unfilled_with s k; swept = b.swept })
-kept_beside s b configs.Begin none = λ i. record { dropped = b.dropped; unfilled = none i; swept = b.swept }
 kept_beside s b (configs.Call call) none =
     λ i. beside_by s (record { dropped = b.dropped; unfilled = none i; swept = b.swept }) (configs.Call call)
-kept_beside s b configs.Commit none = λ i. record { dropped = b.dropped; unfilled = none i; swept = b.swept }
-kept_beside s b (configs.Listen listener space priority) none = λ i. record { dropped = b.dropped; unfilled = none i; swept = b.swept }
-kept_beside s b (configs.Unlisten listener) none = λ i. record { dropped = b.dropped; unfilled = none i; swept = b.swept }
+kept_beside s b _ none = λ i. record { dropped = b.dropped; unfilled = none i; swept = b.swept }
 
 pub pool_stays : (s : BackedState) (k : Config) → (backing_by s k).pool_words ≡ s.backing.pool_words
 pool_stays s configs.Begin = refl
-pool_stays s (configs.Call call) = refl
-pool_stays s configs.Commit = refl
-pool_stays s (configs.Listen listener space priority) = refl
-pool_stays s (configs.Unlisten listener) = refl
+pool_stays s _ = refl
 
 -- the cells of a place, where there is one
 abbrev pub cells_at : Option Place → List Cell
@@ -149,28 +143,8 @@ module _ (s : BackedState) (below : Every (λ p. p.region.0 < (forest_at s).made
   of_call : (call : Call) → unfilled_by s call [] ≡ cells_at (made_place (backing_by s (configs.Call call)).places (applied_by s (configs.Call call)))
   of_call (calls.Region kind size) = let x = extent_of kind size in
       region x (words_of x == 0) (first_fit s.backing.pool_words s.backing.places (words_of x))
-  of_call (calls.Drop r) = refl
-  of_call (calls.Space space root) = refl
-  of_call (calls.Add parent offset child priority) = refl
-  of_call (calls.Del parent child) = refl
-  of_call (calls.Move child offset) = refl
-  of_call (calls.Resize r size) = refl
-  of_call (calls.Retarget alias offset) = refl
-  of_call (calls.Enable r on) = refl
-  of_call (calls.Readonly r on) = refl
-  of_call (calls.Nonvolatile r on) = refl
-  of_call (calls.Unmergeable r on) = refl
-  of_call (calls.Romd r on) = refl
-  of_call (calls.Log r client on) = refl
-  of_call (calls.Global on) = refl
-  of_call (calls.Map r iova size space translated perm) = refl
-  of_call (calls.Unmap r iova) = refl
-  of_call (calls.Event r event) = refl
-  of_call (calls.Unevent r offset size matched value) = refl
+  of_call _ = refl
 
   pub unfilled_is : (k : Config) → unfilled_with s k ≡ cells_at (made_place (backing_by s k).places (applied_by s k))
-  unfilled_is configs.Begin = refl
   unfilled_is (configs.Call call) = of_call call
-  unfilled_is configs.Commit = refl
-  unfilled_is (configs.Listen listener space priority) = refl
-  unfilled_is (configs.Unlisten listener) = refl
+  unfilled_is _ = refl

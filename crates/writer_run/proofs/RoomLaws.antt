@@ -4,7 +4,7 @@ use Rattle.std.specs.Prelude.{not, nat_lt, ◌/◌, ◌%◌}
 use Rattle.std.proofs.lemmas.Bool.Decides.{nat_tests}
 use Rattle.mem_base.specs.declared.map.ids.RegionId.{RegionId}
 use Rattle.mem_base.specs.declared.map.kinds.Kind.{Kind}
-use Rattle.mem_base.specs.declared.map.kinds.Kind.TheVariants.{Container, Ram, Rom, RomDevice, Io, Iommu, Alias, Reserve, Host}
+use Rattle.mem_base.specs.declared.map.kinds.Kind.TheVariants.{Ram, Rom, RomDevice}
 use Rattle.mem_base.specs.declared.map.forests.Node.{Node}
 use Rattle.mem_base.specs.declared.map.forests.Forest.{Forest}
 use Rattle.mem_base.specs.declared.map.refusals.Refusal.TheVariants.{WrongKind, BadSize}
@@ -29,12 +29,7 @@ module _ (f : Forest) (pool_words : ℕ) (ps : List Place) (backs : BacksForest 
   held_data Ram size e = omega arith
   held_data Rom size e = omega arith
   held_data (RomDevice device) size e = omega arith
-  held_data Container size e = absurd (grind arith)
-  held_data (Io device) size e = absurd (grind arith)
-  held_data Iommu size e = absurd (grind arith)
-  held_data (Alias target offset) size e = absurd (grind arith)
-  held_data Reserve size e = absurd (grind arith)
-  held_data Host size e = absurd (grind arith)
+  held_data _ size e = absurd (grind arith)
 
   record HoldsBytes (region : RegionId) (n : Node) : Type 0 where
     place : Place
