@@ -46,7 +46,6 @@ use Rattle.world_laws.specs.Standing.{StandsIn}
 use Rattle.world_laws.proofs.Accessing.{access_reached}
 use Rattle.world_laws.proofs.Entering.{entered_generations_are_held}
 use Rattle.world_laws.proofs.Keeping.{held_places_stand}
-use Rattle.world_laws.proofs.Lists.{found_has}
 use Rattle.world_laws.proofs.Running.{AllMay}
 use Rattle.run_laws.specs.MadeForests.{HasMadeForests}
 use Rattle.world_laws.proofs.PassKeeping.{KeepsAll, after_events, entered_by, may_look, steps_keep}
@@ -59,6 +58,7 @@ use Rattle.history_laws.proofs.PureAppends.{events_of_run}
 use Rattle.mem_base.proofs.PassTurnLaws.{events_are}
 use Rattle.std.proofs.lemmas.Bool.{and_from, or_right}
 use Rattle.std.proofs.lemmas.Option.{same_Some}
+use Rattle.mem_base.proofs.PlaceLaws.{found_has}
 
 -- an event of a pass is possible on the running machine, with what it carries among these places
 pub record MayCarry (places : List Place) (w : World) (e : Event) : Type 0 where

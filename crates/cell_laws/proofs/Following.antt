@@ -45,7 +45,6 @@ use Rattle.turn_laws.proofs.TurnGoes.{AllReady, AllDue}
 use Rattle.turn_laws.proofs.Turning.{turn_facts}
 use Rattle.turn_laws.proofs.TurnsLaw.{turns_join}
 use Rattle.world_laws.specs.Legal.{IsFitting, IsLegalCall}
-use Rattle.world_laws.proofs.Lists.{found_has}
 use Rattle.world_laws.proofs.OrderLaws.{orders_are_legal}
 use Rattle.cell_laws.proofs.PlaceKeeping.{configured_grows}
 use Rattle.mem_base.specs.machine.ShownWorlds.{world_shown}
@@ -54,6 +53,7 @@ use Rattle.end_laws.proofs.EndLaws.{ends, idle, leads, turns_end_in}
 use Rattle.history_laws.proofs.PureAppends.{run_ends}
 use Rattle.end_laws.proofs.TurnRuns.{IsPrivateRun, IsRun, Taken, privately, runs, taken, told_number}
 use Rattle.history_laws.proofs.PureAppends.{legal_parts}
+use Rattle.mem_base.proofs.PlaceLaws.{found_has}
 
 -- a cell that is filled has its place
 abbrev FillPlaced : World → Event → Type 0

@@ -29,13 +29,13 @@ use Rattle.view_laws.proofs.Tests.{none_is_not_some, same_region}
 use Rattle.turn_laws.proofs.Coupled.{IsWhole}
 use Rattle.turn_laws.proofs.Replaced.{its_region}
 use Rattle.world_laws.proofs.Keeping.{holds_at_first}
-use Rattle.world_laws.proofs.Lists.{found_has}
 use Rattle.mem_base.specs.machine.CellHistories.{HasMark, IsMarkKept, step_by, IsReleasedIn, KeptBy, Meet, left_on, releases, step_on, stepped, takes_mark}
 use Rattle.cell_laws.specs.CellHistory.{AreOnData, IsFilled, IsOnData}
 use Rattle.mem_base.specs.machine.CellHistories.{cell_value}
 use Rattle.cell_laws.proofs.EachEvent.{Sure, filled_stays, found_before, made_on, no_step, paged, place_stays, released_made, sure_after, value_after}
 use Rattle.cell_laws.proofs.Marks.{gentle_keeps, mark_gentle, mark_told, or_sets}
 use Rattle.history_laws.proofs.PureAppends.{after_both, legal_parts}
+use Rattle.mem_base.proofs.PlaceLaws.{found_has}
 
 sure_first : (pool_words passes : ℕ) → Sure (opening pool_words passes)
 sure_first pool_words passes = record { holds = holds_at_first pool_words passes; gone = record { rising = tt; gone = tt } }

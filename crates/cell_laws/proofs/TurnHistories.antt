@@ -41,7 +41,6 @@ use Rattle.turn_laws.proofs.TurnGoes.{turns_go}
 use Rattle.turn_laws.proofs.TurnsLaw.{turns_join}
 use Rattle.world_laws.proofs.Keeping.{Holds, holds}
 use Rattle.mem_base.proofs.EveryLaws.{every_append}
-use Rattle.world_laws.proofs.Lists.{found_has}
 use Rattle.map_laws.proofs.MadeForests.{made_empty}
 use Rattle.mem_base.specs.machine.CellHistories.{IsMarkKept}
 use Rattle.cell_laws.specs.CellHistory.{AreOnData, IsFilled, IsOnData}
@@ -51,6 +50,7 @@ use Rattle.cell_laws.specs.TurnCells.{HasFittingCall, ReusesReleased}
 use Rattle.cell_laws.proofs.DataSteps.{IsOfData, ReadyOnData, StepsOnData, turns_on_data}
 use Rattle.history_laws.proofs.PureAppends.{after_both, legal_parts}
 use Rattle.mem_base.proofs.NodeLaws.{whole_bytes}
+use Rattle.mem_base.proofs.PlaceLaws.{found_has}
 
 -- what holds of each entry where it stands
 

@@ -7,16 +7,9 @@ use Rattle.epoch_rule.proofs.Common.{shared_possible, shared_reply, after_shared
 use Rattle.epoch_rule.proofs.Common.{own_entries, pass_after_all, generations_after_all, generations_published, published_with, first_generation, state_of}
 use Rattle.epoch_rule.proofs.Common.{IsLegal, generation_of_pick, generations_seen, WordsShow, PlacesFit, PassSlots, SlotsOfPass, AllSlots, SeatKnows, IsRuled}
 use Rattle.epoch_rule.proofs.Common.{ComesNext, same_number, published_append, own_append, generations_own, sound, set-get_or, IsPrefix, after_append}
-use Rattle.epoch_rule.proofs.Common.{legal_snoc, own_other, zero, suc, ◌%◌, ◌≤◌, max, ne_eqb, Option, None, none, dec_le, set_else, one_turn}
-use Rattle.epoch_rule.proofs.Common.{known_after_sweep, with_placed, HasAt, none_is_no_number, get_or-append, set_here, slice_index_or, get_or_push}
+use Rattle.epoch_rule.proofs.Common.{legal_snoc, own_other, ◌%◌, ◌≤◌, Option, None, none, dec_le, set_else, one_turn}
+use Rattle.epoch_rule.proofs.Common.{with_placed, HasAt, none_is_no_number, get_or-append, set_here, slice_index_or, get_or_push}
 use mathlib.Core.Option as maybe
-
--- a sweep lowers no lowest number
-pub raises : (c : ℕ) (k : PassTrack) (word : ℕ) → k.lowest ≤ c → k.lowest ≤ (known_after_sweep c k word).lowest
-raises c k zero l = l
-raises c k (suc n) l = let e : (known_after_sweep c k (n + 1)).lowest ≡ max k.lowest n =
-    rw (ne_eqb (n + 1) 0 (λ z. omega arith)) (ap (max k.lowest) (omega arith)) in
-    subst (λ (w : ℕ). k.lowest ≤ (known_after_sweep c k w).lowest) {x = n + 1} (omega arith) (rw e (omega arith))
 
 module _ {S : Type 0} (Copy : ℕ → Generation → S → Type 0) where
   -- a place that is kept

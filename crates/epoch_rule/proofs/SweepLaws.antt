@@ -5,7 +5,7 @@ use Rattle.epoch_rule.proofs.Common.{get_or-set_same, both_ways, arc_value, Arc,
 use Rattle.epoch_rule.proofs.Common.{Nothing, HistoryEntry, Generations, PassTrack, nothing_known, known_of, known_after_sweep, pin_word, number_pinned}
 use Rattle.epoch_rule.proofs.Common.{first_generations, with_known, with_placed, all_placed, Sizes, View, Found, pass_id, history_entry, actor_of, own_entries}
 use Rattle.epoch_rule.proofs.Common.{generations_after_all, IsLegal, generations_seen, KeepsSlot, ComesNext, stored, Every, holds_up, Picked, sweeps_of}
-use Rattle.epoch_rule.proofs.Common.{places_of, HasWritten, HasSwept, AreCopies, held_in, none_is_no_number, same_number, none_is_not_some, and_from}
+use Rattle.epoch_rule.proofs.Common.{places_of, HasWritten, HasSwept, AreCopies, held_in, none_is_no_number, same_number, none_is_not_some}
 use Rattle.epoch_rule.proofs.Common.{generations_by_append, EndsWith, leb-false, option_to_list, map-set, every_first, every_rest, length-map, TableId, Me}
 use Rattle.epoch_rule.proofs.Common.{least_lowest, held_up, carried_pick, Wrote, IsWriting, HasPlaced, least_in, refusal_of, none_placed, number_seen, min}
 use Rattle.epoch_rule.proofs.Common.{option_map, nat_le, held_at, held_from}
@@ -15,6 +15,7 @@ use Rattle.epoch_rule.proofs.PassLaws.{own_added, begins_added, ends_added, gene
 use Rattle.mem_base.specs.declared.map.refusals.Refusal.TheVariants as refusals
 use Rattle.mem_base.specs.declared.machine.events.Hand.TheVariants as hands
 use Rattle.epoch_rule.proofs.LeastLaws.{current_seen}
+use Rattle.mem_base.proofs.PassTurnLaws.{all_from, pinned}
 
 -- what is taken of each element stays where one changes that has the same
 map_kept : {A B : Type 0} (f : A → B) (xs : List A) (i : ℕ) (x d : A) → f x ≡ f (get_or xs i d) → map f (set xs i x) ≡ map f xs
@@ -112,11 +113,6 @@ sweeps_placed [] first g = refl
 sweeps_placed (r ∷ rs) first g = let k : PassTrack = known_after_sweep g.current (known_of g (pass_id first)) r in
     sweeps_placed rs (suc first) (with_known g (pass_id first) k) ∙ map_kept (λ k. k.placed) g.passes first k nothing_known refl
 
--- no pass holds a publish up
-pub found_pin : (o : Option ℕ) → number_pinned (pin_word o) ≡ o
-found_pin None = refl
-found_pin (Some n) = rw (ne_eqb (n + 1) 0 (λ q. omega arith)) (ap Some (omega arith))
-
 held_none : (c first : ℕ) (ks : List PassTrack) → held_in c first (map stored ks) ≡ None → (u : ℕ) → u < length ks
     → holds_up c (get_or ks u nothing_known).found ≡ false
 held_none c first [] h u l = absurd (omega arith)
@@ -127,7 +123,7 @@ held_none c first (k ∷ ks) h u l = go (holds_up c (number_pinned (pin_word k.f
         → (if b then Some (record { pass = pass_id first; number = pin_word k.found - 1 }) else held_in c (first + 1) (map stored ks)) ≡ None
         → (u : ℕ) → u < suc (length ks) → holds_up c (get_or (k ∷ ks) u nothing_known).found ≡ false
     go true e r h u l = none_is_not_some _ (sym h)
-    go false e r h zero l = ap (holds_up c) (sym (found_pin k.found)) ∙ e
+    go false e r h zero l = ap (holds_up c) (sym (pinned k.found)) ∙ e
     go false e r h (suc u) l = r h u (omega arith)
 
 near_of : (c : ℕ) (k : PassTrack) → IsSwept c k → holds_up c k.found ≡ false → c ≤ k.lowest + 6
@@ -199,10 +195,6 @@ places_stored g (suc n) = ap (λ (x : Generations). map stored x.passes) (place_
 pub unplaced_stored : (ks : List PassTrack) → map stored (map (with_placed false) ks) ≡ map stored ks
 unplaced_stored [] = refl
 unplaced_stored (k ∷ ks) = ap (λ l. stored k ∷ l) (unplaced_stored ks)
-
-pub all_from : (ks : List PassTrack) → ((u : ℕ) → u < length ks → (get_or ks u nothing_known).placed ≡ true) → all_placed ks ≡ true
-all_from [] h = refl
-all_from (k ∷ ks) h = and_from _ _ (h 0 (omega arith)) (all_from ks (λ u l. h (suc u) (omega arith)))
 
 -- a pass that has its copy had it, or got it by now
 pub places_placed : (g : Generations) (n u : ℕ) → (known_of (generations_after_all g (places_of n)) (pass_id u)).placed ≡ true
@@ -305,7 +297,7 @@ held_both c first (k ∷ ks) = one k.found (held_both c (first + 1) ks)
     one None h = h
     one (Some q) h = subst (λ (x : Option ℕ). (if holds_up c (Some q) then held_at (pass_id first) (Some q) else held_from c (first + 1) ks)
         ≡ option_map refusal_of (if holds_up c x then Some (record { pass = pass_id first; number = q + 1 - 1 }) else held_in c (first + 1) (map stored ks)))
-        (sym (found_pin (Some q))) (go (nat_le (q + 7) c))
+        (sym (pinned (Some q))) (go (nat_le (q + 7) c))
       where
         go : (b : Bool) → (if b then held_at (pass_id first) (Some q) else held_from c (first + 1) ks)
             ≡ option_map refusal_of (if b then Some (record { pass = pass_id first; number = q + 1 - 1 }) else held_in c (first + 1) (map stored ks))

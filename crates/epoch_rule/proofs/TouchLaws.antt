@@ -1,13 +1,13 @@
 -- What an actor may touch, and what its touch shows.
 use Rattle.epoch_rule.proofs.Common.{◌≡◌, ◌⊎◌, ℕ, ◌+◌, ◌<◌, ◌≤◌, eqb, Bool, true, false, List, [], ◌∷◌, length, sym, refl, ap, ◌∙◌, subst, ⊎_elim, inl, inr}
-use Rattle.epoch_rule.proofs.Common.{append-nil, arith, Option, Some, None, MatchBool, nat_lt, lt-ltb, ltb-true, le-leb, eqb-true, eq-eqb, IsPrefix, Forest}
-use Rattle.epoch_rule.proofs.Common.{Hand, Place, Event, At, HistoryEntry, Every, IsEdition, past, cell, PassState, pass_after, pass_id, Generation}
+use Rattle.epoch_rule.proofs.Common.{append-nil, arith, Option, Some, None, MatchBool, nat_lt, lt-ltb, ltb-true, le-leb, eq-eqb, IsPrefix, Forest}
+use Rattle.epoch_rule.proofs.Common.{Hand, Place, Event, At, HistoryEntry, IsEdition, past, cell, PassState, pass_after, pass_id, Generation}
 use Rattle.epoch_rule.proofs.Common.{generation, entered_generation, Shared, shared_possible, is_same_place, Sizes, View, history_entry, actor_of}
 use Rattle.epoch_rule.proofs.Common.{actor_of_hand, own_entries, state_of, IsLegal, pass_seen, generations_seen, ComesNext, shown_by, IsEnteredIn, TouchesWord}
 use Rattle.epoch_rule.proofs.Common.{IsReady, IsTouch, touch_at, Wrote, WriterMay, and_from, generation_stays, sound, Carried, none_is_not_some, IsSettled}
 use Rattle.epoch_rule.proofs.Common.{ToldStep, Told, event_of, ◌&&◌, IsSomeAnd, IsRegionPlace, IsNotifiersPlace, extent, extent_of, words_of, place_from}
 use Rattle.epoch_rule.proofs.Common.{pages_in, is_data_or_register, word_of_page, notifiers_place, is_notifiers, KeepsHome, IsReach, PassMay, ShowsStep}
-use Rattle.epoch_rule.proofs.Common.{ShowsTouch, and_parts, or_left, or_right}
+use Rattle.epoch_rule.proofs.Common.{ShowsTouch, or_left, or_right}
 use Rattle.std.specs.List.{list_any}
 use Rattle.mem_base.specs.declared.access.cells.WordStep.{WordStep}
 use Rattle.mem_base.specs.declared.map.forests.Node.{Node}
@@ -23,21 +23,7 @@ use Rattle.epoch_rule.specs.declared.touches.Touch.{Touch}
 use Rattle.epoch_rule.specs.declared.touches.Touch.TheVariants as touches
 use Rattle.epoch_rule.proofs.PassLaws.{own_added, begins_added, ends_added, pass_added, generations_added, pass_known}
 use Rattle.epoch_rule.proofs.WordSteps.{entered_is}
-use Rattle.view_laws.proofs.SortedLaws.{any_found}
-use Rattle.view_laws.proofs.LiveLaws.{every_in}
-
-all_same : (p q : Place) → is_same_place p q ≡ true → q ≡ p
-all_same p q h =
-    let a = and_parts _ _ h in let b = and_parts _ _ a.0 in let c = and_parts _ _ b.0 in let d = and_parts _ _ c.0 in
-    let e0 : q.region.0 ≡ p.region.0 = sym (eqb-true _ _ d.0) in
-    let e1 : q.start ≡ p.start = sym (eqb-true _ _ d.1) in
-    let e2 : q.words ≡ p.words = sym (eqb-true _ _ c.1) in
-    let e3 : q.bytes ≡ p.bytes = sym (eqb-true _ _ b.1) in
-    let e4 : q.regs ≡ p.regs = sym (eqb-true _ _ a.1) in
-    λ i. record { region = record { 0 = e0 i }; start = e1 i; words = e2 i; bytes = e3 i; regs = e4 i }
-
-pub one_of : (P : Place → Type 0) (p : Place) (qs : List Place) → Every P qs → list_any (is_same_place p) qs ≡ true → P p
-one_of P p qs k h = let t = any_found (is_same_place p) qs h in subst P (all_same p t.0 t.2) (every_in P t.0 qs k t.1)
+use Rattle.mem_base.proofs.PlaceLaws.{one_of}
 
 -- a pass that is entered in a generation may reach the words of the places that it carries
 reaches : (f : Forest) (ps : List Place) (p : Place) (word : ℕ) → IsEdition f ps → list_any (is_same_place p) ps ≡ true → is_data_or_register p word ≡ true

@@ -1,10 +1,10 @@
 -- Pages of translations: each is as large as a power of two, it covers the offsets from its iova to its end, and they go on at
 -- addresses in a row.
-use Rattle.std.proofs.Common.{◌≡◌, ℕ, zero, suc, ◌+◌, ◌-◌, ◌*◌, ◌/◌, ◌%◌, ◌^◌, ◌<◌, ◌≤◌, Bool, true, false, not, eqb, List, [], ◌∷◌, None}
+use Rattle.std.proofs.Common.{◌≡◌, ℕ, ◌+◌, ◌-◌, ◌*◌, ◌/◌, ◌%◌, ◌^◌, ◌<◌, ◌≤◌, Bool, true, false, not, eqb, List, [], ◌∷◌, None}
 use Rattle.std.proofs.Common.{count_ones, sym, refl, ap, ◌∙◌, arith}
 use Rattle.std.specs.Prelude.{bit_and, bit_or}
 use Rattle.std.proofs.lemmas.Bool.Decides.{nat_tests}
-use Rattle.std.proofs.lemmas.Nat.{ones_le_self, and_mask, or_shifted, div-mul-add, mod-mul-add, div-add-mod', mod_below}
+use Rattle.std.proofs.lemmas.Nat.{and_mask, or_shifted, div-mul-add, mod-mul-add, div-add-mod', mod_below}
 use Rattle.mem_base.specs.declared.map.translations.Entry.{Entry}
 use Rattle.mem_base.specs.access.Translations.{without_mask, covers, translated_address}
 use Rattle.mem_base.specs.lists.Every.{Every}
@@ -13,25 +13,13 @@ use Rattle.mem_base.specs.declared.map.refusals.Refusal.TheVariants.{BadPage}
 use Rattle.map_laws.proofs.RefusalLaws.{refuse_if-none}
 use Rattle.iommu.specs.Pages.{ArePages}
 use Rattle.std.proofs.lemmas.Bool.{or_parts, not-false}
-use Rattle.map_laws.proofs.PageLaws.{last_digit, doubled}
+use Rattle.map_laws.proofs.PageLaws.{one_digit}
 
 -- the page's size is a power of two, and it begins at a multiple of it
 pub record IsPage (e : Entry) : Type 0 where
   pub power : ℕ
   pub size : e.mask + 1 ≡ 2 ^ power
   pub whole : e.iova % (2 ^ power) ≡ 0
-
--- a number with one digit in base two is a power of two
-one_digit : (most n : ℕ) → n ≤ most → count_ones n ≡ 1 → (k : ℕ) × (n ≡ 2 ^ k)
-one_digit zero n l e =
-    let z : n ≡ 0 = omega arith in
-    let q : count_ones n ≡ count_ones 0 = ap count_ones z in
-    let h = ones_le_self 0 in
-    absurd (omega arith)
-one_digit (suc most) n l e =
-    let split = div-add-mod' n 2 in
-    let low : n % 2 < 2 = mod_below n 2 (omega arith) in
-    doubled n (n / 2) (n % 2) split (λ q is ones. one_digit most q (omega arith) ones) (last_digit (n / 2) (n % 2) low (ap count_ones split ∙ e))
 
 is_page : (e : Entry) → bad_page e.iova (e.mask + 1) ≡ None → IsPage e
 is_page e h =

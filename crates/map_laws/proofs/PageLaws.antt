@@ -28,12 +28,12 @@ doubled n q r is up (inr (even, rest)) =
     let p = pow-add 2 h.0 1 in
     (h.0 + 1, omega arith)
 
-pub power : (most n : ℕ) → n ≤ most → count_ones n ≡ 1 → (k : ℕ) × (n ≡ 2 ^ k)
-power zero n l e = let z : n ≡ 0 = omega arith in let q : count_ones n ≡ count_ones 0 = ap count_ones z in let h = ones_le_self 0 in absurd (omega arith)
-power (suc most) n l e =
+pub one_digit : (most n : ℕ) → n ≤ most → count_ones n ≡ 1 → (k : ℕ) × (n ≡ 2 ^ k)
+one_digit zero n l e = let z : n ≡ 0 = omega arith in let q : count_ones n ≡ count_ones 0 = ap count_ones z in let h = ones_le_self 0 in absurd (omega arith)
+one_digit (suc most) n l e =
     let split = div-add-mod' n 2 in
     let low : n % 2 < 2 = mod_below n 2 (omega arith) in
-    doubled n (n / 2) (n % 2) split (λ q is ones. power most q (omega arith) ones) (last_digit (n / 2) (n % 2) low (ap count_ones split ∙ e))
+    doubled n (n / 2) (n % 2) split (λ q is ones. one_digit most q (omega arith) ones) (last_digit (n / 2) (n % 2) low (ap count_ones split ∙ e))
 
 next_multiple : (q t m : ℕ) → q * m < t * m → q * m + m ≤ t * m
 next_multiple q t m l =
@@ -54,7 +54,7 @@ top_multiple k l =
 
 pub page_ends : (iova size : ℕ) → count_ones size ≡ 1 → iova % size ≡ 0 → iova < 2 ^ 64 → size ≤ 2 ^ 64 → iova + size ≤ 2 ^ 64
 page_ends iova size ones whole l s =
-    let p = power size size (omega arith) ones in
+    let p = one_digit size size (omega arith) ones in
     let small : 2 ^ p.0 ≤ 2 ^ 64 = let e = p.1 in omega arith in
     let top = top_multiple p.0 small in
     let all : top.0 * size ≡ 2 ^ 64 = ap (λ n. top.0 * n) p.1 ∙ top.1 in

@@ -16,7 +16,7 @@ use Rattle.mem_base.specs.declared.machine.records.DeskAnswer.TheVariants as ans
 use Rattle.mem_base.specs.lists.Every.{Every}
 use Rattle.mem_base.specs.machine.Generations.{Generation}
 use Rattle.mem_base.specs.machine.Actors.{generations_published}
-use Rattle.mem_base.specs.machine.Records.{Clerk, FitsDeskOrder}
+use Rattle.mem_base.specs.machine.Records.{Clerk}
 use Rattle.mem_base.specs.script.Spelling.{Text}
 use Rattle.mem_base.specs.script.Scripts.{Line}
 use Rattle.mem_base.specs.script.Tasks.{Known, Resolved, Task, task_of}
@@ -32,7 +32,7 @@ use Rattle.race_laws.specs.Stopped.{BeginsLine}
 use Rattle.race_laws.proofs.EnterLaws.{some_published}
 use Rattle.race_laws.proofs.NextLines.{orders_of, own_asks}
 use Rattle.race_laws.proofs.OutsideLaws.{orders_fit}
-use Rattle.desk_lock.specs.Receipts.{HandsOut, HasNotifier, HasSeenTold, IsAnswerTo, number_told}
+use Rattle.desk_lock.specs.Receipts.{HandsOut, HasSeenTold, IsAnswerTo, number_told}
 use Rattle.desk_lock.specs.Turned.{entry_got}
 use Rattle.race_lines.specs.declared.tasks.LineTask.{LineTask}
 use Rattle.race_lines.specs.declared.tasks.LineTask.TheVariants.{Idle, Ordered, Shown, Found, Watched, Unwatched, Entered, Left, Read, Written, Copied}
@@ -43,12 +43,9 @@ use Rattle.race_lines.proofs.SaidLaws.{lines_go_by_answers}
 use Rattle.race_block.specs.declared.desks.Asked.{Asked}
 use Rattle.race_block.specs.declared.desks.Given.{Given}
 use Rattle.race_block.specs.Desks.{Gives, GivesOwn, HasHeard, IsAsked, OrderFits, StopsIn, clerk_with, entry_of, line_asked}
+use Rattle.desk_lock.proofs.ReceiptLaws.{has_notifier}
 
 -- a notifier of an order that fits
-
-has_notifier : (order : DeskOrder) → FitsDeskOrder order → HasNotifier order
-has_notifier (orders.Notified number) h = h
-has_notifier _ h = tt
 
 pub order_fits : (k : Known) (c : Command) (x : Result LineTask Refused) → FitsCommand c → Resolves k x (task_of k c) → OrderFits x
 order_fits k c (Err why) fits r = tt

@@ -3,19 +3,16 @@ use Rattle.std.proofs.Common.{◌≡◌, ℕ, ◌+◌, ◌<◌, ◌≤◌, zero,
 use Rattle.std.proofs.Common.{Result, Ok, Err, inl, inr}
 use Rattle.std.proofs.lemmas.List.{map_push}
 use Rattle.std.proofs.lemmas.List.Elements.{All-push}
-use Rattle.mem_base.specs.declared.machine.records.DeskOrder.{DeskOrder}
 use Rattle.mem_base.specs.declared.machine.records.DeskOrder.TheVariants as orders
 use Rattle.mem_base.specs.declared.script.commands.Command.{Command}
 use Rattle.mem_base.specs.declared.script.commands.Command.TheVariants as commands
 use Rattle.mem_base.specs.map.Limits.{most_passes}
-use Rattle.mem_base.specs.machine.Records.{FitsDeskOrder}
 use Rattle.mem_base.specs.script.Race.{actor_number}
 use Rattle.mem_base.specs.script.Scripts.{Line}
 use Rattle.mem_base.specs.script.Tasks.{Known, Resolved, Task, change_of, space, task_of, then_resolved}
 use Rattle.mem_base.specs.script.Tasks as tasks
 use Rattle.run_laws.specs.Fitting.{FitsCommand}
 use Rattle.race_laws.proofs.OutsideLaws.{orders_fit}
-use Rattle.desk_lock.specs.Receipts.{HasNotifier}
 use Rattle.race_lines.specs.declared.tasks.LineTask.{LineTask}
 use Rattle.race_lines.specs.declared.tasks.LineTask.TheVariants.{Idle, Ordered, Shown, Found, Watched, Unwatched, Entered, Left, Read, Written, Copied}
 use Rattle.race_lines.specs.declared.tasks.Refused.{Refused}
@@ -30,6 +27,7 @@ use Rattle.race_block.specs.declared.tasks.LineGot.{LineGot}
 use Rattle.race_block.specs.Lines.{FitsLine, FitsTask, HasRun, HasRunLines, HaveRun, IsReady}
 use Rattle.race_block.specs.Resolving.{AreTasksIn, AreTasksOf, IsOfPass, IsTaskOf, StandsFor, copy_room, tasks_in}
 use Rattle.mem_base.proofs.BoolLaws.{true_is_not_false}
+use Rattle.desk_lock.proofs.ReceiptLaws.{has_notifier}
 
 -- a task of a pass, which copies no more than there is room for
 abbrev CanBeOfPass : Resolved Task → Type 0
@@ -69,10 +67,6 @@ is_of_pass k c (Ok (Shown space)) h l r = absurd (subst CanBeOfPass (sym r.is) (
 is_of_pass k c (Ok (Found space addr)) h l r = absurd (subst CanBeOfPass (sym r.is) (can_be k c h l))
 is_of_pass k c (Ok (Watched name region first last)) h l r = absurd (subst CanBeOfPass (sym r.is) (can_be k c h l))
 is_of_pass k c (Ok (Unwatched name watcher)) h l r = absurd (subst CanBeOfPass (sym r.is) (can_be k c h l))
-
-has_notifier : (order : DeskOrder) → FitsDeskOrder order → HasNotifier order
-has_notifier (orders.Notified number) h = h
-has_notifier _ h = tt
 
 -- what a pass is asked for fits
 pub task_fits : (k : Known) (c : Command) (task : PassTask) → FitsCommand c → actor_number c < most_passes → StandsFor task (task_of k c)

@@ -3,7 +3,6 @@ use Rattle.std.proofs.Common.{◌≡◌, ℕ, true, false, List, [], ◌∷◌, 
 use Rattle.std.proofs.lemmas.Grind.{flat_map-append}
 use Rattle.std.specs.Prelude.{flat_map}
 use Rattle.mem_base.specs.declared.machine.events.HistoryEntry.{HistoryEntry}
-use Rattle.mem_base.specs.declared.script.commands.Command.{Command}
 use Rattle.mem_base.specs.declared.script.commands.Command.TheVariants as commands
 use Rattle.mem_base.specs.lists.Every.{Every}
 use Rattle.mem_base.specs.map.Limits.{most_passes}
@@ -16,11 +15,11 @@ use Rattle.mem_base.specs.script.Spelling.{Text}
 use Rattle.mem_base.specs.script.Scripts.{Line, script_of}
 use Rattle.mem_base.specs.script.States.{State}
 use Rattle.mem_base.specs.script.Run.{pool_words, start, text_from}
-use Rattle.mem_base.specs.script.Race.{ArePhases, Course, IsAlone, IsPhase, NameTheirPasses, NamesItsPass, Phase, Stand, alone, block, first_stand}
+use Rattle.mem_base.specs.script.Race.{ArePhases, Course, IsAlone, IsPhase, NameTheirPasses, Phase, Stand, alone, block, first_stand}
 use Rattle.mem_base.specs.script.Race.{phases_from, phases_of, put_in_block, stand_after, text_along, turns_in}
-use Rattle.run_laws.specs.Fitting.{AreFitting, FitsCommand}
+use Rattle.run_laws.specs.Fitting.{AreFitting}
 use Rattle.run_laws.specs.LawfulRuns.{state_after}
-use Rattle.run_laws.proofs.FittingLaws.{lines_fit}
+use Rattle.run_laws.proofs.FittingLaws.{lines_fit, names_its}
 use Rattle.race_laws.specs.OutsideRuns.{AreLines, IsRoundBlock, OutsideIsRun, ReadRaceIsRun, with_block}
 use Rattle.turn_laws.proofs.TurnLists.{turns_append, writers_append}
 use Rattle.race_laws.proofs.Running.{IsLegal, IsRun}
@@ -29,15 +28,6 @@ use Rattle.race_laws.proofs.BlockPhases.{block_knows}
 use Rattle.race_laws.proofs.PlainRaces.{Comes, all_entries, alone_continue, first_comes, race_is_run, starts, state_of}
 
 -- commands that were read name their passes
-
-names_its : (c : Command) → FitsCommand c → NamesItsPass c
-names_its (commands.PassEnter pass) f = f
-names_its (commands.PassLeave pass) f = f
-names_its (commands.PassRead pass space addr len) f = f.0
-names_its (commands.PassWrite pass space addr bytes) f = f
-names_its (commands.PassDo pass change) f = f.0
-names_its (commands.PassDma pass space addr len to_space to_addr) f = f.0
-names_its c f = tt
 
 pub name_theirs : (lines : List Line) → AreFitting lines → NameTheirPasses lines
 name_theirs [] f = tt

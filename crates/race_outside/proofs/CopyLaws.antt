@@ -17,7 +17,7 @@ use Rattle.race_lines.specs.declared.tasks.LineTask.TheVariants.{Idle, Ordered, 
 use Rattle.race_lines.specs.declared.tasks.Refused.{Refused}
 use Rattle.race_lines.specs.LineTasks.{Resolves, name_made}
 use Rattle.race_outside.specs.Passes.{FitsTask}
-use Rattle.race_outside.proofs.DeskLaws.{has_notifier}
+use Rattle.desk_lock.proofs.ReceiptLaws.{has_notifier}
 
 abbrev CopiesFew : Task → Type 0
 CopiesFew (tasks.copied from addr n to to_addr) = n ≤ 64

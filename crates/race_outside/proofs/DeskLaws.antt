@@ -29,7 +29,7 @@ use Rattle.race_laws.specs.SoFar.{IsRaceSoFar}
 use Rattle.race_laws.specs.Outside.{desk_course}
 use Rattle.race_laws.proofs.OutsideLaws.{orders_fit}
 use Rattle.desk_lock.specs.declared.orders.Receipt.{Receipt}
-use Rattle.desk_lock.specs.Receipts.{HandsOut, HasNotifier}
+use Rattle.desk_lock.specs.Receipts.{HandsOut}
 use Rattle.desk_lock.specs.Records.{GrewBy, RecordState}
 use Rattle.desk_lock.specs.Turned.{Takes, given_by, turn_of}
 use Rattle.desk_lock.proofs.RecordLaws.{grew_on, grew_one}
@@ -47,11 +47,7 @@ use Rattle.view_laws.proofs.Tests.{none_is_not_some}
 use Rattle.race_outside.specs.declared.desks.Asked.{Asked}
 use Rattle.race_outside.specs.Asked.{FitsOwn, IsAsked, LooksAt, TakesOwn, entry_of_receipt, line_asked}
 use Rattle.race_outside.specs.Outside.{StepsOn, stand_of}
-
--- an order that fits takes a notifier that there is
-pub has_notifier : (order : DeskOrder) → FitsDeskOrder order → HasNotifier order
-has_notifier (orders.Notified number) h = h
-has_notifier _ h = tt
+use Rattle.desk_lock.proofs.ReceiptLaws.{has_notifier}
 
 pub own_fits : (k : Known) (line : Line) (task : Result LineTask Refused) → Resolves k task (task_of k line.1) → FitsCommand line.1 → FitsOwn task
 own_fits k line (Ok (Ordered order naming)) r fits =

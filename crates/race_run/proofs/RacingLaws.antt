@@ -7,7 +7,6 @@ use Rattle.outside.specs.Causes.{Rose}
 use Rattle.outside.specs.Sink.{Takes, TakesPrefix, Writes}
 use Rattle.outside.proofs.Took.{Takes-append, Takes-nil}
 use Rattle.mem_base.specs.declared.machine.events.HistoryEntry.{HistoryEntry}
-use Rattle.mem_base.specs.declared.script.commands.Command.{Command}
 use Rattle.mem_base.specs.declared.script.commands.Command.TheVariants as commands
 use Rattle.mem_base.specs.lists.Every.{Every}
 use Rattle.mem_base.specs.machine.Actors.{own_entries}
@@ -16,8 +15,8 @@ use Rattle.mem_base.specs.script.Spelling.{Text}
 use Rattle.mem_base.specs.script.Scripts.{Line}
 use Rattle.mem_base.specs.script.Run.{pool_words, text_of}
 use Rattle.mem_base.specs.script.Tasks.{known_at_first}
-use Rattle.mem_base.specs.script.Race.{IsAlone, IsTextOfRace, LeavesLast, NamesItsPass, Phase, Stand, first_stand, phases_of}
-use Rattle.run_laws.specs.Fitting.{AreFitting, FitsCommand}
+use Rattle.mem_base.specs.script.Race.{IsAlone, IsTextOfRace, LeavesLast, Phase, Stand, first_stand, phases_of}
+use Rattle.run_laws.specs.Fitting.{AreFitting}
 use Rattle.race_laws.specs.SoFar.{IsRaceSoFar}
 use Rattle.race_laws.specs.Outside.{IsFault}
 use Rattle.race_laws.proofs.OutsideLaws.{faults_write}
@@ -45,15 +44,6 @@ race_starts : (pool : ℕ) → IsRaceSoFar pool [] (first_stand pool) []
 race_starts pool = ([], record { legal = tt; phases = tt; ends = refl; writes = refl; told = tt; fits = tt })
 
 -- commands that fit name their passes
-
-names_its : (c : Command) → FitsCommand c → NamesItsPass c
-names_its (commands.PassEnter pass) f = f
-names_its (commands.PassLeave pass) f = f
-names_its (commands.PassRead pass space addr len) f = f.0
-names_its (commands.PassWrite pass space addr bytes) f = f
-names_its (commands.PassDo pass change) f = f.0
-names_its (commands.PassDma pass space addr len to_space to_addr) f = f.0
-names_its c f = tt
 
 -- How phases join
 

@@ -38,6 +38,7 @@ use Rattle.run_laws.specs.Fitting.{AreFitting, FitsChange, FitsCommand}
 use Rattle.script_laws.proofs.CommandLaws.{either, to_law}
 use Rattle.script_laws.proofs.ChangeLaws.{notifier_law, decimal_255_law}
 use Rattle.std.proofs.lemmas.Option.{same_Some}
+use Rattle.mem_base.specs.script.Race.{NamesItsPass}
 
 -- whatever the form gives has its numbers in bounds
 abbrev Fits : Form Command → Type 0
@@ -500,3 +501,12 @@ words_fit _ b = omega arith
 pub pool_fits : (lines : List Line) → AreFitting lines → pool_words lines ≤ 2 ^ 26
 pool_fits [] h = omega arith
 pool_fits (line ∷ lines) h = words_fit line.1 h.0
+
+pub names_its : (c : Command) → FitsCommand c → NamesItsPass c
+names_its (commands.PassEnter pass) f = f
+names_its (commands.PassLeave pass) f = f
+names_its (commands.PassRead pass space addr len) f = f.0
+names_its (commands.PassWrite pass space addr bytes) f = f
+names_its (commands.PassDo pass change) f = f.0
+names_its (commands.PassDma pass space addr len to_space to_addr) f = f.0
+names_its c f = tt

@@ -5,20 +5,10 @@ use Rattle.mem_base.specs.declared.machine.records.DeskOrder.TheVariants as orde
 use Rattle.mem_base.specs.declared.script.commands.Command.{Command}
 use Rattle.mem_base.specs.declared.script.commands.Command.TheVariants as commands
 use Rattle.mem_base.specs.script.Spelling.{Text}
-use Rattle.mem_base.specs.script.Race.{NamesItsPass}
 use Rattle.mem_base.specs.script.Tasks.{Known, Resolved, Task, change_of, known, listener_named, plain, region, space, task_of, then_resolved, unless_taken}
 use Rattle.mem_base.specs.script.Tasks.{watcher_named}
 use Rattle.run_laws.specs.Fitting.{FitsCommand}
 use Rattle.script_run.specs.Asking.{FitsTask}
-
-pub names_its : (c : Command) → FitsCommand c → NamesItsPass c
-names_its (commands.PassEnter pass) f = f
-names_its (commands.PassLeave pass) f = f
-names_its (commands.PassRead pass space addr len) f = f.0
-names_its (commands.PassWrite pass space addr bytes) f = f
-names_its (commands.PassDo pass change) f = f.0
-names_its (commands.PassDma pass space addr len to_space to_addr) f = f.0
-names_its c f = tt
 
 task_then : {X : Type 0} (r : Resolved X) (rest : X → Resolved Task) → ((x : X) → FitsTask (rest x)) → FitsTask (then_resolved r rest)
 task_then (Ok x) rest h = h x

@@ -2,7 +2,6 @@
 use Rattle.std.proofs.Common.{◌≡◌, ℕ, zero, suc, ◌+◌, ◌-◌, ◌<◌, ◌≤◌, Bool, true, false, ◌&&◌, ◌||◌, List, [], ◌∷◌, length, take, get_or}
 use Rattle.std.proofs.Common.{sym, refl, ap, ◌∙◌, subst, arith, if◌then◌else◌, Option, Some, None}
 use Rattle.std.specs.Prelude.{slice_index, slice_get, nat_le}
-use Rattle.std.specs.List.{list_any}
 use Rattle.std.proofs.lemmas.Bool.{eqb-true, ltb-true, leb-true, and_parts}
 use Rattle.mem_base.specs.declared.map.ids.RegionId.{RegionId}
 use Rattle.mem_base.specs.declared.map.ids.PassId.{PassId}
@@ -29,7 +28,7 @@ use Rattle.mem_base.specs.machine.Generations.{Generation, Generations, PassTrac
 use Rattle.mem_base.specs.machine.Guards.{is_notifier, may_reach, may_mark}
 use Rattle.mem_base.specs.machine.Desk.{places_of}
 use Rattle.mem_base.specs.machine.World.{World, possible, world_after, if_placed, touch_at, old_at, touched_blocks}
-use Rattle.mem_base.specs.machine.SharedHistory.{is_same_place, carries}
+use Rattle.mem_base.specs.machine.SharedHistory.{carries}
 use Rattle.mem_base.specs.machine.SharedHistory as running
 use Rattle.mem_base.specs.machine.Turns.{is_writers}
 use Rattle.view_laws.proofs.Tests.{none_is_not_some, same_region}
@@ -37,6 +36,7 @@ use Rattle.history_laws.proofs.OrderLaws.{order_after}
 use Rattle.turn_laws.proofs.Backed.{IsBacked, waits, steps_both, same_blocks}
 use Rattle.turn_laws.proofs.Coupled.{Stands, AllStand, IsWhole, Coupled, Follows, seen}
 use Rattle.std.proofs.lemmas.Option.{same_Some}
+use Rattle.mem_base.proofs.PlaceLaws.{one_of}
 
 pub least_low : (c : ℕ) (ks : List PassTrack) (v : ℕ) → v < length ks → least_lowest c ks ≤ (get_or ks v nothing_known).lowest
 least_low c [] v l = absurd (omega arith)
@@ -48,24 +48,6 @@ every_get P [] i m x k l e = none_is_not_some x e
 every_get P (y ∷ ys) i zero x k l e = absurd (omega arith)
 every_get P (y ∷ ys) zero (suc m) x k l e = subst P (same_Some y x e) k.0
 every_get P (y ∷ ys) (suc i) (suc m) x k l e = every_get P ys i m x k.1 (omega arith) e
-
-all_same : (p q : Place) → is_same_place p q ≡ true → q ≡ p
-all_same p q h =
-    let a = and_parts _ _ h in let b = and_parts _ _ a.0 in let c = and_parts _ _ b.0 in let d = and_parts _ _ c.0 in
-    let e0 : q.region.0 ≡ p.region.0 = sym (eqb-true _ _ d.0) in
-    let e1 : q.start ≡ p.start = sym (eqb-true _ _ d.1) in
-    let e2 : q.words ≡ p.words = sym (eqb-true _ _ c.1) in
-    let e3 : q.bytes ≡ p.bytes = sym (eqb-true _ _ b.1) in
-    let e4 : q.regs ≡ p.regs = sym (eqb-true _ _ a.1) in
-    λ i. record { region = record { 0 = e0 i }; start = e1 i; words = e2 i; bytes = e3 i; regs = e4 i }
-
-one_of : (P : Place → Type 0) (p : Place) (qs : List Place) → Every P qs → list_any (is_same_place p) qs ≡ true → P p
-one_of P p [] k h = absurd (grind arith)
-one_of P p (q ∷ qs) k h = go (is_same_place p q) refl (one_of P p qs k.1) h
-  where
-    go : (b : Bool) → is_same_place p q ≡ b → (list_any (is_same_place p) qs ≡ true → P p) → (b || list_any (is_same_place p) qs) ≡ true → P p
-    go true e rest h = subst P (all_same p q e) k.0
-    go false e rest h = rest h
 
 -- a place that the generation carries in which a pass is entered, still stands
 pub record Entered (w : World) (v : PassId) (p : Place) : Type 0 where

@@ -1,5 +1,5 @@
 -- What the writer does on the running machine it does on the pure one, where its turn has come so far.
-use Rattle.std.proofs.Common.{◌≡◌, ℕ, zero, suc, ◌+◌, ◌-◌, ◌<◌, ◌≤◌, ne_eqb, Bool, true, false, ◌||◌, List, [], ◌∷◌, map, take, get_or, set}
+use Rattle.std.proofs.Common.{◌≡◌, ℕ, zero, suc, ◌+◌, ◌-◌, ◌<◌, ◌≤◌, Bool, true, false, ◌||◌, List, [], ◌∷◌, map, take, get_or, set}
 use Rattle.std.proofs.Common.{sym, refl, ap, subst, arith, if◌then◌else◌, Option, Some}
 use Rattle.std.specs.Prelude.{nat_lt, Ok}
 use Rattle.std.proofs.lemmas.Bool.{ltb-true, lt-ltb, and_parts}
@@ -28,6 +28,7 @@ use Rattle.history_laws.proofs.OrderLaws.{order_after}
 use Rattle.turn_laws.proofs.Backed.{waits}
 use Rattle.turn_laws.proofs.Coupled.{Stands, AllStand, IsWhole, Coupled, Follows, seen}
 use Rattle.turn_laws.proofs.PassSteps.{backed_touch, bare_touch, old_touch}
+use Rattle.mem_base.proofs.PassTurnLaws.{raises}
 
 every_less : {A : Type 0} (P : A → Type 0) (xs : List A) (k m : ℕ) → k ≤ m → Every P (take m xs) → Every P (take k xs)
 every_less P [] zero m l e = tt
@@ -62,10 +63,6 @@ least_published : (c : ℕ) (ks : List PassTrack) → least_lowest c ks ≤ leas
 least_published c [] = omega arith
 least_published c (k ∷ ks) = let x = least_published c ks in omega arith
 
-rises : (c : ℕ) (k : PassTrack) (r : ℕ) → k.lowest ≤ c → k.lowest ≤ (known_after_sweep c k r).lowest
-rises c k zero l = l
-rises c k (suc r) l = rw (ne_eqb (suc r) 0 (λ z. omega arith)) (omega arith)
-
 held_with : (P : Generation → Type 0) (g : Generations) (v : PassId) (k : PassTrack) → (known_of g v).lowest ≤ k.lowest → Every P (held_generations g)
     → Every P (held_generations (with_known g v k))
 held_with P g v k l e = let x = least_set g.current g.passes v.0 k l in every_less P g.kept _ (g.current + 1 - least_lowest g.current g.passes) (omega arith) e
@@ -84,7 +81,7 @@ sweeps w words k v h = let g = w.writer.generations in let near = ltb-true _ _ h
     bare = k.bare;
     held = held_with (AllStand (places_of w.writer.desk) w.writer.desk.unfilled) g v
         (known_after_sweep g.current (known_of g v) (pin_word (pass_of w.passes v).announced))
-        (rises g.current (known_of g v) _ ((k.order.each v near).low)) k.held;
+        (raises g.current (known_of g v) _ ((k.order.each v near).low)) k.held;
     order = order_after w k.order (events.Sweep v) _ h refl;
   };
 }

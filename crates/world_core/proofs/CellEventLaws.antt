@@ -22,7 +22,6 @@ use Rattle.mem_base.specs.machine.Guards.{is_notifier, may_reach, may_mark}
 use Rattle.mem_base.specs.machine.Reaps.{writer}
 use Rattle.mem_base.specs.machine.World.{World, world, possible, world_after, place_in_world, if_placed, touched_blocks}
 use Rattle.turn_laws.proofs.Coupled.{IsWhole}
-use Rattle.world_laws.proofs.Lists.{found_has}
 use Rattle.kept_generations.specs.KeptState.{KeptState, generations_of}
 use Rattle.mem_base.specs.access.PlaceCells.{blocks_at}
 use Rattle.transact.specs.Backed.{all_places}
@@ -37,6 +36,7 @@ use Rattle.world_core.proofs.WordLaws.{cells_change, far}
 use Rattle.world_laws.proofs.Keeping.{step_past}
 use Rattle.std.proofs.lemmas.Bool.{and_parts}
 use Rattle.mem_base.proofs.BoolLaws.{true_is_not_false}
+use Rattle.mem_base.proofs.PlaceLaws.{found_has}
 
 -- a place that is found is whole
 whole_of : (w : World) → IsReached w → (r : RegionId) (p : Place) → place_in_world w r ≡ Some p → IsWhole (places_of w.writer.desk) p

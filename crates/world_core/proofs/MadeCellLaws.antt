@@ -20,7 +20,6 @@ use Rattle.mem_base.specs.machine.Desk.{cells_of}
 use Rattle.mem_base.specs.machine.World.{block_for}
 use Rattle.mem_base.proofs.EveryLaws.{weaker}
 use Rattle.history_laws.specs.BackedForests.{BacksForest}
-use Rattle.world_laws.proofs.Lists.{found_has}
 use Rattle.mem_base.specs.access.PlaceCells.{blocks_at}
 use Rattle.place_words.specs.Blocks.{AreWithin}
 use Rattle.place_words.proofs.CellLaws.{new_cleared, places_keep, all_have}
@@ -33,6 +32,7 @@ use Rattle.world_core.specs.Events.{makes_region}
 use Rattle.place_words.specs.Unfilled.{cells_at}
 use Rattle.world_hand.proofs.Completing.{all_apart, all_within}
 use Rattle.writer_run.proofs.MadeLaws.{unfilled_with}
+use Rattle.mem_base.proofs.PlaceLaws.{found_has}
 
 -- a region that none of these places is of
 abbrev AreOthers : RegionId → List Place → Type 0

@@ -18,12 +18,12 @@ use Rattle.mem_base.proofs.EveryLaws.{weaker}
 use Rattle.view_laws.proofs.Tests.{same_region}
 use Rattle.turn_laws.proofs.Coupled.{IsWhole}
 use Rattle.turn_laws.proofs.Replaced.{its_region}
-use Rattle.world_laws.proofs.Lists.{found_has}
 use Rattle.kept_generations.specs.KeptState.{KeptState}
 use Rattle.writer_desk.specs.Writers.{WriterState}
 use Rattle.world_core.specs.Worlds.{Aside, world_of, IsWorld}
 use Rattle.world_hand.proofs.Completing.{reached_holds}
 use Rattle.world_core.proofs.WordLaws.{backing, cells_change, far, word_before}
+use Rattle.mem_base.proofs.PlaceLaws.{found_has}
 
 -- the notifiers' place is the last one, and those of regions come before it
 

@@ -26,7 +26,6 @@ use Rattle.turn_laws.proofs.PassSteps.{touch_there}
 use Rattle.world_laws.specs.Standing.{StandsIn}
 use Rattle.world_laws.specs.Entered.{EntersHeld, MayStep}
 use Rattle.world_laws.proofs.Keeping.{all_stand}
-use Rattle.world_laws.proofs.Lists.{found_has}
 use Rattle.world_laws.proofs.Entering.{entered_generations_are_held, steps_possible}
 use Rattle.access_run.specs.Hands.{IsPlaceOf}
 use Rattle.kept_generations.specs.KeptState.{KeptState}
@@ -41,6 +40,7 @@ use Rattle.world_hand.proofs.WithoutLaws.{enters_without}
 use Rattle.world_hand.proofs.Completing.{all_apart, all_within, backs, reached_holds}
 use Rattle.world_core.proofs.ReachedLaws.{reached_after}
 use Rattle.mem_base.proofs.BoolLaws.{true_is_not_false}
+use Rattle.mem_base.proofs.PlaceLaws.{found_has}
 
 -- steps on the words of places
 

@@ -35,7 +35,6 @@ use Rattle.history_laws.proofs.ShownLaws.{generations_show_places}
 use Rattle.turn_laws.proofs.Coupled.{Coupled, seen}
 use Rattle.world_laws.specs.Legal.{IsFitting, IsLegalCall}
 use Rattle.world_laws.proofs.Keeping.{Holds, holds}
-use Rattle.world_laws.proofs.Lists.{found_has}
 use Rattle.world_laws.proofs.OrderLaws.{orders_are_legal}
 use Rattle.run_laws.proofs.Ordering.{IsOurs, after_ours, before_ours}
 use Rattle.place_words.proofs.CellLaws.{steps_on_cells}
@@ -49,6 +48,7 @@ use Rattle.world_hand.proofs.SameTurns.{SameTurn, legal_replies, same_turn}
 use Rattle.world_hand.proofs.TakenLaws.{call_without, entries_before, fitting_before, legal_before}
 use Rattle.world_hand.proofs.WithoutLaws.{holds_without, places_without}
 use Rattle.turn_laws.proofs.PrivateSteps.{nothing_unfilled}
+use Rattle.mem_base.proofs.PlaceLaws.{found_has}
 
 -- places of regions below a pool's end, and the notifiers' after it
 

@@ -66,11 +66,12 @@ use Rattle.access_base.proofs.MemoryLaws.{marks_inside}
 use Rattle.access_base.proofs.TrailLaws.{chunk_inside}
 use Rattle.world_laws.specs.Entered.{IsEnteredIn, MayDo, MayStep}
 use Rattle.world_laws.specs.Accessing.{AreLegalSteps}
-use Rattle.world_laws.proofs.Lists.{starts_below, found_has}
+use Rattle.world_laws.proofs.Lists.{starts_below}
 use Rattle.world_laws.proofs.Keeping.{Holds, holds, holds_after}
 use Rattle.world_laws.proofs.Entering.{enters_held, steps_possible}
 use Rattle.history_laws.proofs.PureAppends.{run_ends}
 use Rattle.world_laws.proofs.Running.{AllMay, legal_run}
+use Rattle.mem_base.proofs.PlaceLaws.{found_has}
 
 -- the step is on a word of data or a register of the place of its region, or marks a page of it
 abbrev Reached : List Place → AccessStep → Type 0

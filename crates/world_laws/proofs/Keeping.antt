@@ -41,7 +41,7 @@ use Rattle.turn_laws.proofs.ReapSteps.{reaps}
 use Rattle.turn_laws.proofs.PrivateSteps.{configures}
 use Rattle.turn_laws.proofs.Openings.{opens}
 use Rattle.world_laws.specs.Standing.{StandsIn}
-use Rattle.world_laws.proofs.Lists.{found_has}
+use Rattle.mem_base.proofs.PlaceLaws.{found_has}
 
 -- a world, and words beside which it is coupled
 pub record Kept (w : World) : Type 0 where

@@ -47,12 +47,13 @@ use Rattle.history_laws.proofs.ReleasedLaws.{ids}
 use Rattle.history_laws.proofs.ShownLaws.{generations_show_places}
 use Rattle.turn_laws.proofs.Rows.{flags_after, all_swept}
 use Rattle.world_laws.specs.Legal.{IsFitting, IsLegalCall}
-use Rattle.world_laws.proofs.Lists.{starts_below, found_has}
+use Rattle.world_laws.proofs.Lists.{starts_below}
 use Rattle.history_laws.proofs.PureAppends.{run_ends, ends_then}
 use Rattle.world_laws.proofs.Running.{AllMay, Sound, sound, sound_run, legal_run, legal_then}
 use Rattle.world_laws.proofs.OrderRows.{sweeps_may, swept_desk, publishes_may, published_desk, fills_may, filled_desk}
 use Rattle.world_laws.proofs.OrderRows.{loads_may, loads_rest, harvests_may, harvests_rest}
 use Rattle.turn_laws.proofs.PrivateSteps.{nothing_unfilled}
+use Rattle.mem_base.proofs.PlaceLaws.{found_has}
 
 -- events that are possible, after which nothing is due or unfilled
 record Runs (w : World) (es : List Event) : Type 0 where

@@ -32,6 +32,7 @@ use Rattle.history_laws.proofs.Outcomes.{Distinct}
 use Rattle.turn_laws.proofs.Rows as played
 use Rattle.turn_laws.proofs.Rows.{with_swept, with_due, with_unfilled, sweeps_of, publishes_of, fills_of, flags_after, writer_played, same_cell}
 use Rattle.world_laws.proofs.Running.{AllMay}
+use Rattle.mem_base.proofs.PassTurnLaws.{all_from}
 
 -- sweeps
 
@@ -55,17 +56,13 @@ swept_desk vs w = ap (λ (h : Writer). h.desk) (as_played (sweeps_of vs) w) ∙ 
 
 -- copies and a publish
 
-all_on : (ks : List PassTrack) → ((v : ℕ) → v < length ks → (get_or ks v nothing_known).placed ≡ true) → all_placed ks ≡ true
-all_on [] h = refl
-all_on (k ∷ ks) h = and_from k.placed (all_placed ks) (h 0 (omega arith)) (all_on ks (λ v l. h (suc v) (omega arith)))
-
 pub publishes_may : (a n : ℕ) (w : World) → w.writer.desk.due ≡ true → length w.writer.generations.passes ≡ length w.passes
     → a + n ≡ length w.writer.generations.passes
     → ((v : ℕ) → a ≤ v → (get_or w.writer.generations.passes v nothing_known).placed ≡ false)
     → ((v : ℕ) → v < a → (get_or w.writer.generations.passes v nothing_known).placed ≡ true)
     → AllMay w (publishes_of (ids a n))
 publishes_may a zero w due same all off on =
-    (and_from w.writer.desk.due (all_placed w.writer.generations.passes) due (all_on w.writer.generations.passes (λ v l. on v (omega arith))), tt)
+    (and_from w.writer.desk.due (all_placed w.writer.generations.passes) due (all_from w.writer.generations.passes (λ v l. on v (omega arith))), tt)
 publishes_may a (suc n) w due same all off on =
     let ks = w.writer.generations.passes in
     let size : length (set ks a (record (get_or ks a nothing_known) { placed = true })) ≡ length ks = length-set ks a _ in (

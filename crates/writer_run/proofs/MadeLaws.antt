@@ -21,6 +21,7 @@ use Rattle.transact.specs.Backed.{BackedState, places_for, forest_at}
 use Rattle.writer_desk.specs.Writers.{Beside, unfilled_by, backing_by, applied_by, beside_by}
 use Rattle.writer_desk.specs.Writers.{made_place, dropped_with}
 use Rattle.std.proofs.lemmas.Option.{same_Some}
+use Rattle.mem_base.proofs.PlaceLaws.{found_has}
 
 -- the cells that are not cleared yet after an accepted event, where all were before it
 abbrev pub unfilled_with : BackedState → Config → List Cell
@@ -78,14 +79,6 @@ more_places (x ∷ ps) qs r p e = go (x.region.0 == r.0) e (more_places ps qs r 
 
 pub found_among : (ps qs : List Place) (r : RegionId) (p : Place) → place_in ps r ≡ Some p → place_in (ps ++ qs) p.region ≡ Some p
 found_among ps qs r p e = subst (λ (z : RegionId). place_in (ps ++ qs) z ≡ Some p) (sym (region_of_place ps r p e)) (more_places ps qs r p e)
-
-pub found_has : (P : Place → Type 0) (ps : List Place) (r : RegionId) (p : Place) → Every P ps → place_in ps r ≡ Some p → P p
-found_has P [] r p k e = none_is_not_some p e
-found_has P (q ∷ qs) r p k e = go (q.region.0 == r.0) e (found_has P qs r p k.1)
-  where
-    go : (b : Bool) → (if b then Some q else place_in qs r) ≡ Some p → (place_in qs r ≡ Some p → P p) → P p
-    go true is rest = subst P (same_Some q p is) k.0
-    go false is rest = rest is
 
 -- the same of the place of a region that was made
 

@@ -22,7 +22,7 @@ use Rattle.map_laws.proofs.SizeLaws.{size_whole}
 use Rattle.map_laws.proofs.SoundCallLaws.{IsClosedForest-made}
 use Rattle.history_laws.specs.BackedForests.{BacksForest}
 use Rattle.history_laws.proofs.PlaceLaws.{place_of_region, some_is}
-use Rattle.writer_run.proofs.MadeLaws.{found_has}
+use Rattle.mem_base.proofs.PlaceLaws.{found_has}
 
 module _ (f : Forest) (pool_words : ℕ) (ps : List Place) (backs : BacksForest pool_words f ps) where
   held_data : (kind : Kind) (size : ℕ) → has_bytes kind ≡ true → size / 8 ≤ words_of (extent_of kind size)

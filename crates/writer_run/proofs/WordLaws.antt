@@ -41,9 +41,10 @@ use Rattle.writer_run.specs.Hands.{word_entry}
 use Rattle.writer_desk.specs.declared.idle.IdleDesk.{IdleDesk}
 use Rattle.writer_run.specs.Parts.{part_of, AreParts}
 use Rattle.writer_run.specs.Turns.{IsTurn}
-use Rattle.writer_run.proofs.MadeLaws.{found_has, same_first}
+use Rattle.writer_run.proofs.MadeLaws.{same_first}
 use Rattle.writer_run.proofs.RoomLaws.{has_room, has_marks}
 use Rattle.std.proofs.lemmas.Option.{same_Some}
+use Rattle.mem_base.proofs.PlaceLaws.{found_has}
 
 notifiers_found : (made : ℕ) (ps : List Place) (np : Place) → made ≤ 4294967294 → Every (λ p. p.region.0 < made) ps → np.region ≡ notifiers
     → place_in (ps ++ np ∷ []) notifiers ≡ Some np

@@ -1,7 +1,8 @@
 use Rattle.epoch_rule.proofs.Common.{arith, ℕ, ◌≤◌, ◌<◌, sym, ap, ◌∙◌, subst, IsEdition, past, same_Some, Sizes, value_in, IsLegal}
 use Rattle.epoch_rule.proofs.PassLaws.{same_sizes, entered_at, stands_still, suits_on}
-use Rattle.epoch_rule.proofs.TouchLaws.{one_of, fits_extent}
+use Rattle.epoch_rule.proofs.TouchLaws.{fits_extent}
 use Rattle.epoch_rule.proofs.cabinet.Cabinet.load_words.Goals as goal
+use Rattle.mem_base.proofs.PlaceLaws.{one_of}
 
 pub load_each-requires-clause-room : goal.load_each-requires-clause-room
 load_each-requires-clause-room g c =

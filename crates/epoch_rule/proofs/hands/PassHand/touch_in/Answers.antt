@@ -1,10 +1,11 @@
 use Rattle.epoch_rule.proofs.Common.{arith, ◌≡◌, ℕ, ◌+◌, ◌<◌, ◌≤◌, sym, refl, ap, ◌∙◌, subst, TableId, past, Sizes, pass_id, IsTouch, IsEnteredIn, Suits}
 use Rattle.epoch_rule.proofs.Common.{value_in, IsEdition, same_Some, Pass}
 use Rattle.epoch_rule.proofs.PassLaws.{entered_at, stands_still, suits_on, near_in, same_sizes}
-use Rattle.epoch_rule.proofs.TouchLaws.{one_of, reach_inside, fits_extent, ready_pass, kept, pass_kept, shown}
+use Rattle.epoch_rule.proofs.TouchLaws.{reach_inside, fits_extent, ready_pass, kept, pass_kept, shown}
 use Rattle.epoch_rule.proofs.hands.PassHand.touch_in.Given.{Over}
 use Rattle.epoch_rule.proofs.hands.PassHand.touch_in.Goals.{After-number}
 use Rattle.epoch_rule.proofs.hands.PassHand.touch_in.Goals as goal
+use Rattle.mem_base.proofs.PlaceLaws.{one_of}
 
 -- the pass is entered in an edition, whose places are those of its forest
 entered : (g : Over) (c : After-number g) → IsEnteredIn g.E.Edition.counted g.E.Edition.forest g.E.Edition.places c.self.inside.number c.self.inside.seat.me.0
