@@ -46,8 +46,7 @@ impl ScriptMap {
         ensures made { IsMade result.now.forest }
     {
         let generation = self.session.machine().current();
-        // Its contract tells that accepted calls make the forest.
-        generation.forest();
+        generation.knows_forest();
         generation
     }
 

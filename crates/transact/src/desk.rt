@@ -279,7 +279,7 @@ impl Desk {
         requires { IsOfDesk self.old prepared }
         ensures { self.new ≡ when_done prepared }
     {
-        let _ = prepared.generation.forest();
+        prepared.generation.knows_forest();
         let Prepared {
             generation,
             next,
