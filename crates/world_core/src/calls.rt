@@ -30,8 +30,7 @@ fn settled<T>(kept: &mut Kept, answer: Result<T, Refusal>) -> Result<T, Refusal>
     ensures kept { AreKept kept.old }
     ensures flags { ((answer ≡ Err Refusal.Memory) × (kept.new ≡ kept.old)) ⊎ ((answer ≢ Err Refusal.Memory) × (kept.new ≡ unswept_kept kept.old)) }
 {
-    // It tells that each pass has its flag.
-    let _ = kept.current();
+    kept.knows_passes();
     match answer {
         Ok(value) => {
             kept.unsweep();
@@ -76,8 +75,7 @@ impl World {
         ensures completed { IsCompleted self.old (configure configs.Begin) (plain_answer result) self.new }
         ensures legal { IsLegalFrom self.old (completed self.old (configure configs.Begin)).entries }
     {
-        // It tells that each pass has its flag.
-        let _ = self.hand.kept.current();
+        self.hand.kept.knows_passes();
         let begun = begin(&mut self.desk, &self.hand);
         self.hand.kept.unsweep();
         begun
