@@ -108,6 +108,13 @@ impl Desk {
         &self.tree
     }
 
+    /// A law: the forest is one that accepted calls make. It does nothing.
+    pub fn knows_forest(&self)
+        ensures { IsMade self.now.state.forest }
+    {
+        let _ = &self.tree;
+    }
+
     /// How many transactions are open, one within another.
     pub fn depth(&self) -> u32
         ensures value { result ≡ self.now.state.depth }

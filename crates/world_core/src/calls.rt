@@ -189,8 +189,7 @@ impl World {
         ensures completed { IsCompleted self.old (load region offset bytes.now) (plain_answer result) self.new }
         ensures legal { IsLegalFrom self.old (completed self.old (load region offset bytes.now)).entries }
     {
-        // It tells that calls made the forest.
-        let _ = self.desk.listened.backed().desk().tree();
+        self.desk.listened.backed().desk().knows_forest();
         load_bytes(&self.desk, &mut self.hand, region, offset, bytes)
     }
 
