@@ -68,11 +68,11 @@ pub fn fits_types(call: &Call)
 {
     match *call {
         Call::Region { size, .. } | Call::Resize { size, .. } => {
-            let _ = size.get();
+            size.knows_most();
         }
         Call::Map { iova, size, .. } => {
             fits_address(iova);
-            let _ = size.get();
+            size.knows_most();
         }
         _ => {}
     }
