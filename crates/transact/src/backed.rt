@@ -127,6 +127,13 @@ impl BackedDesk {
         self.places.as_slice()
     }
 
+    /// A law: the places are those of just the forest's regions that have words, and then the notifiers'. It does nothing.
+    pub fn knows_places(&self)
+        ensures { AreDeskPlaces (forest_at self.now) (all_places self.now.backing) }
+    {
+        self.desk.knows_forest();
+    }
+
     /// The place of a region: `None` exactly where it has none.
     pub fn place_of(&self, region: RegionId) -> Option<Place>
         ensures { result ≡ place_in self.now.backing.places region }

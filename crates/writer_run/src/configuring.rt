@@ -62,8 +62,8 @@ pub fn configure<H: WriterHand>(
     desk.dropped.reserve(1)?;
     match planned::<Brand>(&mut desk.listened, config, Blank::new(1))? {
         Planned::Done(applied) => {
-            // It tells that the places end within the pool and the notifiers.
-            let _ = desk.listened.backed().places();
+            // So the places end within the pool and the notifiers.
+            desk.listened.backed().knows_places();
             note_drop(&mut desk.dropped, config);
             fill_made(&desk.listened, hand, applied);
             Ok((applied, None))

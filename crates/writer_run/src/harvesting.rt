@@ -71,8 +71,8 @@ pub fn harvest<H: WriterHand>(
     if let Some(why) = harvest_refusal(backed.desk().tree(), region) {
         return Err(why);
     }
-    // It tells that the region has its place.
-    let _ = backed.places();
+    // So the region has its place.
+    backed.knows_places();
     let Some(place) = backed.place_of(region) else {
         return Ok(Vec::new(alloc));
     };
