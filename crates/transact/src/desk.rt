@@ -131,6 +131,13 @@ impl Desk {
         self.pending
     }
 
+    /// A law: nothing is pending outside transactions. It does nothing.
+    pub fn knows_idle(&self)
+        ensures { self.now.state.depth ≡ 0 → self.now.state.pending ≡ false }
+    {
+        let _ = &self.tree;
+    }
+
     /// The generation that is current.
     pub fn current(&self) -> &Arc<Generation, Global>
         ensures { arc_value result.now ≡ self.now.current }
@@ -144,6 +151,13 @@ impl Desk {
         ensures fits { result + 2 < 2 ^ 64 }
     {
         self.current.number()
+    }
+
+    /// A law: 64 bits hold the two numbers after the current one. It does nothing.
+    pub fn knows_number(&self)
+        ensures { self.now.current.number + 2 < 2 ^ 64 }
+    {
+        let _ = &self.current;
     }
 
     /// Opens a transaction, inside of those that are open. QEMU's core, `memory_region_transaction_begin`.
