@@ -184,11 +184,10 @@ impl BackedDesk {
         ensures refused { IfErr result (λ why. why ≢ Refusal.Memory → refusal_at self.old call.now ≡ Some why) }
         ensures unchanged { OnErr result (self.new ≡ self.old) }
     {
-        // It tells that the forest is one that calls make: before the call, and after it.
-        let _ = self.desk.tree();
+        self.desk.knows_forest();
         let applied = self.desk.call(call)?;
         if let Applied::Made(region) = applied {
-            let _ = self.desk.tree();
+            self.desk.knows_forest();
             self.made = region.0 + 1;
         }
         Ok(applied)
