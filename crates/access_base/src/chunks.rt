@@ -51,8 +51,7 @@ pub fn first_chunk(
     ensures most { result.1 ≤ len }
     ensures run { IsTargetRun g.now.forest result.0 result.1 }
 {
-    // Its contract tells that accepted calls make the forest.
-    g.forest();
+    g.knows_forest();
     let (target, count) = counted::<Brand>(g, space, addr, len as u64, write, Blank::new(1));
     (target, count as usize)
 }

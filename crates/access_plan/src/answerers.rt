@@ -45,8 +45,7 @@ fn at_node(g: &Generation, node: &Node, spot: &Spot, write: bool) -> Answerer
     requires { node_of g.now.forest.nodes spot.now.leaf ≡ Some node.now }
     ensures { IsAnswerer g.now.forest spot.now write result }
 {
-    // Its contract tells that accepted calls make the forest.
-    g.forest();
+    g.knows_forest();
     match node.kind {
         Kind::Ram | Kind::Rom | Kind::Host => memory_unless(write && spot.attrs.readonly),
         Kind::RomDevice(device) => rom_device(spot.attrs.romd && !write, device.ops),

@@ -32,8 +32,8 @@ fn shown_at<L: Ledger>(atlas: &Atlas, addr: u64, blank: Blank) -> Option<Spot>
 fn look(g: &Generation, space: SpaceId, addr: u64) -> Option<Spot>
     ensures { result ≡ look g.now.forest space addr }
 {
-    // It tells that the forest is one that calls make, whose views show what a search finds.
-    g.forest();
+    // The views of such a forest show what a search finds.
+    g.knows_forest();
     match g.atlas(space) {
         Some(atlas) => shown_at::<Brand>(atlas, addr, Blank::new(1)),
         None => None,

@@ -40,8 +40,7 @@ fn read_below<B: Answering>(
 pub fn read_by<B: Answering>(bus: &mut B, space: SpaceId, addr: u64, out: &mut [u8]) -> TxResult
     ensures { HasReached B.asks bus.old (plan_by B.host (B.shows bus.old).forest space addr (reading (length out.old))) (outcome out.new result) bus.new }
 {
-    // Its contract tells that accepted calls make the forest.
-    bus.generation().forest();
+    bus.generation().knows_forest();
     let below = reach(addr, out.len());
     let result = read_below(bus, space, addr, out, below);
     if below < out.len() {
@@ -94,8 +93,7 @@ pub fn write_by<B: Taking>(bus: &mut B, space: SpaceId, addr: u64, bytes: &[u8])
     requires { AllTaken B.takes bus.old (plan_by B.host (B.shows bus.old).forest space addr (writing bytes.now)) }
     ensures { HasReached B.asks bus.old (plan_by B.host (B.shows bus.old).forest space addr (writing bytes.now)) (outcome [] result) bus.new }
 {
-    // Its contract tells that accepted calls make the forest.
-    bus.generation().forest();
+    bus.generation().knows_forest();
     let below = reach(addr, bytes.len());
     let result = write_below(bus, space, addr, bytes, below);
     if below < bytes.len() {

@@ -237,8 +237,7 @@ pub(crate) fn write_entered(
     ensures stopped { result.count < length bytes.now
         → HasStopped pass.old space addr bytes.now result.count result.result result.begun tries pass.new }
 {
-    // Its contract tells that accepted calls make the forest.
-    cabinet.generation(pass).forest();
+    cabinet.generation(pass).knows_forest();
     let below = reach(addr, bytes.len());
     let part = write_below(cabinet, pass, space, addr, &bytes[..below], tries);
     if below < bytes.len() {

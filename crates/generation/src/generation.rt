@@ -163,6 +163,13 @@ impl Generation {
         &self.forest
     }
 
+    /// A law: the forest is one that accepted calls make. It does nothing.
+    pub fn knows_forest(&self)
+        ensures { IsMade self.now.forest }
+    {
+        let _ = &self.forest;
+    }
+
     /// The places of the regions that it names, and the notifiers' where a leaf has an ioeventfd, by ascending id of their regions.
     pub fn places(&self) -> &[Place]
         ensures { result.now ≡ self.now.places }

@@ -40,8 +40,8 @@ fn search<L: Ledger>(
     ensures offsets { IfSome result.0 (λ spot. spot.offset + result.1 ≤ 2 ^ 64) }
     ensures probes { (k : ℕ) → IsBoundOfAll g.now.forest k → steps.new ≤ steps.old + k }
 {
-    // It tells that the forest is one that calls make, whose views show what a search finds.
-    g.forest();
+    // The views of such a forest show what a search finds.
+    g.knows_forest();
     let Some(atlas) = g.atlas(space) else {
         return (None, limit);
     };

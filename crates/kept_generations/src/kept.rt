@@ -81,6 +81,13 @@ impl Kept {
         self.current
     }
 
+    /// A law: the generations stand by number, and each pass has its state and its flag. It does nothing.
+    pub fn knows_passes(&self)
+        ensures { AreKept self.now }
+    {
+        let _ = &self.states;
+    }
+
     /// How many passes there are.
     pub fn passes(&self) -> u32
         ensures value { result ≡ length self.now.states }

@@ -32,14 +32,14 @@ fn below_end(addr: u64, len: usize) -> usize
     }
 }
 
-// The same virtual CPU. Its generation tells that accepted calls make the forest.
+// The same virtual CPU, of which it is known that accepted calls make the forest.
 fn in_made_forest<'c>(vcpu: Vcpu<'c>) -> Vcpu<'c>
     requires entered { is_entered vcpu ≡ true }
     ensures same { result ≡ vcpu.entry }
     ensures made { IsMade (generation_in vcpu.entry).forest }
 {
     let (cabinet, pass) = vcpu.into_parts();
-    cabinet.generation(&pass).forest();
+    cabinet.generation(&pass).knows_forest();
     Vcpu::new(cabinet, pass)
 }
 

@@ -112,6 +112,13 @@ impl Words {
         self.count
     }
 
+    /// A law: 64 bits hold the number of words, as what `len` answers. It does nothing.
+    pub fn knows_length(&self)
+        ensures { length self.now < 2 ^ 64 }
+    {
+        let _ = self.len();
+    }
+
     /// The word at an index.
     pub fn word_at(&self, at: usize) -> u64
         requires { at < length self.now }
@@ -159,8 +166,7 @@ impl Words {
         ensures words { self.new ≡ cleared self.old place.now }
         ensures len { length self.new ≡ length self.old }
     {
-        // It tells that 64 bits hold the number of words.
-        let _ = self.len();
+        self.knows_length();
         let end = place.start + place.words;
         let mut at = place.start;
         while at < end {

@@ -40,8 +40,7 @@ pub fn found_in<L: Ledger>(
     requires counts { 0 < L.parts }
     ensures { result ≡ look generation.now.forest space addr }
 {
-    // Its contract tells that accepted calls make the forest.
-    generation.forest();
+    generation.knows_forest();
     match generation.atlas(space) {
         Some(atlas) => atlas.at(addr, &mut Steps::<L>::new(blank)),
         None => None,

@@ -180,8 +180,7 @@ impl Tree {
         ensures id { IfOk result (λ id. id.0 ≡ self.old.made) }
         ensures err { OnErr result (self.new ≡ self.old) }
     {
-        // The forest keeps that a size is at most 2^64.
-        let _ = size.get();
+        size.knows_most();
         let id = RegionId(self.made);
         let at = place_of_target(self.slots.as_slice(), kind.target());
         let extent = self.kept.extent_made(at);
@@ -299,11 +298,11 @@ fn fits(call: &Call)
 {
     match *call {
         Call::Region { size, .. } | Call::Resize { size, .. } => {
-            let _ = size.get();
+            size.knows_most();
         }
         Call::Map { iova, size, .. } => {
             fits_offset(iova);
-            let _ = size.get();
+            size.knows_most();
         }
         _ => {}
     }

@@ -46,8 +46,7 @@ impl ScriptMap {
         ensures made { IsMade result.now.forest }
     {
         let generation = self.session.machine().current();
-        // Its contract tells that accepted calls make the forest.
-        generation.forest();
+        generation.knows_forest();
         generation
     }
 
@@ -138,8 +137,8 @@ pub(crate) fn opened(alloc: Global, script: &Script) -> Result<Session<World>, A
     ensures ready { IfOk result (λ s. MayGoOn s) }
     ensures state { IfOk result (λ s. state_of s ≡ first_of script.now) }
 {
-    // It tells that the script's pool is no larger than the largest one.
-    let _ = script.lines();
+    // The pool of such a script is no larger than the largest one.
+    script.knows_sound();
     let machine = World::new(alloc, pool_words(script), MOST_PASSES)?;
     Ok(Session::new(alloc, machine))
 }

@@ -97,8 +97,8 @@ impl Machine for World {
 pub fn run<K: Sink>(alloc: Global, script: &Script, sink: &mut K) -> Result<(), RunFault>
     ensures { Writes K.written K.holds K.faults sink.old sink.new (text_of script.now) RunFault.Write result }
 {
-    // It tells that the script's pool is no larger than the largest one.
-    let _ = script.lines();
+    // The pool of such a script is no larger than the largest one.
+    script.knows_sound();
     let machine = World::new(alloc, pool_words(script), MOST_PASSES)?;
     run_on(alloc, machine, script, sink)
 }

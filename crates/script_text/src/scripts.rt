@@ -46,6 +46,13 @@ impl Script {
     {
         &self.lines
     }
+
+    /// A law: each line reads as itself when it is printed, and may stand where it stands. It does nothing.
+    pub fn knows_sound(&self)
+        ensures { Sound Start self.now }
+    {
+        let _ = &self.lines;
+    }
 }
 
 fn rule_of(command: &Command) -> PlaceRule

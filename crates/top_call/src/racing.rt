@@ -29,8 +29,8 @@ fn race_script<R: Threads + Wait + Sync, K: Sink, G: Gate>(
     ensures only { (result.0 ≡ Ending.Done) ⊎ (result.0 ≡ Ending.WriteFault) ⊎ (result.0 ≡ Ending.Memory) }
     ensures later { K.faults sink.old ≤ K.faults sink.new }
 {
-    // It tells that the script's pool is no larger than the largest one.
-    let _ = script.lines();
+    // The pool of such a script is no larger than the largest one.
+    script.knows_sound();
     let (cabinet, config) = match Config::new(alloc, pool_words(script), MOST_PASSES) {
         Ok(machine) => machine,
         Err(AllocError) => return (Ending::Memory, None),

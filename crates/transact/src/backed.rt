@@ -121,10 +121,17 @@ impl BackedDesk {
         ensures places { result.now ≡ all_places self.now.backing }
         ensures fit { AreDeskPlaces (forest_at self.now) result.now }
     {
-        // They tell that the forest is one that calls make, and what holds of the pool.
-        let _ = self.desk.tree();
+        self.desk.knows_forest();
+        // It tells what holds of the pool.
         let _ = self.pool.place_of(RegionId(0));
         self.places.as_slice()
+    }
+
+    /// A law: the places are those of just the forest's regions that have words, and then the notifiers'. It does nothing.
+    pub fn knows_places(&self)
+        ensures { AreDeskPlaces (forest_at self.now) (all_places self.now.backing) }
+    {
+        self.desk.knows_forest();
     }
 
     /// The place of a region: `None` exactly where it has none.
@@ -177,11 +184,10 @@ impl BackedDesk {
         ensures refused { IfErr result (λ why. why ≢ Refusal.Memory → refusal_at self.old call.now ≡ Some why) }
         ensures unchanged { OnErr result (self.new ≡ self.old) }
     {
-        // It tells that the forest is one that calls make: before the call, and after it.
-        let _ = self.desk.tree();
+        self.desk.knows_forest();
         let applied = self.desk.call(call)?;
         if let Applied::Made(region) = applied {
-            let _ = self.desk.tree();
+            self.desk.knows_forest();
             self.made = region.0 + 1;
         }
         Ok(applied)
@@ -237,7 +243,7 @@ impl BackedDesk {
         ensures carves { (f : Forest) → after (forest_at self.old) call.now ≡ Ok f → steps.new ≤ steps.old + most_carves self.old.desk.current.forest f }
         ensures spared { IfErr result (λ why. why ≢ Refusal.Memory → steps.new ≡ steps.old) }
     {
-        let _ = self.desk.tree();
+        self.desk.knows_forest();
         self.desk
             .call_prepare(call, self.places.as_slice(), listeners, steps)
     }
@@ -260,8 +266,7 @@ impl BackedDesk {
         ensures carves { steps.new ≤ steps.old + most_carves self.old.desk.current.forest (forest_at self.old) }
         ensures spared { IfErr result (λ why. why ≢ Refusal.Memory → steps.new ≡ steps.old) }
     {
-        // It tells that the forest is one that calls make.
-        let _ = self.desk.tree();
+        self.desk.knows_forest();
         self.desk
             .commit_prepare(self.places.as_slice(), listeners, steps)
     }
@@ -287,8 +292,7 @@ impl BackedDesk {
         ensures desk { self.new.desk ≡ self.old.desk }
         ensures backing { self.new.backing ≡ backing_without self.old.backing region }
     {
-        // It tells that the forest is one that calls make.
-        let _ = self.desk.tree();
+        self.desk.knows_forest();
         let place = self.pool.give(region)?;
         forget(&mut self.places, region);
         Some(place)

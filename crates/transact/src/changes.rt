@@ -176,7 +176,7 @@ pub(crate) fn change_at(
     ensures change { IfOk result (λ change. change ≡ change_of current.now.forest forest.now space) }
     ensures apart { IfOk result (λ change. ShareNoLive change.lost change.gained) }
 {
-    let _ = current.forest();
+    current.knows_forest();
     if touched {
         let change = change_for(alloc, current, forest, has_events, atlas.view(), space)?;
         return Ok(change);

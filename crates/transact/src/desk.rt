@@ -68,11 +68,11 @@ pub fn fits_types(call: &Call)
 {
     match *call {
         Call::Region { size, .. } | Call::Resize { size, .. } => {
-            let _ = size.get();
+            size.knows_most();
         }
         Call::Map { iova, size, .. } => {
             fits_address(iova);
-            let _ = size.get();
+            size.knows_most();
         }
         _ => {}
     }
@@ -108,6 +108,13 @@ impl Desk {
         &self.tree
     }
 
+    /// A law: the forest is one that accepted calls make. It does nothing.
+    pub fn knows_forest(&self)
+        ensures { IsMade self.now.state.forest }
+    {
+        let _ = &self.tree;
+    }
+
     /// How many transactions are open, one within another.
     pub fn depth(&self) -> u32
         ensures value { result ≡ self.now.state.depth }
@@ -124,6 +131,13 @@ impl Desk {
         self.pending
     }
 
+    /// A law: nothing is pending outside transactions. It does nothing.
+    pub fn knows_idle(&self)
+        ensures { self.now.state.depth ≡ 0 → self.now.state.pending ≡ false }
+    {
+        let _ = &self.tree;
+    }
+
     /// The generation that is current.
     pub fn current(&self) -> &Arc<Generation, Global>
         ensures { arc_value result.now ≡ self.now.current }
@@ -137,6 +151,13 @@ impl Desk {
         ensures fits { result + 2 < 2 ^ 64 }
     {
         self.current.number()
+    }
+
+    /// A law: 64 bits hold the two numbers after the current one. It does nothing.
+    pub fn knows_number(&self)
+        ensures { self.now.current.number + 2 < 2 ^ 64 }
+    {
+        let _ = &self.current;
     }
 
     /// Opens a transaction, inside of those that are open. QEMU's core, `memory_region_transaction_begin`.
@@ -279,7 +300,7 @@ impl Desk {
         requires { IsOfDesk self.old prepared }
         ensures { self.new ≡ when_done prepared }
     {
-        let _ = prepared.generation.forest();
+        prepared.generation.knows_forest();
         let Prepared {
             generation,
             next,

@@ -52,8 +52,7 @@ fn shows_events(
     requires events { with_events.now ≡ ids_of (filter (λ n. nat_lt 0 (length n.events)) forest.now.nodes) }
     ensures { result ≡ shows_events forest.now }
 {
-    // It tells that the regions stand by ascending id.
-    let _ = forest.nodes.chunks();
+    forest.nodes.knows_ascending();
     any_leaf(with_events, atlases)
 }
 

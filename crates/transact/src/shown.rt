@@ -123,7 +123,7 @@ fn atlas_of<L: Ledger>(
         let atlas = rendered(alloc, current, spans, tree, space, steps)?;
         return Ok(atlas);
     }
-    let _ = current.forest();
+    current.knows_forest();
     let Some(atlas) = current.shared_atlas(space) else {
         unreachable!();
     };

@@ -30,8 +30,7 @@ fn settled<T>(kept: &mut Kept, answer: Result<T, Refusal>) -> Result<T, Refusal>
     ensures kept { AreKept kept.old }
     ensures flags { ((answer ≡ Err Refusal.Memory) × (kept.new ≡ kept.old)) ⊎ ((answer ≢ Err Refusal.Memory) × (kept.new ≡ unswept_kept kept.old)) }
 {
-    // It tells that each pass has its flag.
-    let _ = kept.current();
+    kept.knows_passes();
     match answer {
         Ok(value) => {
             kept.unsweep();
@@ -76,8 +75,7 @@ impl World {
         ensures completed { IsCompleted self.old (configure configs.Begin) (plain_answer result) self.new }
         ensures legal { IsLegalFrom self.old (completed self.old (configure configs.Begin)).entries }
     {
-        // It tells that each pass has its flag.
-        let _ = self.hand.kept.current();
+        self.hand.kept.knows_passes();
         let begun = begin(&mut self.desk, &self.hand);
         self.hand.kept.unsweep();
         begun
@@ -191,8 +189,7 @@ impl World {
         ensures completed { IsCompleted self.old (load region offset bytes.now) (plain_answer result) self.new }
         ensures legal { IsLegalFrom self.old (completed self.old (load region offset bytes.now)).entries }
     {
-        // It tells that calls made the forest.
-        let _ = self.desk.listened.backed().desk().tree();
+        self.desk.listened.backed().desk().knows_forest();
         load_bytes(&self.desk, &mut self.hand, region, offset, bytes)
     }
 

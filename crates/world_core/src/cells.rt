@@ -20,8 +20,7 @@ fn clear_word(words: &mut Words, place: Option<Place>, word: usize)
     ensures words { words.new ≡ word_cleared words.old place word }
     ensures len { length words.new ≡ length words.old }
 {
-    // It tells that 64 bits hold the number of words.
-    let _ = words.len();
+    words.knows_length();
     if let Some(place) = place {
         if word < place.words {
             words.step(place.start + word, WordStep::Take);
@@ -63,8 +62,7 @@ impl World {
         ensures old { result ≡ number_in (reply self.old (events.Word hand (cell place.now.region word) step)) }
         ensures world { self.new ≡ world_after self.old (events.Word hand (cell place.now.region word) step) }
     {
-        // It tells that 64 bits hold the number of words.
-        let _ = self.hand.words.len();
+        self.hand.words.knows_length();
         self.hand.words.step(place.start + word, step)
     }
 
@@ -76,8 +74,7 @@ impl World {
         requires within { word_of_page place.now client page < place.now.words }
         ensures { self.new ≡ world_after self.old (events.Mark pass place.now.region client page) }
     {
-        // It tells that 64 bits hold the number of words.
-        let _ = self.hand.words.len();
+        self.hand.words.knows_length();
         let (word, bits) = mark_of(place, client, page);
         self.hand
             .words
@@ -117,8 +114,7 @@ impl World {
         ensures old { result ≡ number_in (reply self.old (events.Harvest region client index)) }
         ensures world { self.new ≡ world_after self.old (events.Harvest region client index) }
     {
-        // It tells that 64 bits hold the number of words.
-        let _ = self.hand.words.len();
+        self.hand.words.knows_length();
         let Some(place) = self.place_of(region) else {
             unreachable!()
         };

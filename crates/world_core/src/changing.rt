@@ -110,8 +110,6 @@ impl World {
         ensures changed { result ≢ Err Refusal.Memory → IsChanged self.old config.now result self.new }
         ensures unchanged { result ≡ Err Refusal.Memory → self.new ≡ self.old }
     {
-        // It tells that the generations and the passes belong together.
-        let _ = self.hand.kept.current_generation();
         let held = self.hand.kept.held_up();
         self.desk.dropped.reserve(1)?;
         room_for_made(&mut self.unfilled, config, self.hand.words.len())?;

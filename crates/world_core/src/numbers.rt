@@ -88,8 +88,8 @@ impl World {
         match self.due.take() {
             Some(due) => {
                 let next = self.desk.listened.done(due);
-                // It tells that 64 bits hold the next number.
-                let _ = self.desk.listened.backed().desk().tree();
+                // Of such a forest 64 bits hold the next number.
+                self.desk.listened.backed().desk().knows_forest();
                 self.hand.kept.publish(next);
                 self.hand.kept.current()
             }

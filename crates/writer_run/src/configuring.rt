@@ -57,13 +57,12 @@ pub fn configure<H: WriterHand>(
     ensures unchanged { result ≡ Err Refusal.Memory
         → (part_of desk.new (H.Writing.generations hand.new) ≡ part_of desk.old (H.Writing.generations hand.old)) × (hand.new ≡ hand.old) }
 {
-    // It tells that 64 bits hold the numbers after the current one.
-    let _ = desk.listened.backed().desk().number();
+    desk.listened.backed().desk().knows_number();
     desk.dropped.reserve(1)?;
     match planned::<Brand>(&mut desk.listened, config, Blank::new(1))? {
         Planned::Done(applied) => {
-            // It tells that the places end within the pool and the notifiers.
-            let _ = desk.listened.backed().places();
+            // So the places end within the pool and the notifiers.
+            desk.listened.backed().knows_places();
             note_drop(&mut desk.dropped, config);
             fill_made(&desk.listened, hand, applied);
             Ok((applied, None))

@@ -37,14 +37,20 @@ pub fn mark_words(place: &Place) -> usize
     ((place.bytes / PAGE_SIZE + (PAGES_PER_WORD - 1)) / PAGES_PER_WORD) as usize
 }
 
+// A law: 64 bits hold the number of pages that the mark words of a place are for. It does nothing.
+fn knows_mark_words(place: &Place)
+    ensures { mark_words place.now.bytes * pages_per_word < 2 ^ 64 }
+{
+    let _ = mark_words(place);
+}
+
 /// The first page of a mark word of a place.
 pub fn first_page(place: &Place, index: usize) -> u64
     requires { index < mark_words place.now.bytes }
     ensures value { result ≡ index * pages_per_word }
     ensures page { result < pages_in place.now }
 {
-    // It tells that 64 bits hold the number.
-    let _ = mark_words(place);
+    knows_mark_words(place);
     index as u64 * PAGES_PER_WORD
 }
 
@@ -71,8 +77,8 @@ pub fn harvest<H: WriterHand>(
     if let Some(why) = harvest_refusal(backed.desk().tree(), region) {
         return Err(why);
     }
-    // It tells that the region has its place.
-    let _ = backed.places();
+    // So the region has its place.
+    backed.knows_places();
     let Some(place) = backed.place_of(region) else {
         return Ok(Vec::new(alloc));
     };

@@ -69,8 +69,8 @@ pub fn load_bytes<H: Loads>(
     if let Some(why) = load_refusal(backed.desk().tree(), region, offset, bytes.len()) {
         return Err(why);
     }
-    // It tells that the region has its place.
-    let _ = backed.places();
+    // So the region has its place.
+    backed.knows_places();
     if let Some(place) = backed.place_of(region) {
         load_words(hand, &place, offset, bytes);
     }

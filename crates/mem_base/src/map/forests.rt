@@ -115,6 +115,13 @@ impl Nodes {
         self.chunks.as_slice()
     }
 
+    /// A law: the regions stand by ascending id. It does nothing.
+    pub fn knows_ascending(&self)
+        ensures { IsAscending self.now }
+    {
+        let _ = &self.chunks;
+    }
+
     /// How many there are. Each chunk is looked at.
     pub fn len(&self) -> usize
         ensures { result ≡ length self.now }

@@ -15,12 +15,12 @@ returns-after-spot c =
       | then-spot w ↦ w.rom_device-is ∙ sym (ap (λ b. b && not c.args.write) w.if-spot.true)
       | else-spot w ↦ w.rom_device-is ∙ w.if-spot.false ∙ sym (ap (λ b. b && not c.args.write) w.if-spot.false)
     ] in
-    rom_device_there f spot c.args.write c.args.node.now is c.forest.ensures.made c.in-RomDevice.device c.in-RomDevice.is c.rom_device.result
+    rom_device_there f spot c.args.write c.args.node.now is c.knows_forest.ensures c.in-RomDevice.device c.in-RomDevice.is c.rom_device.result
     (c.rom_device.ensures ∙ ap (λ b. rom_device b c.in-RomDevice.device.ops) direct)
 
 pub returns-in-Io : goal.returns-in-Io
 returns-in-Io c =
-    io_there c.args.g.now.forest c.args.spot.now c.args.write c.args.node.now c.requires c.forest.ensures.made c.in-Io.device c.in-Io.is
+    io_there c.args.g.now.forest c.args.spot.now c.args.write c.args.node.now c.requires c.knows_forest.ensures c.in-Io.device c.in-Io.is
 
 pub returns-after-write : goal.returns-after-write
 returns-after-write c =
@@ -32,5 +32,5 @@ returns-after-write c =
       | then-write w ↦ w.memory_unless-is ∙ sym (ap (λ b. b && spot.attrs.readonly) w.if-write.true)
       | else-write w ↦ w.memory_unless-is ∙ w.if-write.false ∙ sym (ap (λ b. b && spot.attrs.readonly) w.if-write.false)
     ] in
-    memory_there f spot c.args.write c.args.node.now is c.forest.ensures.made c.memory_unless.result c.in-Ram.is
+    memory_there f spot c.args.write c.args.node.now is c.knows_forest.ensures c.memory_unless.result c.in-Ram.is
     (c.memory_unless.ensures ∙ ap memory_unless shut)

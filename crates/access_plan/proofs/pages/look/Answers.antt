@@ -9,5 +9,5 @@ pub returns-in-Some : goal.returns-in-Some
 returns-in-Some c =
     let addr = c.args.addr in
     let fits = c.ranges.addr.fits in
-    let shows = view_shows c.args.g.now.forest c.args.space c.forest.ensures.made in
+    let shows = view_shows c.args.g.now.forest c.args.space c.knows_forest.ensures in
     c.shown_at.ensures ∙ ap (λ (rs : List FlatRange). shown rs addr) c.in-Some.ensures.some ∙ shows.shows addr (omega arith) (omega (arith, fits))

@@ -34,7 +34,7 @@ returns-then-below-out g c =
     let all : length out ≡ n = c.read_below-result.auto.out in
     let less : below < n = omega (arith, c.if-below-out.true, all) in
     let sum : below + (n - below) ≡ n = omega (arith, less) in
-    let made : IsMade (g.B.Bus.shows c.args.bus.now).forest = subst (λ (z : Published). IsMade z.forest) c.generation.ensures c.forest.ensures.made in
+    let made : IsMade (g.B.Bus.shows c.args.bus.now).forest = subst (λ (z : Published). IsMade z.forest) c.generation.ensures c.knows_forest.ensures in
     let at : c.args.addr + below ≡ 2 ^ 64 = at_end c.args.addr below n less c.reach-below.ensures.all c.reach-below.ensures.past in
     let bytes : List ℕ = take below out ++ (c.fill.new.self ++ post_of below (length out - below) out) in
     subst (λ q. HasReached g.B.Bus.asks c.args.bus.now (plan_by g.B.Answering.host (g.B.Bus.shows c.args.bus.now).forest c.args.space c.args.addr (reading n))

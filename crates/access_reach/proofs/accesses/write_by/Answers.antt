@@ -16,7 +16,7 @@ returns-then-below-bytes g c =
     record { begins = g.met.B.Bus.begins; goes_on = g.met.B.Bus.goes_on; stays = g.met.B.Bus.stays } in
     let bytes : List ℕ = c.args.bytes.now in
     let below : ℕ = c.reach-below.result in
-    let made : IsMade (g.B.Bus.shows c.args.bus.now).forest = subst (λ (z : Published). IsMade z.forest) c.generation.ensures c.forest.ensures.made in
+    let made : IsMade (g.B.Bus.shows c.args.bus.now).forest = subst (λ (z : Published). IsMade z.forest) c.generation.ensures c.knows_forest.ensures in
     let at : c.args.addr + below ≡ 2 ^ 64 =
     at_end c.args.addr below (length bytes) c.if-below-bytes.true c.reach-below.ensures.all c.reach-below.ensures.past in
     subst (λ q. HasReached g.B.Bus.asks c.args.bus.now (plan_by g.B.Taking.host (g.B.Bus.shows c.args.bus.now).forest c.args.space c.args.addr (writing bytes))
@@ -28,6 +28,6 @@ returns-then-below-bytes g c =
 
 pub write_below-result-requires-clause-takes : goal.write_below-result-requires-clause-takes
 write_below-result-requires-clause-takes g c =
-    let made : IsMade (g.B.Bus.shows c.args.bus.now).forest = subst (λ (z : Published). IsMade z.forest) c.generation.ensures c.forest.ensures.made in
+    let made : IsMade (g.B.Bus.shows c.args.bus.now).forest = subst (λ (z : Published). IsMade z.forest) c.generation.ensures c.knows_forest.ensures in
     takes_first g.B.Taking.host (g.B.Bus.shows c.args.bus.now).forest g.B.Taking.takes c.args.bus.now c.args.space c.args.addr c.reach-below.result
     c.args.bytes.now made c.reach-below.ensures.most c.reach-below.ensures.all c.reach-below.ensures.past c.requires

@@ -11,7 +11,7 @@ pub returns-then-below-bytes-clause-most : goal.returns-then-below-bytes-clause-
 returns-then-below-bytes-clause-most c =
     let v = c.args.pass.now in
     let made : IsMade (generation_in v).forest =
-    subst (λ (g : Published). IsMade g.forest) (sym (ap generation_shown c.generation.ensures)) c.forest.ensures.made in
+    subst (λ (g : Published). IsMade g.forest) (sym (ap generation_shown c.generation.ensures)) c.knows_forest.ensures in
     let e = c.write_below-part.ensures in
     let at = at_end c.args.addr c.reach-below.result (length c.args.bytes.now) c.if-below-bytes.true c.reach-below.ensures.all c.reach-below.ensures.past in
     (ends_past v c.write_below-part.new.pass c.args.space c.args.addr c.reach-below.result c.args.bytes.now c.args.tries c.write_below-part.result
@@ -21,7 +21,7 @@ pub returns-then-below-bytes-clause-whole : goal.returns-then-below-bytes-clause
 returns-then-below-bytes-clause-whole c =
     let v = c.args.pass.now in
     let made : IsMade (generation_in v).forest =
-    subst (λ (g : Published). IsMade g.forest) (sym (ap generation_shown c.generation.ensures)) c.forest.ensures.made in
+    subst (λ (g : Published). IsMade g.forest) (sym (ap generation_shown c.generation.ensures)) c.knows_forest.ensures in
     let e = c.write_below-part.ensures in
     let at = at_end c.args.addr c.reach-below.result (length c.args.bytes.now) c.if-below-bytes.true c.reach-below.ensures.all c.reach-below.ensures.past in
     (ends_past v c.write_below-part.new.pass c.args.space c.args.addr c.reach-below.result c.args.bytes.now c.args.tries c.write_below-part.result
@@ -31,7 +31,7 @@ pub returns-then-below-bytes-clause-done : goal.returns-then-below-bytes-clause-
 returns-then-below-bytes-clause-done c =
     let v = c.args.pass.now in
     let made : IsMade (generation_in v).forest =
-    subst (λ (g : Published). IsMade g.forest) (sym (ap generation_shown c.generation.ensures)) c.forest.ensures.made in
+    subst (λ (g : Published). IsMade g.forest) (sym (ap generation_shown c.generation.ensures)) c.knows_forest.ensures in
     let e = c.write_below-part.ensures in
     let at = at_end c.args.addr c.reach-below.result (length c.args.bytes.now) c.if-below-bytes.true c.reach-below.ensures.all c.reach-below.ensures.past in
     (ends_past v c.write_below-part.new.pass c.args.space c.args.addr c.reach-below.result c.args.bytes.now c.args.tries c.write_below-part.result
@@ -41,7 +41,7 @@ pub returns-then-below-bytes-clause-stopped : goal.returns-then-below-bytes-clau
 returns-then-below-bytes-clause-stopped c =
     let v = c.args.pass.now in
     let made : IsMade (generation_in v).forest =
-    subst (λ (g : Published). IsMade g.forest) (sym (ap generation_shown c.generation.ensures)) c.forest.ensures.made in
+    subst (λ (g : Published). IsMade g.forest) (sym (ap generation_shown c.generation.ensures)) c.knows_forest.ensures in
     let e = c.write_below-part.ensures in
     let at = at_end c.args.addr c.reach-below.result (length c.args.bytes.now) c.if-below-bytes.true c.reach-below.ensures.all c.reach-below.ensures.past in
     (ends_past v c.write_below-part.new.pass c.args.space c.args.addr c.reach-below.result c.args.bytes.now c.args.tries c.write_below-part.result

@@ -5,4 +5,4 @@ use Rattle.script_run.proofs.worlds.run.Goals as goal
 
 pub new-requires-clause-words : goal.new-requires-clause-words
 new-requires-clause-words g c =
-    subst (λ n. n ≤ 2 ^ 26) (sym c.pool_words.ensures) (pool_fits c.args.script.now (sound_fits Start c.args.script.now c.lines.ensures.sound))
+    subst (λ n. n ≤ 2 ^ 26) (sym c.pool_words.ensures) (pool_fits c.args.script.now (sound_fits Start c.args.script.now c.knows_sound.ensures))

@@ -7,12 +7,12 @@ use Rattle.top_call.proofs.racing.race_script.Goals as goal
 
 pub new-requires-clause-words : goal.new-requires-clause-words
 new-requires-clause-words g c =
-    subst (λ n. n ≤ 2 ^ 26) (sym c.pool_words.ensures) (pool_fits c.args.script.now (sound_fits Start c.args.script.now c.lines.ensures.sound))
+    subst (λ n. n ≤ 2 ^ 26) (sym c.pool_words.ensures) (pool_fits c.args.script.now (sound_fits Start c.args.script.now c.knows_sound.ensures))
 
 pub returns-in-Err-clause-writes : goal.returns-in-Err-clause-writes
 returns-in-Err-clause-writes g c =
     nothing_raced g.K.Sink.written g.K.Sink.holds (Ok c.args.script.now) c.args.sink.now endings.Memory
-    (fits_meant c.args.script.now (sound_fits Start c.args.script.now c.lines.ensures.sound)) (inl refl)
+    (fits_meant c.args.script.now (sound_fits Start c.args.script.now c.knows_sound.ensures)) (inl refl)
 
 pub returns-in-Ok-done-clause-writes : goal.returns-in-Ok-done-clause-writes
 returns-in-Ok-done-clause-writes g c =

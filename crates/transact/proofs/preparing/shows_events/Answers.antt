@@ -15,4 +15,4 @@ returns c =
     ∙ any_id (λ n. nat_lt 0 (length n.events)) (λ r. list_any (λ p. has_leaf r (arc_value p.1)) c.args.atlases.now) f.nodes
     ∙ any_same (λ n. nat_lt 0 (length n.events) && list_any (λ p. has_leaf n.id (arc_value p.1)) c.args.atlases.now) (is_shown f) (λ (n : Node).
     ap (λ b. nat_lt 0 (length n.events) && b) (leaf_is arc_value f n.id c.args.atlases.now c.requires.views)) f.nodes
-    ∙ events_named f c.chunks.ensures.ascending
+    ∙ events_named f c.knows_ascending.ensures

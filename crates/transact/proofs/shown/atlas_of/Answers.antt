@@ -9,4 +9,4 @@ pub returns-clause-view : goal.returns-clause-view
 returns-clause-view g c =
     let same : arc_value c.in_ok-try_clone.field-0 ≡ view_of c.args.current.now.forest c.args.space = search rules in
     let calm : is_touched c.args.current.now.forest c.args.tree.now c.args.space ≡ false = search rules in
-    same ∙ view_stays c.args.current.now.forest c.args.tree.now c.args.space c.forest.ensures.made c.requires.made calm
+    same ∙ view_stays c.args.current.now.forest c.args.tree.now c.args.space c.knows_forest.ensures c.requires.made calm

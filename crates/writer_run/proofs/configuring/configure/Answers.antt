@@ -4,6 +4,7 @@ use Rattle.mem_base.specs.declared.map.ids.RegionId.{RegionId}
 use Rattle.mem_base.specs.declared.map.calls.Applied.{Applied}
 use Rattle.mem_base.specs.declared.map.refusals.Refusal.{Refusal}
 use Rattle.mem_base.specs.declared.map.refusals.Refusal.TheVariants.{Memory}
+use Rattle.mem_base.specs.declared.access.cells.Place.{Place}
 use Rattle.mem_base.specs.declared.machine.events.HistoryEntry.{HistoryEntry}
 use Rattle.mem_base.specs.views.Listening.{delivered}
 use Rattle.mem_base.specs.machine.Answers.{answer_of_config}
@@ -42,12 +43,12 @@ fill_made-requires g c =
     let gens : Generations = g.H.Writing.generations c.args.hand.now in
     let words : ℕ = g.H.Writing.words c.args.hand.now in
     let d : IsDone c.args.desk.now.listened c.args.config.now c.planned.new.desk c.in-Done.applied = search rules in
-    let fit : AreDeskPlaces c.backed-in-Done.result.now.desk.state.forest c.places.result.now = c.places.ensures.fit in
-    let places : c.places.result.now ≡ all_places c.planned.new.desk.backed.backing =
-    c.places.ensures.places ∙ ap (λ (b : BackedState). all_places b.backing) c.backed-in-Done.ensures in
+    let told : List Place = all_places c.backed-in-Done.result.now.backing in
+    let fit : AreDeskPlaces c.backed-in-Done.result.now.desk.state.forest told = c.knows_places.ensures in
+    let places : told ≡ all_places c.planned.new.desk.backed.backing = ap (λ (b : BackedState). all_places b.backing) c.backed-in-Done.ensures in
     record {
       within = ends_within c.args.desk.now gens words c.requires.parts c.args.config.now c.planned.new.desk c.in-Done.applied d
-          c.backed-in-Done.result.now.desk.state.forest c.places.result.now places fit;
+          c.backed-in-Done.result.now.desk.state.forest told places fit;
     }
 
 pub publish-requires-clause-may : goal.publish-requires-clause-may

@@ -19,38 +19,36 @@ pub take_pages-requires-clause-within : goal.take_pages-requires-clause-within
 take_pages-requires-clause-within g c =
     let gens : Generations = g.H.Writing.generations c.args.hand.now in
     let words : ℕ = g.H.Writing.words c.args.hand.now in
-    let are : c.places.result.now ≡ all_places c.args.desk.now.listened.backed.backing =
-    c.places.ensures.places ∙ ap (λ (b : BackedState). all_places b.backing) c.backed-backed.ensures in
+    let told : List Place = all_places c.backed-backed.result.now.backing in
+    let are : told ≡ all_places c.args.desk.now.listened.backed.backing = ap (λ (b : BackedState). all_places b.backing) c.backed-backed.ensures in
     let found : place_in c.args.desk.now.listened.backed.backing.places c.args.region ≡ Some c.in-Some-place_of.place = search rules in
-    within c.args.desk.now gens words c.requires.parts _ c.places.result.now are c.places.ensures.fit c.args.region c.in-Some-place_of.place found
+    within c.args.desk.now gens words c.requires.parts _ told are c.knows_places.ensures c.args.region c.in-Some-place_of.place found
 
 pub take_pages-requires-clause-words : goal.take_pages-requires-clause-words
 take_pages-requires-clause-words g c =
     let gens : Generations = g.H.Writing.generations c.args.hand.now in
     let words : ℕ = g.H.Writing.words c.args.hand.now in
     let f : Forest = c.args.desk.now.listened.backed.desk.state.forest in
-    let are : c.places.result.now ≡ all_places c.args.desk.now.listened.backed.backing =
-    c.places.ensures.places ∙ ap (λ (b : BackedState). all_places b.backing) c.backed-backed.ensures in
-    let fit : AreDeskPlaces f c.places.result.now =
-    subst (λ (b : BackedState). AreDeskPlaces b.desk.state.forest c.places.result.now) c.backed-backed.ensures c.places.ensures.fit in
+    let told : List Place = all_places c.backed-backed.result.now.backing in
+    let are : told ≡ all_places c.args.desk.now.listened.backed.backing = ap (λ (b : BackedState). all_places b.backing) c.backed-backed.ensures in
+    let fit : AreDeskPlaces f told = subst (λ (b : BackedState). AreDeskPlaces b.desk.state.forest told) c.backed-backed.ensures c.knows_places.ensures in
     let found : place_in c.args.desk.now.listened.backed.backing.places c.args.region ≡ Some c.in-Some-place_of.place = search rules in
     let made : IsMade f = search rules in
     let none : harvest_refusal f c.args.region ≡ None = search rules in
-    sized c.args.desk.now gens words c.requires.parts f c.places.result.now are fit made c.args.region none c.in-Some-place_of.place found
+    sized c.args.desk.now gens words c.requires.parts f told are fit made c.args.region none c.in-Some-place_of.place found
 
 pub returns-in_default-place_of-clause-turn : goal.returns-in_default-place_of-clause-turn
 returns-in_default-place_of-clause-turn g c =
     let gens : Generations = g.H.Writing.generations c.args.hand.now in
     let words : ℕ = g.H.Writing.words c.args.hand.now in
     let f : Forest = c.args.desk.now.listened.backed.desk.state.forest in
-    let are : c.places.result.now ≡ all_places c.args.desk.now.listened.backed.backing =
-    c.places.ensures.places ∙ ap (λ (b : BackedState). all_places b.backing) c.backed-backed.ensures in
-    let fit : AreDeskPlaces f c.places.result.now =
-    subst (λ (b : BackedState). AreDeskPlaces b.desk.state.forest c.places.result.now) c.backed-backed.ensures c.places.ensures.fit in
+    let told : List Place = all_places c.backed-backed.result.now.backing in
+    let are : told ≡ all_places c.args.desk.now.listened.backed.backing = ap (λ (b : BackedState). all_places b.backing) c.backed-backed.ensures in
+    let fit : AreDeskPlaces f told = subst (λ (b : BackedState). AreDeskPlaces b.desk.state.forest told) c.backed-backed.ensures c.knows_places.ensures in
     let found : place_in c.args.desk.now.listened.backed.backing.places c.args.region ≡ None = search rules in
     let made : IsMade f = search rules in
     let none : harvest_refusal f c.args.region ≡ None = search rules in
-    absurd (has_place c.args.desk.now gens words c.requires.parts f c.places.result.now are fit made c.args.region none found)
+    absurd (has_place c.args.desk.now gens words c.requires.parts f told are fit made c.args.region none found)
 
 pub returns-clause-turn : goal.returns-clause-turn
 returns-clause-turn g c =

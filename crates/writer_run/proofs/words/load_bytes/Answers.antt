@@ -19,24 +19,23 @@ pub load_words-requires-clause-within : goal.load_words-requires-clause-within
 load_words-requires-clause-within g c =
     let gens : Generations = g.H.Writing.generations c.args.hand.now in
     let words : ℕ = g.H.Writing.words c.args.hand.now in
-    let are : c.places.result.now ≡ all_places c.args.desk.now.listened.backed.backing =
-    c.places.ensures.places ∙ ap (λ (b : BackedState). all_places b.backing) c.backed-backed.ensures in
+    let told : List Place = all_places c.backed-backed.result.now.backing in
+    let are : told ≡ all_places c.args.desk.now.listened.backed.backing = ap (λ (b : BackedState). all_places b.backing) c.backed-backed.ensures in
     let found : place_in c.args.desk.now.listened.backed.backing.places c.args.region ≡ Some c.in-Some-place_of.place = search rules in
-    within c.args.desk.now gens words c.requires.parts _ c.places.result.now are c.places.ensures.fit c.args.region c.in-Some-place_of.place found
+    within c.args.desk.now gens words c.requires.parts _ told are c.knows_places.ensures c.args.region c.in-Some-place_of.place found
 
 pub load_words-requires-clause-inside : goal.load_words-requires-clause-inside
 load_words-requires-clause-inside g c =
     let gens : Generations = g.H.Writing.generations c.args.hand.now in
     let words : ℕ = g.H.Writing.words c.args.hand.now in
     let f : Forest = c.args.desk.now.listened.backed.desk.state.forest in
-    let are : c.places.result.now ≡ all_places c.args.desk.now.listened.backed.backing =
-    c.places.ensures.places ∙ ap (λ (b : BackedState). all_places b.backing) c.backed-backed.ensures in
-    let fit : AreDeskPlaces f c.places.result.now =
-    subst (λ (b : BackedState). AreDeskPlaces b.desk.state.forest c.places.result.now) c.backed-backed.ensures c.places.ensures.fit in
+    let told : List Place = all_places c.backed-backed.result.now.backing in
+    let are : told ≡ all_places c.args.desk.now.listened.backed.backing = ap (λ (b : BackedState). all_places b.backing) c.backed-backed.ensures in
+    let fit : AreDeskPlaces f told = subst (λ (b : BackedState). AreDeskPlaces b.desk.state.forest told) c.backed-backed.ensures c.knows_places.ensures in
     let found : place_in c.args.desk.now.listened.backed.backing.places c.args.region ≡ Some c.in-Some-place_of.place = search rules in
     let made : IsMade f = search rules in
     let none : load_refusal f c.args.region c.args.offset (length c.args.bytes.now) ≡ None = search rules in
-    room c.args.desk.now gens words c.requires.parts f c.places.result.now are fit made c.args.region c.args.offset (length c.args.bytes.now)
+    room c.args.desk.now gens words c.requires.parts f told are fit made c.args.region c.args.offset (length c.args.bytes.now)
     none c.in-Some-place_of.place found
 
 pub returns-in_default-place_of-clause-turn : goal.returns-in_default-place_of-clause-turn
@@ -44,14 +43,13 @@ returns-in_default-place_of-clause-turn g c =
     let gens : Generations = g.H.Writing.generations c.args.hand.now in
     let words : ℕ = g.H.Writing.words c.args.hand.now in
     let f : Forest = c.args.desk.now.listened.backed.desk.state.forest in
-    let are : c.places.result.now ≡ all_places c.args.desk.now.listened.backed.backing =
-    c.places.ensures.places ∙ ap (λ (b : BackedState). all_places b.backing) c.backed-backed.ensures in
-    let fit : AreDeskPlaces f c.places.result.now =
-    subst (λ (b : BackedState). AreDeskPlaces b.desk.state.forest c.places.result.now) c.backed-backed.ensures c.places.ensures.fit in
+    let told : List Place = all_places c.backed-backed.result.now.backing in
+    let are : told ≡ all_places c.args.desk.now.listened.backed.backing = ap (λ (b : BackedState). all_places b.backing) c.backed-backed.ensures in
+    let fit : AreDeskPlaces f told = subst (λ (b : BackedState). AreDeskPlaces b.desk.state.forest told) c.backed-backed.ensures c.knows_places.ensures in
     let found : place_in c.args.desk.now.listened.backed.backing.places c.args.region ≡ None = search rules in
     let made : IsMade f = search rules in
     let none : load_refusal f c.args.region c.args.offset (length c.args.bytes.now) ≡ None = search rules in
-    absurd (never c.args.desk.now gens words c.requires.parts f c.places.result.now are fit made c.args.region c.args.offset
+    absurd (never c.args.desk.now gens words c.requires.parts f told are fit made c.args.region c.args.offset
     (length c.args.bytes.now) none found)
 
 pub returns-in-Some-place_of-clause-turn : goal.returns-in-Some-place_of-clause-turn

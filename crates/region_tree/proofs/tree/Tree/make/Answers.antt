@@ -1,4 +1,4 @@
-use Rattle.std.proofs.Common.{◌≡◌, refl, ℕ, ◌^◌, ◌∙◌, ◌+◌, ◌≤◌, ◌++◌, ◌∷◌, [], sym, ap, subst, None, List, arith}
+use Rattle.std.proofs.Common.{◌≡◌, refl, ◌∙◌, ◌+◌, ◌++◌, ◌∷◌, [], sym, ap, subst, None, List, arith}
 use Rattle.mem_base.specs.declared.map.forests.Forest.{Forest}
 use Rattle.mem_base.specs.declared.map.forests.Node.{Node}
 use Rattle.mem_base.specs.declared.map.ids.RegionId.{RegionId}
@@ -40,8 +40,7 @@ invariant_of-self-2 c =
     let f = forest_of c.self.inside in
     let none = subst (λ (g : Forest). refusal_of g (Region c.args.kind c.args.size) ≡ None) (sym c.self.view_is) c.requires in
     let nodes = c.in_ok-push.ensures.ok ∙ ap (λ (n : Node). f.nodes ++ n ∷ []) c.new_node.ensures in
-    let whole = whole_accepted f (Region c.args.kind c.args.size) c.self.invariant.whole
-    (subst (λ (k : ℕ). k ≤ 2 ^ 64) c.get.ensures.value c.get.ensures.bound) none in
+    let whole = whole_accepted f (Region c.args.kind c.args.size) c.self.invariant.whole c.knows_most.ensures none in
     let n = made_region (record { 0 = f.made }) c.args.kind c.args.size in
     let ok = makeable_of f c.self.invariant.whole.forest c.args.kind c.args.size none in
     let known_target = target_of_region f c.args.kind c.args.size none in

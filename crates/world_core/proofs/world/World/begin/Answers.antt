@@ -18,7 +18,7 @@ leaves c =
     let f = rested s c.args.self.now c.self.invariant c.self.view_is c.requires.rest in
     leaves_all s c.args.self.now f (configure Begin) (plain_answer c.begin-begun.result) c.begin-begun.new.desk c.unsweep.new.self s.hand.words
     (private_leaves s.desk s.hand.kept s.hand.words f.world c.begin-begun.new.desk s.hand.kept s.hand.words (configure Begin)
-    (plain_answer c.begin-begun.result) tt c.begin-begun.ensures.turn c.begin-begun.ensures.parts refl c.current.ensures.kept.each_swept c.unsweep.new.self
+    (plain_answer c.begin-begun.result) tt c.begin-begun.ensures.turn c.begin-begun.ensures.parts refl c.knows_passes.ensures.each_swept c.unsweep.new.self
     c.unsweep.ensures)
 
 pub invariant_of-self : goal.invariant_of-self
