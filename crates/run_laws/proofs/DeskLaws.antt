@@ -44,6 +44,8 @@ use Rattle.mem_base.specs.machine.History.{run_events}
 use Rattle.mem_base.specs.machine.Orders.{Order, configure, reap, load, harvest, notified, sweeps, publishes, unless, loads, harvests, pass_ids, load_refusal}
 use Rattle.mem_base.specs.machine.Orders.{harvest_refusal, mark_words_at, events_before, events_after}
 use Rattle.mem_base.specs.machine.Orders as orders
+use Rattle.mem_base.specs.declared.machine.records.DeskOrder.TheVariants as desk_orders
+use Rattle.mem_base.specs.declared.machine.records.DeskAnswer.TheVariants as answers
 use Rattle.mem_base.specs.declared.map.kinds.Kind.{Kind}
 use Rattle.mem_base.specs.declared.map.kinds.Client.{Client}
 use Rattle.mem_base.specs.access.PlacesByRegion.{place_in}
@@ -518,11 +520,11 @@ pub sliced : (xs : List Delivery) (m : ℕ) → take (length xs - m) (drop m xs)
 sliced xs m = take_all (length xs - m) (drop m xs) (let l = length-drop m xs in omega (arith, l))
 
 pub with_watchers : (k : Known) (name : Text) (order : DeskOrder) → (with_order k name order).watchers ≡ k.watchers
-with_watchers k name (orders.Call (calls.Region kind size)) = refl
-with_watchers k name (orders.Call (calls.Space space root)) = refl
-with_watchers k name (orders.Call (calls.Drop region)) = refl
-with_watchers k name (orders.Listen listener space priority) = refl
-with_watchers k name (orders.Unlisten listener) = refl
+with_watchers k name (desk_orders.Call (calls.Region kind size)) = refl
+with_watchers k name (desk_orders.Call (calls.Space space root)) = refl
+with_watchers k name (desk_orders.Call (calls.Drop region)) = refl
+with_watchers k name (desk_orders.Listen listener space priority) = refl
+with_watchers k name (desk_orders.Unlisten listener) = refl
 with_watchers k name order = refl
 
 pub after_watchers : (k : Known) (name : Text) (order : DeskOrder) (x : DeskAnswer) → (after_order k name order x).watchers ≡ k.watchers
