@@ -1,5 +1,5 @@
 -- A call to each listener of a space, in ascending or descending order.
-use Rattle.std.proofs.Common.{◌≡◌, ℕ, ◌+◌, ◌-◌, ◌<◌, Bool, true, false, cond, List, [], ◌∷◌, ◌++◌, map, take, length, get_or, refl, sym, ap}
+use Rattle.std.proofs.Common.{◌≡◌, ℕ, ◌+◌, ◌-◌, ◌<◌, ◌≤◌, Bool, true, false, cond, List, [], ◌∷◌, ◌++◌, map, take, length, get_or, refl, sym, ap}
 use Rattle.std.proofs.Common.{◌∙◌, arith, append_assoc, append-nil, length-append}
 use Rattle.std.specs.Prelude.{filter, flat_map, reverse, Option}
 use Rattle.std.proofs.lemmas.List.{reverse-append, take_more}
@@ -65,32 +65,22 @@ module _ (space : Option SpaceId) (event : ListenerEvent) where
   next_down ls k d l =
       ap (told_down space event) (take_more ls k d l) ∙ ap (flat_map (told_one space event)) (reverse-append (take k ls) (get_or ls k d ∷ []))
 
-  -- one turn from the last to the first
-  pub turn_down : (ls : List Listener) (i k : ℕ) (d : Listener) (old now : List Delivery) → i < length ls → k ≡ length ls - 1 - i
-      → now ++ told_down space event (take (length ls - i) ls) ≡ old
-      → (now ++ told_one space event (get_or ls k d)) ++ told_down space event (take (length ls - (i + 1)) ls) ≡ old
-  turn_down ls i k d old now l e h =
-      let here : k + 1 ≡ length ls - i = omega arith in
-      let rest : k ≡ length ls - (i + 1) = omega arith in
-      let inside : k < length ls = omega arith in
-      append_assoc now (told_one space event (get_or ls k d)) (told_down space event (take (length ls - (i + 1)) ls))
-      ∙ ap (λ x. now ++ x) (ap (λ n. told_one space event (get_or ls k d) ++ told_down space event (take n ls)) (sym rest) ∙ sym (next_down ls k d inside)
-      ∙ ap (λ n. told_down space event (take n ls)) here)
+  -- one turn from the last to the first: of the first i, the last is told
+  pub turn_down : (ls : List Listener) (i : ℕ) (d : Listener) (old now : List Delivery) → 0 < i → i ≤ length ls
+      → now ++ told_down space event (take i ls) ≡ old
+      → (now ++ told_one space event (get_or ls (i - 1) d)) ++ told_down space event (take (i - 1) ls) ≡ old
+  turn_down ls i d old now some most h =
+      let here : (i - 1) + 1 ≡ i = omega arith in
+      append_assoc now (told_one space event (get_or ls (i - 1) d)) (told_down space event (take (i - 1) ls))
+      ∙ ap (λ x. now ++ x) (sym (next_down ls (i - 1) d (omega arith)) ∙ ap (λ n. told_down space event (take n ls)) here)
       ∙ h
 
-  pub length_down : (ls : List Listener) (i k : ℕ) (d : Listener) → i < length ls → k ≡ length ls - 1 - i
-      → length (told_down space event (take (length ls - i) ls)) ≡ length (told_one space event (get_or ls k d)) + length
-      (told_down space event (take (length ls - (i + 1)) ls))
-  length_down ls i k d l e =
-      let here : length ls - i ≡ k + 1 = omega arith in
-      let rest : k ≡ length ls - (i + 1) = omega arith in
-      let inside : k < length ls = omega arith in
-      ap (λ n. length (told_down space event (take n ls))) here ∙ ap length (next_down ls k d inside)
-      ∙ length-append (told_one space event (get_or ls k d)) (told_down space event (take k ls))
-      ∙ ap (λ n. length (told_one space event (get_or ls k d)) + length (told_down space event (take n ls))) rest
-
-  pub count_down : (ls : List Listener) (i k : ℕ) (d : Listener) (old now next : ℕ) → i < length ls → k ≡ length ls - 1 - i
-      → next ≡ now + length (told_one space event (get_or ls k d))
-      → now + length (told_down space event (take (length ls - i) ls)) ≡ old
-      → next + length (told_down space event (take (length ls - (i + 1)) ls)) ≡ old
-  count_down ls i k d old now next l e n h = let both = length_down ls i k d l e in omega arith
+  pub count_down : (ls : List Listener) (i : ℕ) (d : Listener) (old now next : ℕ) → 0 < i → i ≤ length ls
+      → next ≡ now + length (told_one space event (get_or ls (i - 1) d))
+      → now + length (told_down space event (take i ls)) ≡ old
+      → next + length (told_down space event (take (i - 1) ls)) ≡ old
+  count_down ls i d old now next some most n h =
+      let here : i ≡ (i - 1) + 1 = omega arith in
+      let both = ap (λ m. length (told_down space event (take m ls))) here ∙ ap length (next_down ls (i - 1) d (omega arith))
+      ∙ length-append (told_one space event (get_or ls (i - 1) d)) (told_down space event (take (i - 1) ls)) in
+      omega arith

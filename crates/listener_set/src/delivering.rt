@@ -63,9 +63,8 @@ fn tell_down(
     ensures len { vec_len journal.new ≡ vec_len journal.old + length (told_down space event order.now) }
     ensures room { vec_capacity journal.old ≤ vec_capacity journal.new }
 {
-    let count = order.len();
-    for i in 0..count {
-        tell_one(journal, &order[count - 1 - i], space, event);
+    for i in (0..order.len()).rev() {
+        tell_one(journal, &order[i], space, event);
     }
 }
 
