@@ -45,7 +45,7 @@ pub fn number_of(bytes: &[u8], big: bool) -> u64
 }
 
 // The number without its lowest bytes, this many.
-#[tactic(auto, using(crate::proofs::Powers::bytes_power))]
+#[tactic(auto, using(mem_base::proofs::WordLaws::bytes_power))]
 pub(crate) fn without_lowest(number: u64, bytes: u8) -> u64
     requires { bytes < 8 }
     ensures { result ≡ number / (256 ^ bytes) }
@@ -54,7 +54,7 @@ pub(crate) fn without_lowest(number: u64, bytes: u8) -> u64
 }
 
 // The lowest bytes of the number, this many.
-#[tactic(auto, using(crate::proofs::Powers::bytes_power))]
+#[tactic(auto, using(mem_base::proofs::WordLaws::bytes_power))]
 pub(crate) fn lowest(number: u64, bytes: u8) -> u64
     requires { bytes ≤ 8 }
     ensures { result ≡ number % (256 ^ bytes) }

@@ -21,7 +21,7 @@ fn stores(offset: u64, size: u8, value: u64) -> WordStep
 }
 
 // A write that sets the bits of a number of `size` bytes.
-#[tactic(auto, using(crate::proofs::Powers::bytes_power))]
+#[tactic(auto, using(mem_base::proofs::WordLaws::bytes_power))]
 fn sets(offset: u64, size: u8, value: u64) -> WordStep
     requires { size ≤ 8 }
     ensures { result ≡ sets offset size value }
