@@ -135,10 +135,6 @@ pair_push {A = A} R (y ∷ ys) x h e = (push ys h.0, pair_push R ys x h.1 e.1)
     push [] k = (e.0, tt)
     push (z ∷ zs) k = (k.0, push zs k.1)
 
-    go : (b : Bool) → EveryPair R (filter test xs) → EveryPair R (if b then x ∷ filter test xs else filter test xs)
-    go true rest = (each xs h.0, rest)
-    go false rest = rest
-
 -- one place less
 
 abbrev pub without : RegionId → List Place → List Place
