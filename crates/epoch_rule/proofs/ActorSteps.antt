@@ -15,6 +15,7 @@ use Rattle.epoch_rule.proofs.EntrySteps.{grown, knows_generations, inside, shows
 use Rattle.epoch_rule.proofs.EntrySteps as of_slots
 use Rattle.mem_base.specs.declared.map.ids.PassId.{PassId}
 use Rattle.epoch_rule.proofs.PassLaws.{pass_known}
+use Rattle.mem_base.proofs.PassTurnLaws.{raises}
 
 module _ {S : Type 0} (Copy : ℕ → Generation → S → Type 0) (z : Sizes) where
   -- a step of the pass p, which leaves its part of the history, its word and its slots so
@@ -187,7 +188,7 @@ module _ {S : Type 0} (Copy : ℕ → Generation → S → Type 0) (z : Sizes) w
       (lt-ltb p (length st.passes) (inside Copy z s k id me.0 at p near)) (k.shown.pins p near) refl refl refl (λ v j other l. refl)
       (λ v other l. ((λ q. q), (λ q. q), (λ _. refl)))
       (of_slots.swept Copy c (generations_published k.log) was now _ k.held _ s.homes p
-      (of_slots.raises c was r ((sound z.words z.passes k.log k.lawful).each p near).low) refl (k.slots.each p near)) (n.1, n.2) in
+      (raises c was r ((sound z.words z.passes k.log k.lawful).each p near).low) refl (k.slots.each p near)) (n.1, n.2) in
       (_, keeps, tt, did.0, (refl, (refl, refl), did.1))
 
   -- with a load of the pass's word the writer takes the slot for the next generation: no event
