@@ -123,7 +123,7 @@ pub takes_whole : (ds : List AccessStep) → has_partial ds ≡ false → TakesA
 takes_whole [] h = tt
 takes_whole (blank n result ∷ ds) h = (tt, takes_whole ds h)
 takes_whole (steps cell (Replace first bytes value) x ∷ ds) h =
-    let and_from : (nat_lt bytes word_size ≡ false) × (has_partial ds ≡ false) = or_parts (nat_lt bytes word_size) (has_partial ds) h in
+    let both : (nat_lt bytes word_size ≡ false) × (has_partial ds ≡ false) = or_parts (nat_lt bytes word_size) (has_partial ds) h in
     (at_least bytes both.0, takes_whole ds both.1)
 takes_whole (steps cell Load x ∷ ds) h = (tt, takes_whole ds h)
 takes_whole (steps cell AddOne x ∷ ds) h = (tt, takes_whole ds h)
