@@ -7,13 +7,14 @@ use mir.Syntax.{impl, tnil, dnil}
 use mir.Raw.{raw as bare}
 use mir.Val.{Val, vptr, vstruct, vcons, vnil, of_list, has_ty, WT}
 use base.Fml.{ftrue}
-use base.Logic.{never, fst∗}
+use base.Logic.{ent, guard, guard_i, never, fst∗, snd∗, via}
 use types.Logic.{Logic, sem}
+use contract.Monad.{fact_use}
 use types.Kit.{Item, Goal, Seq, Step, step, ‵, ◌$◌, move, drop, fsplit, fjoin, fpick, fpack, feq_i, feq_l}
 use denote.RattleType.{RattleType, Valss}
 use denote.Builtin.{RawPtr}
 use denote.Memory.{lone}
-use denote.RawPtr.{Ptr, block_ptr, null_ptr, ptr_val, in_a_block, Testable}
+use denote.RawPtr.{Ptr, block_ptr, null_ptr, ptr_val, in_a_block, lies_at, Testable}
 use denote.Steps.{nothing}
 use denote.Param.{layout}
 use denote.Param.Laws.{Laws}
@@ -22,7 +23,9 @@ use denote.Struct.Owning.{shape}
 use Rattle.core.specs.declared.alloc.Allocator.{Ghosts}
 use Rattle.core.proofs.alloc.Calls.{Al, handle_tells}
 use Rattle.core.proofs.cell.Inside.{Good}
+use Rattle.std.specs.Borrow.{full_share}
 use Rattle.std.specs.Prelude.{Option, Some, None}
+use Rattle.std.proofs.GlobalToken.{dealloc_token-Testable}
 use Rattle.std_alloc.specs.Box.Ownership.{box_owns}
 use Rattle.std_alloc.proofs.ResultValues.{and_tt}
 use Rattle.std.specs.contracts.impls.GlobalAllocator.TheImpl.{ghosts}
@@ -75,6 +78,14 @@ Row = handle.the_row
 
 abbrev pub Inner : RattleType
 Inner = machine.the_row
+
+-- a box's pointer may be compared with null
+pub tested : {M : Type 1} {𝓤 : Ura M} (𝓛 : Logic 𝓤) (a : Global) (p : Ptr) (x : Inner.Denot)
+    → ent 𝓤 (sem 𝓛 (box_owns (ghosts.dealloc_token a) Inner p x)) (guard 𝓤 (Testable p) (sem 𝓛 (box_owns (ghosts.dealloc_token a) Inner p x)))
+tested {𝓤 = 𝓤} 𝓛 a p x =
+    let token = ghosts.dealloc_token a (bare (lone Inner.mir)) p in
+    fact_use 𝓤 (Testable p) (via 𝓤 _ (snd∗ 𝓤 (sem 𝓛 (lies_at Inner full_share p x)) (sem 𝓛 token)) (dealloc_token-Testable 𝓛 a (bare (lone Inner.mir)) p))
+    (guard_i 𝓤 (Testable p) (sem 𝓛 (box_owns (ghosts.dealloc_token a) Inner p x)))
 
 module _ {M : Type 1} {𝓤 : Ura M} {𝓛 : Logic 𝓤} {K : Type 0} {Γ : List (Item 𝓤)} {G : Goal 𝓤 𝓛.H} where
   either : K → (a : Global) (p : Ptr) (m : Option Inner.Denot)

@@ -5,6 +5,7 @@ use Rattle.std.specs.Prelude.{MatchBool}
 use Rattle.std.proofs.lemmas.List.{length-append}
 use Rattle.std.specs.List.{list_all, slice_split, position_or_len}
 use Rattle.std.proofs.lemmas.Bool.{le-leb, and_parts, and_from}
+use Rattle.std.proofs.lemmas.Bool.Decides.{nat_tests}
 use Rattle.std.proofs.lemmas.List.{append-nil, take_all}
 use Rattle.std.proofs.lemmas.List.Folds.{list_all-append}
 use Rattle.std.proofs.lemmas.List.Splits.{slice_split_none}
@@ -18,7 +19,7 @@ use Rattle.mem_base.specs.script.Forms.{command}
 use Rattle.mem_base.specs.script.Operands.{made_by}
 use Rattle.mem_base.specs.script.Lines.{command_or_blank, line_of, may_stand, tokens_of, uncommented}
 use Rattle.mem_base.specs.script.Scripts.{bad, ends_at, line_then, most_text, placed, placed_then, rule_of, script_from, script_of}
-use Rattle.script_laws.proofs.LineLaws.{none_pass, no_hash, stands, no_feed}
+use Rattle.script_laws.proofs.LineLaws.{none_pass}
 use Rattle.std.proofs.lemmas.Option.{same_Some}
 use Rattle.script_laws.proofs.Tokens.{list_all-more}
 use Rattle.script_marks.specs.Marks.{IsShort, Opens, OpensNone, is_plain}
@@ -36,6 +37,15 @@ abbrev cause_at : List Text → Option Cause
 cause_at ts = reading (command_or_blank ts)
 
 -- A text of one line
+
+no_hash : (b : ℕ) → is_plain b ≡ true → not (b == 35) ≡ true
+no_hash b h = (and_parts (may_stand b) (not (b == 35)) h).1
+
+stands : (b : ℕ) → is_plain b ≡ true → may_stand b ≡ true
+stands b h = (and_parts (may_stand b) (not (b == 35)) h).0
+
+no_feed : (b : ℕ) → is_plain b ≡ true → not (b == 10) ≡ true
+no_feed b h = grind (arith, nat_tests)
 
 none_found : (p : ℕ → Bool) (xs : Text) → list_all (λ b. not (p b)) xs ≡ true → position_or_len p xs ≡ length xs
 none_found p [] h = refl

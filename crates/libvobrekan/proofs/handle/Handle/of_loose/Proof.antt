@@ -22,12 +22,11 @@ use Rattle.std.proofs.raw_atomic.Walks.{proved_at, leaves}
 use Rattle.std.specs.contracts.alloc.Global as heap
 use Rattle.std.proofs.alloc.Global.TheLaws as heap_laws
 use Rattle.std.specs.contracts.impls.GlobalAllocator.TheImpl.{ghosts}
-use Rattle.libvobrekan.proofs.Values.{both, alone, Inner, Loose, loose_good, loose_out, handle_in}
+use Rattle.libvobrekan.proofs.Values.{both, alone, Inner, Loose, loose_good, loose_out, handle_in, tested}
 use Rattle.libvobrekan.specs.contracts.handle.Handle.of_loose.{ended, clauses}
 use Rattle.libvobrekan.specs.contracts.handle.Handle.of_loose.Key.{name as #self}
 use Rattle.libvobrekan.proofs.handle.Handle.of_loose.Statement.{statement}
 use Rattle.libvobrekan.proofs.handle.Handle.of_loose.Code as code
-use Rattle.libvobrekan.proofs.CpuValues.{tested}
 
 pub of_loose_spec : {M : Type 1} → statement M
 of_loose_spec 𝓤 𝓛 𝓜 𝓡 wired =
