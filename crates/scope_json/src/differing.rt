@@ -11,7 +11,9 @@ ghost use Rattle.scope_json.specs.Texts.{has_any};
 use crate::answers::{Told, answer_to};
 use json_build::{Fields, Items, Value};
 use mem_base::{RangeEvent, SpaceId};
-use scope_run::{Fault, Which, difference_of, differs, is_kept, space_count, space_of, stopped};
+use scope_run::{
+    Fault, Which, difference_of, differs, is_kept, let_go, space_count, space_of, stopped,
+};
 use scope_values::change;
 use script_memory::{ToldMap, read_told};
 use script_names::NameTable;
@@ -222,7 +224,11 @@ fn diff_with(alloc: Global, first: &ToldMap, second: &[u8]) -> Result<Told, Faul
     ensures fails { IfErr result (λ fault. FailsOnSecond second.now fault) }
 {
     match read_told(alloc, second) {
-        Ok(map) => diff_in(alloc, first, &map),
+        Ok(map) => {
+            let answer = diff_in(alloc, first, &map);
+            let_go(map);
+            answer
+        }
         Err(stop) => Err(stopped(Which::Second, stop)),
     }
 }
@@ -235,7 +241,11 @@ pub(crate) fn diff(alloc: Global, first: &[u8], second: &[u8]) -> Result<Told, F
     ensures fails { IfErr result (λ fault. FailsOnBoth first.now second.now fault) }
 {
     match read_told(alloc, first) {
-        Ok(map) => diff_with(alloc, &map, second),
+        Ok(map) => {
+            let answer = diff_with(alloc, &map, second);
+            let_go(map);
+            answer
+        }
         Err(stop) => Err(stopped(Which::First, stop)),
     }
 }

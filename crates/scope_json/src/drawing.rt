@@ -11,7 +11,7 @@ ghost use Rattle.scope_json.specs.Draws.{TellsDraw, draw_data};
 use crate::answers::{Told, answer_to};
 use json_build::Value;
 use mem_base::{Name, SpaceId};
-use scope_run::{Fault, Which, rows_in, stopped};
+use scope_run::{Fault, Which, let_go, rows_in, stopped};
 use scope_values::row_list;
 use script_memory::{ToldMap, read_told};
 use std::alloc::{AllocError, Global};
@@ -51,7 +51,11 @@ pub(crate) fn draw(alloc: Global, script: &[u8], name: &Name) -> Result<Told, Fa
     ensures fails { IfErr result (λ fault. FailsOn script.now (Some name.now) None fault) }
 {
     match read_told(alloc, script) {
-        Ok(map) => draw_in(alloc, &map, name),
+        Ok(map) => {
+            let answer = draw_in(alloc, &map, name);
+            let_go(map);
+            answer
+        }
         Err(stop) => Err(stopped(Which::First, stop)),
     }
 }

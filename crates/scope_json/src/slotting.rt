@@ -17,7 +17,9 @@ use crate::answers::{Told, answer_to};
 use generation::Generation;
 use json_build::{Fields, Items, Value};
 use mem_base::{Edition, FlatRange, RangeEvent, SpaceId, View};
-use scope_run::{Fault, Which, edges_of, slot_number, space_count, space_of, table_in};
+use scope_run::{
+    Fault, Which, edges_of, let_history_go, slot_number, space_count, space_of, table_in,
+};
 use scope_values::slot;
 use script_memory::{ToldHistory, ToldMap, follow_told};
 use script_names::Names;
@@ -219,7 +221,11 @@ fn slots_of(alloc: Global, text: &[u8], script: &Script) -> Result<Told, Fault>
     ensures fails { IfErr result (λ fault. fault ≡ Memory) }
 {
     match follow_told(alloc, text, script) {
-        Ok(history) => slots_in(alloc, &history),
+        Ok(history) => {
+            let answer = slots_in(alloc, &history);
+            let_history_go(history);
+            answer
+        }
         Err(_) => Err(Fault::Memory),
     }
 }

@@ -12,7 +12,7 @@ use crate::answers::{Told, answer_to};
 use find_why::why as find_hops;
 use json_build::Value;
 use mem_base::{Name, RegionId, SpaceId};
-use scope_run::{Fault, Which, region_asked, stopped};
+use scope_run::{Fault, Which, let_go, region_asked, stopped};
 use scope_values::search_list;
 use script_memory::{ToldMap, read_told};
 use std::alloc::{AllocError, Global};
@@ -73,7 +73,11 @@ pub(crate) fn why(
     ensures fails { IfErr result (λ fault. FailsOn script.now (Some space.now) (option_map (λ n. n.now) region.entry) fault) }
 {
     match read_told(alloc, script) {
-        Ok(map) => why_in(alloc, &map, space, addr, region),
+        Ok(map) => {
+            let answer = why_in(alloc, &map, space, addr, region);
+            let_go(map);
+            answer
+        }
         Err(stop) => Err(stopped(Which::First, stop)),
     }
 }

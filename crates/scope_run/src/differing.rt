@@ -9,7 +9,7 @@ ghost use Rattle.scope_run.specs.Scripts.{FailsOnBoth, FailsOnSecond, OfScript, 
 ghost use Rattle.scope_run.specs.declared.answers.Fault.TheVariants.{Memory};
 
 use crate::answers::{Answer, Fault, Which, found, stopped};
-use crate::views::{space_count, view_in};
+use crate::views::{let_go, space_count, view_in};
 use mem_base::{Name, RangeEvent, SpaceId};
 use script_lines::Line;
 use script_memory::{ToldMap, read_told};
@@ -225,7 +225,11 @@ fn diff_with(alloc: Global, first: &ToldMap, second: &[u8]) -> Result<Answer, Fa
     ensures fails { IfErr result (λ fault. FailsOnSecond second.now fault) }
 {
     match read_told(alloc, second) {
-        Ok(map) => diff_in(alloc, first, &map),
+        Ok(map) => {
+            let answer = diff_in(alloc, first, &map);
+            let_go(map);
+            answer
+        }
         Err(stop) => Err(stopped(Which::Second, stop)),
     }
 }
@@ -241,7 +245,11 @@ pub fn diff(alloc: Global, first: &[u8], second: &[u8]) -> Result<Answer, Fault>
     ensures fails { IfErr result (λ fault. FailsOnBoth first.now second.now fault) }
 {
     match read_told(alloc, first) {
-        Ok(map) => diff_with(alloc, &map, second),
+        Ok(map) => {
+            let answer = diff_with(alloc, &map, second);
+            let_go(map);
+            answer
+        }
         Err(stop) => Err(stopped(Which::First, stop)),
     }
 }

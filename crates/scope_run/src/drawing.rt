@@ -7,7 +7,7 @@ ghost use Rattle.view_picture.specs.Rows.{Tiles, ranges_of};
 ghost use Rattle.scope_run.specs.Scripts.{FailsIn, FailsOn, OfScript, told_by};
 
 use crate::answers::{Answer, Fault, Which, stopped, told};
-use crate::views::{root_in, view_in};
+use crate::views::{let_go, root_in, view_in};
 use mem_base::{Name, SpaceId};
 use scope_words::Style;
 use script_lines::Line;
@@ -82,7 +82,11 @@ pub fn draw(alloc: Global, script: &[u8], space: &Name, style: Style) -> Result<
     ensures fails { IfErr result (λ fault. FailsOn script.now (Some space.now) None fault) }
 {
     match read_told(alloc, script) {
-        Ok(map) => draw_in(alloc, &map, space, style),
+        Ok(map) => {
+            let answer = draw_in(alloc, &map, space, style);
+            let_go(map);
+            answer
+        }
         Err(stop) => Err(stopped(Which::First, stop)),
     }
 }

@@ -31,5 +31,5 @@ pub use monitor_files::{answer_check, answer_import};
 pub use scope_words::{Request, Style};
 pub use slotting::{edges_of, slot_number, slots, table_in};
 pub use top::{address_of, mscope, name_of, refuse, region_of, say, text_in};
-pub use views::{space_count, view_in};
+pub use views::{let_go, let_history_go, space_count, view_in};
 pub use whys::{region_asked, why};

@@ -11,6 +11,7 @@ ghost use Rattle.scope_run.specs.declared.answers.Fault.TheVariants as faults;
 ghost use Rattle.std.specs.Prelude.{List};
 
 use crate::answers::{Answer, Fault, Which, stopped, told};
+use crate::views::let_go;
 use find_why::{Hops, why as find_hops};
 use mem_base::{Name, RegionId, SpaceId};
 use scope_lines::{add_region_lines, add_why_lines};
@@ -102,7 +103,11 @@ pub fn why(
     ensures fails { IfErr result (λ fault. FailsOn script.now (Some space.now) (option_map (λ n. n.now) region.entry) fault) }
 {
     match read_told(alloc, script) {
-        Ok(map) => why_in(alloc, &map, space, addr, region),
+        Ok(map) => {
+            let answer = why_in(alloc, &map, space, addr, region);
+            let_go(map);
+            answer
+        }
         Err(stop) => Err(stopped(Which::First, stop)),
     }
 }

@@ -15,9 +15,9 @@ slots_whole script lines m gs items h is t =
     subst (λ (x : Told). TellsSlotsIn x.state (published_in (first_of lines) lines) items) h (subst (λ xs. TellsSlotsIn m.state xs items) is t)
 
 pub returns-in-Ok-clause-told : goal.returns-in-Ok-clause-told
-returns-in-Ok-clause-told c = IfOk-weaker c.slots_in.result _ _ (λ a t. (
+returns-in-Ok-clause-told c = IfOk-weaker c.slots_in-answer.result _ _ (λ a t. (
   t.0,
   slots_whole c.args.text.now c.args.script.now c.in-Ok.history.map
       (all_shown c.in-Ok.history.published.items) t.0 c.in-Ok.ensures.map c.in-Ok.ensures.published t.1,
   t.2,
-)) c.slots_in.ensures.told
+)) c.slots_in-answer.ensures.told

@@ -6,14 +6,14 @@ use Rattle.scope_run.proofs.differing.diff.Goals as goal
 use Rattle.mem_base.proofs.OptionLaws.{if_err}
 
 pub returns-in-Ok-clause-told : goal.returns-in-Ok-clause-told
-returns-in-Ok-clause-told c = IfOk-weaker c.diff_with.result _ _
+returns-in-Ok-clause-told c = IfOk-weaker c.diff_with-answer.result _ _
     (λ a t. of_state c.args.first.now c.in-Ok.map
     (λ s. OfScript c.args.second.now (λ new. TellsDiff s (told_by c.args.second.now new) a.text)) c.in-Ok.ensures.map t)
-    c.diff_with.ensures.told
+    c.diff_with-answer.ensures.told
 
 pub returns-in-Ok-clause-fails : goal.returns-in-Ok-clause-fails
 returns-in-Ok-clause-fails c =
-    if_err _ _ c.diff_with.result (λ fault x. second_fails c.args.first.now c.args.second.now fault x) c.diff_with.ensures.fails
+    if_err _ _ c.diff_with-answer.result (λ fault x. second_fails c.args.first.now c.args.second.now fault x) c.diff_with-answer.ensures.fails
 
 pub returns-in-Err-clause-fails : goal.returns-in-Err-clause-fails
 returns-in-Err-clause-fails c = stops_on_first c.args.first.now c.args.second.now c.in-Err.stop c.stopped.result c.stopped.ensures c.in-Err.ensures.bad
