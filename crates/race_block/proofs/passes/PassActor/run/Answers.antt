@@ -5,8 +5,8 @@ use Rattle.race_block.proofs.ResolvingLaws.{has_run, none_run}
 use Rattle.race_block.proofs.TextLaws.{text_same}
 use Rattle.race_block.proofs.passes.PassActor.run.Goals as goal
 
-pub run_lines-requires-clause-fits : goal.run_lines-requires-clause-fits
-run_lines-requires-clause-fits g c κs within =
+pub run_lines-actor-requires-clause-fits : goal.run_lines-actor-requires-clause-fits
+run_lines-actor-requires-clause-fits g c κs within =
     subst (λ room. All (FitsLine room) c.in-Ok.lines.items) (sym c.requires.ready.room) c.in-Ok.ensures.fits
 
 pub returns-clause-run : goal.returns-clause-run
