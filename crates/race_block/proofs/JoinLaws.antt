@@ -137,6 +137,7 @@ joined_pass seen a b e f r is heard m = record {
   lines = m.lines ∙ ap (λ (z : PassActor). z.lines) is;
   got = m.got ∙ ap (λ (z : PassActor). z.got) is;
   out_of_memory = m.out_of_memory ∙ ap (λ (z : PassActor). z.out_of_memory) is;
+  text = m.text ∙ ap (λ (z : PassActor). z.text) is;
 }
 
 joined_one : (cabinet : TableId) (seen : List HistoryEntry) (a b e f : BlockActor) → HasActed cabinet a b → HasTold seen (without_clerk b) e

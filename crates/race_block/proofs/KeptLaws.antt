@@ -29,7 +29,8 @@ use Rattle.race_block.specs.declared.tasks.BlockLine.{BlockLine}
 use Rattle.race_block.specs.declared.tasks.LineGot.{LineGot}
 use Rattle.race_block.specs.Lines.{HaveRun}
 use Rattle.race_block.specs.Resolving.{AreTasksOf}
-use Rattle.race_block.specs.Laws.{PassesKeepLines, count_own, deed_from, said_of, saids, taken_by}
+use Rattle.race_block.specs.Laws.{PassesKeepLines, count_own, deed_from, said_of, saids}
+use Rattle.race_block.specs.Texts.{taken_by}
 use Rattle.race_block.proofs.StepLaws.{AreLine, StepKept, line_by, step_kept}
 
 grew_then : (u v w : PassValue Published) (xs ys : List HistoryEntry) → Grew u xs v → Grew v ys w → Grew u (xs ++ ys) w

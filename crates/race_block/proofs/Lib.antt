@@ -4,3 +4,4 @@ pub mod KeptLaws
 pub mod DeskLaws
 pub mod DeskRunLaws
 pub mod JoinLaws
+pub mod TextLaws

@@ -1,14 +1,16 @@
 -- The tasks of a pass's lines: they are those of a pass, there is room for what they copy, and they are made one after another.
 use Rattle.std.proofs.Common.{◌≡◌, ℕ, ◌+◌, ◌<◌, ◌≤◌, zero, suc, true, List, [], ◌∷◌, ◌++◌, All, length, take, get_or, refl, sym, ap, subst, ◌∙◌, arith}
-use Rattle.std.proofs.Common.{Result, Ok, Err, inl, inr}
+use Rattle.std.proofs.Common.{Option, None, Result, Ok, Err, inl, inr}
 use Rattle.std.proofs.lemmas.List.{map_push}
 use Rattle.std.proofs.lemmas.List.Elements.{All-push}
 use Rattle.mem_base.specs.declared.machine.records.DeskOrder.TheVariants as orders
 use Rattle.mem_base.specs.declared.script.commands.Command.{Command}
 use Rattle.mem_base.specs.declared.script.commands.Command.TheVariants as commands
+use Rattle.mem_base.specs.machine.Passes.{pass_id}
 use Rattle.mem_base.specs.map.Limits.{most_passes}
 use Rattle.mem_base.specs.script.Race.{actor_number}
 use Rattle.mem_base.specs.script.Scripts.{Line}
+use Rattle.mem_base.specs.script.Spelling.{Text}
 use Rattle.mem_base.specs.script.Tasks.{Known, Resolved, Task, change_of, space, task_of, then_resolved}
 use Rattle.mem_base.specs.script.Tasks as tasks
 use Rattle.run_laws.specs.Fitting.{FitsCommand}
@@ -26,6 +28,7 @@ use Rattle.race_block.specs.Desks.{line_meant, lines_meant}
 use Rattle.race_block.specs.declared.tasks.LineGot.{LineGot}
 use Rattle.race_block.specs.Lines.{FitsLine, FitsTask, HasRun, HasRunLines, HaveRun, IsReady}
 use Rattle.race_block.specs.Resolving.{AreTasksIn, AreTasksOf, IsOfPass, IsTaskOf, StandsFor, copy_room, tasks_in}
+use Rattle.race_block.specs.Texts.{IsTextOf}
 use Rattle.mem_base.proofs.BoolLaws.{true_is_not_false}
 use Rattle.desk_lock.proofs.ReceiptLaws.{has_notifier}
 
@@ -113,19 +116,22 @@ task_pushed k lines i line xs more x room is h task fits put =
 
 -- an actor that did its lines, or had no memory for their tasks
 
-pub has_run : (a b : PassActor) (xs : List BlockLine) → AreTasksIn a.lines xs → HasRunLines xs a.bounce a.clerk a.vcpu b → HasRun a b
-has_run a b xs tasks h = subst (λ (ys : List BlockLine). AreTasksIn a.lines ys → HasRunLines ys a.bounce a.clerk a.vcpu b → HasRun a b) h.lines
+pub has_run : (a b : PassActor) (text : Option Text) (xs : List BlockLine) → AreTasksIn a.lines xs → HasRunLines xs a.bounce a.clerk a.vcpu b
+    → IsTextOf (pass_id b.clerk.who) (tasks_in b.lines) b.got.items text → HasRun a (record b { text = text })
+has_run a b text xs tasks h told =
+    subst (λ (ys : List BlockLine). AreTasksIn a.lines ys → HasRunLines ys a.bounce a.clerk a.vcpu b → HasRun a (record b { text = text })) h.lines
     (λ these ran. record {
       lines = inl these;
       bounce = ran.bounce_is;
       most = ran.most;
       ran = ran.ran;
       whole = ran.whole;
+      text = told;
     }) tasks h
 
 pub none_run : (a b : PassActor) → IsReady a → b.bounce ≡ a.bounce → b.clerk ≡ a.clerk → b.vcpu ≡ a.vcpu → b.got ≡ a.got → b.out_of_memory ≡ true
-    → HasRun a b
-none_run a b r bounce clerk vcpu got out =
+    → b.text ≡ None → HasRun a b
+none_run a b r bounce clerk vcpu got out untold =
     let none : b.got.items ≡ [] = ap (λ g. g.items) got ∙ r.nothing in record {
       lines = inr (out, none);
       bounce = bounce;
@@ -133,4 +139,5 @@ none_run a b r bounce clerk vcpu got out =
       ran = subst (λ (gs : List LineGot). HaveRun (take (length gs) (tasks_in b.lines)) a.clerk a.vcpu gs b.clerk b.vcpu) (sym none)
           (refl, clerk, vcpu);
       whole = λ e. true_is_not_false b.out_of_memory out e;
+      text = subst (λ (t : Option Text). IsTextOf (pass_id b.clerk.who) (tasks_in b.lines) b.got.items t) (sym untold) tt;
     }

@@ -51,7 +51,8 @@ use Rattle.race_block.specs.declared.tasks.LineGot.{LineGot}
 use Rattle.race_block.specs.declared.tasks.LineGot.TheVariants as gots
 use Rattle.race_block.specs.Lines.{HasAnswered, HasDone, HasOrdered, HasStepped, HaveRun, IsAnswer, IsUnderway}
 use Rattle.race_block.specs.Resolving.{StandsFor}
-use Rattle.race_block.specs.Laws.{count_own, said_of, taken_by, why_of}
+use Rattle.race_block.specs.Laws.{count_own, said_of, why_of}
+use Rattle.race_block.specs.Texts.{taken_by}
 
 -- one line after others
 

@@ -59,6 +59,7 @@ pub record HasMetPass (seen : List HistoryEntry) (a b : PassActor) : Type 0 wher
   pub lines : b.lines ≡ a.lines
   pub got : b.got ≡ a.got
   pub out_of_memory : b.out_of_memory ≡ a.out_of_memory
+  pub text : b.text ≡ a.text
 
 abbrev pub HasMet : List HistoryEntry → BlockActor → BlockActor → Type 0
 HasMet seen (Pass a) (Pass b) = HasMetPass seen a b
@@ -98,6 +99,7 @@ pub record HasJoinedPass (seen : List HistoryEntry) (a b : PassActor) (c : Clerk
   pub lines : b.lines ≡ after.lines
   pub got : b.got ≡ after.got
   pub out_of_memory : b.out_of_memory ≡ after.out_of_memory
+  pub text : b.text ≡ after.text
 
 -- The desk after the block: it did its lines, or the first of them, and the history begins with what the notes of all its orders had seen
 pub record HasJoinedDesk (seen : List HistoryEntry) (a b : DeskActor) (c : Clerk) : Type 0 where

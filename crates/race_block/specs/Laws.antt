@@ -28,6 +28,7 @@ use Rattle.race_block.specs.declared.tasks.LineGot.{LineGot}
 use Rattle.race_block.specs.declared.tasks.LineGot.TheVariants as gots
 use Rattle.race_block.specs.Lines.{HaveRun}
 use Rattle.race_block.specs.Resolving.{AreTasksOf}
+use Rattle.race_block.specs.Texts.{taken_by}
 
 -- what a pass did, from where it stood
 abbrev pub deed_from : PassState → List Line → List HistoryEntry → List DeskEntry → PassState → PassDeed
@@ -49,11 +50,6 @@ said_of names k pass line gots.Refused e = says (refused_line line.0 (why_of (ta
 said_of names k pass line gots.Ordered e = says_with (do_text names line.0 pass e.answer) e
 said_of names k pass line (gots.ReadFew access bytes) e = says (answer_text pass (answers.Read access bytes))
 said_of names k pass line (gots.Answered answer) e = says (answer_text pass answer)
-
--- how many entries of the clerk's list are a line's
-abbrev pub taken_by : LineGot → ℕ
-taken_by gots.Ordered = 1
-taken_by _ = 0
 
 -- lines one after another, by the clerk's list
 abbrev pub saids : Names → Known → PassId → List Line → List LineGot → List DeskEntry → List Said

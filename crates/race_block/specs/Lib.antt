@@ -1,4 +1,5 @@
 pub mod Resolving
+pub mod Texts
 pub mod Lines
 pub mod Desks
 pub mod Blocks

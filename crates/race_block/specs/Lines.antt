@@ -23,6 +23,7 @@ use Rattle.race_block.specs.declared.tasks.PassLines.{PassLines}
 use Rattle.race_block.specs.declared.tasks.PassLines.TheVariants as kinds
 use Rattle.race_block.specs.declared.passes.PassActor.{PassActor}
 use Rattle.race_block.specs.Resolving.{AreTasksIn, IsPassLine, copy_room, tasks_in}
+use Rattle.race_block.specs.Texts.{IsItsText}
 
 -- what is asked of a task: the bounce has room for what it copies, and a notifier that is to be taken is one of those that there are
 abbrev pub FitsTask : ℕ → PassTask → Type 0
@@ -122,10 +123,12 @@ pub record HasRunLines (xs : List BlockLine) (bounce : ℕ) (c : Clerk) (v : Pas
   pub ran : HaveRun (take (length b.got.items) xs) c v b.got.items b.clerk b.vcpu
   pub whole : b.out_of_memory ≡ false → length b.got.items ≡ length xs
 
--- the actor did all its lines, or out of memory the first of them; or there was no memory to resolve their names
+-- the actor did all its lines, or out of memory the first of them; or there was no memory to resolve their names. What it keeps as their text, if anything,
+-- is all that these lines write
 pub record HasRun (a b : PassActor) : Type 0 where
   pub lines : AreTasksIn a.lines (tasks_in b.lines) ⊎ ((b.out_of_memory ≡ true) × (b.got.items ≡ []))
   pub bounce : b.bounce ≡ a.bounce
   pub most : length b.got.items ≤ length (tasks_in b.lines)
   pub ran : HaveRun (take (length b.got.items) (tasks_in b.lines)) a.clerk a.vcpu b.got.items b.clerk b.vcpu
   pub whole : b.out_of_memory ≡ false → length b.got.items ≡ length (tasks_in b.lines)
+  pub text : IsItsText b.clerk.who b

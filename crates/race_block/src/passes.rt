@@ -11,16 +11,18 @@ ghost use Rattle.vcpu_pass.specs.Calls.{HasAccessed};
 use crate::few::FewBytes;
 use crate::resolving::resolve;
 use crate::tasks::{BlockLine, LineGot, PassLines, PassTask};
+use crate::texts::{tasks_in, text_of};
 use desk_lock::{Clerk, Orderly, Receipt};
 use io_window::Bounce;
 use mem_base::{Access, DeskOrder, PassId, SpaceId};
 use outside::{Actor, Gate};
 use pass_lines::{copy, enter, leave, read, write};
+use script_lines::Line;
 use std::alloc::{AllocError, Global};
 use std::sync::Wait;
 use vcpu_pass::Vcpu;
 
-/// A pass in a block: its virtual CPU with a bounce for what is copied, the clerk of its orders, its lines, and what they got.
+/// A pass in a block: its virtual CPU with a bounce for what is copied, the clerk of its orders, its lines, what they got, and their text.
 #[derive(Drop)]
 pub struct PassActor<'a, 'k> {
     pub vcpu: Vcpu<'a>,
@@ -31,6 +33,8 @@ pub struct PassActor<'a, 'k> {
     pub got: Vec<LineGot>,
     /// Memory ran out before the next line was done.
     pub out_of_memory: bool,
+    /// The text of all that the lines wrote, where none of them gave an order; else, or where there was no memory for it, it is made later.
+    pub text: Option<Line>,
 }
 
 // Gives an order, and sees what the writer had seen then. Out of memory nothing was done.
@@ -234,6 +238,7 @@ fn run_lines<'a, 'k, O: Orderly, G: Gate, R: Wait>(
                 lines: PassLines::Resolved(lines),
                 got,
                 out_of_memory: true,
+                text: None,
             };
         }
     }
@@ -244,12 +249,13 @@ fn run_lines<'a, 'k, O: Orderly, G: Gate, R: Wait>(
         lines: PassLines::Resolved(lines),
         got,
         out_of_memory: false,
+        text: None,
     }
 }
 
 impl<'a, 'k> PassActor<'a, 'k> {
     /// Resolves the names of the lines, where this was not done before; then does the lines in order, and reaches the gate before each. Where
-    /// memory runs out it stops, and has done the first of them.
+    /// memory runs out it stops, and has done the first of them. At the end it makes the text of what they wrote, where no line gave an order.
     ///
     /// The desk is of the machine of the virtual CPU, the bounce has room for what is copied, and nothing was done yet.
     pub fn run<O: Orderly, G: Gate, R: Wait>(
@@ -271,6 +277,7 @@ impl<'a, 'k> PassActor<'a, 'k> {
             lines,
             got,
             out_of_memory: _,
+            text: _text,
         } = self;
         let Ok(lines) = resolve(alloc, lines) else {
             return PassActor {
@@ -280,8 +287,16 @@ impl<'a, 'k> PassActor<'a, 'k> {
                 lines: PassLines::Resolved(Vec::new(alloc)),
                 got,
                 out_of_memory: true,
+                text: None,
             };
         };
-        run_lines(rt, alloc, gate, desk, vcpu, bounce, clerk, lines, got)
+        let mut actor = run_lines(rt, alloc, gate, desk, vcpu, bounce, clerk, lines, got);
+        actor.text = text_of(
+            alloc,
+            PassId(actor.clerk.who()),
+            tasks_in(&actor.lines),
+            actor.got.as_slice(),
+        );
+        actor
     }
 }

@@ -1,6 +1,7 @@
 -- The actors of a block after it: their virtual CPUs, what is known, and what they write.
 use Rattle.std.proofs.lemmas.List.{nil_from_length}
 use Rattle.mem_base.specs.declared.map.ids.PassId.{PassId}
+use Rattle.mem_base.specs.declared.machine.events.HistoryEntry.{HistoryEntry}
 use Rattle.mem_base.specs.declared.machine.records.DeskEntry.{DeskEntry}
 use Rattle.epoch_rule.specs.Values.{PassValue}
 use Rattle.std.proofs.Common.{◌≡◌, ℕ, ◌+◌, zero, suc, ◌<◌, Bool, true, List, [], ◌∷◌, ◌++◌, length, take, get_or, refl, sym, ap, subst, ◌∙◌, arith}
@@ -14,6 +15,7 @@ use Rattle.mem_base.specs.machine.Records.{Clerk}
 use Rattle.mem_base.specs.script.Named.{Names}
 use Rattle.mem_base.specs.script.RaceLines.{Said, said_text}
 use Rattle.mem_base.specs.script.Scripts.{Line}
+use Rattle.mem_base.specs.script.Spelling.{Text}
 use Rattle.mem_base.specs.script.Tasks.{Known}
 use Rattle.mem_base.specs.script.Race.{block, lines_by}
 use Rattle.generation.specs.Published.{Published}
@@ -28,13 +30,14 @@ use Rattle.race_block.specs.declared.tasks.LineGot.{LineGot}
 use Rattle.race_block.specs.Blocks.{CanAct}
 use Rattle.race_block.specs.Laws.{HasKept, saids}
 use Rattle.race_block.specs.Resolving.{AreTasksOf, tasks_in}
+use Rattle.race_block.specs.Texts.{IsItsText, IsTextOf, lines_said}
 use Rattle.race_block.specs.Lines.{HaveRun}
 use Rattle.race_block.proofs.KeptLaws.{passes_keep_lines}
 use Rattle.race_block.specs.Joined.{HasJoined, HasJoinedPass}
 use Rattle.race_inside.specs.Starts.{AreAtStart, IsAtStart, PassStarts}
 use Rattle.race_inside.specs.Ran.{actor_text, actors_text, known_after_block}
 use Rattle.race_inside.specs.Seats.{AreActorsOf, HaveSeatOf, IsKnown, IsSeatOf, SeatsDesk, acting, known_now}
-use Rattle.race_inside.specs.Texts.{actor_said, actors_said, lines_said, names_now}
+use Rattle.race_inside.specs.Texts.{HasItsText, HaveTheirTexts, actor_said, actors_said, names_now}
 use Rattle.race_inside.proofs.PassLaws.{tasks_done}
 use Rattle.race_inside.proofs.TextLaws.{lines_same}
 
@@ -69,6 +72,28 @@ said_same names k pass lines xs c d v w all entries out (inr none) h =
     no_saids : (names : Names) (k : Known) (pass : PassId) (lines : List Line) (entries : List DeskEntry) → saids names k pass lines [] entries ≡ []
     no_saids names k pass [] entries = refl
     no_saids names k pass (line ∷ lines) entries = refl
+
+-- the text that a pass made of its lines
+pass_told : (seen : List HistoryEntry) (a b : PassActor) (c : Clerk) → HasJoinedPass seen a b c → IsItsText c.who b
+pass_told seen a b c j =
+    let who : j.after.clerk.who ≡ c.who = ap (λ (d : Clerk). d.who) (sym j.clerk) in
+    let lines : tasks_in j.after.lines ≡ tasks_in b.lines = ap tasks_in (sym j.lines) in
+    let got : j.after.got.items ≡ b.got.items = sym (ap (λ l. l.items) j.got) in
+    let text : j.after.text ≡ b.text = sym j.text in
+    subst (λ (z : ℕ × List BlockLine × List LineGot × Option Text). IsTextOf (pass_id z.0) z.1 z.2 z.3) (λ i. (who i, lines i, got i, text i)) j.run.text
+
+actor_told : (seen : List HistoryEntry) (a b : BlockActor) (c : Clerk) → HasJoined seen a b c → HasItsText b c
+actor_told seen (Pass a) (Pass b) c j = pass_told seen a b c j
+actor_told seen (Desk a) (Pass b) c j = absurd j
+actor_told seen Gone (Pass b) c j = absurd j
+actor_told seen a (Desk b) c j = tt
+actor_told seen a Gone c j = tt
+
+pub actors_told : (seen : List HistoryEntry) (olds news : List BlockActor) (clerks : List Clerk) → length news ≡ length olds
+    → ((i : ℕ) (d : BlockActor) (c : Clerk) → i < length olds → HasJoined seen (get_or olds i d) (get_or news i d) (get_or clerks i c))
+    → HaveTheirTexts news clerks
+actors_told seen olds news clerks long h i d c near within =
+    actor_told seen (get_or olds i d) (get_or news i d) (get_or clerks i c) (h i d c (omega (arith, near, long)))
 
 -- a pass after the block
 module _ (k : Known) (lines : List Line) (v w : RecordState) (who : ℕ) (a b : PassActor) (c : Clerk) (starts : PassStarts k lines v.seat.seen who a)

@@ -17,9 +17,9 @@ use Rattle.race_block.specs.declared.tasks.BlockLine.{BlockLine}
 use Rattle.race_block.specs.declared.tasks.LineGot.{LineGot}
 use Rattle.race_block.specs.declared.tasks.LineGot.TheVariants as gots
 use Rattle.race_block.specs.Resolving.{AreTasksOf, StandsFor}
-use Rattle.race_block.specs.Laws.{said_of, saids, taken_by, why_of}
+use Rattle.race_block.specs.Laws.{said_of, saids, why_of}
+use Rattle.race_block.specs.Texts.{line_said, lines_said, taken_by}
 use Rattle.race_block.specs.Lines.{HasDone, HaveRun, IsAnswer}
-use Rattle.race_inside.specs.Texts.{line_said, lines_said}
 
 -- a line that was done with this result
 module _ (names : Names) (k : Known) (pass : PassId) (line : Line) (e : DeskEntry) where

@@ -105,6 +105,7 @@ fn seat_pass<'a, 'k>(
         lines,
         got: Vec::new(alloc),
         out_of_memory: false,
+        text: None,
     }));
 }
 

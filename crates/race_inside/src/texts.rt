@@ -3,38 +3,24 @@ ghost use Rattle.std.specs.Prelude.{◌≡◌, ◌++◌, false, flat_map, OnOk};
 ghost use Rattle.std.specs.List.{list_any};
 ghost use Rattle.mem_base.specs.script.Race.{differs_line};
 ghost use Rattle.mem_base.specs.script.RaceLines.{entry_at, said_text};
-ghost use Rattle.pass_lines.specs.declared.answers.LineAnswer.TheVariants.{Read};
-ghost use Rattle.pass_lines.specs.Texts.{answer_text};
-ghost use Rattle.race_block.specs.Laws.{taken_by};
-ghost use Rattle.race_block.specs.Resolving.{tasks_in};
+ghost use Rattle.race_block.specs.declared.blocks.BlockActor.TheVariants.{Pass};
+ghost use Rattle.race_block.specs.Texts.{IsItsText, line_said, lines_said, ordered_said, taken_by};
 ghost use Rattle.race_inside.specs.Ran.{is_out_of_memory};
 ghost use Rattle.race_inside.specs.Seats.{IsKnown};
-ghost use Rattle.race_inside.specs.Texts.{actor_said, actors_said, line_said, lines_said, names_now, ordered_said, refusal};
+ghost use Rattle.race_inside.specs.Texts.{HasItsText, HaveTheirTexts, actor_said, actors_said, names_now};
 ghost use Rattle.script_names.specs.Tables.{printed_names};
 
 use desk_lock::{Clerk, Record};
-use mem_base::{Access, DeskEntry, Differs, ListenerEvent, ListenerId, PassId};
-use pass_lines::LineAnswer;
-use race_block::{BlockActor, BlockLine, FewBytes, LineGot, PassLines, PassTask};
+use mem_base::{DeskEntry, Differs, ListenerEvent, ListenerId, PassId};
+use race_block::{
+    BlockActor, BlockLine, LineGot, PassActor, add_answer, add_few, add_refusal, tasks_in,
+};
 use race_lines::{
-    KnownNames, LineSaid, add_differs_line, add_do_answer, add_name_refused, add_told_lines,
-    delivered_between,
+    KnownNames, LineSaid, add_differs_line, add_do_answer, add_told_lines, delivered_between,
 };
-use script_lines::{
-    Line, add_dma_line, add_enter_line, add_leave_line, add_read_line, add_write_line,
-};
+use script_lines::Line;
 use script_names::Names;
 use std::alloc::AllocError;
-
-// The refusal of a line by one of its names.
-fn add_refusal(text: &mut Line, number: u32, task: &PassTask<'_>) -> Result<(), AllocError>
-    ensures { OnOk result (text.new ≡ text.old ++ refusal number task.now) }
-{
-    match task {
-        PassTask::Refused(why) => add_name_refused(text, number, why),
-        _ => Ok(()),
-    }
-}
 
 // The lines that the order of a pass wrote, by the entry at a place of its clerk's list.
 fn add_ordered(
@@ -59,31 +45,6 @@ fn add_ordered(
         names,
         delivered_between(journal, entry.from, entry.to),
     )
-}
-
-// The line of an answer that a pass got from the machine.
-fn add_answer(text: &mut Line, pass: PassId, answer: &LineAnswer) -> Result<(), AllocError>
-    ensures { OnOk result (text.new ≡ text.old ++ answer_text pass answer.now) }
-{
-    match answer {
-        LineAnswer::Entered(generation) => add_enter_line(text, pass, *generation),
-        LineAnswer::Left => add_leave_line(text, pass),
-        LineAnswer::Read { access, bytes } => add_read_line(text, pass, *access, bytes.as_slice()),
-        LineAnswer::Wrote(access) => add_write_line(text, pass, *access),
-        LineAnswer::Copied(access) => add_dma_line(text, pass, *access),
-    }
-}
-
-// The line of a read of few bytes.
-fn add_few(
-    text: &mut Line,
-    pass: PassId,
-    access: Access,
-    bytes: &FewBytes,
-) -> Result<(), AllocError>
-    ensures { OnOk result (text.new ≡ text.old ++ answer_text pass (Read access bytes.now)) }
-{
-    add_read_line(text, pass, access, bytes.as_slice())
 }
 
 // What a line of a pass wrote.
@@ -157,13 +118,31 @@ fn add_said(
     Ok(())
 }
 
-// The tasks of a pass's lines.
-fn tasks_in<'l, 'a>(lines: &'l PassLines<'a, '_>) -> &'l [BlockLine<'a>]
-    ensures { result.now ≡ tasks_in lines.now }
+// What the lines of a pass wrote: the text that it has made of them, or else, line by line.
+fn add_pass(
+    text: &mut Line,
+    names: &Names,
+    journal: &[(ListenerId, ListenerEvent)],
+    pass: &PassActor<'_, '_>,
+    clerk: &Clerk,
+) -> Result<(), AllocError>
+    requires text { IsItsText clerk.now.who pass.now }
+    ensures { OnOk result (text.new ≡ text.old ++ actor_said (printed_names names.now) journal.now (Pass pass.now) clerk.now) }
 {
-    match lines {
-        PassLines::Unresolved { lines: _, names: _ } => &[],
-        PassLines::Resolved(tasks) => tasks.as_slice(),
+    match &pass.text {
+        Some(own) => {
+            text.bytes(own.as_bytes())?;
+            Ok(())
+        }
+        None => add_lines(
+            text,
+            names,
+            journal,
+            PassId(clerk.who()),
+            tasks_in(&pass.lines),
+            pass.got.as_slice(),
+            clerk.got(),
+        ),
     }
 }
 
@@ -175,19 +154,12 @@ fn add_actor(
     actor: &BlockActor<'_, '_>,
     clerk: &Clerk,
 ) -> Result<(), AllocError>
+    requires text { HasItsText actor.now clerk.now }
     ensures { OnOk result (text.new ≡ text.old ++ actor_said (printed_names names.now) journal.now actor.now clerk.now) }
 {
     match actor {
         BlockActor::Desk(desk) => add_said(text, names, journal, desk.said.as_slice()),
-        BlockActor::Pass(pass) => add_lines(
-            text,
-            names,
-            journal,
-            PassId(clerk.who()),
-            tasks_in(&pass.lines),
-            pass.got.as_slice(),
-            clerk.got(),
-        ),
+        BlockActor::Pass(pass) => add_pass(text, names, journal, pass, clerk),
         BlockActor::Gone => Ok(()),
     }
 }
@@ -200,6 +172,7 @@ fn add_actors(
     actors: &[BlockActor<'_, '_>],
     clerks: &[Clerk],
 ) -> Result<(), AllocError>
+    requires texts { HaveTheirTexts actors.now clerks.now }
     ensures { OnOk result (text.new ≡ text.old ++ actors_said (printed_names names.now) journal.now actors.now clerks.now) }
 {
     for i in 0..actors.len() {
@@ -218,7 +191,8 @@ fn add_by_desk(
     actors: &[BlockActor<'_, '_>],
     clerks: &[Clerk],
 ) -> Result<(), AllocError>
-    requires { IsKnown None actors.now }
+    requires known { IsKnown None actors.now }
+    requires texts { HaveTheirTexts actors.now clerks.now }
     ensures { OnOk result (text.new ≡ text.old ++ actors_said (names_now None actors.now) journal.now actors.now clerks.now) }
 {
     match actors.first() {
@@ -262,7 +236,8 @@ pub(crate) fn add_block(
     clerks: &[Clerk],
     differs: Option<Differs>,
 ) -> Result<(), AllocError>
-    requires { IsKnown known.now actors.now }
+    requires known { IsKnown known.now actors.now }
+    requires texts { HaveTheirTexts actors.now clerks.now }
     ensures lasted { OnOk result (list_any is_out_of_memory actors.now ≡ false) }
     ensures text { OnOk result (text.new ≡ text.old
         ++ (actors_said (names_now known.now actors.now) desk.now.part.desk.listening.journal actors.now clerks.now ++ differs_line differs)) }

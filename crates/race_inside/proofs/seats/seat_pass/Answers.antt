@@ -1,4 +1,4 @@
-use Rattle.std.proofs.Common.{rules, ◌≡◌, Bool, true, false, refl, sym, subst}
+use Rattle.std.proofs.Common.{rules, ◌≡◌, Bool, true, false, None, refl, sym, subst}
 use Rattle.race_block.specs.declared.passes.PassActor.{PassActor}
 use Rattle.race_block.specs.Joined.{new_clerk}
 use Rattle.race_inside.specs.declared.rooms.Work.{Work}
@@ -16,6 +16,7 @@ returns-clause-seat c =
       lines = c.lines_for-lines.result;
       got = c.new-2.result;
       out_of_memory = false;
+      text = None;
     } in
     let clerk : c.new.result ≡ new_clerk c.args.who = λ i. record { who = c.new.ensures.who i; got = c.new.ensures.got i } in
     let some : acts work ≡ true = search rules in

@@ -2,7 +2,7 @@ use Rattle.std.proofs.Common.{◌≡◌, ◌≤◌, ◌++◌, drop, length}
 use Rattle.std.specs.Prelude.{flat_map}
 use Rattle.mem_base.specs.script.RaceLines.{said_text}
 use Rattle.script_names.specs.Tables.{printed_names}
-use Rattle.race_inside.specs.Texts.{lines_said}
+use Rattle.race_block.specs.Texts.{lines_said}
 use Rattle.race_inside.proofs.texts.add_lines.Given as goal
 
 abbrev pub invariant-loop-i : goal.invariant-loop-i
