@@ -31,12 +31,9 @@ use Rattle.mem_base.specs.access.AccessSteps.{Transfer, unanswered}
 use Rattle.mem_base.specs.access.DeviceAccess.{fits, notifier_of}
 use Rattle.mem_base.specs.access.Access.{at_leaf}
 use Rattle.mem_base.proofs.ForestLaws.{every_node_of, id_of}
-use Rattle.map_laws.proofs.RefusalLaws.{refuse_if-none}
-use Rattle.map_laws.proofs.SizeLaws.{size_whole}
+use Rattle.generation.proofs.HandedOn.{refuse_if-none, size_whole, IsOrderedForest-made, IsClosedForest-made}
 use Rattle.view_laws.proofs.NamingLaws.{names_leaves}
 use Rattle.view_laws.proofs.ShownEvents.{events_shown}
-use Rattle.map_laws.proofs.CallLaws.{IsOrderedForest-made}
-use Rattle.map_laws.proofs.SoundCallLaws.{IsClosedForest-made}
 use Rattle.access_cut.specs.Conditions.{IsGood}
 use Rattle.access_cut.proofs.Good.{some_registers}
 use Rattle.generation.specs.Published.{Published}

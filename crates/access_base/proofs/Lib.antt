@@ -7,3 +7,4 @@ pub mod FoundLaws
 pub mod TrailLaws
 pub mod LeafLaws
 pub mod ChunkLaws
+pub mod HandedOn

@@ -20,7 +20,7 @@ use Rattle.mem_base.specs.map.Search.{Found, found_at, look, spot_of}
 use Rattle.mem_base.specs.access.Translations.{translates, used_at, translated_address}
 use Rattle.mem_base.specs.access.Trails.{Hop, hop, Trail, trail, Onward, through, trail_at, trail_within, trail_of, is_next_spot}
 use Rattle.mem_base.specs.access.Trails.{is_next_hop, are_next_hops, is_leaf, is_same_entry, shares_next, chunks, first_length}
-use Rattle.map_laws.proofs.SoundCallLaws.{IsClosedForest-made}
+use Rattle.generation.proofs.HandedOn.{IsClosedForest-made}
 use Rattle.view_laws.proofs.NamingLaws.{names_leaves}
 use Rattle.access_base.specs.Leaves.{IsTargetRun}
 use Rattle.access_base.proofs.FoundLaws.{shown_inside, shown_below}

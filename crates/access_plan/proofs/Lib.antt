@@ -5,3 +5,4 @@ pub mod PageLaws
 pub mod RoundLaws
 pub mod WhoLaws
 pub mod HostLaws
+pub mod HandedOn

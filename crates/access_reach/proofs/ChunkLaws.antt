@@ -26,7 +26,7 @@ use Rattle.mem_base.specs.lists.Every.{Every}
 use Rattle.access_reach.proofs.ReachLaws.{AreBusLaws, underway_then, underway_shows, reached_then, reached_nothing}
 use Rattle.access_base.proofs.RunLaws.{first_run}
 use Rattle.access_base.proofs.ChunkLaws.{at_end, chunks_then, nothing_past, shares_past, blank_from}
-use Rattle.plan_laws.proofs.FirstRuns.{IsFirst, first_is}
+use Rattle.access_plan.proofs.HandedOn.{IsFirst, first_is}
 
 -- plans of which the same is asked, and which have the same outcome
 pub record DoSame (xs ys : List Reached) : Type 0 where

@@ -1,26 +1,16 @@
 -- Laws of what callbacks do to registers.
-use Rattle.std.proofs.Common.{◌≡◌, ℕ, ◌+◌, ◌%◌, ◌^◌, ◌<◌, true, Some, subst, arith}
-use Rattle.std.specs.Prelude.{nat_lt, unwrap_or, option_map}
-use Rattle.std.proofs.lemmas.Bool.Decides.{nat_tests}
+use Rattle.std.proofs.Common.{◌≡◌, ℕ, ◌+◌, ◌%◌, ◌^◌, ◌<◌, Some, subst, arith}
+use Rattle.std.specs.Prelude.{unwrap_or, option_map}
 use Rattle.std.proofs.lemmas.Nat.{mod_below}
 use Rattle.mem_base.specs.declared.map.kinds.Device.{Device}
 use Rattle.mem_base.specs.declared.map.kinds.DeviceKind.{DeviceKind}
 use Rattle.mem_base.specs.declared.map.kinds.DeviceKind.TheVariants.{Latch, Count, Bell, Fault}
 use Rattle.mem_base.specs.declared.access.accesses.DeviceStep.TheVariants.{Step, Error}
-use Rattle.mem_base.specs.declared.access.cells.Place.{Place}
 use Rattle.mem_base.specs.declared.access.cells.WordStep.{WordStep}
 use Rattle.mem_base.specs.access.Words.{in_word}
-use Rattle.mem_base.specs.access.Places.{data_words, is_data_or_register}
 use Rattle.mem_base.specs.access.DeviceAccess.{step_of, stores, sets, word_step, register_of}
 use Rattle.access_run.specs.Hands.{IsWriteStep}
 use Rattle.mem_base.proofs.WordLaws.{some_power}
-
--- a register is one of the words that an access may reach
-pub register_reached : (p : Place) (word reg : ℕ) → word ≡ data_words p.bytes + reg → reg < p.regs → is_data_or_register p word ≡ true
-register_reached p word reg is less = below word (data_words p.bytes + p.regs) (omega (arith, is, less))
-  where
-    below : (m n : ℕ) → m < n → nat_lt m n ≡ true
-    below m n l = grind (arith, nat_tests)
 
 stores_bytes : (offset size value : ℕ) → 0 < size → IsWriteStep (stores offset size value)
 stores_bytes offset size value some =

@@ -8,3 +8,4 @@ pub mod WordLaws
 pub mod ChunkLaws
 pub mod AccessLaws
 pub mod PartialLaws
+pub mod HandedOn

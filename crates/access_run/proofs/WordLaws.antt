@@ -48,7 +48,7 @@ use Rattle.mem_base.specs.access.Plans.{Request, answers, takes, Reached, memory
 use Rattle.mem_base.specs.access.Plans.{answerer_at, answerer_in, answerer, nobody, in_memory, notifier_for, unless_notified, in_callback, in_piece}
 use Rattle.mem_base.specs.access.Plans.{in_device, reached, in_chunk, plan}
 use Rattle.mem_base.specs.access.PlanSteps.{by_register, by_kind, by_region, steps_of}
-use Rattle.plan_laws.proofs.PlanLaws.{access_is_planned}
+use Rattle.access_reach.proofs.HandedOn.{access_is_planned}
 use Rattle.access_reach.specs.Asking.{Asked, asked, Reply, Outcome, outcome, followed_by, of_device, of_memory, told, outcome_of}
 use Rattle.access_reach.specs.Asking.{reads, writes, calls, sets, marks, taken}
 use Rattle.access_reach.specs.Reaching.{HasReached}

@@ -40,7 +40,7 @@ use Rattle.turn_laws.proofs.Coupled.{Coupled, Follows, seen}
 use Rattle.turn_laws.proofs.PassSteps.{passes_follow}
 use Rattle.turn_laws.proofs.Replaced.{its_region}
 use Rattle.turn_laws.proofs.TurnsLaw.{turns_join}
-use Rattle.generation.specs.Published.{published}
+use Rattle.world_laws.proofs.HandedOn.{published}
 use Rattle.world_laws.specs.Entered.{EntersHeld, IsEnteredIn}
 use Rattle.world_laws.specs.Standing.{StandsIn}
 use Rattle.world_laws.proofs.Accessing.{access_reached}

@@ -8,3 +8,4 @@ pub mod MadeTurns
 pub mod Following
 pub mod Carrying
 pub mod WriteMarkLaws
+pub mod HandedOn

@@ -41,7 +41,7 @@ use Rattle.mem_base.specs.machine.Records.{told}
 use Rattle.mem_base.specs.machine.Turns.{after_private, played, replies_of}
 use Rattle.view_laws.proofs.Tests.{none_is_not_some}
 use Rattle.map_laws.proofs.PairLaws.{length-filter}
-use Rattle.writer_run.proofs.HarvestLaws.{pages_few}
+use Rattle.config_desk.proofs.HandedOn.{pages_few}
 use Rattle.desk_lock.specs.Copied.{most_pages, most_regions, pages_in, regions_in}
 use Rattle.desk_lock.specs.Receipts.{IsAnswerTo, IsAppliedTo, IsNew, MayBeRefused}
 use Rattle.desk_lock.specs.Turned.{turn_of}

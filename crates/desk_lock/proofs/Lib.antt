@@ -7,3 +7,4 @@ pub mod RecordLaws
 pub mod StayLaws
 pub mod PlaceLaws
 pub mod DifferLaws
+pub mod HandedOn

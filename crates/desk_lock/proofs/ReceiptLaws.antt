@@ -24,7 +24,7 @@ use Rattle.generation.specs.Published.{Published}
 use Rattle.epoch_rule.specs.Copies.{value_in}
 use Rattle.epoch_rule.specs.Rule.{IsLegal}
 use Rattle.view_laws.proofs.Tests.{none_is_not_some}
-use Rattle.writer_run.specs.Turns as writer_turns
+use Rattle.config_desk.specs.HandedOn.{number_told as number_of_writer}
 use Rattle.config_desk.specs.Configs.{ConfigState, IsOfTurns, IsTurnOf}
 use Rattle.desk_lock.specs.declared.orders.Receipt.{Receipt}
 use Rattle.desk_lock.specs.declared.drafts.Draft.{Draft}
@@ -60,7 +60,7 @@ has_room v w order answer d a h =
     })
 
 -- the number that is told is that of what was published
-tells_publish : (w : Writer) (k : Config) (number : ℕ) → Some number ≡ writer_turns.number_told w k
+tells_publish : (w : Writer) (k : Config) (number : ℕ) → Some number ≡ number_of_writer w k
     → (would_publish w.desk k ≡ true) × (number ≡ w.generations.current + 1)
 tells_publish w k number e = go (would_publish w.desk k) e
   where

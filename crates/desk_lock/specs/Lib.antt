@@ -5,3 +5,4 @@ pub mod Clerks
 pub mod Copied
 pub mod Differing
 pub mod Laws
+pub mod HandedOn

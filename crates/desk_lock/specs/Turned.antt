@@ -11,8 +11,7 @@ use Rattle.mem_base.specs.machine.Reaps.{Writer}
 use Rattle.mem_base.specs.machine.Records.{Given, call_of, journal_length, told}
 use Rattle.mem_base.specs.machine.Turns.{WriterCall, turn, entries_of_turn}
 use Rattle.generation.specs.Published.{Published}
-use Rattle.writer_run.specs.Turns.{number_told}
-use Rattle.seat_run.specs.Written.{HasWritten}
+use Rattle.config_desk.specs.HandedOn.{number_told, HasWritten}
 use Rattle.config_desk.specs.Configs.{ConfigState}
 use Rattle.desk_lock.specs.declared.orders.Receipt.{Receipt}
 use Rattle.desk_lock.specs.Records.{RecordState}

@@ -19,6 +19,7 @@ mod records;
 mod turning;
 
 pub use clerks::Clerk;
+pub use config_desk::Config;
 pub use laws::{closes_one_way, first_is_empty, later_makes_turns, receipts_stay, records_grow};
 pub use locks::{DeskLock, Naming};
 pub use mem_base::{DeskAnswer as Answer, DeskEntry as Entry, DeskOrder as Order, Differs};

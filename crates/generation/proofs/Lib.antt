@@ -1,3 +1,4 @@
 pub mod PlacedLaws
 pub mod ShownLaws
 pub mod TableLaws
+pub mod HandedOn

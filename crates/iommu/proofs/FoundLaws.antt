@@ -12,7 +12,7 @@ use Rattle.mem_base.specs.access.Trails.{is_next_spot}
 use Rattle.iommu.specs.Ways.{is_next_found}
 use Rattle.std.proofs.lemmas.Bool.{and_parts}
 use Rattle.mem_base.proofs.BoolLaws.{number_itself, holds_where, holds_if}
-use Rattle.map_laws.proofs.FlattenedLaws.{same_attrs-is, same_attrs-same, same_path-is, same_path-same}
+use Rattle.generation.proofs.HandedOn.{same_attrs-is, same_attrs-same, same_path-is, same_path-same}
 
 abbrev attrs_of : Bool → Bool → Bool → Bool → ℕ → Attrs
 attrs_of readonly nonvolatile romd unmergeable log =

@@ -10,10 +10,9 @@ use Rattle.mem_base.specs.access.Translations.{without_mask, covers, translated_
 use Rattle.mem_base.specs.lists.Every.{Every}
 use Rattle.mem_base.specs.map.TableRefusals.{bad_page}
 use Rattle.mem_base.specs.declared.map.refusals.Refusal.TheVariants.{BadPage}
-use Rattle.map_laws.proofs.RefusalLaws.{refuse_if-none}
+use Rattle.generation.proofs.HandedOn.{refuse_if-none, one_digit}
 use Rattle.iommu.specs.Pages.{ArePages}
 use Rattle.std.proofs.lemmas.Bool.{or_parts, not-false}
-use Rattle.map_laws.proofs.PageLaws.{one_digit}
 
 -- the page's size is a power of two, and it begins at a multiple of it
 pub record IsPage (e : Entry) : Type 0 where

@@ -15,9 +15,7 @@ use Rattle.mem_base.specs.views.View.{shown, IsRanges, PathAt, IsOnOnePath, IsMe
 use Rattle.mem_base.proofs.ViewLaws.{spot_at, shown-before, shown-first, shown-later}
 use Rattle.mem_base.specs.map.Forest.{IsMade}
 use Rattle.mem_base.specs.views.Flattened.{view_of}
-use Rattle.map_laws.proofs.OffsetLaws.{IsView-made}
-use Rattle.flat_lookup.specs.Atlases.{run_end}
-use Rattle.flat_lookup.proofs.AtlasLaws.{run_before, run_past, run_within}
+use Rattle.generation.proofs.HandedOn.{IsView-made, run_end, run_before, run_past, run_within}
 use Rattle.iommu.specs.Ways.{further, is_next_found, joins, IsStretch}
 use Rattle.iommu.proofs.FoundLaws.{is_after, next_found, none_found, some_found}
 

@@ -16,9 +16,8 @@ use Rattle.mem_base.specs.access.Access.{access, at_target, in_chunk}
 use Rattle.mem_base.specs.machine.Passes.{pass_id}
 use Rattle.generation.specs.Published.{Published}
 use Rattle.epoch_rule.specs.Values.{PassValue}
-use Rattle.access_run.specs.Chunks.{steps_below}
+use Rattle.vcpu_pass.proofs.HandedOn.{steps_below, read_past, write_past}
 use Rattle.access_base.proofs.ChunkLaws.{at_end}
-use Rattle.access_run.proofs.AccessLaws.{read_past, write_past}
 use Rattle.access_base.proofs.MemoryLaws.{part_length}
 use Rattle.vcpu_pass.specs.Steps.{HasMade, generation_in}
 use Rattle.io_window.specs.Calls.{Does}

@@ -5,3 +5,4 @@ pub mod DeskLaws
 pub mod DeskRunLaws
 pub mod JoinLaws
 pub mod TextLaws
+pub mod HandedOn

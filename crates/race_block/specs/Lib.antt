@@ -5,3 +5,4 @@ pub mod Desks
 pub mod Blocks
 pub mod Laws
 pub mod Joined
+pub mod HandedOn

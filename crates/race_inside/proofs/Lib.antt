@@ -13,3 +13,4 @@ pub mod TextLaws
 pub mod TextLists
 pub mod JoinedLaws
 pub mod BlockLaws
+pub mod HandedOn

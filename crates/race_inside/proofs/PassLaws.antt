@@ -15,8 +15,7 @@ use Rattle.mem_base.specs.script.Tasks.{Known}
 use Rattle.mem_base.specs.script.RaceLines.{lines_of_pass}
 use Rattle.mem_base.specs.script.Race.{block, lines_by, pass_state}
 use Rattle.race_laws.specs.Acting.{PassAt}
-use Rattle.pass_lines.specs.Doing.{state_seen}
-use Rattle.pass_lines.proofs.DoneLaws.{at_later, published_prefix}
+use Rattle.race_block.proofs.HandedOn.{state_seen, at_later, published_prefix}
 use Rattle.race_block.specs.declared.passes.PassActor.{PassActor}
 use Rattle.race_block.specs.declared.tasks.BlockLine.{BlockLine}
 use Rattle.race_block.specs.Lines as passes

@@ -10,7 +10,7 @@ use Rattle.mem_base.specs.script.Scripts.{Line}
 use Rattle.mem_base.specs.script.Tasks.{Known, task_of}
 use Rattle.generation.specs.Published.{Published}
 use Rattle.epoch_rule.specs.Values.{PassValue}
-use Rattle.pass_lines.specs.declared.answers.LineAnswer.{LineAnswer}
+use Rattle.race_block.proofs.HandedOn.{LineAnswer}
 use Rattle.race_block.specs.declared.tasks.PassTask.{PassTask}
 use Rattle.race_block.specs.declared.tasks.PassTask.TheVariants.{Refused, Order, Enter, Leave, Read, Write, Copy}
 use Rattle.race_block.specs.declared.tasks.BlockLine.{BlockLine}

@@ -5,3 +5,4 @@ pub mod Rooms
 pub mod Seats
 pub mod Texts
 pub mod Blocks
+pub mod HandedOn

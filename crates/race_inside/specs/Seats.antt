@@ -9,7 +9,7 @@ use Rattle.mem_base.specs.script.Tasks.{Known}
 use Rattle.mem_base.specs.script.Race.{block, desk_number}
 use Rattle.generation.specs.Published.{Published}
 use Rattle.epoch_rule.specs.Values.{PassValue}
-use Rattle.pass_lines.specs.Doing.{IsInItsGeneration}
+use Rattle.race_block.specs.HandedOn.{IsInItsGeneration}
 use Rattle.desk_lock.specs.Records.{RecordState}
 use Rattle.race_phases.specs.Plain.{has_lines}
 use Rattle.race_block.specs.declared.blocks.BlockActor.{BlockActor}

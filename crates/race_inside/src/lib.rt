@@ -16,3 +16,4 @@ mod texts;
 
 pub use blocks::block;
 pub use laws::{blocks_may_stop, blocks_step_on};
+pub use race_outside::outside_line;

@@ -35,7 +35,7 @@ use Rattle.history_laws.specs.Numbers.{HasSoundNumbers}
 use Rattle.history_laws.proofs.NumberLaws.{sound}
 use Rattle.history_laws.proofs.AppendLaws.{pass_owns}
 use Rattle.turn_laws.proofs.TurnsLaw.{turns_join}
-use Rattle.world_laws.specs.Legal.{IsFitting}
+use Rattle.run_laws.proofs.HandedOn.{IsFitting}
 use Rattle.run_laws.specs.MadeForests.{HasMadeForests}
 use Rattle.run_laws.proofs.Passing.{Led, may_enter, may_leave, orderly, within}
 use Rattle.mem_base.specs.machine.ShownWorlds.{world_shown}

@@ -8,3 +8,4 @@ pub mod StoppingLaws
 pub mod CopyLaws
 pub mod PassLaws
 pub mod PlaceLaws
+pub mod HandedOn

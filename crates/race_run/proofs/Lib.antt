@@ -3,3 +3,4 @@ pub mod ClosingLaws
 pub mod LineLaws
 pub mod WritingLaws
 pub mod RacingLaws
+pub mod HandedOn

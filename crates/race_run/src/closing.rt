@@ -5,12 +5,10 @@ ghost use Rattle.mem_base.specs.map.Limits.{most_passes};
 ghost use Rattle.mem_base.specs.machine.Actors.{own_entries};
 ghost use Rattle.generation.specs.Published.{Published};
 ghost use Rattle.epoch_rule.specs.Values.{PassValue};
-ghost use Rattle.race_outside.specs.Levels.{IsOfCabinet};
-ghost use Rattle.race_outside.specs.Ready.{AreReady};
+ghost use Rattle.race_inside.specs.HandedOn.{IsOfCabinet, AreReady};
 ghost use Rattle.race_run.specs.Ends.{HasClosed, HasComeIn};
 
-use config_desk::Config;
-use desk_lock::Record;
+use desk_lock::{Config, Record};
 use vcpu_pass::Vcpu;
 
 // Each of the virtual CPUs leaves where it is entered, and its pass is taken in, from the last to the first.

@@ -11,5 +11,6 @@ mod phases;
 mod racers;
 mod races;
 
+pub use desk_lock::Config;
 pub use races::race;
 pub use script_run::RunFault;

@@ -3,7 +3,7 @@ ghost use Rattle.std.specs.Prelude.{◌≡◌, ◌<◌, ◌≤◌, [], false, tr
 ghost use Rattle.mem_base.specs.map.Limits.{most_passes};
 ghost use Rattle.epoch_rule.specs.Values.{first_free};
 ghost use Rattle.epoch_rule.specs.Wrote.{IsNewPass};
-ghost use Rattle.race_outside.specs.Ready.{AreReady};
+ghost use Rattle.race_inside.specs.HandedOn.{AreReady};
 
 use desk_lock::Record;
 use epoch_rule::Cabinet;

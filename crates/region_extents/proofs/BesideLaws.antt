@@ -23,17 +23,13 @@ use Rattle.mem_base.specs.map.Refusals.{has_container}
 use Rattle.std.specs.Prelude.{not, ◌-◌}
 use Rattle.mem_base.specs.declared.map.calls.Call.{Call}
 use Rattle.mem_base.specs.map.Edits.{edited}
-use Rattle.map_laws.proofs.CallLaws.{edited_field}
+use Rattle.region_slots.proofs.HandedOn.{edited_field, moved_keeps, KeepsSteps, depth_of-kept, weight_of-kept, depth_made, weight_made, depth_alias, weight_alias, has_container-none, some_of, is_known}
 use Rattle.mem_base.specs.map.Changes.{changed, changed_at, placed, moved}
-use Rattle.map_laws.proofs.MoveLaws.{moved_keeps}
 use Rattle.mem_base.specs.map.Steps.{Steps, steps_of, steps_from, depth_by, weight_by, depth_of, weight_of, greatest, total, reaches}
 use Rattle.mem_base.specs.map.Steps.{greatest_depth, greatest_weight}
 use Rattle.mem_base.proofs.EveryLaws.{weaker, every_at}
 use Rattle.mem_base.proofs.StepLaws.{every_of}
 use Rattle.mem_base.proofs.ForestLaws.{id_of, node_of-itself, children_of-made, no_children}
-use Rattle.map_laws.proofs.LeadLaws.{KeepsSteps, depth_of-kept, weight_of-kept}
-use Rattle.map_laws.proofs.MadeLaws.{depth_made, weight_made, depth_alias, weight_alias}
-use Rattle.map_laws.proofs.RefusalLaws.{has_container-none, some_of, is_known}
 use Rattle.mem_base.proofs.JoinLaws.{steps_joined, depth_at_most, weight_at_most}
 use Rattle.mem_base.proofs.StepLaws.{depth_by-alike, weight_by-alike, Alike}
 use Rattle.region_slots.specs.declared.slots.Slot.{Slot}

@@ -20,7 +20,7 @@ use Rattle.mem_base.proofs.ForestLaws.{only_node, id_of}
 use Rattle.region_slots.specs.declared.slots.Slot.{Slot}
 use Rattle.region_slots.specs.Slots.{nodes_of}
 use Rattle.region_slots.proofs.PlaceLaws.{length_nodes}
-use Rattle.map_laws.proofs.DropLaws.{without, steps_of-without}
+use Rattle.region_slots.proofs.HandedOn.{without, steps_of-without}
 use Rattle.region_slots.proofs.SlotsLaws.{map-remove, remove_there, some_element}
 use Rattle.region_extents.specs.declared.extents.Extent.{Extent}
 use Rattle.region_extents.specs.declared.kept.Kept.{Kept}

@@ -21,7 +21,7 @@ use Rattle.mem_base.specs.map.Steps.{steps_of, steps_from}
 use Rattle.mem_base.proofs.EveryLaws.{weaker}
 use Rattle.mem_base.proofs.ForestLaws.{filter-changed_at, only_node, id_of}
 use Rattle.mem_base.proofs.JoinLaws.{node_of-changed_at, steps_seen, steps_alike}
-use Rattle.map_laws.proofs.RefusalLaws.{each_none, known_node, refuse_where-none}
+use Rattle.region_slots.proofs.HandedOn.{each_none, known_node, refuse_where-none}
 use Rattle.region_slots.specs.declared.slots.Slot.{Slot}
 use Rattle.region_extents.specs.declared.extents.Extent.{Extent}
 use Rattle.region_extents.specs.declared.kept.Kept.{Kept}

@@ -28,7 +28,7 @@ use Rattle.region_extents.specs.Extents.{steps_with, extent_by, extents_by, HasI
 use Rattle.region_extents.specs.Room.{are_within, is_within}
 use Rattle.region_extents.proofs.ExtentsLaws.{steps_alias, steps_listed}
 use Rattle.region_extents.proofs.RoomLaws.{within_greatest}
-use Rattle.map_laws.proofs.RefusalLaws.{has_container-none, is_known}
+use Rattle.region_slots.proofs.HandedOn.{has_container-none, is_known}
 use Rattle.region_slots.proofs.SlotsLaws.{every_by_place}
 
 depths_seen : (nodes : List Node) (join : Join) (slots : List Slot) →

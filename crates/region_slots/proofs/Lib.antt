@@ -3,3 +3,4 @@ pub mod SlotsLaws
 pub mod SlotsBasics
 pub mod ResizeLaws
 pub mod ToldLaws
+pub mod HandedOn

@@ -26,7 +26,7 @@ use Rattle.region_extents.specs.declared.extents.Extent.{Extent}
 use Rattle.region_extents.specs.Kept.{extents_in, steps_plus, IsSettledBy, IsShort}
 use Rattle.region_extents.proofs.BesideLaws.{joined_extents}
 use Rattle.mem_base.specs.map.Steps.{steps_of, reaches, greatest_depth, greatest_weight}
-use Rattle.map_laws.proofs.RefusalLaws.{has_container-none, first_none, refuse_if-none, is_known}
+use Rattle.region_slots.proofs.HandedOn.{has_container-none, first_none, refuse_if-none, is_known}
 use Rattle.std.proofs.lemmas.Bool.{leb-false, ltb-false}
 
 pub first_refusal-append : (xs ys : List (Option Refusal)) → first_refusal (xs ++ ys) ≡ option_or (first_refusal xs) (first_refusal ys)

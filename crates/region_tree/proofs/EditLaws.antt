@@ -14,7 +14,7 @@ use Rattle.mem_base.specs.map.Events.{has_event}
 use Rattle.mem_base.specs.map.Changes.{changed, at_region}
 use Rattle.mem_base.specs.map.TableRefusals.{no_more_calls}
 use Rattle.mem_base.specs.map.Calls.{refusal_of, refusals, answer_of}
-use Rattle.map_laws.proofs.RefusalLaws.{each_none, refuse_where-none}
+use Rattle.region_slots.proofs.HandedOn.{each_none, refuse_where-none}
 use Rattle.region_slots.specs.Edits.{Allows}
 use Rattle.region_tree.proofs.WholeLaws.{page_apart}
 

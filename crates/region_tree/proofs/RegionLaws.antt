@@ -21,10 +21,9 @@ use Rattle.mem_base.specs.map.Changes.{changed, made_region}
 use Rattle.mem_base.specs.map.Calls.{alias_too_long, refusal_of}
 use Rattle.mem_base.specs.map.Steps.{depth_of, weight_of, greatest_depth, greatest_weight}
 use Rattle.mem_base.proofs.ForestLaws.{known_below}
-use Rattle.map_laws.proofs.MadeLaws.{greatest_depth_made, greatest_weight_made, depth_alias, weight_alias, shallow_made, narrow_made}
+use Rattle.region_slots.proofs.HandedOn.{greatest_depth_made, greatest_weight_made, depth_alias, weight_alias, shallow_made, narrow_made, first_none, refuse_if-none, is_known}
 use Rattle.region_tree.proofs.AddLaws.{or_none}
 use Rattle.std.proofs.lemmas.Bool.{leb-false, ltb-false}
-use Rattle.map_laws.proofs.RefusalLaws.{first_none, refuse_if-none, is_known}
 
 limit_of : (most g d : ℕ) (why : ℕ → Refusal) → g ≤ most → refuse_if (leb most d) (why (d + 1)) ≡ refuse_if (ltb most (max g (d + 1))) (why (max g (d + 1)))
 limit_of most g d why l =

@@ -11,15 +11,13 @@ use Rattle.mem_base.specs.map.Refusals.{first_refusal, targets}
 use Rattle.mem_base.specs.map.TableRefusals.{no_more_calls}
 use Rattle.mem_base.specs.map.Changes.{changed}
 use Rattle.mem_base.specs.map.Calls.{counted, refusal_of, refusals}
-use Rattle.map_laws.proofs.CallLaws.{IsOrderedForest-accepted}
-use Rattle.map_laws.proofs.SoundCallLaws.{IsClosedForest-accepted, not_met}
+use Rattle.region_slots.proofs.HandedOn.{IsOrderedForest-accepted, IsClosedForest-accepted, not_met, each_none, known_node, refuse_where-none, in_use-none, has_container-none}
 use Rattle.std.specs.Prelude.{is_none, is_some}
 use Rattle.mem_base.specs.declared.map.ids.RegionId.{RegionId}
 use Rattle.mem_base.specs.declared.map.forests.Node.{Node}
 use Rattle.mem_base.specs.declared.map.calls.Call.TheVariants as calls
 use Rattle.mem_base.specs.map.Region.{node_of}
 use Rattle.mem_base.specs.declared.map.refusals.Refusal.TheVariants.{NotChild}
-use Rattle.map_laws.proofs.RefusalLaws.{each_none, known_node, refuse_where-none, in_use-none, has_container-none}
 use Rattle.mem_base.proofs.ForestLaws.{every_node_of, id_of}
 use Rattle.std.specs.Prelude.{option_map, option_and_then}
 use Rattle.mem_base.specs.declared.map.refusals.Refusal.TheVariants.{PageOverlap}

@@ -42,7 +42,7 @@ use Rattle.history_laws.proofs.PublishedLaws.{generations_are_committed}
 use Rattle.history_laws.proofs.ReleasedLaws.{free_passes_release_all, releases_unnamed, ids}
 use Rattle.history_laws.proofs.DroppedLaws.{regions_are_dropped_once}
 use Rattle.history_laws.proofs.ReplayedLaws.{all_calls_replay, listeners_replay}
-use Rattle.turn_laws.proofs.Rows.{flags_after}
+use Rattle.world_laws.proofs.HandedOn.{flags_after}
 use Rattle.history_laws.proofs.PureAppends.{run_ends}
 use Rattle.world_laws.proofs.Running.{legal_run}
 use Rattle.world_laws.proofs.OrderRows.{swept_desk, sweeps_may}

@@ -11,3 +11,4 @@ pub mod Naming
 pub mod TaskLaws
 pub mod KnowingLaws
 pub mod TurnLaws
+pub mod HandedOn

@@ -6,7 +6,7 @@ use Rattle.mem_base.specs.lists.Every.{Every}
 use Rattle.mem_base.specs.script.Named.{space_name}
 use Rattle.mem_base.specs.script.Spelling.{Text}
 use Rattle.mem_base.specs.views.Flattened.{view_of}
-use Rattle.script_map.specs.Left.{shown_in}
+use Rattle.script_memory.proofs.HandedOn.{shown_in}
 use Rattle.script_check.specs.Blocks.{Printed}
 use Rattle.script_check.specs.Checks.{
   Compared,

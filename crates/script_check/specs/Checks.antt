@@ -13,7 +13,7 @@ use Rattle.mem_base.specs.views.Flattened.{view_of}
 use Rattle.monitor_text.specs.Rows.{flat_line}
 use Rattle.monitor_text.specs.Texts.{lines_of}
 use Rattle.monitor_text.specs.declared.flat_text.FlatLine.{FlatLine}
-use Rattle.script_map.specs.Left.{shown_in}
+use Rattle.script_memory.specs.HandedOn.{shown_in}
 use Rattle.script_memory.specs.Told.{IsToldByText, Told}
 use Rattle.script_check.specs.Blocks.{Printed, blocks_of}
 use Rattle.script_check.specs.Verdicts.{IsPrinted, verdict_from}

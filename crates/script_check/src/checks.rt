@@ -12,8 +12,7 @@ use mem_base::{RegionId, SpaceId};
 use monitor_text::{MonitorFault, read_flat};
 use race_lines::ranges_in;
 use script_lines::Line;
-use script_map::MapStop;
-use script_memory::{ToldMap, read_told};
+use script_memory::{MapStop, ToldMap, read_told};
 use std::alloc::{AllocError, Global};
 
 /// What is told of all spaces, and whether one is not told as the same.

@@ -2,3 +2,4 @@ mod CommentLaws
 mod RegionLaws
 mod NameLaws
 mod AlikeLaws
+pub mod HandedOn

@@ -2,3 +2,4 @@ pub mod Comments
 pub mod Regions
 pub mod Told
 pub mod Alike
+pub mod HandedOn

@@ -15,3 +15,4 @@ mod regions;
 pub use histories::{ToldHistory, follow_told};
 pub use laws::memory_shows_the_same;
 pub use maps::{ToldMap, read_told};
+pub use script_map::MapStop;

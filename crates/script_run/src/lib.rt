@@ -17,4 +17,5 @@ pub use faults::RunFault;
 pub use machine::Machine;
 pub use runs::run_on;
 pub use session::Session;
+pub use world_core::World;
 pub use worlds::run;

@@ -14,7 +14,7 @@ use Rattle.mem_base.specs.script.Run.{text_of}
 use Rattle.mem_base.specs.script.Scripts.{Line, Meaning}
 use Rattle.run_laws.specs.Fitting.{AreFitting}
 use Rattle.race_laws.proofs.StoppedEnds.{races_exist}
-use Rattle.config_desk.specs.Configs.{ConfigState}
+use Rattle.race_run.proofs.HandedOn.{ConfigState}
 use Rattle.race_run.specs.Racing.{HasStopped, TakesOne}
 use Rattle.script_run.specs.declared.faults.RunFault.{RunFault}
 use Rattle.script_run.specs.declared.faults.RunFault.TheVariants.{Write}

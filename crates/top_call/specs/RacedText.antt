@@ -9,7 +9,7 @@ use Rattle.mem_base.specs.script.Scripts.{Line, Meaning}
 use Rattle.mem_base.specs.script.RefusalLines.{bad_line}
 use Rattle.mem_base.specs.script.Race.{IsAlone, IsTextOfRace, phases_of}
 use Rattle.mem_base.specs.script.Run.{text_of}
-use Rattle.config_desk.specs.Configs.{ConfigState}
+use Rattle.race_run.specs.HandedOn.{ConfigState}
 use Rattle.top_call.specs.declared.endings.Ending.{Ending}
 use Rattle.top_call.specs.declared.endings.Ending.TheVariants as endings
 use Rattle.top_call.specs.Statuses.{IfBad}

@@ -5,7 +5,7 @@ use Rattle.mem_base.specs.script.Scripts.{Meaning}
 use Rattle.top_call.specs.declared.endings.Ending.{Ending}
 use Rattle.top_call.specs.declared.endings.Ending.TheVariants as endings
 use Rattle.top_call.specs.ReadScript.{ReadsAs}
-use Rattle.config_desk.specs.Configs.{ConfigState}
+use Rattle.race_run.specs.HandedOn.{ConfigState}
 use Rattle.top_call.specs.RacedText.{WritesRaceOf}
 use Rattle.top_call.specs.WrittenText.{WritesTextOf}
 

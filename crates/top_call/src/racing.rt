@@ -7,10 +7,9 @@ ghost use Rattle.top_call.specs.Runs.{Races, ending_of};
 
 use crate::endings::Ending;
 use crate::running::{refuse, too_long};
-use config_desk::Config;
 use mem_base::MOST_PASSES;
 use outside::{Gate, ReadStop, Sink, Source, read_all};
-use race_run::{RunFault, race};
+use race_run::{Config, RunFault, race};
 use script_text::{MOST_TEXT, ParseFault, Script, parse, pool_words};
 use std::alloc::{AllocError, Global};
 use std::sync::Wait;

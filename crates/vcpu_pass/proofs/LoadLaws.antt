@@ -29,7 +29,7 @@ use Rattle.epoch_rule.proofs.LoadLaws.{bytes_many}
 use Rattle.access_run.specs.Hands.{IsPlaceOf}
 use Rattle.access_run.specs.Runs.{HasDone}
 use Rattle.access_run.proofs.HandLaws.{AreHandLaws, done_then}
-use Rattle.access_base.proofs.RunLaws.{first_word}
+use Rattle.access_run.proofs.HandedOn.{first_word}
 use Rattle.vcpu_pass.specs.Steps.{Adds, HasMade, generation_in, generation_shown}
 use Rattle.vcpu_pass.specs.StepLaws.{made_none, made_then}
 use Rattle.vcpu_pass.proofs.HandLaws.{Stays}

@@ -11,3 +11,4 @@ pub mod ReachedLaws
 pub mod ReapLaws
 pub mod RestLaws
 pub mod WordLaws
+pub mod HandedOn

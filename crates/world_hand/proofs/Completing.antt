@@ -36,7 +36,7 @@ use Rattle.turn_laws.proofs.Coupled.{Coupled, seen}
 use Rattle.world_laws.specs.Legal.{IsFitting, IsLegalCall}
 use Rattle.world_laws.proofs.Keeping.{Holds, holds}
 use Rattle.world_laws.proofs.OrderLaws.{orders_are_legal}
-use Rattle.run_laws.proofs.Ordering.{IsOurs, after_ours, before_ours}
+use Rattle.cell_laws.proofs.HandedOn.{IsOurs, after_ours, before_ours}
 use Rattle.place_words.proofs.CellLaws.{steps_on_cells}
 use Rattle.end_laws.proofs.BlockLaws.{HasItsCells, cells_are, its_cells}
 use Rattle.end_laws.proofs.TurnRuns.{Completes, completes}

@@ -1,8 +1,9 @@
 -- Each step of an access is one on a place of the generation, so the events of the access are possible one after another.
 use Rattle.std.proofs.Common.{◌≡◌, ℕ, zero, suc, ◌+◌, ◌-◌, ◌<◌, ◌≤◌, Bool, true, false, ◌&&◌, List, [], ◌∷◌, ◌++◌, length, take, drop}
 use Rattle.std.proofs.Common.{sym, refl, ap, ◌∙◌, subst, arith, if◌then◌else◌, Option, Some, None}
-use Rattle.std.specs.Prelude.{not, ◌/◌, ◌%◌, IfSome, unwrap_or, option_map}
+use Rattle.std.specs.Prelude.{not, nat_lt, ◌/◌, ◌%◌, IfSome, unwrap_or, option_map}
 use Rattle.std.proofs.lemmas.Bool.{lt-ltb}
+use Rattle.std.proofs.lemmas.Bool.Decides.{nat_tests}
 use Rattle.std.proofs.lemmas.Nat.{mod_below}
 use Rattle.mem_base.specs.declared.map.ids.RegionId.{RegionId}
 use Rattle.mem_base.specs.declared.map.ids.SpaceId.{SpaceId}
@@ -56,11 +57,8 @@ use Rattle.view_laws.proofs.Tests.{same_region}
 use Rattle.history_laws.proofs.ShownLaws.{generations_show_places}
 use Rattle.history_laws.proofs.PlaceLaws.{some_is}
 use Rattle.turn_laws.proofs.Replaced.{its_region}
-use Rattle.access_cut.specs.Conditions.{IsGood}
-use Rattle.access_cut.proofs.Good.{some_registers}
-use Rattle.generation.specs.Published.{Published, published}
+use Rattle.access_base.proofs.HandedOn.{IsGood, Published, published, some_registers}
 use Rattle.access_base.specs.Leaves.{IsTargetRun}
-use Rattle.access_run.proofs.CallbackLaws.{register_reached as callback_register}
 use Rattle.access_base.proofs.LeafLaws as leaves
 use Rattle.access_base.proofs.MemoryLaws.{marks_inside}
 use Rattle.access_base.proofs.TrailLaws.{chunk_inside}
@@ -72,6 +70,13 @@ use Rattle.world_laws.proofs.Entering.{enters_held, steps_possible}
 use Rattle.history_laws.proofs.PureAppends.{run_ends}
 use Rattle.world_laws.proofs.Running.{AllMay, legal_run}
 use Rattle.mem_base.proofs.PlaceLaws.{found_has}
+
+-- a register is one of the words that an access may reach
+callback_register : (p : Place) (word reg : ℕ) → word ≡ data_words p.bytes + reg → reg < p.regs → is_data_or_register p word ≡ true
+callback_register p word reg is less = below word (data_words p.bytes + p.regs) (omega (arith, is, less))
+  where
+    below : (m n : ℕ) → m < n → nat_lt m n ≡ true
+    below m n l = grind (arith, nat_tests)
 
 -- the step is on a word of data or a register of the place of its region, or marks a page of it
 abbrev Reached : List Place → AccessStep → Type 0

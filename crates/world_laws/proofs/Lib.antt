@@ -6,3 +6,4 @@ pub mod Running
 pub mod OrderRows
 pub mod OrderLaws
 pub mod Accessing
+pub mod HandedOn

@@ -3,3 +3,4 @@ pub mod HeldLaws
 pub mod ReadyLaws
 pub mod ListenedLaws
 pub mod WriterLaws
+pub mod HandedOn

@@ -17,7 +17,7 @@ use Rattle.mem_base.specs.access.Places.{Extent, extent_of, words_of, place_from
 use Rattle.mem_base.specs.access.PlacesByRegion.{place_in}
 use Rattle.mem_base.specs.machine.Desk.{cells_of}
 use Rattle.view_laws.proofs.Tests.{none_is_not_some}
-use Rattle.transact.specs.Backed.{BackedState, places_for, forest_at}
+use Rattle.writer_desk.proofs.HandedOn.{BackedState, places_for, forest_at}
 use Rattle.writer_desk.specs.Writers.{Beside, unfilled_by, backing_by, applied_by, beside_by}
 use Rattle.writer_desk.specs.Writers.{made_place, dropped_with}
 use Rattle.std.proofs.lemmas.Option.{same_Some}

@@ -25,7 +25,7 @@ use Rattle.history_laws.proofs.DroppedLaws.{IsGone}
 use Rattle.history_laws.proofs.Idles.{Idle}
 use Rattle.turn_laws.proofs.Rows.{flags_after, with_swept, swept_length}
 use Rattle.turn_laws.proofs.Turning.{turn_facts}
-use Rattle.transact.specs.Backed.{backed_state, backing_at, backing_without, forest_at}
+use Rattle.writer_desk.proofs.HandedOn.{backed_state, backing_at, backing_without, forest_at}
 use Rattle.writer_desk.specs.Writers.{desk_of}
 use Rattle.writer_desk.specs.Listened.{ListenedState, resting, with_backed}
 use Rattle.writer_run.specs.Hands.{swept}

@@ -42,8 +42,7 @@ use Rattle.turn_laws.proofs.Rows.{publishes_of, fills_of, flags_after, with_swep
 use Rattle.turn_laws.proofs.Rows.{swept_length, published_desk, filled_desk, filled_generations}
 use Rattle.turn_laws.proofs.Turning.{turn_facts}
 use Rattle.generation.specs.Published.{Published}
-use Rattle.transact.specs.Preparing.{Readied, when_done, AreDeskPlaces}
-use Rattle.transact.specs.Backed.{BackedState, backed_state, all_places}
+use Rattle.writer_desk.proofs.HandedOn.{Readied, when_done, AreDeskPlaces, BackedState, backed_state, all_places}
 use Rattle.writer_desk.specs.Writers.{WriterState, writer_state, Beside, desk_of, settled_as, IsReady}
 use Rattle.writer_desk.specs.Listened.{ListenedState, resting, told, IsDone, IsReadied, IsRefused, IsUnmoved}
 use Rattle.writer_run.specs.Entries.{entries_with, edition_of}

@@ -34,8 +34,7 @@ use Rattle.mem_base.proofs.EveryLaws.{weaker}
 use Rattle.mem_base.specs.map.Refusals.{or_refused}
 use Rattle.view_laws.proofs.Tests.{none_is_not_some}
 use Rattle.history_laws.specs.BackedForests.{BacksForest}
-use Rattle.transact.specs.Preparing.{AreDeskPlaces}
-use Rattle.transact.specs.Backed.{all_places}
+use Rattle.writer_desk.proofs.HandedOn.{AreDeskPlaces, all_places}
 use Rattle.writer_run.specs.Entries.{entries_with, at}
 use Rattle.writer_run.specs.Hands.{word_entry}
 use Rattle.writer_desk.specs.declared.idle.IdleDesk.{IdleDesk}

@@ -5,7 +5,7 @@ ghost use Rattle.mem_base.specs.lists.Every.{Every};
 ghost use Rattle.mem_base.specs.map.Region.{node_of};
 ghost use Rattle.mem_base.specs.machine.Answers.{answer_with, reap_answer};
 ghost use Rattle.mem_base.specs.machine.Orders.{reap};
-ghost use Rattle.transact.specs.Backed.{forest_at};
+ghost use Rattle.writer_desk.specs.HandedOn.{forest_at};
 ghost use Rattle.writer_run.specs.Hands.{is_named_from};
 ghost use Rattle.writer_run.specs.Parts.{AreParts, part_of};
 ghost use Rattle.writer_run.specs.Reaped.{without_regions};

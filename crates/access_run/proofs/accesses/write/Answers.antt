@@ -1,5 +1,5 @@
 use Rattle.std.proofs.Common.{rules, [], subst}
-use Rattle.plan_laws.proofs.PlanLaws.{access_is_planned}
+use Rattle.access_reach.proofs.HandedOn.{access_is_planned}
 use Rattle.access_run.specs.Runs.{TakesAll}
 use Rattle.mem_base.specs.access.AccessSteps.{writing}
 use Rattle.mem_base.specs.access.Access.{access}

@@ -1,6 +1,6 @@
 use Rattle.std.proofs.Common.{List, Ok, sym, subst}
 use Rattle.mem_base.specs.script.Race.{Phase, block}
-use Rattle.race_outside.specs.Outside.{StopsIn}
+use Rattle.race_inside.proofs.HandedOn.{StopsIn}
 use Rattle.race_run.specs.Racing.{Goes}
 use Rattle.race_run.proofs.LineLaws.{none_by, some_by}
 use Rattle.race_run.proofs.RacingLaws.{goes_done, goes_none}

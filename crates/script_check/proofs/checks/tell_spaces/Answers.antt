@@ -1,5 +1,5 @@
 use Rattle.std.proofs.Common.{◌≡◌, ◌∙◌, ap}
-use Rattle.script_map.specs.Left.{Shown}
+use Rattle.script_memory.proofs.HandedOn.{Shown}
 use Rattle.script_check.specs.Checks.{Compared, compared_with}
 use Rattle.script_check.proofs.CheckLaws.{differs_of_all, text_of_all}
 use Rattle.script_check.proofs.checks.tell_spaces.Goals as goal

@@ -1,5 +1,5 @@
 use Rattle.std.proofs.Common.{ℕ, ◌-◌, ◌*◌, ◌/◌, ◌%◌, ◌≡◌, length, arith}
-use Rattle.access_base.proofs.RunLaws.{whole_words}
+use Rattle.access_run.proofs.HandedOn.{whole_words}
 use Rattle.vcpu_pass.proofs.LoadLaws.{two_reads}
 use Rattle.vcpu_pass.proofs.memory.read_from_word.Goals as goal
 

@@ -12,8 +12,7 @@ use Rattle.mem_base.specs.machine.Generations.{Generations}
 use Rattle.mem_base.specs.machine.Orders.{configure}
 use Rattle.mem_base.specs.machine.Publishing.{held_up, would_publish}
 use Rattle.generation.specs.Published.{Published}
-use Rattle.transact.specs.Preparing.{AreDeskPlaces, when_done}
-use Rattle.transact.specs.Backed.{BackedState, backed_state, all_places}
+use Rattle.writer_desk.proofs.HandedOn.{AreDeskPlaces, when_done, BackedState, backed_state, all_places}
 use Rattle.writer_desk.specs.Listened.{ListenedState, IsDone, IsReadied, IsRefused, IsUnmoved}
 use Rattle.writer_run.specs.Hands.{swept, IsPublished, IsHeldUp, MayPublish}
 use Rattle.writer_run.specs.Parts.{part_with, part_of}

@@ -8,7 +8,7 @@ use Rattle.mem_base.specs.map.Region.{node_of, has_id}
 use Rattle.mem_base.specs.map.Kinds.{target_of}
 use Rattle.mem_base.specs.map.Calls.{refusal_of}
 use Rattle.mem_base.proofs.ForestLaws.{id_of}
-use Rattle.map_laws.proofs.RefusalLaws.{in_use-none}
+use Rattle.region_slots.proofs.HandedOn.{in_use-none}
 use Rattle.region_slots.specs.declared.slots.Slot.{Slot}
 use Rattle.region_slots.specs.Slots.{nodes_of}
 use Rattle.region_extents.specs.Kept.{IsBeside}

@@ -1,0 +1,2 @@
+-- What this crate hands on of the crates below it: who takes these names from here need not list those crates.
+pub use Rattle.script_map.specs.Left.{shown_in}
