@@ -24,6 +24,7 @@ mod tasks;
 mod texts;
 
 pub use blocks::{BlockActor, act_all};
+pub use desk_lock::{Clerk, Config, Naming, Record};
 pub use desks::DeskActor;
 pub use few::FewBytes;
 pub use joining::run_block;

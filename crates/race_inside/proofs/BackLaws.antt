@@ -13,8 +13,7 @@ use Rattle.mem_base.specs.machine.Actors.{own_entries}
 use Rattle.mem_base.specs.machine.Passes as passes
 use Rattle.generation.specs.Published.{Published}
 use Rattle.epoch_rule.specs.Values.{PassValue}
-use Rattle.race_block.proofs.HandedOn.{IsInItsGeneration}
-use Rattle.desk_lock.specs.Records.{IsLater, RecordState}
+use Rattle.race_block.proofs.HandedOn.{IsInItsGeneration, IsLater, RecordState}
 use Rattle.race_outside.specs.Levels.{HasMet, IsHeard, IsOfCabinet}
 use Rattle.race_outside.specs.Ready.{AreReady}
 use Rattle.race_phases.specs.Plain.{has_lines}

@@ -16,7 +16,7 @@ use Rattle.generation.specs.Published.{Published}
 use Rattle.epoch_rule.specs.Rule.{IsLegal}
 use Rattle.epoch_rule.specs.Values.{PassValue}
 use Rattle.race_laws.proofs.StoppedEnds.{race_goes_on}
-use Rattle.desk_lock.specs.Records.{IsLater, RecordState, later_entries}
+use Rattle.race_block.proofs.HandedOn.{IsLater, RecordState, later_entries}
 use Rattle.race_phases.specs.Plain.{has_lines}
 use Rattle.race_block.specs.declared.blocks.BlockActor.{BlockActor}
 use Rattle.race_block.specs.declared.blocks.BlockActor.TheVariants.{Desk, Pass, Gone}

@@ -15,7 +15,7 @@ use Rattle.mem_base.specs.script.Tasks.{Known}
 use Rattle.mem_base.specs.script.RaceLines.{Said}
 use Rattle.mem_base.specs.script.Race.{actors_in, block, desk_number, lines_by}
 use Rattle.race_laws.proofs.ActingLaws.{desk_acts}
-use Rattle.desk_lock.specs.Records.{RecordState}
+use Rattle.race_block.proofs.HandedOn.{RecordState}
 use Rattle.race_block.specs.declared.blocks.BlockActor.{BlockActor}
 use Rattle.race_block.specs.declared.blocks.BlockActor.TheVariants.{Desk, Pass, Gone}
 use Rattle.race_block.specs.declared.desks.DeskActor.{DeskActor}

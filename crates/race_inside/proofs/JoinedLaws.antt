@@ -19,8 +19,7 @@ use Rattle.mem_base.specs.script.Spelling.{Text}
 use Rattle.mem_base.specs.script.Tasks.{Known}
 use Rattle.mem_base.specs.script.Race.{block, lines_by}
 use Rattle.generation.specs.Published.{Published}
-use Rattle.race_block.proofs.HandedOn.{IsInItsGeneration, state_seen, state_then}
-use Rattle.desk_lock.specs.Records.{RecordState}
+use Rattle.race_block.proofs.HandedOn.{IsInItsGeneration, state_seen, state_then, RecordState}
 use Rattle.race_block.specs.declared.blocks.BlockActor.{BlockActor}
 use Rattle.race_block.specs.declared.blocks.BlockActor.TheVariants.{Desk, Pass, Gone}
 use Rattle.race_block.specs.declared.passes.PassActor.{PassActor}

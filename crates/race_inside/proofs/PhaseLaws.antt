@@ -23,9 +23,7 @@ use Rattle.race_laws.specs.SoFar.{IsTold}
 use Rattle.race_laws.specs.Stopped.{ActorsHaveBegun, ActorsHaveDone, DeskActor, PassActor, published_by}
 use Rattle.race_laws.proofs.ActingLaws.{pass_acts}
 use Rattle.race_laws.proofs.PassGoesOn.{state_kept}
-use Rattle.desk_lock.specs.Laws.{MakesTurns}
-use Rattle.desk_lock.specs.Records.{RecordState}
-use Rattle.desk_lock.proofs.StayLaws.{later_makes_turns}
+use Rattle.race_block.proofs.HandedOn.{MakesTurns, RecordState, later_makes_turns}
 use Rattle.race_block.specs.declared.blocks.BlockActor.{BlockActor}
 use Rattle.race_block.specs.Laws.{deed_from}
 use Rattle.race_block.specs.Desks.{DeskKeeps}

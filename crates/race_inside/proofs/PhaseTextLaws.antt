@@ -29,7 +29,7 @@ use Rattle.race_laws.specs.SoFar.{IsRaceSoFar}
 use Rattle.race_laws.specs.Stopped.{GoesOn, published_by}
 use Rattle.race_laws.proofs.SoFarLaws.{takes_phase}
 use Rattle.race_laws.proofs.StoppedEnds.{actors_make_phase, stopped_actors_go_on}
-use Rattle.desk_lock.specs.Records.{RecordState}
+use Rattle.race_block.proofs.HandedOn.{RecordState}
 use Rattle.race_block.specs.declared.blocks.BlockActor.{BlockActor}
 use Rattle.race_block.specs.declared.blocks.BlockActor.TheVariants.{Desk, Pass, Gone}
 use Rattle.race_block.specs.declared.desks.DeskActor.{DeskActor}

@@ -11,8 +11,7 @@ use Rattle.mem_base.specs.script.Tasks.{Known}
 use Rattle.mem_base.specs.script.Race.{actors_in, block, desk_number, lines_by}
 use Rattle.generation.specs.Published.{Published}
 use Rattle.epoch_rule.specs.Values.{PassValue}
-use Rattle.race_block.proofs.HandedOn.{IsInItsGeneration}
-use Rattle.desk_lock.specs.Records.{RecordState}
+use Rattle.race_block.proofs.HandedOn.{IsInItsGeneration, RecordState}
 use Rattle.race_outside.specs.Ready.{AreReady}
 use Rattle.race_block.specs.declared.blocks.BlockActor.{BlockActor}
 use Rattle.race_block.specs.declared.blocks.BlockActor.TheVariants.{Desk, Pass, Gone}

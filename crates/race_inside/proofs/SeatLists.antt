@@ -8,7 +8,7 @@ use Rattle.generation.specs.Published.{Published}
 use Rattle.epoch_rule.specs.Values.{PassValue}
 use Rattle.mem_base.specs.declared.machine.events.HistoryEntry.{HistoryEntry}
 use Rattle.mem_base.specs.script.Tasks.{Known}
-use Rattle.desk_lock.specs.Records.{RecordState}
+use Rattle.race_block.proofs.HandedOn.{RecordState}
 use Rattle.race_phases.specs.Plain.{has_lines}
 use Rattle.race_block.specs.declared.blocks.BlockActor.{BlockActor}
 use Rattle.race_inside.specs.Starts.{AreAtStart, IsAtStart}

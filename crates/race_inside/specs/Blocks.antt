@@ -3,7 +3,7 @@ use Rattle.std.specs.Prelude.{◌≡◌, ℕ, ◌<◌, List, length, slice_index
 use Rattle.mem_base.specs.declared.machine.records.Differs.{Differs}
 use Rattle.mem_base.specs.machine.Records.{Clerk, Closes}
 use Rattle.epoch_rule.specs.Rule.{IsLegal}
-use Rattle.desk_lock.specs.Records.{IsLater, RecordState, later_entries}
+use Rattle.race_block.specs.HandedOn.{IsLater, RecordState, later_entries}
 use Rattle.race_block.specs.declared.blocks.BlockActor.{BlockActor}
 use Rattle.race_block.specs.Joined.{HasJoined}
 

@@ -6,7 +6,7 @@ use Rattle.mem_base.specs.machine.Records.{Clerk}
 use Rattle.mem_base.specs.script.Scripts.{Line}
 use Rattle.mem_base.specs.script.Tasks.{Known}
 use Rattle.mem_base.specs.script.Race.{block}
-use Rattle.desk_lock.specs.Records.{RecordState}
+use Rattle.race_block.specs.HandedOn.{RecordState}
 use Rattle.race_block.specs.declared.blocks.BlockActor.{BlockActor}
 use Rattle.race_outside.specs.Outside.{StepsOn, StopsIn}
 use Rattle.race_inside.specs.Ran.{HasRunBlock, block_text, is_out_of_memory, known_after_block}

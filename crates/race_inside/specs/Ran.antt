@@ -13,7 +13,7 @@ use Rattle.mem_base.specs.script.Tasks.{Known}
 use Rattle.mem_base.specs.script.RaceLines.{said_text}
 use Rattle.mem_base.specs.script.Race.{actors_in, block, differs_line, lines_by}
 use Rattle.epoch_rule.specs.Rule.{IsLegal}
-use Rattle.desk_lock.specs.Records.{IsLater, RecordState, later_entries}
+use Rattle.race_block.specs.HandedOn.{IsLater, RecordState, later_entries}
 use Rattle.race_block.specs.declared.blocks.BlockActor.{BlockActor}
 use Rattle.race_block.specs.declared.blocks.BlockActor.TheVariants.{Desk, Pass, Gone}
 use Rattle.race_block.specs.Blocks.{CanAct}

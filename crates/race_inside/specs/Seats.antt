@@ -9,8 +9,7 @@ use Rattle.mem_base.specs.script.Tasks.{Known}
 use Rattle.mem_base.specs.script.Race.{block, desk_number}
 use Rattle.generation.specs.Published.{Published}
 use Rattle.epoch_rule.specs.Values.{PassValue}
-use Rattle.race_block.specs.HandedOn.{IsInItsGeneration}
-use Rattle.desk_lock.specs.Records.{RecordState}
+use Rattle.race_block.specs.HandedOn.{IsInItsGeneration, RecordState}
 use Rattle.race_phases.specs.Plain.{has_lines}
 use Rattle.race_block.specs.declared.blocks.BlockActor.{BlockActor}
 use Rattle.race_block.specs.declared.blocks.BlockActor.TheVariants.{Desk, Pass}

@@ -7,10 +7,9 @@ ghost use Rattle.race_block.specs.Desks.{lines_meant};
 ghost use Rattle.race_inside.specs.Rooms.{AreIdle, AreOwn, AreWorksOf, HasDesksWork, IsRoomFor, acts, most_actors};
 
 use crate::tasks::{deal, prepare_all};
-use desk_lock::Clerk;
 use io_window::Bounce;
 use mem_base::{Command, MOST_PASSES};
-use race_block::{BlockActor, BlockLine, OwnLine};
+use race_block::{BlockActor, BlockLine, Clerk, OwnLine};
 use race_lines::KnownNames;
 use std::alloc::{AllocError, Global};
 use vcpu_pass::Vcpu;

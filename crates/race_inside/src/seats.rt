@@ -4,7 +4,7 @@ ghost use Rattle.mem_base.specs.map.Limits.{most_passes};
 ghost use Rattle.mem_base.specs.script.Race.{block, desk_number, lines_by};
 ghost use Rattle.mem_base.specs.script.Scripts.{Line};
 ghost use Rattle.mem_base.specs.script.Tasks.{Known};
-ghost use Rattle.desk_lock.specs.Records.{RecordState};
+ghost use Rattle.race_block.specs.HandedOn.{RecordState};
 ghost use Rattle.race_block.specs.declared.blocks.BlockActor.TheVariants.{Pass};
 ghost use Rattle.race_block.specs.Desks as desks;
 ghost use Rattle.race_block.specs.Desks.{lines_meant};
@@ -13,9 +13,8 @@ ghost use Rattle.race_inside.specs.Seats.{AllComeBack, AreSeated, AreSeatsOf, Gi
 ghost use Rattle.race_inside.specs.Seats.{SeatsPass, TakesCpu, desks_known, names_then};
 
 use crate::rooms::{PassRoom, Work, acts};
-use desk_lock::Clerk;
 use mem_base::Command;
-use race_block::{BlockActor, BlockLine, DeskActor, OwnLine, PassActor, PassLines};
+use race_block::{BlockActor, BlockLine, Clerk, DeskActor, OwnLine, PassActor, PassLines};
 use race_lines::KnownNames;
 use race_phases::DESK_NUMBER;
 use std::alloc::Global;

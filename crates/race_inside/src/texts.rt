@@ -10,10 +10,10 @@ ghost use Rattle.race_inside.specs.Seats.{IsKnown};
 ghost use Rattle.race_inside.specs.Texts.{HasItsText, HaveTheirTexts, actor_said, actors_said, names_now};
 ghost use Rattle.script_names.specs.Tables.{printed_names};
 
-use desk_lock::{Clerk, Record};
 use mem_base::{DeskEntry, Differs, ListenerEvent, ListenerId, PassId};
 use race_block::{
-    BlockActor, BlockLine, LineGot, PassActor, add_answer, add_few, add_refusal, tasks_in,
+    BlockActor, BlockLine, Clerk, LineGot, PassActor, Record, add_answer, add_few, add_refusal,
+    tasks_in,
 };
 use race_lines::{
     KnownNames, LineSaid, add_differs_line, add_do_answer, add_told_lines, delivered_between,

@@ -25,9 +25,7 @@ use Rattle.epoch_rule.specs.Wrote.{Made}
 use Rattle.epoch_rule.proofs.SeatSteps.{set_false}
 use Rattle.vcpu_pass.specs.Calls.{HasLeft, is_entered}
 use Rattle.vcpu_pass.specs.Entries.{replies_to_leave}
-use Rattle.desk_lock.proofs.HandedOn.{ConfigState}
-use Rattle.desk_lock.specs.Records.{RecordState}
-use Rattle.race_inside.proofs.HandedOn.{AreReady}
+use Rattle.race_inside.proofs.HandedOn.{ConfigState, RecordState, AreReady}
 use Rattle.race_run.specs.Ends.{AreLeaves, HasClosed, HasComeIn, last_of}
 
 -- a pass that left where it was entered: its last entries

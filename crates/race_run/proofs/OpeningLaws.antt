@@ -14,8 +14,7 @@ use Rattle.mem_base.specs.script.Race.{pass_state}
 use Rattle.generation.specs.Published.{Published}
 use Rattle.epoch_rule.specs.Values.{PassValue, WriterValue, first_free}
 use Rattle.epoch_rule.specs.Wrote.{IsNewPass}
-use Rattle.race_inside.proofs.HandedOn.{IsInItsGeneration, AreReady}
-use Rattle.desk_lock.specs.Records.{RecordState}
+use Rattle.race_inside.proofs.HandedOn.{IsInItsGeneration, AreReady, RecordState}
 
 -- the first of the passes are out, and the others are not
 abbrev pub first_out : ℕ → ℕ → List Bool

@@ -24,12 +24,9 @@ use Rattle.race_laws.proofs.PhaseEnds.{every_pass}
 use Rattle.race_laws.proofs.PlainRaces.{race_is_run}
 use Rattle.race_laws.proofs.SoFarLaws.{stops}
 use Rattle.race_laws.proofs.StoppedEnds.{race_goes_on}
-use Rattle.desk_lock.proofs.HandedOn.{ConfigState}
-use Rattle.desk_lock.specs.Records.{IsLater, IsUnused}
-use Rattle.desk_lock.proofs.RecordLaws.{later_joins, later_same}
+use Rattle.race_inside.proofs.HandedOn.{ConfigState, IsLater, IsUnused, later_joins, later_same, StepsOn, StopsIn, WritesOn, sizes_of, stand_of}
 use Rattle.epoch_rule.specs.declared.views.Sizes.{Sizes}
 use Rattle.epoch_rule.specs.Rule.{IsLegal}
-use Rattle.race_inside.proofs.HandedOn.{StepsOn, StopsIn, WritesOn, sizes_of, stand_of}
 use Rattle.script_run.specs.declared.faults.RunFault.{RunFault}
 use Rattle.script_run.specs.declared.faults.RunFault.TheVariants.{Memory, Write}
 use Rattle.race_run.specs.declared.racers.Racer.{Racer}

@@ -14,9 +14,7 @@ use Rattle.generation.specs.Published.{Published}
 use Rattle.epoch_rule.specs.Rule.{IsLegal}
 use Rattle.epoch_rule.specs.Values.{PassValue}
 use Rattle.vcpu_pass.specs.Calls.{is_entered}
-use Rattle.desk_lock.specs.HandedOn.{ConfigState}
-use Rattle.desk_lock.specs.Records.{RecordState}
-use Rattle.race_inside.specs.HandedOn.{sizes_of}
+use Rattle.race_inside.specs.HandedOn.{ConfigState, RecordState, sizes_of}
 
 -- the desk of a machine with this pool and sixteen passes, on which no call was made
 pub record IsFresh (pool : ℕ) (c : ConfigState) : Type 0 where

@@ -1,2 +1,2 @@
 -- What this crate hands on of the crates below it: who takes these names from here need not list those crates.
-pub use Rattle.desk_lock.specs.HandedOn.{ConfigState}
+pub use Rattle.race_inside.specs.HandedOn.{ConfigState}

@@ -10,9 +10,7 @@ use Rattle.mem_base.specs.script.Race.{Phase, phases_of}
 use Rattle.run_laws.specs.Fitting.{AreFitting}
 use Rattle.race_laws.specs.SoFar.{IsRaceSoFar}
 use Rattle.race_laws.specs.Outside.{IsFault}
-use Rattle.desk_lock.specs.HandedOn.{ConfigState}
-use Rattle.desk_lock.specs.Records.{IsLater}
-use Rattle.race_inside.specs.HandedOn.{AreReady, sizes_of, stand_of}
+use Rattle.race_inside.specs.HandedOn.{ConfigState, IsLater, AreReady, sizes_of, stand_of}
 use Rattle.script_run.specs.declared.faults.RunFault.{RunFault}
 use Rattle.script_run.specs.declared.faults.RunFault.TheVariants.{Write}
 use Rattle.race_run.specs.declared.racers.Racer.{Racer}

@@ -8,7 +8,7 @@ ghost use Rattle.epoch_rule.specs.Values.{PassValue};
 ghost use Rattle.race_inside.specs.HandedOn.{IsOfCabinet, AreReady};
 ghost use Rattle.race_run.specs.Ends.{HasClosed, HasComeIn};
 
-use desk_lock::{Config, Record};
+use race_inside::{Config, Record};
 use vcpu_pass::Vcpu;
 
 // Each of the virtual CPUs leaves where it is entered, and its pass is taken in, from the last to the first.

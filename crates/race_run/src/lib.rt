@@ -11,6 +11,6 @@ mod phases;
 mod racers;
 mod races;
 
-pub use desk_lock::Config;
+pub use race_inside::Config;
 pub use races::race;
-pub use script_run::RunFault;
+pub use script_run::{RunFault, run};

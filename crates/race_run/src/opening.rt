@@ -5,10 +5,10 @@ ghost use Rattle.epoch_rule.specs.Values.{first_free};
 ghost use Rattle.epoch_rule.specs.Wrote.{IsNewPass};
 ghost use Rattle.race_inside.specs.HandedOn.{AreReady};
 
-use desk_lock::Record;
 use epoch_rule::Cabinet;
 use generation::Generation;
 use mem_base::MOST_PASSES;
+use race_inside::Record;
 use vcpu_pass::Vcpu;
 
 // The least pass that is not out, on a virtual CPU.

@@ -1,7 +1,7 @@
 // What a race goes by from line to line.
 
-use desk_lock::Record;
 use io_window::Bounce;
+use race_inside::Record;
 use race_lines::KnownNames;
 use vcpu_pass::Vcpu;
 

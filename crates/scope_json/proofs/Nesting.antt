@@ -19,9 +19,7 @@ use Rattle.view_diff.specs.declared.Difference.{Difference}
 use Rattle.view_slots.specs.Texts.{range_of}
 use Rattle.script_map.specs.Left.{Shown, first_of, published_in, refused_in}
 use Rattle.script_map.specs.Refusals.{Refused}
-use Rattle.script_lint.specs.Blocks.{idle_par}
-use Rattle.script_lint.specs.Refusals.{taken_along_by}
-use Rattle.script_lint.specs.Transactions.{unclosed}
+use Rattle.scope_run.proofs.HandedOn.{idle_par, taken_along_by, unclosed}
 use Rattle.scope_words.specs.declared.requests.Request.{Request}
 use Rattle.scope_words.specs.declared.requests.Request.TheVariants.{Why, Lint, Diff, Slots, Draw, Explain, Import, Check}
 use Rattle.scope_run.specs.Diffs.{is_kept}

@@ -11,9 +11,7 @@ use Rattle.map_lint.specs.Faults.{findings_of}
 use Rattle.map_lint.specs.declared.findings.Finding.{Finding}
 use Rattle.script_map.specs.Left.{first_of, refused_in}
 use Rattle.script_map.specs.Refusals.{Refused}
-use Rattle.script_lint.specs.Blocks.{idle_par}
-use Rattle.script_lint.specs.Refusals.{taken_along_by}
-use Rattle.script_lint.specs.Transactions.{unclosed}
+use Rattle.scope_run.specs.HandedOn.{idle_par, taken_along_by, unclosed}
 use Rattle.scope_values.specs.Findings.{finding_data}
 use Rattle.scope_run.specs.Scripts.{left_by}
 use Rattle.scope_json.specs.Texts.{answer_of, has_any}

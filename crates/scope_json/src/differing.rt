@@ -12,10 +12,10 @@ use crate::answers::{Told, answer_to};
 use json_build::{Fields, Items, Value};
 use mem_base::{RangeEvent, SpaceId};
 use scope_run::{
-    Fault, Which, difference_of, differs, is_kept, let_go, space_count, space_of, stopped,
+    Fault, ToldMap, Which, difference_of, differs, is_kept, let_go, read_told, space_count,
+    space_of, stopped,
 };
 use scope_values::change;
-use script_memory::{ToldMap, read_told};
 use script_names::NameTable;
 use std::alloc::{AllocError, Global};
 use view_diff::Difference;

@@ -11,9 +11,8 @@ ghost use Rattle.scope_json.specs.Draws.{TellsDraw, draw_data};
 use crate::answers::{Told, answer_to};
 use json_build::Value;
 use mem_base::{Name, SpaceId};
-use scope_run::{Fault, Which, let_go, rows_in, stopped};
+use scope_run::{Fault, ToldMap, Which, let_go, read_told, rows_in, stopped};
 use scope_values::row_list;
-use script_memory::{ToldMap, read_told};
 use std::alloc::{AllocError, Global};
 
 // The rows of a space.

@@ -18,10 +18,10 @@ use generation::Generation;
 use json_build::{Fields, Items, Value};
 use mem_base::{Edition, FlatRange, RangeEvent, SpaceId, View};
 use scope_run::{
-    Fault, Which, edges_of, let_history_go, slot_number, space_count, space_of, table_in,
+    Fault, ToldHistory, ToldMap, Which, edges_of, follow_told, let_history_go, slot_number,
+    space_count, space_of, table_in,
 };
 use scope_values::slot;
-use script_memory::{ToldHistory, ToldMap, follow_told};
 use script_names::Names;
 use script_text::{ParseFault, Script, parse};
 use std::alloc::{AllocError, Global};

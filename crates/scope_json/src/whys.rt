@@ -12,9 +12,8 @@ use crate::answers::{Told, answer_to};
 use find_why::why as find_hops;
 use json_build::Value;
 use mem_base::{Name, RegionId, SpaceId};
-use scope_run::{Fault, Which, let_go, region_asked, stopped};
+use scope_run::{Fault, ToldMap, Which, let_go, read_told, region_asked, stopped};
 use scope_values::search_list;
-use script_memory::{ToldMap, read_told};
 use std::alloc::{AllocError, Global};
 
 // The value about an address of a space.

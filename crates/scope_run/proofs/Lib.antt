@@ -4,3 +4,4 @@ pub mod TableLaws
 pub mod FileLaws
 mod ExplainLaws
 mod MonitorLaws
+pub mod HandedOn

@@ -9,3 +9,4 @@ pub mod Imports
 pub mod Requests
 pub mod Said
 pub mod Statuses
+pub mod HandedOn

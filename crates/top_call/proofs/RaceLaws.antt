@@ -14,10 +14,8 @@ use Rattle.mem_base.specs.script.Run.{text_of}
 use Rattle.mem_base.specs.script.Scripts.{Line, Meaning}
 use Rattle.run_laws.specs.Fitting.{AreFitting}
 use Rattle.race_laws.proofs.StoppedEnds.{races_exist}
-use Rattle.race_run.proofs.HandedOn.{ConfigState}
+use Rattle.race_run.proofs.HandedOn.{ConfigState, RunFault, Write}
 use Rattle.race_run.specs.Racing.{HasStopped, TakesOne}
-use Rattle.script_run.specs.declared.faults.RunFault.{RunFault}
-use Rattle.script_run.specs.declared.faults.RunFault.TheVariants.{Write}
 use Rattle.top_call.specs.declared.endings.Ending.{Ending}
 use Rattle.top_call.specs.declared.endings.Ending.TheVariants as endings
 use Rattle.top_call.specs.RacedText.{IsRacedText, WritesPlain, WritesRaceOf}

@@ -14,8 +14,8 @@ ghost use Rattle.top_call.specs.WrittenText.{text_of_script};
 use crate::endings::Ending;
 use mem_base::{BadScript, Cause};
 use outside::{Failed, ReadStop, Sink, Source, read_all, write_all};
+use race_run::{RunFault, run};
 use script_lines::{Line, add_bad_line};
-use script_run::{RunFault, run};
 use script_text::{MOST_TEXT, ParseFault, parse};
 use std::alloc::{AllocError, Global};
 

@@ -1,7 +1,7 @@
 use Rattle.std.proofs.Common.{Option, OnOk, sym, subst}
 use Rattle.mem_base.specs.script.Race.{block}
 use Rattle.mem_base.specs.script.Tasks.{Known}
-use Rattle.desk_lock.proofs.RecordLaws.{later_same}
+use Rattle.race_block.proofs.HandedOn.{later_same}
 use Rattle.race_outside.specs.Outside.{WritesOn}
 use Rattle.race_inside.specs.Seats.{IsTold, names_then}
 use Rattle.race_inside.proofs.BlockLaws.{nothing_stops}

@@ -1,7 +1,7 @@
 use Rattle.std.proofs.Common.{rules, ◌≡◌, None, List, length, All, option_to_list, ap, sym, subst, ◌∙◌}
 use Rattle.mem_base.specs.machine.Records.{Clerk}
 use Rattle.mem_base.specs.script.Race.{block}
-use Rattle.desk_lock.specs.Records.{RecordState}
+use Rattle.race_block.proofs.HandedOn.{RecordState}
 use Rattle.race_block.specs.declared.blocks.BlockActor.{BlockActor}
 use Rattle.race_block.specs.Blocks.{CanAct}
 use Rattle.race_outside.specs.Ready.{AreReady}

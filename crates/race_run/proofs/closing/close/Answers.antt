@@ -1,5 +1,5 @@
 use Rattle.std.proofs.Common.{ap}
-use Rattle.desk_lock.specs.Records.{RecordState}
+use Rattle.race_inside.proofs.HandedOn.{RecordState}
 use Rattle.race_run.proofs.ClosingLaws.{closed}
 use Rattle.race_run.proofs.closing.close.Goals as goal
 

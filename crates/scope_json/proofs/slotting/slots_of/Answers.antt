@@ -4,7 +4,7 @@ use Rattle.serde_json.specs.Data.{Data}
 use Rattle.mem_base.specs.script.Scripts.{Line}
 use Rattle.mem_base.specs.script.Spelling.{Text}
 use Rattle.script_map.specs.Left.{Shown, all_shown, first_of, published_in}
-use Rattle.script_memory.specs.Told.{Told, told_of}
+use Rattle.scope_run.proofs.HandedOn.{Told, told_of}
 use Rattle.scope_json.specs.Tables.{TellsSlots, TellsSlotsIn}
 use Rattle.scope_json.proofs.slotting.slots_of.Goals as goal
 
