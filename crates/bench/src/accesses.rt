@@ -29,7 +29,7 @@ pub(crate) struct Accesses<'a> {
 }
 
 impl Accesses<'_> {
-    /// Adds a round of writes of addresses to one time, and a round of reads to another: what the reads find, added up.
+    /// Times rounds of writes and of reads: what the reads of the last round find, added up.
     pub(crate) fn time<A: Reader>(
         self,
         reader: &mut A,

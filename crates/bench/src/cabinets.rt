@@ -2,7 +2,7 @@
 ghost use Rattle.std.specs.Prelude.{◌≡◌, None};
 
 use crate::accesses::PASSES;
-use crate::times::{Bench, Failed, Least, Result, Unit, drawn};
+use crate::times::{Bench, Failed, Least, Result, Unit, begin, drawn};
 use config_desk::Config;
 use epoch_rule::{Cabinet, Pass};
 use generation::Generation;
@@ -44,8 +44,12 @@ impl<L: Ledger> Bench<L> {
         let mut pass = config.pass().ok_or(Failed)?;
         show_memory(config)?;
         for _ in 0..self.rounds {
-            let numbers = visits.time(rt, || visit(cabinet, &mut pass, count));
-            let found = loads.time(rt, || load_all(cabinet, &mut pass, drawn));
+            let start = begin(rt);
+            let numbers = visit(cabinet, &mut pass, count);
+            visits.end(rt, start);
+            let start = begin(rt);
+            let found = load_all(cabinet, &mut pass, drawn);
+            loads.end(rt, start);
             sum = numbers.wrapping_add(found);
         }
         println!(rt; "cabinet {PASSES} {all}: visits and loads {count}, sum {sum}")?;

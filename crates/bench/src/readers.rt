@@ -66,7 +66,7 @@ const DONE: TxResult = TxResult {
     decode: false,
 };
 
-/// Memory of one's own: words, which the regions share, each being a page after the one before it. Its devices answer 0 and take nothing.
+/// Memory of one's own: words, which the regions share, each a page after the one before it. Its devices answer 0 and take nothing.
 #[derive(Drop)]
 struct Own {
     words: Vec<u64>,

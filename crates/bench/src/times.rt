@@ -44,6 +44,11 @@ pub(crate) enum Unit {
 #[derive(Clone, Copy)]
 pub(crate) struct Least(Option<u64>, Unit);
 
+/// When a round begins; none where the clock fails.
+pub(crate) fn begin(rt: HostRuntime) -> Option<Instant> {
+    Instant::now(&rt).ok()
+}
+
 impl Least {
     /// No round yet.
     pub(crate) fn new(unit: Unit) -> Least {
@@ -55,12 +60,17 @@ impl Least {
         requires { F.IsAlwaysCallable work }
         ensures { F.post work result }
     {
-        let start = Instant::now(&rt).ok();
+        let start = begin(rt);
         let result = work();
+        self.end(rt, start);
+        result
+    }
+
+    /// The end of a round that began then.
+    pub(crate) fn end(&mut self, rt: HostRuntime, start: Option<Instant>) {
         if let Some(Ok(time)) = start.map(|start| start.elapsed(&rt)) {
             self.lower(u64::try_from(time.as_nanos()).unwrap_or(u64::MAX));
         }
-        result
     }
 
     /// A round took this many nanoseconds.

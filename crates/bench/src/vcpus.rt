@@ -72,8 +72,7 @@ pub(crate) fn build(config: &mut Config, calls: &[Call]) -> Result<()> {
     Ok(())
 }
 
-/// Moves regions of the map, as often as there are calls that place one, until as many moves were published as a quarter of its size; how
-/// many were. It rests for a millisecond before each.
+/// Moves placed regions of the map, a millisecond after one another, until a quarter of its size or all were moved; how many were.
 fn move_many(rt: HostRuntime, config: &mut Config, map: &Map) -> u32 {
     let mut moved = 0u32;
     for call in &map.calls {
