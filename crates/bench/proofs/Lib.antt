@@ -1,2 +1,2 @@
-pub mod BoardLaws
+pub mod PlaceLaws
 pub mod ReadyLaws

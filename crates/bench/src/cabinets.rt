@@ -1,130 +1,76 @@
-// How long it takes to make a cabinet, to enter a generation and leave it, and to load a word.
-ghost use Rattle.std.specs.Prelude.{◌≡◌, ◌*◌, ◌+◌, ◌^◌, ◌<◌, ◌≤◌, IfOk, IfSome, None};
-ghost use Rattle.mem_base.specs.machine.Actors.{number_seen};
+// How long it takes to make a cabinet with its writer's desk, to enter a generation and leave it, and to load a word.
+ghost use Rattle.std.specs.Prelude.{◌≡◌, None};
 
-use crate::boards::{Board, DATA_WORDS, ram};
-use crate::times::{Failed, Least, begin, drawn};
-use epoch_rule::{Batch, Cabinet, Pass, WriterSeat};
+use crate::accesses::PASSES;
+use crate::times::{Bench, Failed, Least, Result, Unit, begin, drawn};
+use config_desk::Config;
+use epoch_rule::{Cabinet, Pass};
+use generation::Generation;
+use mem_base::{Call, Edition, Kind, NOTIFIER_COUNT, RegionId, Size, SpaceId};
 use shared_words::load;
-use std::alloc::{AllocError, Global};
-use std::sync::Arc;
+use std::sync::ledger::Ledger;
 
-/// The passes of a cabinet.
-const PASSES: u32 = 16;
+/// The bytes of the memory that a generation shows, 64 pages.
+const BYTES: u32 = 0x40000;
 
-/// The least times of making a cabinet, of all visits and of all loads, and what these found, added up.
-#[derive(Clone, Copy)]
-struct Figures {
-    made: Least,
-    visits: Least,
-    loads: Least,
-    sum: u64,
-}
-
-/// Makes a cabinet of 16 passes and `words` words, enters and leaves by one pass `count` times, and loads as many drawn words
-/// of the memory that a generation shows; tells how long that took, the least of some rounds, and how long the cabinet.
-pub(crate) fn run_cabinet(
-    rt: HostRuntime,
-    words: usize,
-    count: u32,
-    rounds: u32,
-) -> Result<(), Failed>
-    requires { (32771 ≤ words) × (words ≤ 2 ^ 26 + 64) }
-{
-    let drawn = drawn(rt.alloc(), 5, count, DATA_WORDS)?;
-    let it = on_cabinet(rt, words, drawn.as_slice(), rounds)?;
-    println!(rt;
-        "cabinet {PASSES} {words}: visits and loads {count}, sum {}",
-        it.sum
-    )?;
-    eprintln!(rt;
-        "cabinet {PASSES} {words}: made in {} us, {count} visits {} us, {count} loads {} us",
-        it.made.micros(),
-        it.visits.micros(),
-        it.loads.micros()
-    )?;
-    Ok(())
-}
-
-fn on_cabinet(
-    rt: HostRuntime,
-    words: usize,
-    drawn: &[u32],
-    rounds: u32,
-) -> Result<Figures, AllocError>
-    requires { (32771 ≤ words) × (words ≤ 2 ^ 26 + 64) }
-{
-    let mut figures = Figures {
-        made: Least::new(),
-        visits: Least::new(),
-        loads: Least::new(),
-        sum: 0,
-    };
-    let start = begin(&rt);
-    let (cabinet, mut writer) = open(rt.alloc(), words)?;
-    figures.made.end(&rt, start);
-    let _ = publish(rt.alloc(), &cabinet, &mut writer);
-    if let Some(mut pass) = cabinet.pass(&mut writer) {
-        time_pass(rt, &cabinet, &mut pass, drawn, rounds, &mut figures);
+impl<L: Ledger> Bench<L> {
+    /// Makes a cabinet, enters and leaves by one pass, and loads as many drawn words of memory that a generation shows.
+    pub(crate) fn run_cabinet(&self) -> Result<()> {
+        let (words, count) = if self.is_full {
+            (1 << 26, 1_000_000)
+        } else {
+            (32_771, 1000)
+        };
+        let drawn = drawn(self.rt, 5, count, BYTES / 8)?;
+        let (alloc, mut made) = (self.rt.alloc(), Least::new(Unit::Micros));
+        let (cabinet, mut config) = made.time(self.rt, || Config::new(alloc, words, PASSES))?;
+        let done = self.time_pass(&cabinet, &mut config, drawn.as_slice(), words, made);
+        done
     }
-    Ok(figures)
-}
 
-fn time_pass(
-    rt: HostRuntime,
-    cabinet: &Cabinet<Board>,
-    pass: &mut Pass<Board>,
-    drawn: &[u32],
-    rounds: u32,
-    figures: &mut Figures,
-)
-    requires own { pass.old.cabinet ≡ cabinet.now.id }
-    requires out { pass.old.edition ≡ None }
-{
-    for _ in 0..rounds {
-        let start = begin(&rt);
-        let numbers = visit(cabinet, pass, drawn.len());
-        figures.visits.end(&rt, start);
-        let start = begin(&rt);
-        let found = load_all(cabinet, pass, drawn);
-        figures.loads.end(&rt, start);
-        figures.sum = numbers.wrapping_add(found);
+    fn time_pass(
+        &self,
+        cabinet: &Cabinet<Generation>,
+        config: &mut Config,
+        drawn: &[u32],
+        words: usize,
+        made: Least,
+    ) -> Result<()>
+        requires own { config.old.seat.cabinet ≡ cabinet.now.id }
+    {
+        let (rt, count, all) = (self.rt, drawn.len(), words.saturating_add(NOTIFIER_COUNT));
+        let mut sum = 0;
+        let [mut visits, mut loads] = [Least::new(Unit::Micros); 2];
+        let mut pass = config.pass().ok_or(Failed)?;
+        show_memory(config)?;
+        for _ in 0..self.rounds {
+            let start = begin(rt);
+            let numbers = visit(cabinet, &mut pass, count);
+            visits.end(rt, start);
+            let start = begin(rt);
+            let found = load_all(cabinet, &mut pass, drawn);
+            loads.end(rt, start);
+            sum = numbers.wrapping_add(found);
+        }
+        println!(rt; "cabinet {PASSES} {all}: visits and loads {count}, sum {sum}")?;
+        eprintln!(rt;
+            "cabinet {PASSES} {all}: made in {made}, {count} visits {visits}, {count} loads {loads}"
+        )?;
+        Ok(())
     }
 }
 
-/// A cabinet with the writer's seat.
-fn open(alloc: Global, words: usize) -> Result<(Cabinet<Board>, WriterSeat<Board>), AllocError>
-    requires { words ≤ 2 ^ 26 + 64 }
-    ensures { IfOk result (λ r. (r.1.cabinet ≡ r.0.id) × (r.1.sizes.passes ≡ 16) × (r.1.sizes.words ≡ words)) }
-{
-    let first = Arc::new(alloc, Board { number: 0 })?;
-    Cabinet::new(alloc, PASSES, words, first)
-}
-
-/// Publishes the next board.
-fn publish(
-    alloc: Global,
-    cabinet: &Cabinet<Board>,
-    writer: &mut WriterSeat<Board>,
-) -> Result<(), AllocError>
-    requires own { writer.old.cabinet ≡ cabinet.now.id }
-    requires passes { writer.old.sizes.passes ≡ 16 }
-    requires words { 32771 ≤ writer.old.sizes.words }
-    ensures same { (writer.new.cabinet ≡ writer.old.cabinet) × (writer.new.sizes ≡ writer.old.sizes) }
-{
-    let current = writer.current();
-    if current >= 1000 {
-        return Err(AllocError);
-    }
-    let number = current + 1;
-    let next = Arc::new(alloc, Board { number })?;
-    let batch = Batch::new(alloc, &next, PASSES)?;
-    let _ = cabinet.publish(writer, batch);
+/// Publishes a generation in which memory is all of space 0.
+fn show_memory(config: &mut Config) -> Result<()> {
+    let size = Size::new(u128::from(BYTES)).ok_or(Failed)?;
+    let (kind, space, root) = (Kind::Ram, SpaceId(0), RegionId(0));
+    config.call(&Call::Region { kind, size })?;
+    config.call(&Call::Space { space, root })?;
     Ok(())
 }
 
 /// Enters and leaves some times, and adds up the numbers.
-fn visit(cabinet: &Cabinet<Board>, pass: &mut Pass<Board>, count: usize) -> u64
+fn visit(cabinet: &Cabinet<Generation>, pass: &mut Pass<Generation>, count: usize) -> u64
     requires own { pass.old.cabinet ≡ cabinet.now.id }
     requires out { pass.old.edition ≡ None }
     ensures own { pass.new.cabinet ≡ pass.old.cabinet }
@@ -139,20 +85,20 @@ fn visit(cabinet: &Cabinet<Board>, pass: &mut Pass<Board>, count: usize) -> u64
 }
 
 /// Enters, loads these words of the memory, adds up what they have and one for each, and leaves.
-fn load_all(cabinet: &Cabinet<Board>, pass: &mut Pass<Board>, words: &[u32]) -> u64
+fn load_all(cabinet: &Cabinet<Generation>, pass: &mut Pass<Generation>, words: &[u32]) -> u64
     requires own { pass.old.cabinet ≡ cabinet.now.id }
     requires out { pass.old.edition ≡ None }
     ensures own { pass.new.cabinet ≡ pass.old.cabinet }
     ensures out { pass.new.edition ≡ None }
 {
     let mut sum: u64 = 0;
-    if cabinet.enter(pass) > 0 {
-        let place = ram();
+    cabinet.enter(pass);
+    if let Some(place) = cabinet.generation(pass).place_of(RegionId(0)) {
         for word in words {
-            let word = (*word % DATA_WORDS) as usize;
-            sum = sum
-                .wrapping_add(load(cabinet, pass, &place, word))
-                .wrapping_add(1);
+            if u64::from(*word) < place.bytes / 8 {
+                let found = load(cabinet, pass, &place, *word as usize);
+                sum = sum.wrapping_add(found).wrapping_add(1);
+            }
         }
     }
     cabinet.leave(pass);

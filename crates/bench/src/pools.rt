@@ -2,12 +2,12 @@
 ghost use Rattle.std.specs.Prelude.{◌≡◌, ◌%◌, ◌<◌, ◌≤◌};
 ghost use Rattle.mem_base.specs.map.Limits.{page_size, most_bytes, most_registers};
 
-use crate::times::{Failed, Least, begin};
+use crate::times::{Bench, Least, Result, Unit};
 use backing_pool::Pool;
 use mem_base::RegionId;
 use rand_core::utils::NextWord;
 use rand_pcg::Lcg64Xsh32;
-use std::alloc::{AllocError, Global};
+use std::sync::ledger::Ledger;
 
 /// The words of the pool.
 const WORDS: usize = 4096;
@@ -15,22 +15,18 @@ const WORDS: usize = 4096;
 /// The places that are taken.
 const PLACES: u32 = 10_000;
 
-/// Takes 10,000 places of drawn sizes, each of the region of the next number, gives drawn ones back where there is no
-/// room, and all in the end; tells how long that took, the least of some rounds.
-pub(crate) fn run_pool(rt: HostRuntime, rounds: u32) -> Result<(), Failed> {
-    let mut times = Least::new();
-    let mut sum = 0;
-    for _ in 0..rounds {
-        let start = begin(&rt);
-        sum = take_all(rt.alloc())?;
-        times.end(&rt, start);
+impl<L: Ledger> Bench<L> {
+    /// Takes 10,000 places of drawn sizes, each of the region of the next number, gives drawn ones back where there is no room, and all
+    /// in the end.
+    pub(crate) fn run_pool(&self) -> Result<()> {
+        let (rt, mut times, mut sum) = (self.rt, Least::new(Unit::Micros), 0);
+        for _ in 0..self.rounds {
+            sum = times.time(rt, || take_all(rt))?;
+        }
+        println!(rt; "pool {WORDS}: places {PLACES}, sum of starts {sum}")?;
+        eprintln!(rt; "pool {WORDS}: {PLACES} places taken and given back in {times}")?;
+        Ok(())
     }
-    println!(rt; "pool {WORDS}: places {PLACES}, sum of starts {sum}")?;
-    eprintln!(rt;
-        "pool {WORDS}: {PLACES} places taken and given back in {} us",
-        times.micros()
-    )?;
-    Ok(())
 }
 
 /// Nothing, or one or two pages.
@@ -45,31 +41,31 @@ fn bytes(rng: &mut Lcg64Xsh32) -> u64
     }
 }
 
-/// Takes the place of one region, where drawn ones are given back until there is room, and gives its start.
-fn take_one(
-    pool: &mut Pool,
-    taken: &mut Vec<RegionId>,
-    rng: &mut Lcg64Xsh32,
-    region: RegionId,
-    bytes: u64,
-    regs: u32,
-) -> Result<usize, AllocError>
-    requires pages { bytes % page_size ≡ 0 }
-    requires few { bytes ≤ most_bytes }
-    requires some { 0 < regs }
-    requires most { regs ≤ most_registers }
-{
-    for _ in 0..PLACES {
-        if pool.place_of(region).is_some() {
-            return Ok(0);
+/// The sum of the starts of all places that were taken.
+fn take_all(rt: HostRuntime) -> Result<u64> {
+    let mut rng = Lcg64Xsh32::new(4, 54);
+    let mut pool = Pool::new(rt.alloc(), WORDS)?;
+    let mut taken = Vec::new(rt.alloc());
+    let mut sum: u64 = 0;
+    for i in 0..PLACES {
+        let (region, bytes) = (RegionId(i), bytes(&mut rng));
+        let regs = rng.next_word() % 64 + 1;
+        for _ in 0..PLACES {
+            if pool.place_of(region).is_some() {
+                break;
+            }
+            if let Ok(place) = pool.take(region, bytes, regs) {
+                taken.push(region)?;
+                sum = sum.wrapping_add(place.start as u64);
+                break;
+            }
+            give_drawn(&mut pool, &mut taken, &mut rng);
         }
-        if let Ok(place) = pool.take(region, bytes, regs) {
-            taken.push(region)?;
-            return Ok(place.start);
-        }
-        give_drawn(pool, taken, rng);
     }
-    Ok(0)
+    for region in &taken {
+        let _ = pool.give(*region);
+    }
+    Ok(sum)
 }
 
 /// Gives the place of a drawn region back.
@@ -78,22 +74,4 @@ fn give_drawn(pool: &mut Pool, taken: &mut Vec<RegionId>, rng: &mut Lcg64Xsh32) 
     if (at as usize) < taken.len() {
         let _ = pool.give(taken.swap_remove(at as usize));
     }
-}
-
-/// The sum of the starts of all places that were taken.
-fn take_all(alloc: Global) -> Result<u64, AllocError> {
-    let mut rng = Lcg64Xsh32::new(4, 54);
-    let mut pool = Pool::new(alloc, WORDS)?;
-    let mut taken = Vec::new(alloc);
-    let mut sum: u64 = 0;
-    for i in 0..PLACES {
-        let bytes = bytes(&mut rng);
-        let regs = rng.next_word() % 64 + 1;
-        let start = take_one(&mut pool, &mut taken, &mut rng, RegionId(i), bytes, regs)?;
-        sum = sum.wrapping_add(start as u64);
-    }
-    for region in &taken {
-        let _ = pool.give(*region);
-    }
-    Ok(sum)
 }

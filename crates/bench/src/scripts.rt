@@ -1,9 +1,10 @@
 // How long the text of a script takes to be read and to be printed.
 
-use crate::times::{Failed, Least, begin};
+use crate::times::{Bench, Failed, Least, Result, Unit};
 use script_make::text_of_seed;
-use script_text::{MOST_TEXT, ParseFault, Script, parse, print};
-use std::alloc::{AllocError, Global};
+use script_text::{MOST_TEXT, ParseFault, parse, print};
+use std::alloc::Global;
+use std::sync::ledger::Ledger;
 
 /// Lines of most forms.
 const MIXED: &str = "region r17 ram 0x1000\n\
@@ -32,74 +33,53 @@ static REPEATED: [(&str, &str); 8] = [
     ("tokens of one letter", "a "),
 ];
 
-/// Texts of at most this many bytes. Where a script may have no more, the script of seed 1 is among them.
-pub(crate) fn run_scripts(rt: HostRuntime, most: usize, rounds: u32) -> Result<(), Failed> {
-    if most == MOST_TEXT {
-        run_text(rt, "make 1", &text_of_seed(rt.alloc(), 1)?, rounds)?;
+impl<L: Ledger> Bench<L> {
+    /// Reads texts of at most so many bytes, and prints what was read. Where a script may have no more, the script of seed 1 is among
+    /// them.
+    pub(crate) fn run_scripts(&self) -> Result<()> {
+        let alloc = self.rt.alloc();
+        let most = if self.is_full { MOST_TEXT } else { 1000 };
+        if self.is_full {
+            self.run_text("make 1", &text_of_seed(alloc, 1)?)?;
+        }
+        self.run_text("names", &names(alloc, most)?)?;
+        for (name, lines) in &REPEATED {
+            let count = most.checked_div(lines.len()).unwrap_or(0);
+            let text = lines.as_bytes().repeat(alloc, count)?;
+            self.run_text(name, &text)?;
+        }
+        Ok(())
     }
-    run_text(rt, "names", &names(rt.alloc(), most)?, rounds)?;
-    for (name, lines) in &REPEATED {
-        let text = repeated(rt.alloc(), lines, most)?;
-        run_text(rt, name, &text, rounds)?;
-    }
-    Ok(())
-}
 
-/// These lines, as often as they fit into this many bytes.
-fn repeated(alloc: Global, lines: &str, most: usize) -> Result<Vec<u8>, AllocError> {
-    let mut bytes = Vec::new(alloc);
-    for _ in 0..most.checked_div(lines.len()).unwrap_or(0) {
-        bytes.extend_from_slice(lines.as_bytes())?;
+    fn run_text(&self, name: &str, text: &[u8]) -> Result<()> {
+        let (rt, bytes) = (self.rt, text.len());
+        let [mut parses, mut prints] = [Least::new(Unit::Micros); 2];
+        let (mut commands, mut printed, mut fault) = (0, 0, 0);
+        for _ in 0..self.rounds {
+            match parses.time(rt, || parse(rt.alloc(), text)) {
+                Ok(script) => {
+                    commands = script.lines().len();
+                    let text = prints.time(rt, || print(rt.alloc(), &script));
+                    printed = text.map_or(0, |text| text.len());
+                }
+                Err(ParseFault::Bad(bad)) => fault = bad.line,
+                Err(ParseFault::Memory) => return Err(Failed),
+            }
+        }
+        println!(rt;
+            "{name}: bytes {bytes}, commands {commands}, printed {printed}, fault {fault}"
+        )?;
+        eprintln!(rt; "{name}: parse {parses}, print {prints}")?;
+        Ok(())
     }
-    Ok(bytes)
 }
 
 /// Lines with two names each, all of them different: about ten bytes a name.
-fn names(alloc: Global, most: usize) -> Result<Vec<u8>, AllocError> {
+fn names(alloc: Global, most: usize) -> Result<Vec<u8>> {
     let mut bytes = Vec::new(alloc);
     for i in 0..most / 20 {
         let line = format!(in alloc; "del a{i} b{i}\n")?;
         bytes.extend_from_slice(line.as_bytes())?;
     }
     Ok(bytes)
-}
-
-/// How many bytes are printed of a script; 0 where memory runs out.
-fn time_print(rt: HostRuntime, script: &Script, times: &mut Least) -> usize {
-    let start = begin(&rt);
-    let text = print(rt.alloc(), script);
-    times.end(&rt, start);
-    match text {
-        Ok(text) => text.len(),
-        Err(_) => 0,
-    }
-}
-
-/// Reads a text some times, prints what was read, and tells how long each took.
-fn run_text(rt: HostRuntime, name: &str, text: &[u8], rounds: u32) -> Result<(), Failed> {
-    let (mut parses, mut prints) = (Least::new(), Least::new());
-    let (mut commands, mut printed, mut fault) = (0, 0, 0);
-    for _ in 0..rounds {
-        let start = begin(&rt);
-        let read = parse(rt.alloc(), text);
-        parses.end(&rt, start);
-        match read {
-            Ok(script) => {
-                commands = script.lines().len();
-                printed = time_print(rt, &script, &mut prints);
-            }
-            Err(ParseFault::Bad(bad)) => fault = bad.line,
-            Err(ParseFault::Memory) => return Err(Failed::Memory),
-        }
-    }
-    println!(rt;
-        "{name}: bytes {}, commands {commands}, printed {printed}, fault {fault}",
-        text.len()
-    )?;
-    eprintln!(rt;
-        "{name}: parse {} us, print {} us",
-        parses.micros(),
-        prints.micros()
-    )?;
-    Ok(())
 }

@@ -1,148 +1,134 @@
-// How long the calls of a map take, moves of its regions, look-ups by the tree alone, and its view.
+// How long the calls of a map take, moves of its regions, look-ups by the tree alone, and its view; an atlas of the view, look-ups
+// in it, and a walk to the next view.
 use crate::maps::Map;
-use crate::times::{Failed, Least, begin};
+use crate::times::{Bench, Failed, Least, Result, Unit, drawn};
+use flat_lookup::Atlas;
 use flat_render::render;
 use flat_simplify::simplify;
-use mem_base::{Call, SpaceId, View};
+use mem_base::{Call, SpaceId, Spot, View};
 use region_tree::Tree;
-use std::alloc::Global;
 use std::sync::ledger::Ledger;
-use step_counter::Steps;
 use tree_find::find;
+use view_walk::walk;
 
-/// The least times of a map's calls, of moving each of its regions twice, of a thousand look-ups, and of its view.
-#[derive(Clone, Copy)]
-struct Times {
-    builds: Least,
-    moves: Least,
-    finds: Least,
-    views: Least,
-}
-
-/// Builds a map some times, and renders its view as many times more; tells what it is and how long it took.
-pub(crate) fn run_tree<L: Ledger>(
-    rt: HostRuntime,
-    map: &Map,
-    rounds: u32,
-    views: u32,
-    steps: &mut Steps<L>,
-) -> Result<(), Failed> {
-    let calls = map.calls.as_slice();
-    let mut times = Times {
-        builds: Least::new(),
-        moves: Least::new(),
-        finds: Least::new(),
-        views: Least::new(),
-    };
-    let (mut refused, mut found) = (0, 0);
-    for _ in 0..rounds {
-        (refused, found) = time_calls(rt, calls, &mut times);
+impl<L: Ledger> Bench<L> {
+    /// Builds a map, moves each of its regions by a byte and back, looks up a thousand addresses, and renders its view `views` times.
+    pub(crate) fn run_tree(&mut self, map: &Map, views: u32) -> Result<()> {
+        let (rt, calls) = (self.rt, map.calls.as_slice());
+        let moves = map.moves(rt, 1, 1)?;
+        let [mut builds, mut moving] = [Least::new(Unit::Micros); 2];
+        let [mut finds, mut renders] = [
+            Least::new(Unit::NanosEach(1000)),
+            Least::new(Unit::NanosEach(1)),
+        ];
+        let (mut refused, mut found) = (0, 0);
+        for _ in 0..self.rounds {
+            let mut tree = Tree::new(rt.alloc());
+            refused = builds.time(rt, || apply_all(&mut tree, calls));
+            moving.time(rt, || apply_all(&mut tree, moves.as_slice()));
+            found = finds.time(rt, || find_all(&tree));
+        }
+        let (count, ranges) = (calls.len(), self.time_views(calls, views, &mut renders)?);
+        println!(rt; "{map}: calls {count}, refused {refused}, ranges {ranges}, found {found}")?;
+        eprintln!(rt;
+            "{map}: calls {builds}, moves {moving}, a look-up {finds}, a view {renders}"
+        )?;
+        Ok(())
     }
-    let ranges = time_views(rt, calls, rounds.saturating_mul(views), &mut times, steps)?;
-    println!(rt;
-        "{map}: calls {}, refused {refused}, ranges {ranges}, found {found}",
-        calls.len()
-    )?;
-    eprintln!(rt;
-        "{map}: calls {} us, moves {} us, a look-up {} ns, a view {} ns",
-        times.builds.micros(),
-        times.moves.micros(),
-        times.finds.nanos_each(1000),
-        times.views.nanos()
-    )?;
-    Ok(())
-}
 
-/// One tree: how many calls were refused, and what look-ups found, added up.
-fn time_calls(rt: HostRuntime, calls: &[Call], times: &mut Times) -> (u64, u64) {
-    let mut tree = Tree::new(rt.alloc());
-    let start = begin(&rt);
-    let refused = build(&mut tree, calls);
-    times.builds.end(&rt, start);
-    let start = begin(&rt);
-    move_all(&mut tree, calls);
-    times.moves.end(&rt, start);
-    let start = begin(&rt);
-    let found = look_up(&tree);
-    times.finds.end(&rt, start);
-    (refused, found)
-}
-
-/// How many ranges the view of space 0 has.
-fn time_views<L: Ledger>(
-    rt: HostRuntime,
-    calls: &[Call],
-    count: u32,
-    times: &mut Times,
-    steps: &mut Steps<L>,
-) -> Result<usize, Failed> {
-    let mut tree = Tree::new(rt.alloc());
-    build(&mut tree, calls);
-    let ranges = render_all(rt, &tree, count, times, steps);
-    ranges
-}
-
-fn render_all<L: Ledger>(
-    rt: HostRuntime,
-    tree: &Tree,
-    count: u32,
-    times: &mut Times,
-    steps: &mut Steps<L>,
-) -> Result<usize, Failed> {
-    let mut ranges = 0;
-    for _ in 0..count {
-        let start = begin(&rt);
-        ranges = view(rt.alloc(), tree, steps)?.as_slice().len();
-        times.views.end(&rt, start);
+    /// How many ranges the view of space 0 has after these calls.
+    fn time_views(&mut self, calls: &[Call], views: u32, renders: &mut Least) -> Result<usize> {
+        let mut tree = Tree::new(self.rt.alloc());
+        apply_all(&mut tree, calls);
+        let mut ranges = 0;
+        for _ in 0..self.rounds.saturating_mul(views) {
+            ranges = renders.time(self.rt, || self.count_ranges(&tree))?;
+        }
+        Ok(ranges)
     }
-    Ok(ranges)
+
+    /// Looks up drawn addresses in the view of a map, fifty times as many as its size, and walks to the view after every sixteenth of
+    /// its regions was moved by a page: the least of twenty times as many rounds.
+    pub(crate) fn run_views(&mut self, map: &Map) -> Result<()> {
+        let mut tree = Tree::new(self.rt.alloc());
+        apply_all(&mut tree, map.calls.as_slice());
+        let done = self.time_atlases(map, &mut tree);
+        done
+    }
+
+    fn time_atlases(&mut self, map: &Map, tree: &mut Tree) -> Result<()> {
+        let (rt, rounds) = (self.rt, self.rounds.saturating_mul(20));
+        let count = map.size.saturating_mul(50);
+        let addrs = drawn(rt, 2, count, 0x100_0000)?;
+        let [mut atlases, mut walks] = [Least::new(Unit::NanosEach(1)); 2];
+        let (mut looks, mut ranges, mut found, mut changes) = (Least::new(Unit::Micros), 0, 0, 0);
+        for _ in 0..rounds {
+            let view = self.view(tree)?;
+            ranges = view.as_slice().len();
+            let atlas = atlases.time(rt, || Atlas::new(rt.alloc(), view));
+            let atlas = atlas.map_err(|_| Failed)?;
+            found = looks.time(rt, || self.look_up(&atlas, addrs.as_slice()));
+        }
+        let old = self.view(tree)?;
+        for pair in map.moves(rt, 16, 0x1000)?.chunks(2) {
+            apply_all(tree, pair.get(..1).unwrap_or(&[]));
+        }
+        let new = self.view(tree)?;
+        for _ in 0..rounds {
+            let steps = walks.time(rt, || walk(rt.alloc(), &old, &new))?;
+            changes = steps.as_slice().len();
+        }
+        println!(rt; "{map} looked up: ranges {ranges}, found {found}, steps of a walk {changes}")?;
+        eprintln!(rt;
+            "{map} looked up: an atlas {atlases}, {count} look-ups {looks}, a walk {walks}"
+        )?;
+        Ok(())
+    }
+
+    fn count_ranges(&mut self, tree: &Tree) -> Result<usize> {
+        Ok(self.view(tree)?.as_slice().len())
+    }
+
+    /// The view of space 0, which is there.
+    fn view(&mut self, tree: &Tree) -> Result<View> {
+        tree.root(SpaceId(0)).ok_or(Failed)?;
+        let pieces = render(self.rt.alloc(), tree, SpaceId(0), &mut self.steps)?;
+        Ok(simplify(pieces))
+    }
+
+    /// Looks up addresses in an atlas, and adds up what is found.
+    fn look_up(&mut self, atlas: &Atlas, addrs: &[u32]) -> u64 {
+        let mut sum: u64 = 0;
+        for addr in addrs {
+            sum = sum.wrapping_add(value_of(atlas.at(u64::from(*addr), &mut self.steps)));
+        }
+        sum
+    }
 }
 
 /// Does all calls, and counts those that are refused.
-pub(crate) fn build(tree: &mut Tree, calls: &[Call]) -> u64 {
+fn apply_all(tree: &mut Tree, calls: &[Call]) -> u64 {
     let mut refused: u64 = 0;
     for call in calls {
-        if tree.apply(call).is_err() {
-            refused = refused.saturating_add(1);
-        }
+        refused = refused.saturating_add(u64::from(tree.apply(call).is_err()));
     }
     refused
 }
 
-/// Moves each region that was placed one byte on and back.
-fn move_all(tree: &mut Tree, calls: &[Call]) {
-    for call in calls {
-        if let Call::Add { offset, child, .. } = *call {
-            let on = offset.saturating_add(1);
-            let _ = tree.apply(&Call::Move { child, offset: on });
-            let _ = tree.apply(&Call::Move { child, offset });
-        }
-    }
-}
-
-/// Looks up a thousand addresses, and adds up what is found.
-fn look_up(tree: &Tree) -> u64 {
+/// Looks up a thousand addresses by the tree alone, and adds up what is found.
+fn find_all(tree: &Tree) -> u64 {
     let mut sum: u64 = 0;
     for i in 0..1000_u64 {
         let addr = i.wrapping_mul(0x9e37_79b9) % 0x100_0000;
-        if let Some(spot) = find(tree, SpaceId(0), addr) {
-            sum = sum
-                .wrapping_add(u64::from(spot.leaf.0))
-                .wrapping_add(spot.offset);
-        }
+        sum = sum.wrapping_add(value_of(find(tree, SpaceId(0), addr)));
     }
     sum
 }
 
-/// The view of space 0.
-pub(crate) fn view<L: Ledger>(
-    alloc: Global,
-    tree: &Tree,
-    steps: &mut Steps<L>,
-) -> Result<View, Failed> {
-    if tree.root(SpaceId(0)).is_none() {
-        return Err(Failed::Refused);
+/// The region and the offset that a look-up finds, added up.
+fn value_of(found: Option<Spot>) -> u64 {
+    match found {
+        Some(spot) => spot.offset.wrapping_add(u64::from(spot.leaf.0)),
+        None => 0,
     }
-    let pieces = render(alloc, tree, SpaceId(0), steps)?;
-    Ok(simplify(pieces))
 }

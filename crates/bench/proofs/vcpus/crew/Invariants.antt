@@ -2,4 +2,4 @@ use Rattle.std.proofs.Common.{◌≡◌}
 use Rattle.bench.proofs.vcpus.crew.Given as goal
 
 abbrev pub invariant-loop : goal.invariant-loop
-invariant-loop l = l.config.seat.cabinet ≡ l.cabinet.id
+invariant-loop g l = l.config.seat.cabinet ≡ l.cabinet.id
