@@ -419,6 +419,25 @@ static void test_parts(vb_desk *d, vb_cpu *cpu, uint32_t ram)
     done(vb_desk_ask(d, &order), "its pages are logged no more");
 }
 
+/* What the listeners of a desk are told, and that it forgets it. RAM stands at 0 before and after. */
+static void test_told(vb_desk *d, uint32_t ram)
+{
+    vb_listener_call call;
+    vb_order order = { .what = VB_DO_LISTEN, .listener = 5, .space = 1 };
+    done(vb_desk_ask(d, &order), "a listener joins");
+    vb_answer told = vb_desk_delivery(d, 1, &call);
+    check(told.value == 3 && call.what == VB_TOLD_ADD && call.listener == 5 && call.range.region == ram, "it is told of RAM");
+    check(vb_desk_forget(d, 2).value == 2, "two calls are forgotten");
+    told = vb_desk_delivery(d, 0, &call);
+    check(told.value == 1 && call.what == VB_TOLD_COMMIT, "the first that is not forgotten is the commit");
+    check(vb_desk_forget(d, SIZE_MAX).value == 1 && vb_desk_forget(d, 1).value == 0, "the last is forgotten");
+    check(vb_desk_delivery(d, 0, &call).value == 0, "nothing is left");
+    order = (vb_order){ .what = VB_DO_UNLISTEN, .listener = 5 };
+    done(vb_desk_ask(d, &order), "the listener leaves");
+    told = vb_desk_delivery(d, 1, &call);
+    check(told.value == 3 && call.what == VB_TOLD_DELETE && call.range.region == ram, "and is told that RAM is gone");
+}
+
 /* A desk, and virtual CPUs beside it. */
 static void test_desks(void)
 {
@@ -434,6 +453,7 @@ static void test_desks(void)
     refused(vb_desk_find(&d, 0, 0, &found), VB_NO_MACHINE, 0, 0, "a look-up without a desk");
     refused(vb_desk_reap(&d, &number, 1), VB_NO_MACHINE, 0, 0, "a reap without a desk");
     refused(vb_desk_harvest(&d, 0, 0, &word, 1), VB_NO_MACHINE, 0, 0, "a harvest without a desk");
+    refused(vb_desk_forget(&d, 1), VB_NO_MACHINE, 0, 0, "nothing is forgotten without a desk");
     refused(vb_cpu_enter(&cpu), VB_NO_MACHINE, 0, 0, "no virtual CPU enters");
     refused(vb_cpu_leave(&cpu), VB_NO_MACHINE, 0, 0, "none leaves");
     refused(vb_cpu_read(&cpu, 0, 0, out, 8), VB_NO_MACHINE, 0, 0, "none reads");
@@ -469,6 +489,7 @@ static void test_desks(void)
     ended = vb_cpu_write8(&cpu, 1, 0x14, 1);
     check(ended.code == VB_NOT_WHOLE && ended.other == 2, "parts of two words are not replaced");
     test_parts(&d, &cpu, ram);
+    test_told(&d, ram);
     ended = vb_cpu_enter(&cpu);
     check(ended.code == VB_DONE && ended.other == 4, "it enters generation 4");
     order = (vb_order){ .what = VB_DO_MOVE, .region = ram, .offset = 0x4000 };

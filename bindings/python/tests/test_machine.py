@@ -254,6 +254,23 @@ class Tests(unittest.TestCase):
         self.assertEqual(desk.harvest(ram, c.VB_CLIENT_MIGRATION), [0])
         self.assertEqual(cpu.write(SPACE, 0x1FFE, b"xyz"), (3, c.VB_ACCESS_DECODE))
 
+    def test_what_the_listeners_of_a_desk_were_told_is_forgotten(self):
+        desk = Desk(1 << 12)
+        system, ram = desk.region(c.VB_KIND_CONTAINER), desk.region(c.VB_KIND_RAM, 0x1000)
+        desk.ask(c.VB_DO_SPACE, space=SPACE, other=system)
+        desk.ask(c.VB_DO_ADD, region=system, other=ram)
+        desk.ask(c.VB_DO_LISTEN, listener=2, space=SPACE)
+        end = len(desk.told())
+        for at in range(0x1000, 0x9000, 0x1000):
+            desk.forget(end)
+            self.assertEqual((desk.forgotten, desk.told(end)), (end, []))
+            desk.ask(c.VB_DO_MOVE, region=ram, offset=at)
+            told = desk.told(end)
+            self.assertEqual([it.range.start for it in told if it.what == c.VB_TOLD_ADD], [at])
+            end += len(told)
+        with self.assertRaises(IndexError):
+            desk.told()
+
 
 if __name__ == "__main__":
     ran = unittest.main(argv=sys.argv[:1], exit=False, verbosity=0).result

@@ -79,6 +79,18 @@ def ranges_in(ask):
         ranges.append(it)
 
 
+def calls_in(owner, start, delivery):
+    """The calls that listeners got from an index on. The first of those that are not forgotten has the index 0 in the library."""
+    if start < owner.forgotten:
+        raise IndexError(f"what listeners were told is forgotten up to {owner.forgotten}")
+    calls, first = [], start - owner.forgotten
+    while True:
+        it = c.vb_listener_call()
+        if first + len(calls) >= accepted(delivery(first + len(calls), it)).value:
+            return calls
+        calls.append(it)
+
+
 def regions_in(owner, reap):
     """What a reap releases, of as many regions as were dropped."""
     out = (ctypes.c_uint32 * max(owner.dropped, 1))()
@@ -239,14 +251,7 @@ class Machine:
     def told(self, start=0):
         """The calls that listeners got from this index on, counted from the first that was ever made. An IndexError where the call at
         this index is forgotten."""
-        if start < self.forgotten:
-            raise IndexError(f"what listeners were told is forgotten up to {self.forgotten}")
-        calls, first = [], start - self.forgotten
-        while True:
-            it = c.vb_listener_call()
-            if first + len(calls) >= accepted(LIBRARY.vb_delivery(self.handle, first + len(calls), it)).value:
-                return calls
-            calls.append(it)
+        return calls_in(self, start, lambda index, it: LIBRARY.vb_delivery(self.handle, index, it))
 
     def forget(self, until):
         """Forgets the calls of listeners before this index, counted from the first that was ever made; the others keep their indices."""
@@ -299,7 +304,7 @@ class Desk:
     answers its answer: `value` is the region that was made, `other` the generation that was published."""
 
     def __init__(self, words):
-        self.handle, self.dropped = c.vb_desk(), 0
+        self.handle, self.dropped, self.forgotten = c.vb_desk(), 0, 0
         accepted(LIBRARY.vb_desk_new(self.handle, words))
 
     def __del__(self):
@@ -334,6 +339,14 @@ class Desk:
 
     def view(self, space):
         return ranges_in(lambda index, it: LIBRARY.vb_desk_range(self.handle, space, index, it))
+
+    def told(self, start=0):
+        """The calls that listeners got from this index on, as `Machine.told` answers them."""
+        return calls_in(self, start, lambda index, it: LIBRARY.vb_desk_delivery(self.handle, index, it))
+
+    def forget(self, until):
+        """Forgets the calls of listeners before this index, as `Machine.forget` does."""
+        self.forgotten += accepted(LIBRARY.vb_desk_forget(self.handle, max(until - self.forgotten, 0))).value
 
 
 class Cpu:

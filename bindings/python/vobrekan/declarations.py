@@ -320,6 +320,7 @@ FUNCTIONS = {
     "vb_desk_range": ([POINTER(vb_desk), c_uint32, c_size_t, POINTER(vb_flat_range)], vb_answer),
     "vb_desk_delivery": ([POINTER(vb_desk), c_size_t, POINTER(vb_listener_call)], vb_answer),
     "vb_forget": ([POINTER(vb_machine), c_size_t], vb_answer),
+    "vb_desk_forget": ([POINTER(vb_desk), c_size_t], vb_answer),
     "vb_harvest": ([POINTER(vb_machine), c_uint32, c_uint32, POINTER(c_uint64), c_size_t], vb_answer),
     "vb_path": ([POINTER(vb_machine), c_uint32, c_uint64, POINTER(c_uint32), c_size_t], vb_answer),
     "vb_plan_read": ([POINTER(vb_machine), c_uint32, c_uint32, c_uint64, c_size_t, POINTER(vb_reached), c_size_t], vb_answer),

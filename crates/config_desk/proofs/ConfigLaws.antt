@@ -1,12 +1,12 @@
 -- One turn more, the first part, and what the laws of turns say.
 use Rattle.std.proofs.Common.{◌≡◌, ℕ, zero, suc, ◌+◌, false, List, [], ◌∷◌, ◌++◌, map}
-use Rattle.std.proofs.Common.{Some, refl, sym, ap, subst, ◌∙◌, inl, inr}
+use Rattle.std.proofs.Common.{None, Some, refl, sym, ap, subst, ◌∙◌, append_assoc, inl, inr}
 use Rattle.std.specs.Prelude.{flat_map, replicate, ◌⊎◌}
 use Rattle.mem_base.specs.declared.map.calls.Config.TheVariants as configs
 use Rattle.mem_base.specs.declared.machine.events.HistoryEntry.{HistoryEntry}
 use Rattle.mem_base.specs.map.Limits.{notifier_count}
 use Rattle.mem_base.specs.views.Replay.{replay}
-use Rattle.mem_base.specs.views.Listening.{calls_to}
+use Rattle.mem_base.specs.views.Listening.{Delivery, calls_to}
 use Rattle.mem_base.specs.machine.Actors.{own_entries, generations_after_all}
 use Rattle.mem_base.specs.machine.Answers.{Answer}
 use Rattle.mem_base.specs.machine.Generations.{Generations, first_generations, nothing_known}
@@ -27,12 +27,14 @@ use Rattle.epoch_rule.specs.Rule.{IsLegal}
 use Rattle.epoch_rule.specs.Calls.{generations_in_seen}
 use Rattle.epoch_rule.specs.Values.{WriterValue}
 use Rattle.writer_desk.specs.declared.idle.IdleDesk.{IdleDesk}
-use Rattle.writer_desk.specs.Writers.{WriterState, first_state, desk_of}
+use Rattle.writer_desk.specs.Writers.{WriterState, first_state, desk_of, writer_state}
 use Rattle.writer_desk.specs.Listened.{resting}
 use Rattle.writer_run.specs.Parts.{AreParts, idle_writer}
+use Rattle.writer_run.specs.Taken.{desk_with, part_told_before, part_with_calls}
 use Rattle.writer_run.specs.Turns.{IsTurn}
+use Rattle.writer_run.proofs.TakenLaws.{TurnsAlike, turn_before}
 use Rattle.seat_run.specs.Written.{HasWritten}
-use Rattle.config_desk.specs.Configs.{ConfigState, IsOfTurns, IsConfig, part_at}
+use Rattle.config_desk.specs.Configs.{ConfigState, IsOfTurns, IsConfig, config_state, part_at, with_calls}
 use Rattle.config_desk.specs.SeenLaws.{IsSeenLegal, KeepsMarks, ReplaysToListeners, ReusesWords}
 use Rattle.turn_laws.proofs.TurnLists.{turns_push, last_push, entries_push}
 
@@ -43,17 +45,22 @@ one_more v u w x k answer fits h t =
     let first : Writer = first_writer h.pool_words h.passes in
     let o : Answered = (k, t.replies) in
     let before : List WriterCall = turns first h.orders in
-    let all : turns first (h.orders ++ o ∷ []) ≡ before ++ turn w k t.replies ∷ [] =
+    let whole : Writer = part_told_before h.taken w in
+    let same : TurnsAlike h.taken w k t.replies = turn_before h.taken w k t.replies in
+    let all : turns first (h.orders ++ o ∷ []) ≡ before ++ turn whole k t.replies ∷ [] =
     turns_push first h.orders o ∙ ap (λ (y : Writer). before ++ turn y k t.replies ∷ []) (sym h.last) in record {
       pool_words = h.pool_words;
       passes = h.passes;
+      taken = h.taken;
       orders = h.orders ++ o ∷ [];
       wide = ap (λ s. s.words) t.made.sizes ∙ h.wide;
       counts = ap (λ s. s.passes) t.made.sizes ∙ h.counts;
       fitting = every_push HasFittingCall h.orders o h.fitting fits;
       entries = t.made.adds.events ∙ ap (λ (xs : List HistoryEntry). xs ++ entries_of_turn (turn w k t.replies)) h.entries
-          ∙ sym (entries_push before (turn w k t.replies)) ∙ ap (λ (ts : List WriterCall). flat_map entries_of_turn ts) (sym all);
-      last = t.writer ∙ sym (last_push first before (turn w k t.replies)) ∙ ap (λ (ts : List WriterCall). last_writer first ts) (sym all);
+          ∙ ap (λ (xs : List HistoryEntry). flat_map entries_of_turn before ++ xs) (sym same.entries)
+          ∙ sym (entries_push before (turn whole k t.replies)) ∙ ap (λ (ts : List WriterCall). flat_map entries_of_turn ts) (sym all);
+      last = ap (part_told_before h.taken) t.writer ∙ sym same.writer ∙ sym (last_push first before (turn whole k t.replies))
+          ∙ ap (λ (ts : List WriterCall). last_writer first ts) (sym all);
     }
 
 -- at first
@@ -87,6 +94,7 @@ module _ (d : IdleDesk) (v : WriterValue) (pool_words passes : ℕ) (first : res
     turns = record {
       pool_words = pool_words;
       passes = passes;
+      taken = [];
       orders = [];
       wide = wide;
       counts = sym counts;
@@ -129,14 +137,66 @@ no_entry d v u h sizes own = let t = h.turns in record {
   turns = record {
     pool_words = t.pool_words;
     passes = t.passes;
+    taken = t.taken;
     orders = t.orders;
     wide = ap (λ s. s.words) sizes ∙ t.wide;
     counts = ap (λ s. s.passes) sizes ∙ t.counts;
     fitting = t.fitting;
     entries = own ∙ t.entries;
-    last = part_stays d v u sizes own ∙ t.last;
+    last = ap (part_told_before t.taken) (part_stays d v u sizes own) ∙ t.last;
   };
 }
+
+-- the same where the first calls of its journal are taken out
+
+idle_with : (calls : List Delivery) (w : Writer) → Idle w → Idle (part_with_calls calls w)
+idle_with calls w h = let s = h.sound in record {
+  due = h.due;
+  filled = h.filled;
+  flagged = h.flagged;
+  sound = record { forest = s.forest; few = s.few; places = s.places; pending = s.pending };
+}
+
+dropped_with : (calls : List Delivery) (w : Writer) → Dropped w.desk → Dropped (desk_with calls w.desk)
+dropped_with calls w h = record { rising = h.rising; gone = h.gone }
+
+module _ (d e : IdleDesk) (v : WriterValue) (rest : List Delivery) (dropped : e.dropped.items ≡ d.dropped.items)
+    (backed : e.listened.backed ≡ d.listened.backed) (left : e.listened.set.listening ≡ record d.listened.set.listening { journal = rest }) where
+  part_of_rest : part_at e v ≡ part_with_calls rest (part_at d v)
+  part_of_rest = λ i. idle_writer (writer_state (backed i) (left i) None) (dropped i) (generations_in_seen v.sizes v.seen)
+
+  pub state_of_rest : config_state e v ≡ with_calls rest (config_state d v)
+  state_of_rest = λ i. record { seat = v; part = part_of_rest i }
+
+  pub rest_is_config : (first : List Delivery) → d.listened.set.listening.journal ≡ first ++ rest → IsConfig d v → IsConfig e v
+  rest_is_config first is h =
+      let t = h.turns in
+      let w : Writer = part_at d v in
+      let forest : e.listened.backed.desk.current.forest ≡ d.listened.backed.desk.current.forest = λ i. (backed i).desk.current.forest in
+      let number : e.listened.backed.desk.current.number ≡ d.listened.backed.desk.current.number = λ i. (backed i).desk.current.number in
+      let words : e.listened.backed.backing.pool_words ≡ d.listened.backed.backing.pool_words = λ i. (backed i).backing.pool_words in record {
+        parts = record {
+          idle = subst Idle (sym part_of_rest) (idle_with rest w h.parts.idle);
+          gone = subst (λ (x : Writer). Dropped x.desk) (sym part_of_rest) (dropped_with rest w h.parts.gone);
+          current = h.parts.current ∙ sym forest;
+          number = number ∙ h.parts.number;
+          wide = h.parts.wide ∙ sym (ap (λ (n : ℕ). n + notifier_count) words);
+        };
+        turns = record {
+          pool_words = t.pool_words;
+          passes = t.passes;
+          taken = t.taken ++ first;
+          orders = t.orders;
+          wide = t.wide;
+          counts = t.counts;
+          fitting = t.fitting;
+          entries = t.entries;
+          last = ap (part_told_before (t.taken ++ first)) part_of_rest
+              ∙ ap (λ (calls : List Delivery). part_with_calls calls w)
+              (append_assoc t.taken first rest ∙ ap (λ (calls : List Delivery). t.taken ++ calls) (sym is))
+              ∙ t.last;
+        };
+      }
 
 -- what the laws of turns say
 
@@ -156,7 +216,7 @@ module _ (c : ConfigState) (legal : IsLegal c.seat.sizes c.seat.seen) where
   pub marks : TurnsKeepMarks → KeepsMarks c
   marks law t = law t.pool_words t.passes t.orders c.seat.seen (seen_legal t) (own_are t) t.fitting
 
-  pub replays : TurnsReplay → IsOfTurns c.seat c.part → ReplaysToListeners c
+  pub replays : TurnsReplay → ReplaysToListeners c
   replays law t id = subst (λ (w : Writer). replay (calls_to id w.desk.listening.journal)
       ≡ Some (heard_of (told_forest w) (listener_of w.desk.listening.listeners id))) (sym t.last)
       (law t.pool_words t.passes t.orders c.seat.seen (seen_legal t) (own_are t) id)

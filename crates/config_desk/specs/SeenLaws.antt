@@ -16,16 +16,17 @@ use Rattle.mem_base.specs.machine.Turns.{turns}
 use Rattle.mem_base.specs.machine.World.{opening, place_in_world}
 use Rattle.mem_base.specs.machine.CellHistories.{IsMarkKept}
 use Rattle.cell_laws.specs.TurnCells.{ReusesReleased}
+use Rattle.writer_run.specs.Taken.{part_told_before}
 use Rattle.config_desk.specs.Configs.{ConfigState, IsOfTurns}
 
 -- what was seen, as a history of the pure machine
 abbrev pub seen_by_turns : (c : ConfigState) → IsOfTurns c.seat c.part → List PureEntry
 seen_by_turns c t = joined_history (turns (first_writer t.pool_words t.passes) t.orders) c.seat.seen
 
--- it is legal, and ends in the writer's part
+-- it is legal, and ends in the writer's part, with what was taken out of its journal
 abbrev pub IsSeenLegal : ConfigState → Type 0
 IsSeenLegal c = (t : IsOfTurns c.seat c.part) → IsLegal t.pool_words t.passes (seen_by_turns c t)
-    × ((after_entries (opening t.pool_words t.passes) (seen_by_turns c t)).writer ≡ c.part)
+    × ((after_entries (opening t.pool_words t.passes) (seen_by_turns c t)).writer ≡ part_told_before t.taken c.part)
 
 -- a step on a cell tells what the steps on it before left, from 0 on; and a word of the pool comes to another region only after the
 -- region that had it was released
@@ -39,7 +40,7 @@ KeepsMarks c = (t : IsOfTurns c.seat c.part) (before after : List PureEntry) (x 
     let w = after_entries (opening t.pool_words t.passes) before in
     (p : Place) → place_in_world w r ≡ Some p → IsMarkKept p client page (after_entry w x) after
 
--- all calls that an id got replay to what its listener is to have
+-- all calls that an id got, those that were taken out of the journal and then those in it, replay to what its listener is to have
 abbrev pub ReplaysToListeners : ConfigState → Type 0
-ReplaysToListeners c = (id : ListenerId) →
-    replay (calls_to id c.part.desk.listening.journal) ≡ Some (heard_of (told_forest c.part) (listener_of c.part.desk.listening.listeners id))
+ReplaysToListeners c = (t : IsOfTurns c.seat c.part) (id : ListenerId) →
+    replay (calls_to id (t.taken ++ c.part.desk.listening.journal)) ≡ Some (heard_of (told_forest c.part) (listener_of c.part.desk.listening.listeners id))

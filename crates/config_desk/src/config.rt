@@ -1,5 +1,5 @@
 // The writer's desk of the running machine, and its calls that are turns.
-ghost use Rattle.std.specs.Prelude.{◌≡◌, ◌≢◌, ◌+◌, ◌<◌, ◌≤◌, ◌^◌, [], Some, Err, IfOk, IfErr, OnErr, true, false, replicate};
+ghost use Rattle.std.specs.Prelude.{◌≡◌, ◌≢◌, ◌+◌, ◌<◌, ◌≤◌, ◌^◌, [], Some, Err, IfOk, IfErr, OnErr, true, false, drop, replicate};
 ghost use Rattle.std.specs.Arc.{arc_value};
 ghost use Rattle.mem_base.specs.declared.map.calls.Config.TheVariants as configs;
 ghost use Rattle.mem_base.specs.map.Limits.{most_passes, notifier_count};
@@ -12,7 +12,7 @@ ghost use Rattle.run_laws.specs.MadeForests.{FitsConfig};
 ghost use Rattle.writer_desk.specs.Writers.{first_state, is_held};
 ghost use Rattle.writer_desk.specs.Listened.{resting};
 ghost use Rattle.writer_run.specs.Turns.{answer_by, number_told};
-ghost use Rattle.config_desk.specs.Configs.{IsTurnOf};
+ghost use Rattle.config_desk.specs.Configs.{IsTurnOf, with_calls};
 
 use epoch_rule::{Cabinet, WriterSeat};
 use generation::Generation;
@@ -31,8 +31,8 @@ use writer_run::{configure, harvest, notified, reap};
 /// The writer's desk of the running machine. It is seen as what the writer's seat has seen of the one history, and the writer's
 /// part: the desk with the listeners, and the generations.
 ///
-/// Each of its calls but `pass`, `take_in`, `note` and `hear` is one turn. A refused call leaves the writer's part and the history
-/// as they were, but for a publish that is held up: its sweeps have been made.
+/// Each of its calls but `pass`, `take_in`, `note`, `hear`, `take_journal` and `forget` is one turn. A refused call leaves the writer's
+/// part and the history as they were, but for a publish that is held up: its sweeps have been made.
 #[derive(Drop)]
 pub struct Config {
     pub(crate) hand: SeatHand,
@@ -282,11 +282,28 @@ impl Config {
         self.hand.load(rt, &self.desk, region, offset, bytes)
     }
 
-    /// All calls that the listeners got, in order.
+    /// The calls that the listeners got and that were not taken out or forgotten, in order.
     pub fn journal(&self) -> &[(ListenerId, ListenerEvent)]
         ensures { result.now ≡ self.now.part.desk.listening.journal }
     {
         self.desk.listened.listeners().journal()
+    }
+
+    /// Takes the calls that the listeners got, and that were not taken out or forgotten before, out of the journal: they are handed over, and
+    /// the journal is empty then. The listeners stay, and are told nothing. It takes no memory, and is no turn.
+    pub fn take_journal(&mut self) -> Vec<(ListenerId, ListenerEvent)>
+        ensures taken { result.items ≡ self.old.part.desk.listening.journal }
+        ensures left { self.new ≡ with_calls [] self.old }
+    {
+        self.desk.listened.take_journal()
+    }
+
+    /// Forgets the first `count` calls of the journal, all of them where there are fewer. The listeners stay, and are told nothing. It
+    /// takes no memory, and is no turn.
+    pub fn forget(&mut self, count: usize)
+        ensures { self.new ≡ with_calls (drop count self.old.part.desk.listening.journal) self.old }
+    {
+        self.desk.listened.forget(count);
     }
 
     /// The generation that is current.

@@ -8,8 +8,8 @@ use cell_laws::{turns_keep_marks, turns_reuse_released};
 use turn_laws::{turns_join, turns_replay};
 
 impl Config {
-    /// A law: the writer's own entries in what the seat has seen are those of turns from the first one on, which end in this part. It
-    /// does nothing.
+    /// A law: the writer's own entries in what the seat has seen are those of turns from the first one on, which end in this part, with
+    /// what was taken out of its journal. It does nothing.
     pub fn goes_by_turns(&self)
         ensures { IsOfTurns self.now.seat self.now.part }
     {
@@ -24,7 +24,7 @@ impl Config {
     }
 
     /// A law: what the seat has seen, with the private events of the turns put in, is a legal history of the pure machine, and ends in
-    /// this part. It does nothing.
+    /// this part, with what was taken out of its journal. It does nothing.
     pub fn has_seen_legal(&self)
         ensures { IsSeenLegal self.now }
     {
@@ -50,7 +50,8 @@ impl Config {
         turns_keep_marks();
     }
 
-    /// A law: all calls that a listener got replay to what its space shows in the current generation. It does nothing.
+    /// A law: all calls that a listener got, with those that were taken out of the journal, replay to what its space shows in the current
+    /// generation. It does nothing.
     pub fn replays_to_listeners(&self)
         ensures { ReplaysToListeners self.now }
     {

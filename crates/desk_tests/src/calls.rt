@@ -1,9 +1,23 @@
-// Calls, and doing them at a desk.
-use crate::desks::{call, change};
-use mem_base::{Call, Edition, Kind, Perm, Refusal, RegionId, Size, SpaceId};
-use std::sync::ledger::Ledger;
-use step_counter::Steps;
-use transact::Desk;
+// Calls, and how accesses end.
+use mem_base::{Call, Device, DeviceKind, Ioevent, Kind, Perm, RegionId, Size, SpaceId, TxResult};
+
+/// All was answered.
+pub(crate) const OK: TxResult = TxResult {
+    error: false,
+    decode: false,
+};
+
+/// A device answered with an error.
+pub(crate) const ERROR: TxResult = TxResult {
+    error: true,
+    decode: false,
+};
+
+/// Nothing answered.
+pub(crate) const DECODE: TxResult = TxResult {
+    error: false,
+    decode: true,
+};
 
 /// A call that makes a region of this many bytes.
 pub(crate) fn region(kind: Kind, bytes: u64) -> Call {
@@ -11,6 +25,11 @@ pub(crate) fn region(kind: Kind, bytes: u64) -> Call {
         unreachable!();
     };
     Call::Region { kind, size }
+}
+
+/// A device of this kind with one register, and accesses of 1 to 4 bytes, little-endian.
+pub(crate) fn plain(kind: DeviceKind) -> Device {
+    Device::plain(kind)
 }
 
 /// A call that places a region in a container.
@@ -53,18 +72,16 @@ pub(crate) fn map(
     }
 }
 
-/// Does these calls one after another, each change with a generation of its own, and tells how many were published.
-pub(crate) fn run<L: Ledger>(
-    desk: &mut Desk,
-    calls: &[Call],
-    steps: &mut Steps<L>,
-) -> Result<u64, Refusal> {
-    for one in calls {
-        if one.is_quiet() {
-            call(desk, one)?;
-        } else {
-            change(desk, one, steps)?;
-        }
+/// A call that gives a device an ioeventfd for writes of `size` bytes at an offset, of any value or of one.
+pub(crate) fn event(region: u32, offset: u64, size: u8, number: u32, value: Option<u64>) -> Call {
+    Call::Event {
+        region: RegionId(region),
+        event: Ioevent {
+            offset,
+            size,
+            matched: value.is_some(),
+            value: value.unwrap_or(0),
+            number,
+        },
     }
-    Ok(desk.current().number())
 }

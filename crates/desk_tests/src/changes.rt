@@ -1,16 +1,16 @@
 // What generations share and name, by worked cases.
 ghost use Rattle.std.specs.Prelude.{◌≡◌, ◌<◌};
 
-use crate::calls::{add, region, run, space};
-use crate::desks::change;
+use crate::calls::{add, region, space};
+use crate::desks::{apply, run};
 use generation::Generation;
-use mem_base::{Call, Edition, Kind, Refusal, RegionId, Size, SpaceId, What};
+use mem_base::{Call, Edition, Kind, Refusal, RegionId, SpaceId, What};
 use std::alloc::Global;
 use std::marker::Brand;
 use std::sync::Arc;
 use std::sync::ledger::{Blank, Ledger};
 use step_counter::Steps;
-use transact::Desk;
+use transact::BackedDesk;
 
 static FIRST: SpaceId = SpaceId(0);
 
@@ -42,41 +42,45 @@ fn sharers(generation: &Generation, space: SpaceId) -> usize {
 
 /// How many generations share the atlases of the two spaces after a change, where the one before it is still there.
 fn shared_after<L: Ledger>(
-    desk: &mut Desk,
+    desk: &mut BackedDesk,
     one: &Call,
     steps: &mut Steps<L>,
 ) -> Result<(usize, usize), Refusal> {
-    let before = Arc::try_clone(desk.current())?;
-    change(desk, one, steps)?;
-    let shared = (
-        sharers(desk.current(), FIRST),
-        sharers(desk.current(), SECOND),
-    );
+    let before = Arc::try_clone(desk.desk().current())?;
+    let applied = apply(desk, one, steps);
+    let now = desk.desk().current();
+    let shared = (sharers(now, FIRST), sharers(now, SECOND));
     drop(before);
+    applied?;
     Ok(shared)
 }
 
 /// Whether atlases are shared after a move in the second space, after global logging is on, and after a change of no view.
+fn shared<L: Ledger>(
+    desk: &mut BackedDesk,
+    steps: &mut Steps<L>,
+) -> Result<[(usize, usize); 3], Refusal> {
+    run(desk, &two_spaces(), steps)?;
+    let shift = Call::Move {
+        child: RegionId(4),
+        offset: 0x40,
+    };
+    let moved = shared_after(desk, &shift, steps)?;
+    let global = shared_after(desk, &Call::Global { on: true }, steps)?;
+    let again = shared_after(desk, &Call::Global { on: true }, steps)?;
+    Ok([moved, global, again])
+}
+
+/// The same at a desk of its own.
 fn sharing<L: Ledger>(alloc: Global, blank: Blank) -> Result<[(usize, usize); 3], Refusal>
     requires name { blank.name ≡ L.name }
     requires parts { blank.parts ≡ L.parts }
     requires some { 0 < L.parts }
 {
     let mut steps = Steps::<L>::new(blank);
-    let mut desk = Desk::new(alloc)?;
-    run(&mut desk, &two_spaces(), &mut steps)?;
-    let child = RegionId(4);
-    let moved = shared_after(
-        &mut desk,
-        &Call::Move {
-            child,
-            offset: 0x40,
-        },
-        &mut steps,
-    )?;
-    let global = shared_after(&mut desk, &Call::Global { on: true }, &mut steps)?;
-    let again = shared_after(&mut desk, &Call::Global { on: true }, &mut steps)?;
-    Ok([moved, global, again])
+    let mut desk = BackedDesk::new(alloc, 0)?;
+    let shared = shared(&mut desk, &mut steps);
+    shared
 }
 
 #[test]
@@ -88,26 +92,32 @@ fn an_untouched_space_shares_its_atlas_with_the_generation_before(
     Ok(())
 }
 
-/// What a generation says of a leaf, of a container, and of a region that is not there; and the refusal of a call.
-fn told<L: Ledger>(
-    alloc: Global,
-    blank: Blank,
-) -> Result<([bool; 3], Option<Refusal>, u64), Refusal>
-    requires name { blank.name ≡ L.name }
-    requires parts { blank.parts ≡ L.parts }
-    requires some { 0 < L.parts }
-{
-    let mut steps = Steps::<L>::new(blank);
-    let mut desk = Desk::new(alloc)?;
-    run(&mut desk, &two_spaces(), &mut steps)?;
-    let refused = change(&mut desk, &add(0, 0, 99), &mut steps).err();
-    let generation = desk.current();
+/// What a generation says of a leaf, of a container, and of a region that is not there; the refusal of a call; and the number of the
+/// generation.
+type Told = ([bool; 3], Option<Refusal>, u64);
+
+fn told_at<L: Ledger>(desk: &mut BackedDesk, steps: &mut Steps<L>) -> Result<Told, Refusal> {
+    run(desk, &two_spaces(), steps)?;
+    let refused = apply(desk, &add(0, 0, 99), steps).err();
+    let generation = desk.desk().current();
     let names = [
         generation.names(RegionId(1)),
         generation.names(RegionId(0)),
         generation.names(RegionId(99)),
     ];
     Ok((names, refused, generation.number()))
+}
+
+/// The same at a desk of its own.
+fn told<L: Ledger>(alloc: Global, blank: Blank) -> Result<Told, Refusal>
+    requires name { blank.name ≡ L.name }
+    requires parts { blank.parts ≡ L.parts }
+    requires some { 0 < L.parts }
+{
+    let mut steps = Steps::<L>::new(blank);
+    let mut desk = BackedDesk::new(alloc, 0)?;
+    let told = told_at(&mut desk, &mut steps);
+    told
 }
 
 #[test]

@@ -2,6 +2,7 @@
 ghost use Rattle.std.specs.Prelude.{◌≡◌, ◌<◌};
 
 use crate::calls::{add, region, space};
+use crate::desks::{apply, run};
 use mem_base::{
     Call, Device, DeviceKind, Edition, Kind, Listener, ListenerId, Refusal, RegionId, SpaceId,
 };
@@ -31,36 +32,25 @@ fn listeners() -> [Listener; 2] {
 const PAGES: u32 = 10;
 
 /// A container of memory and a device, and over a space of its own an alias of a part of it.
-fn build(desk: &mut BackedDesk) -> Result<(), Refusal> {
-    inside(desk, &region(Kind::Container, 0x2_0000))?;
+fn build<L: Ledger>(desk: &mut BackedDesk, steps: &mut Steps<L>) -> Result<(), Refusal> {
+    apply(desk, &region(Kind::Container, 0x2_0000), steps)?;
     for number in 1..=PAGES {
-        inside(desk, &region(Kind::Ram, 0x1000))?;
-        inside(desk, &add(0, u64::from(number) * 0x1000, number))?;
+        apply(desk, &region(Kind::Ram, 0x1000), steps)?;
+        apply(desk, &add(0, u64::from(number) * 0x1000, number), steps)?;
     }
-    for call in [
+    let target = RegionId(0);
+    let part = Kind::Alias {
+        target,
+        offset: 0x800,
+    };
+    let calls = [
         region(Kind::Io(Device::plain(DeviceKind::Latch)), 0x1000),
         add(0, 0x800, PAGES + 1),
-        region(
-            Kind::Alias {
-                target: RegionId(0),
-                offset: 0x800,
-            },
-            0x3000,
-        ),
+        region(part, 0x3000),
         space(WHOLE, 0),
         space(PART, PAGES + 2),
-    ] {
-        inside(desk, &call)?;
-    }
-    Ok(())
-}
-
-/// Does a call inside the transaction that is open.
-fn inside(desk: &mut BackedDesk, call: &Call) -> Result<(), Refusal> {
-    if desk.desk().depth() != 0 {
-        desk.call(call)?;
-    }
-    Ok(())
+    ];
+    run(desk, &calls, steps)
 }
 
 /// Changes that hide regions and show them again, in both spaces and in one, and one that no space shows.
@@ -171,7 +161,7 @@ fn done<L: Ledger>(desk: &mut BackedDesk, steps: &mut Steps<L>) -> usize {
 
 fn begun<L: Ledger>(desk: &mut BackedDesk, steps: &mut Steps<L>) -> Result<usize, Refusal> {
     desk.begin()?;
-    build(desk)?;
+    build(desk, steps)?;
     if let Step::Ready(prepared) = desk.commit_prepare(&listeners(), steps)? {
         desk.done(prepared);
     }

@@ -2,15 +2,16 @@
 ghost use Rattle.std.specs.Prelude.{◌≡◌, ◌<◌};
 
 use crate::calls::{add, map, region, space};
+use crate::desks::{apply, commit, run};
 use generation::Generation;
 use mem_base::{Call, Device, DeviceKind, Ioevent, Kind, Perm, Refusal, RegionId, SpaceId};
-use std::alloc::Global;
+use region_tree::Tree;
+use std::alloc::{AllocError, Global};
 use std::marker::Brand;
 use std::sync::Arc;
 use std::sync::ledger::{Blank, Ledger};
-use std::test::Fail;
 use step_counter::Steps;
-use transact::{BackedDesk, Step};
+use transact::BackedDesk;
 
 static LARGE: SpaceId = SpaceId(0);
 
@@ -31,36 +32,29 @@ fn kind(number: u32) -> Kind {
     }
 }
 
-/// Does a call inside the transaction that is open.
-fn inside(desk: &mut BackedDesk, call: &Call) -> Result<(), Refusal> {
-    if desk.desk().depth() != 0 {
-        desk.call(call)?;
-    }
+/// Does this call.
+fn call<L: Ledger>(desk: &mut BackedDesk, call: Call, steps: &mut Steps<L>) -> Result<(), Refusal> {
+    apply(desk, &call, steps)?;
     Ok(())
 }
 
-/// A desk with a space of 2,000 regions, and after it one of a container and a device, published in one generation.
-fn two_spaces<L: Ledger>(alloc: Global, steps: &mut Steps<L>) -> Result<BackedDesk, Refusal> {
-    let mut desk = BackedDesk::new(alloc, WORDS)?;
+/// Publishes a space of 2,000 regions, and after it one of a container and a device, in one generation.
+fn build<L: Ledger>(desk: &mut BackedDesk, steps: &mut Steps<L>) -> Result<(), Refusal> {
     desk.begin()?;
-    inside(&mut desk, &region(Kind::Container, 0x100_0000))?;
+    call(desk, region(Kind::Container, 0x100_0000), steps)?;
     for number in 1..MANY {
-        inside(&mut desk, &region(kind(number), 0x1000))?;
-        inside(&mut desk, &add(0, u64::from(number) * 0x1000, number))?;
+        call(desk, region(kind(number), 0x1000), steps)?;
+        call(desk, add(0, u64::from(number) * 0x1000, number), steps)?;
     }
-    for call in [
+    let small = [
         region(Kind::Container, 0x10000),
         region(Kind::Io(Device::plain(DeviceKind::Latch)), 0x1000),
         add(MANY, 0, MANY + 1),
         space(LARGE, 0),
         space(SMALL, MANY),
-    ] {
-        inside(&mut desk, &call)?;
-    }
-    if let Step::Ready(prepared) = desk.commit_prepare(&[], steps)? {
-        desk.done(prepared);
-    }
-    Ok(desk)
+    ];
+    run(desk, &small, steps)?;
+    commit(desk, steps)
 }
 
 /// How many generations share the atlas of a space.
@@ -76,17 +70,14 @@ fn kept_after<L: Ledger>(
     desk: &mut BackedDesk,
     call: &Call,
     steps: &mut Steps<L>,
-) -> Result<Option<(bool, bool)>, Refusal> {
-    if desk.desk().depth() != 0 || call.is_quiet() {
-        return Ok(None);
-    }
+) -> Result<(bool, bool), Refusal> {
     let before = Arc::try_clone(desk.desk().current())?;
-    let prepared = desk.call_prepare(call, &[], steps)?;
-    desk.done(prepared);
+    let applied = apply(desk, call, steps);
     let now = desk.desk().current();
     let kept = (sharers(now, LARGE) == 2, sharers(now, SMALL) == 2);
     drop(before);
-    Ok(Some(kept))
+    applied?;
+    Ok(kept)
 }
 
 /// What is changed, and in which of the two spaces nothing is carved by that.
@@ -114,58 +105,45 @@ fn cases() -> [(Call, (bool, bool)); 5] {
     ]
 }
 
-/// The number of the first case that comes out otherwise.
-fn first_other<L: Ledger>(alloc: Global, blank: Blank) -> Result<Option<usize>, Refusal>
-    requires name { blank.name ≡ L.name }
-    requires parts { blank.parts ≡ L.parts }
-    requires some { 0 < L.parts }
-{
-    let mut steps = Steps::<L>::new(blank);
-    let mut desk = two_spaces(alloc, &mut steps)?;
-    for (i, (call, kept)) in cases().iter().enumerate() {
-        if kept_after(&mut desk, call, &mut steps)? != Some(*kept) {
-            return Ok(Some(i));
+/// Whether all cases come out so, and a change of the small space, of which two regions are reached, carves at most four times: the
+/// square of its root's weight.
+fn come_out<L: Ledger>(desk: &mut BackedDesk, steps: &mut Steps<L>) -> Result<bool, Refusal> {
+    build(desk, steps)?;
+    let is_small = is_small(desk.desk().tree())?;
+    for (call, kept) in &cases() {
+        if kept_after(desk, call, steps)? != *kept {
+            return Ok(false);
         }
     }
-    Ok(None)
+    Ok(is_small)
 }
 
-#[test]
-fn only_the_spaces_that_a_change_touches_are_carved(rt: HostRuntime) -> Result<(), Refusal> {
-    let other = first_other::<Brand>(rt.alloc(), Blank::new(1))?;
-    assert_eq!(rt; other, None);
-    Ok(())
+/// Whether just the container and its device are reached in the small space, and the square of its root's weight is 4.
+fn is_small(tree: &Tree) -> Result<bool, AllocError> {
+    let reached = tree.reach(SMALL)?;
+    let root = RegionId(MANY);
+    let weighs_two = tree.node(root).is_some() && tree.weight(root) == 2;
+    let is_root = tree.root(SMALL) == Some(root);
+    Ok(weighs_two && is_root && reached.as_slice() == [root, RegionId(MANY + 1)].as_slice())
 }
 
-/// The regions that are reached in a space, and the square of its root's weight, which is the most that a change carves there.
-fn extent_of<L: Ledger>(
-    alloc: Global,
-    space: SpaceId,
-    blank: Blank,
-) -> Result<(Vec<RegionId>, u64), Refusal>
+/// The same at a desk of its own.
+fn are_so<L: Ledger>(alloc: Global, blank: Blank) -> Result<bool, Refusal>
     requires name { blank.name ≡ L.name }
     requires parts { blank.parts ≡ L.parts }
     requires some { 0 < L.parts }
 {
     let mut steps = Steps::<L>::new(blank);
-    let desk = two_spaces(alloc, &mut steps)?;
-    let tree = desk.desk().tree();
-    let weight = match tree.root(space) {
-        Some(root) if tree.node(root).is_some() => tree.weight(root),
-        _ => 0,
-    };
-    Ok((tree.reach(space)?, weight.saturating_mul(weight)))
+    let mut desk = BackedDesk::new(alloc, WORDS)?;
+    let is_so = come_out(&mut desk, &mut steps);
+    is_so
 }
 
 #[test]
-fn a_change_of_a_space_of_two_regions_carves_at_most_four_times(
+fn only_the_spaces_that_a_change_touches_are_carved_and_a_small_one_four_times(
     rt: HostRuntime,
-) -> Result<(), Fail> {
-    let (reached, carves) = extent_of::<Brand>(rt.alloc(), SMALL, Blank::new(1))?;
-    assert_eq!(rt;
-        reached.as_slice(),
-        [RegionId(MANY), RegionId(MANY + 1)].as_slice()
-    );
-    assert_eq!(rt; carves, 4);
+) -> Result<(), Refusal> {
+    let is_so = are_so::<Brand>(rt.alloc(), Blank::new(1))?;
+    assert!(rt; is_so);
     Ok(())
 }

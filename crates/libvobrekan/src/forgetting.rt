@@ -1,7 +1,8 @@
 // What listeners were told is forgotten.
-ghost use Rattle.libvobrekan.specs.Forgetting.{Forgets};
+ghost use Rattle.libvobrekan.specs.Forgetting.{Forgets, ForgetsAtDesk};
 
 use crate::answers::{Answer, done, no_machine};
+use crate::desk_handle::DeskHandle;
 use crate::handle::Handle;
 use std::alloc::Global;
 
@@ -20,5 +21,19 @@ pub extern "C" fn vb_forget(alloc: Global, handle: &mut Handle, count: usize) ->
     let forgotten = count.min(machine.journal().len());
     machine.forget(forgotten);
     handle.put(alloc, machine);
+    done(forgotten as u64, 0)
+}
+
+/// Forgets what the listeners of a desk were told, as `vb_forget` does: `vb_desk_delivery` counts from the first call that is not forgotten.
+#[unsafe(no_mangle)]
+pub extern "C" fn vb_desk_forget(alloc: Global, handle: &mut DeskHandle, count: usize) -> Answer
+    ensures { ForgetsAtDesk handle.old.desk count result handle.new.desk }
+{
+    let Some(mut desk) = handle.take(alloc) else {
+        return no_machine();
+    };
+    let forgotten = count.min(desk.journal().len());
+    desk.forget(forgotten);
+    handle.put(alloc, desk);
     done(forgotten as u64, 0)
 }

@@ -4,6 +4,8 @@ use Rattle.std.specs.List.{list_any}
 use Rattle.std.specs.Str.{bytes_eq}
 use Rattle.mem_base.specs.script.Spelling.{Text}
 use Rattle.mem_base.specs.script.Scripts.{Line, script_of}
+use Rattle.script_text.specs.declared.faults.ParseFault.{ParseFault}
+use Rattle.script_text.specs.declared.faults.ParseFault.TheVariants as parse_faults
 use Rattle.monitor_text.specs.Rows.{flat_line, tree_line}
 use Rattle.monitor_text.specs.Texts.{lines_of}
 use Rattle.monitor_text.specs.declared.tree_text.TreeLine.{TreeLine}
@@ -38,6 +40,15 @@ unknown_in lines wanted = position (λ name. not (names_space name lines)) wante
 -- a tree's text reads as lines of which this holds
 abbrev pub OfTree : Text → (List (ℕ × TreeLine) → Type 0) → Type 0
 OfTree tree fact = (lines : List (ℕ × TreeLine)) × (lines_of tree_line tree ≡ Ok lines) × fact lines
+
+-- lines name a space, and all those of these names
+abbrev pub NamesAll : List (ℕ × TreeLine) → List Text → Type 0
+NamesAll lines wanted = (has_space lines ≡ true) × (unknown_in lines wanted ≡ None)
+
+-- why a text is no script, as it was found
+abbrev pub IsFault : Text → ParseFault → Type 0
+IsFault text (parse_faults.Bad bad) = script_of text ≡ Err bad
+IsFault text parse_faults.Memory = ⊤
 
 -- a tree's text names a space, and all those of these names
 abbrev pub NamesSpaces : Text → List Text → Type 0

@@ -41,3 +41,11 @@ impl<T: Drop> From<AllocFailed<T>> for ImportFault {
         ImportFault::Memory
     }
 }
+
+/// The value, unless memory ran out while it was made.
+pub(crate) fn kept<T: Drop>(value: T, done: Result<(), AllocError>) -> Result<T, AllocError> {
+    match done {
+        Ok(()) => Ok(value),
+        Err(fault) => Err(fault),
+    }
+}

@@ -1,5 +1,6 @@
 // What becomes of each region.
 
+use crate::faults::kept;
 use crate::flats::{Shown, View, is_readonly, may_be_shown, view_of};
 use crate::kinds::{Made, made_as};
 use crate::loops::{Part, add_parts, is_inside};
@@ -173,60 +174,105 @@ fn has_no_bytes(view: &View<'_>, trees: &Trees<'_>, at: usize, node: &Node<'_>) 
     }
 }
 
-// What becomes of the region for which a node stands.
-fn plan_of(
+// Whether the region for which a node stands is left out, and whether it is a window that is shown read-only.
+fn seen_by(
     trees: &Trees<'_>,
     views: &[View<'_>],
-    regions: &[usize],
-    shown: &Option<Shown>,
     at: usize,
     node: &Node<'_>,
-    name: Name,
-) -> Plan {
-    let view = view_of(views, trees, node.tree);
-    let (left, readonly) = match view {
+) -> (Option<Left>, bool) {
+    match view_of(views, trees, node.tree) {
         Some(view) if has_no_bytes(view, trees, at, node) => (Some(Left::NoBytes), false),
         Some(view) => (None, is_readonly(view, node)),
         None => (None, false),
-    };
-    let target = match target_of(trees, node) {
-        Some(target) => regions.get(target).copied(),
-        None => None,
-    };
-    Plan {
-        name,
-        size: node.size(),
-        made: made_as(trees, shown, at, node),
-        readonly,
-        target,
-        left,
     }
 }
 
-// The plans of the nodes that stand for regions.
-fn planned(
+// What is known of the map before its plans are made.
+#[derive(Clone, Copy)]
+struct Known<'k, 'a> {
+    trees: &'k Trees<'a>,
+    views: &'k [View<'a>],
+    regions: &'k [usize],
+    shown: &'k Option<Shown>,
+}
+
+impl Known<'_, '_> {
+    // What becomes of the region for which a node stands.
+    fn plan_of(self, at: usize, node: &Node<'_>, name: Name) -> Plan {
+        let (left, readonly) = seen_by(self.trees, self.views, at, node);
+        Plan {
+            name,
+            size: node.size(),
+            made: made_as(self.trees, self.shown, at, node),
+            readonly,
+            target: self.target_of(node),
+            left,
+        }
+    }
+
+    // The node that stands for the target of a node that is an alias.
+    fn target_of(self, node: &Node<'_>) -> Option<usize> {
+        let target = target_of(self.trees, node)?;
+        self.regions.get(target).copied()
+    }
+
+    // The plan of a node, if it stands for a region.
+    fn plan_at(
+        self,
+        alloc: Global,
+        given: &mut Given,
+        at: usize,
+        node: &Node<'_>,
+    ) -> Result<Option<Plan>, AllocError> {
+        if self.regions.get(at).copied() != Some(at) {
+            return Ok(None);
+        }
+        let name = given.name_for(alloc, node.row.name.as_bytes())?;
+        Ok(Some(self.plan_of(at, node, name)))
+    }
+
+    // The plans of all nodes.
+    fn plan_all(
+        self,
+        alloc: Global,
+        given: &mut Given,
+        plans: &mut Vec<Option<Plan>>,
+    ) -> Result<(), AllocError> {
+        for (at, node) in self.trees.nodes.iter().enumerate() {
+            plans.push(self.plan_at(alloc, given, at, node)?)?;
+        }
+        Ok(())
+    }
+}
+
+// Which regions the views show, where there are some.
+fn shown_by(alloc: Global, views: &[View<'_>]) -> Result<Option<Shown>, AllocError> {
+    if views.is_empty() {
+        return Ok(None);
+    }
+    let shown = Shown::by(alloc, views)?;
+    Ok(Some(shown))
+}
+
+// Makes the plans of the nodes that stand for regions.
+fn make_plans(
     alloc: Global,
     trees: &Trees<'_>,
     views: &[View<'_>],
-    regions: &[usize],
     given: &mut Given,
-) -> Result<Vec<Option<Plan>>, AllocError> {
-    let shown = if views.is_empty() {
-        None
-    } else {
-        Some(Shown::by(alloc, views)?)
+    made: &mut Plans,
+) -> Result<(), AllocError> {
+    let shown = shown_by(alloc, views)?;
+    let known = Known {
+        trees,
+        views,
+        regions: &made.regions,
+        shown: &shown,
     };
-    let mut plans = Vec::new(alloc);
-    for (at, node) in trees.nodes.iter().enumerate() {
-        if regions.get(at).copied() == Some(at) {
-            let name = given.name_for(alloc, node.row.name.as_bytes())?;
-            let plan = plan_of(trees, views, regions, &shown, at, node, name);
-            plans.push(Some(plan))?;
-        } else {
-            plans.push(None)?;
-        }
-    }
-    Ok(plans)
+    let done = known.plan_all(alloc, given, &mut made.plans);
+    drop(shown);
+    done
 }
 
 // The target of an alias that stands in it.
@@ -255,18 +301,41 @@ fn make_apart(plans: &mut [Option<Plan>], at: usize) {
 fn take_apart(
     alloc: Global,
     trees: &Trees<'_>,
-    regions: &[usize],
     given: &mut Given,
-    plans: &mut [Option<Plan>],
-) -> Result<Vec<Part>, AllocError> {
-    let mut parts = Vec::new(alloc);
-    for at in 0..plans.len() {
-        if let Some(target) = own_target(trees, regions, plans, at) {
-            make_apart(plans, at);
-            add_parts(alloc, trees, regions, given, &mut parts, at, target)?;
+    made: &mut Plans,
+) -> Result<(), AllocError> {
+    for at in 0..made.plans.len() {
+        if let Some(target) = own_target(trees, &made.regions, &made.plans, at) {
+            make_apart(&mut made.plans, at);
+            add_parts(
+                alloc,
+                trees,
+                &made.regions,
+                given,
+                &mut made.parts,
+                at,
+                target,
+            )?;
         }
     }
-    Ok(parts)
+    Ok(())
+}
+
+// Fills in the plans, with the names that are given.
+fn fill(
+    alloc: Global,
+    trees: &Trees<'_>,
+    views: &[View<'_>],
+    given: &mut Given,
+    made: &mut Plans,
+) -> Result<(), AllocError> {
+    made.regions = regions_of(alloc, trees)?;
+    make_plans(alloc, trees, views, given, made)?;
+    take_apart(alloc, trees, given, made)?;
+    made.leave_untargeted();
+    made.leave_rest();
+    made.fit();
+    Ok(())
 }
 
 /// The plans of the regions that some trees print.
@@ -275,17 +344,13 @@ pub(crate) fn plans_of(
     trees: &Trees<'_>,
     views: &[View<'_>],
 ) -> Result<Plans, AllocError> {
-    let regions = regions_of(alloc, trees)?;
-    let mut given = Given::none(alloc);
-    let mut plans = planned(alloc, trees, views, &regions, &mut given)?;
-    let parts = take_apart(alloc, trees, &regions, &mut given, &mut plans)?;
-    let mut plans = Plans {
-        regions,
-        plans,
-        parts,
+    let mut made = Plans {
+        regions: Vec::new(alloc),
+        plans: Vec::new(alloc),
+        parts: Vec::new(alloc),
     };
-    plans.leave_untargeted();
-    plans.leave_rest();
-    plans.fit();
-    Ok(plans)
+    let mut given = Given::none(alloc);
+    let done = fill(alloc, trees, views, &mut given, &mut made);
+    drop(given);
+    kept(made, done)
 }

@@ -5,16 +5,14 @@
 //! all the rest.
 //!
 //! Its tests show what no clause says: the top call over ends in memory that fail, give little or take little; that threads which are started
-//! at once go on beside each other and end, that what they read is what some of them wrote to that memory; and that a race which has all memory
-//! that it asks for is done. What is written for scripts is tested by the program `worked_scripts`.
+//! at once go on beside each other and end; and that a race which has all memory that it asks for is done. What is written for scripts is
+//! tested by the program `worked_scripts`.
 #![tactic(auto)]
 
 #[cfg(test)]
 mod ends;
 #[cfg(test)]
 mod gates;
-#[cfg(test)]
-mod pools;
 #[cfg(test)]
 mod races;
 #[cfg(test)]

@@ -1,37 +1,30 @@
 // A tree beside the plain program, and how the two are compared.
-ghost use Rattle.std.specs.Prelude.{◌≡◌, ◌<◌, IsSome};
-ghost use Rattle.mem_base.specs.map.Search.{root_of};
+ghost use Rattle.std.specs.Prelude.{◌≡◌};
 
 use crate::grid::{STRETCHES, last_of, start_of};
 use crate::plain::Plain;
-use flat_render::render;
-use flat_simplify::simplify;
-use mem_base::{Call, FlatRange, Paths, Pieces, Refusal, SpaceId, Spot, View};
+use mem_base::{Call, FlatRange, Refusal, SpaceId, Spot};
+use rand_pcg::Lcg64Xsh32;
 use region_tree::Tree;
-use std::alloc::{AllocError, Global};
-use std::marker::Brand;
-use std::sync::ledger::{Blank, Ledger};
-use step_counter::Steps;
+use std::alloc::Global;
 use tree_find::find;
 
-/// One forest, kept twice.
-#[derive(Debug, Drop)]
+/// How many kinds of things a trial may count.
+const KINDS: usize = 7;
+
+/// One forest, kept twice, and what draws the calls that make it.
+#[derive(Drop)]
 pub(crate) struct Case {
     pub(crate) tree: Tree,
     pub(crate) plain: Plain,
+    pub(crate) rng: Lcg64Xsh32,
+    pub(crate) seed: u64,
     /// How many calls were refused.
     pub(crate) refused: u64,
+    counts: [u64; KINDS],
 }
 
 impl Case {
-    pub(crate) fn new(alloc: Global) -> Case {
-        Case {
-            tree: Tree::new(alloc),
-            plain: Plain::new(alloc),
-            refused: 0,
-        }
-    }
-
     /// Does a call in the tree, and in the plain program where the tree accepts it.
     pub(crate) fn call(&mut self, call: &Call) -> Result<(), Refusal> {
         match self.tree.apply(call) {
@@ -41,37 +34,78 @@ impl Case {
         }
         Ok(())
     }
-}
 
-/// The ranges of a space, with a counter of their own.
-fn counted<L: Ledger>(
-    alloc: Global,
-    tree: &Tree,
-    space: SpaceId,
-    blank: Blank,
-) -> Result<Pieces, AllocError>
-    requires space { IsSome (root_of tree.now space) }
-    requires name { blank.name ≡ L.name }
-    requires parts { blank.parts ≡ L.parts }
-    requires some { 0 < L.parts }
-{
-    let mut steps = Steps::<L>::new(blank);
-    render(alloc, tree, space, &mut steps)
-}
-
-/// The ranges of a space, not counted; none where there is no such space.
-pub(crate) fn rendered(alloc: Global, tree: &Tree, space: SpaceId) -> Result<Pieces, AllocError> {
-    if tree.root(space).is_none() {
-        let paths = Paths::new(Vec::new(alloc), Vec::new(alloc));
-        return Ok(Pieces::new(Vec::new(alloc), paths));
+    /// Does these calls.
+    pub(crate) fn run(&mut self, calls: &[Call]) -> Result<(), Refusal> {
+        for call in calls {
+            self.call(call)?;
+        }
+        Ok(())
     }
-    counted::<Brand>(alloc, tree, space, Blank::new(1))
+
+    /// Counts some things more of a kind.
+    pub(crate) fn count(&mut self, kind: usize, more: usize) {
+        add_to(&mut self.counts, kind, more);
+    }
 }
 
-/// The view of a space.
-pub(crate) fn viewed(alloc: Global, tree: &Tree, space: SpaceId) -> Result<View, AllocError> {
-    let pieces = rendered(alloc, tree, space)?;
-    Ok(simplify(pieces))
+/// Counts some things more of a kind.
+fn add_to(counts: &mut [u64; KINDS], kind: usize, more: usize) {
+    if let Some(count) = counts.get_mut(kind) {
+        *count = count.saturating_add(more as u64);
+    }
+}
+
+/// Whether a trial of the map of a seed, which is empty at first, comes out; it adds to what was counted before.
+fn is_so<F: Fn(Global, &mut Case) -> Result<bool, Refusal>>(
+    alloc: Global,
+    seed: u64,
+    trial: &F,
+    counts: &mut [u64; KINDS],
+) -> bool
+    requires { F.IsAlwaysCallable trial.now }
+{
+    let mut case = Case {
+        tree: Tree::new(alloc),
+        plain: Plain::new(alloc),
+        rng: Lcg64Xsh32::new(seed, 54),
+        seed,
+        refused: 0,
+        counts: *counts,
+    };
+    let is_so = trial(alloc, &mut case);
+    *counts = case.counts;
+    is_so == Ok(true)
+}
+
+/// What a trial counts over the maps of this many seeds; or the first seed of which it does not come out.
+pub(crate) fn over<F: Fn(Global, &mut Case) -> Result<bool, Refusal>>(
+    alloc: Global,
+    seeds: u64,
+    trial: F,
+) -> Result<[u64; KINDS], u64>
+    requires { F.IsAlwaysCallable trial }
+{
+    let mut counts = [0; KINDS];
+    for seed in 0..seeds {
+        if !is_so(alloc, seed, &trial, &mut counts) {
+            return Err(seed);
+        }
+    }
+    Ok(counts)
+}
+
+/// Whether no seed failed, and more than this many things of each of the first kinds were counted.
+pub(crate) fn exceeds(found: &Result<[u64; KINDS], u64>, kinds: usize, least: u64) -> bool {
+    let Ok(counts) = found else {
+        return false;
+    };
+    for (kind, count) in counts.iter().enumerate() {
+        if kind < kinds && *count <= least {
+            return false;
+        }
+    }
+    true
 }
 
 /// What some ranges show at an address.
@@ -88,35 +122,25 @@ fn shown(ranges: &[FlatRange], addr: u64) -> Option<Spot> {
     None
 }
 
-/// The first address among these at which the tree, the plain program or the view find another thing.
-fn differs_at(case: &Case, view: &View, space: SpaceId, addrs: [u64; 3]) -> Option<u64> {
+/// Whether the tree, the plain program and the ranges of its view find the same at these addresses.
+fn agree_at(case: &Case, ranges: &[FlatRange], space: SpaceId, addrs: [u64; 3]) -> bool {
     for addr in addrs {
         let want = case.plain.look(space, addr);
-        if find(&case.tree, space, addr) != want || shown(view.as_slice(), addr) != want {
-            return Some(addr);
+        if find(&case.tree, space, addr) != want || shown(ranges, addr) != want {
+            return false;
         }
     }
-    None
+    true
 }
 
-/// The first address at or beside a boundary of the grid at which they find another thing.
-pub(crate) fn differs(
-    alloc: Global,
-    case: &Case,
-    space: SpaceId,
-) -> Result<Option<u64>, AllocError> {
-    let view = viewed(alloc, &case.tree, space)?;
+/// Whether they find the same at and beside each boundary of the grid.
+pub(crate) fn agree(case: &Case, ranges: &[FlatRange], space: SpaceId) -> bool {
     for stretch in 0..STRETCHES {
         let start = start_of(stretch);
-        let found = differs_at(
-            case,
-            &view,
-            space,
-            [start, start.wrapping_add(1), last_of(stretch)],
-        );
-        if found.is_some() {
-            return Ok(found);
+        let addrs = [start, start.wrapping_add(1), last_of(stretch)];
+        if !agree_at(case, ranges, space, addrs) {
+            return false;
         }
     }
-    Ok(None)
+    true
 }

@@ -1,8 +1,8 @@
 // Calls drawn by a generator.
 ghost use Rattle.std.specs.Prelude.{◌<◌};
 
-use crate::maps::{flash, latch};
-use mem_base::{Call, Client, Ioevent, Kind, Perm, RegionId, Size, SpaceId};
+use crate::maps::latch;
+use mem_base::{Call, Client, Device, DeviceKind, Ioevent, Kind, Perm, RegionId, Size, SpaceId};
 use rand_core::utils::NextWord;
 use rand_pcg::Lcg64Xsh32;
 
@@ -64,7 +64,7 @@ fn kind(rng: &mut Lcg64Xsh32, made: u32) -> Kind {
     match draw(rng, 10) {
         0 | 1 => Kind::Ram,
         2 => Kind::Rom,
-        3 => flash(),
+        3 => Kind::RomDevice(Device::plain(DeviceKind::Latch)),
         4 => latch(),
         5 => Kind::Iommu,
         6 => Kind::Reserve,
@@ -76,7 +76,7 @@ fn kind(rng: &mut Lcg64Xsh32, made: u32) -> Kind {
     }
 }
 
-fn client(rng: &mut Lcg64Xsh32) -> Client {
+pub(crate) fn client(rng: &mut Lcg64Xsh32) -> Client {
     match draw(rng, 3) {
         0 => Client::Vga,
         1 => Client::Code,

@@ -1,76 +1,68 @@
 // Small maps by drawn calls, accepted and refused ones of every kind.
-use crate::cases::{Case, differs, viewed};
+use crate::cases::{Case, agree, exceeds, over};
 use crate::draws::any_call;
 use crate::grid::plain_view;
 use crate::maps::{region, space};
-use mem_base::{Call, Kind, Refusal, SpaceId};
-use rand_pcg::Lcg64Xsh32;
+use crate::trees::viewed;
+use mem_base::{Call, FlatRange, Kind, Refusal, SpaceId};
 use region_tree::Tree;
 use std::alloc::{AllocError, Global};
-use std::test::Fail;
 
 /// How many maps are drawn, and of how many calls each.
 const MAPS: u64 = 10_000;
 
 const CALLS: u32 = 60;
 
-/// The map that a seed gives: a space over a container of 16 pages, and then drawn calls.
-pub(crate) fn drawn(alloc: Global, seed: u64) -> Result<Case, Refusal> {
-    let mut rng = Lcg64Xsh32::new(seed, 54);
-    let mut case = Case::new(alloc);
+/// Makes a space over a container of 16 pages, and does drawn calls.
+pub(crate) fn draw_map(case: &mut Case) -> Result<(), Refusal> {
     case.call(&region(Kind::Container, 0x1_0000))?;
-    case.call(&space(0))?;
+    case.call(&space(0, 0))?;
     for _ in 0..CALLS {
-        let call = next_call(&mut rng, &case);
+        let call = next_call(case);
         case.call(&call)?;
     }
-    Ok(case)
+    Ok(())
 }
 
 /// The next call.
-fn next_call(rng: &mut Lcg64Xsh32, case: &Case) -> Call {
-    let made = u32::try_from(case.plain.made()).unwrap_or(u32::MAX);
-    any_call(rng, made)
+fn next_call(case: &mut Case) -> Call {
+    any_call(&mut case.rng, case.plain.made())
 }
 
-/// How many ranges a space of a map shows, where the tree, its view and the plain program agree on it.
-pub(crate) fn ranges_of(
+/// Whether these are the ranges that the plain program gives a space, and all find the same in it.
+fn is_view(
     alloc: Global,
     case: &Case,
     at: SpaceId,
-) -> Result<Option<usize>, AllocError> {
-    if differs(alloc, case, at)?.is_some() {
-        return Ok(None);
-    }
-    let view = viewed(alloc, &case.tree, at)?;
+    ranges: &[FlatRange],
+) -> Result<bool, AllocError> {
     let want = plain_view(alloc, &case.plain, at)?;
-    if view.as_slice() != want.as_slice() {
-        return Ok(None);
-    }
-    Ok(Some(view.as_slice().len()))
+    Ok(ranges == want.as_slice() && agree(case, ranges, at))
 }
 
-/// The same of all three spaces of the map that a seed gives; the ranges are counted.
-fn agrees(alloc: Global, seed: u64, ranges: &mut usize) -> Result<bool, Refusal> {
-    let case = drawn(alloc, seed)?;
+/// Whether the tree, its view and the plain program agree on a space of a map; the ranges are counted.
+pub(crate) fn is_shown(alloc: Global, case: &mut Case, at: SpaceId) -> Result<bool, AllocError> {
+    let view = viewed(alloc, &case.tree, at)?;
+    let is_so = is_view(alloc, case, at, view.as_slice());
+    case.count(0, view.as_slice().len());
+    is_so
+}
+
+/// The same of all three spaces of a drawn map.
+fn are_shown(alloc: Global, case: &mut Case) -> Result<bool, Refusal> {
+    draw_map(case)?;
     for at in [SpaceId(0), SpaceId(1), SpaceId(2)] {
-        match ranges_of(alloc, &case, at)? {
-            Some(count) => *ranges = ranges.saturating_add(count),
-            None => return Ok(false),
+        if !is_shown(alloc, case, at)? {
+            return Ok(false);
         }
     }
     Ok(true)
 }
 
 #[test]
-fn drawn_maps_show_what_the_plain_program_finds(rt: HostRuntime) -> Result<(), Fail> {
-    let mut ranges: usize = 0;
-    for seed in 0..MAPS {
-        let is_so = agrees(rt.alloc(), seed, &mut ranges)?;
-        assert!(rt; is_so, "seed {seed}");
-    }
-    assert!(rt; ranges > 25_000);
-    Ok(())
+fn drawn_maps_show_what_the_plain_program_finds(rt: HostRuntime) {
+    let ranges = over(rt.alloc(), MAPS, are_shown);
+    assert!(rt; exceeds(&ranges, 1, 25_000), "{ranges:?}");
 }
 
 /// All that is known of a forest, as text.
@@ -78,39 +70,37 @@ pub(crate) fn text(alloc: Global, tree: &Tree) -> Result<String, AllocError> {
     format!(in alloc; "{:?}", tree.forest()?)
 }
 
+/// Whether that is this text.
+pub(crate) fn has_text(alloc: Global, tree: &Tree, before: &str) -> Result<bool, AllocError> {
+    let now = text(alloc, tree)?;
+    Ok(now.as_str() == before)
+}
+
 /// Whether a call is refused and leaves the forest as it was.
 fn is_refused(alloc: Global, tree: &mut Tree, call: &Call) -> Result<bool, AllocError> {
     let before = text(alloc, tree)?;
     let refused = tree.apply(call).is_err();
-    Ok(refused && text(alloc, tree)? == before)
+    let same = has_text(alloc, tree, before.as_str());
+    Ok(same? && refused)
 }
 
-/// How many of a seed's calls are refused, where each of these leaves the forest as it was.
-fn refused_by(alloc: Global, seed: u64) -> Result<Option<u64>, Refusal> {
-    let mut refused: u64 = 0;
-    let mut rng = Lcg64Xsh32::new(seed, 54);
-    let mut case = Case::new(alloc);
+/// Whether each drawn call that is refused leaves the forest as it was; these are counted.
+fn leave_it(alloc: Global, case: &mut Case) -> Result<bool, Refusal> {
     for _ in 0..CALLS {
-        let call = next_call(&mut rng, &case);
+        let call = next_call(case);
         if case.tree.refusal_of(&call)?.is_none() {
             case.call(&call)?;
         } else if is_refused(alloc, &mut case.tree, &call)? {
-            refused = refused.saturating_add(1);
+            case.count(0, 1);
         } else {
-            return Ok(None);
+            return Ok(false);
         }
     }
-    Ok(Some(refused))
+    Ok(true)
 }
 
 #[test]
-fn refused_calls_leave_the_forest_as_it_was(rt: HostRuntime) -> Result<(), Fail> {
-    let mut refused: u64 = 0;
-    for seed in 0..100 {
-        let count = refused_by(rt.alloc(), seed)?;
-        assert!(rt; count.is_some(), "seed {seed}");
-        refused = refused.saturating_add(count.unwrap_or(0));
-    }
-    assert!(rt; refused > 500);
-    Ok(())
+fn refused_calls_leave_the_forest_as_it_was(rt: HostRuntime) {
+    let refused = over(rt.alloc(), 100, leave_it);
+    assert!(rt; exceeds(&refused, 1, 500), "{refused:?}");
 }

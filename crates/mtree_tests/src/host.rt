@@ -1,17 +1,11 @@
 // Host memory in the map: it is found, merged and logged as RAM is, by the rules worked out on paper.
-use crate::cases::viewed;
-use crate::maps::{add, region, space};
-use mem_base::{Applied, Attrs, Call, Client, FlatRange, Kind, Refusal, RegionId, Size, SpaceId};
+use crate::maps::{add, region, resize, space};
+use crate::trees::{is_so, run, viewed};
+use mem_base::{Applied, Attrs, Call, Client, FlatRange, Kind, Refusal, RegionId, SpaceId};
 use region_tree::Tree;
 use std::alloc::{AllocError, Global};
-use std::test::Fail;
 
 const HOST: RegionId = RegionId(1);
-
-fn resize(bytes: u128) -> Result<Call, Refusal> {
-    let size = Size::new(bytes).ok_or(Refusal::BadSize)?;
-    Ok(Call::Resize { region: HOST, size })
-}
 
 fn log(client: Client) -> Call {
     Call::Log {
@@ -21,24 +15,19 @@ fn log(client: Client) -> Call {
     }
 }
 
-// A page of RAM over the second of four pages of host memory, which stand at 0x2000.
-fn map() -> [Call; 6] {
-    [
-        region(Kind::Container, 0x1_0000),
-        region(Kind::Host, 0x4000),
-        region(Kind::Ram, 0x1000),
-        space(0),
-        add(0, 0x2000, 1, 0),
-        add(0, 0x3000, 2, 1),
-    ]
-}
-
-fn made(alloc: Global) -> Result<Tree, Refusal> {
-    let mut tree = Tree::new(alloc);
-    for call in &map() {
-        tree.apply(call)?;
-    }
-    Ok(tree)
+// Puts a page of RAM over the second of four pages of host memory, which stand at 0x2000.
+fn build(tree: &mut Tree) -> Result<(), Refusal> {
+    run(
+        tree,
+        &[
+            region(Kind::Container, 0x1_0000),
+            region(Kind::Host, 0x4000),
+            region(Kind::Ram, 0x1000),
+            space(0, 0),
+            add(0, 0x2000, 1, 0),
+            add(0, 0x3000, 2, 1),
+        ],
+    )
 }
 
 fn range(start: u64, last: u64, leaf: u32, offset: u64, log: u8) -> FlatRange {
@@ -68,40 +57,43 @@ fn shows(alloc: Global, tree: &Tree, host: u8, ram: u8) -> Result<bool, AllocErr
     Ok(view.as_slice() == expected.as_slice())
 }
 
-#[test]
-fn host_memory_is_shown_as_ram_is(rt: HostRuntime) -> Result<(), Fail> {
-    let alloc = rt.alloc();
-    let mut tree = made(alloc)?;
-    assert!(rt; shows(alloc, &tree, 0, 0)?);
+fn is_shown_as_ram(alloc: Global, tree: &mut Tree) -> Result<bool, Refusal> {
+    build(tree)?;
+    let unlogged = shows(alloc, tree, 0, 0)?;
     tree.apply(&log(Client::Vga))?;
-    assert!(rt; shows(alloc, &tree, 1, 0)?);
+    let logged = shows(alloc, tree, 1, 0)?;
     tree.apply(&Call::Global { on: true })?;
-    assert!(rt; shows(alloc, &tree, 5, 4)?);
-    Ok(())
+    let global = shows(alloc, tree, 5, 4)?;
+    Ok(unlogged && logged && global)
 }
 
 #[test]
-fn host_memory_keeps_its_size(rt: HostRuntime) -> Result<(), Fail> {
-    let mut tree = made(rt.alloc())?;
-    assert_eq!(rt; tree.apply(&resize(0x1000)?), Err(Refusal::WrongKind(HOST)));
-    assert_eq!(rt; tree.apply(&log(Client::Code)), Ok(Applied::Done));
-    Ok(())
+fn host_memory_is_shown_as_ram_is(rt: HostRuntime) {
+    assert!(rt; is_so(rt.alloc(), is_shown_as_ram));
 }
 
-// Sizes of new host memory that are no whole pages.
-#[test]
-fn host_memory_is_whole_pages(rt: HostRuntime) {
-    let mut tree = Tree::new(rt.alloc());
-    assert_eq!(rt; tree.apply(&region(Kind::Host, 0)), Err(Refusal::BadSize));
-    assert_eq!(rt;
-        tree.apply(&region(Kind::Host, 0x1001)),
-        Err(Refusal::BadSize)
-    );
+fn keeps_its_size(_alloc: Global, tree: &mut Tree) -> Result<bool, Refusal> {
+    build(tree)?;
+    let resized = tree.apply(&resize(1, 0x1000));
+    let logged = tree.apply(&log(Client::Code));
+    Ok(resized == Err(Refusal::WrongKind(HOST)) && logged == Ok(Applied::Done))
 }
 
 #[test]
-fn host_memory_may_be_a_whole_space(rt: HostRuntime) {
-    let mut tree = Tree::new(rt.alloc());
+fn host_memory_keeps_its_size(rt: HostRuntime) {
+    assert!(rt; is_so(rt.alloc(), keeps_its_size));
+}
+
+// Sizes of new host memory that are no whole pages, and that of a whole space.
+fn is_whole_pages(_alloc: Global, tree: &mut Tree) -> Result<bool, Refusal> {
+    let none = tree.apply(&region(Kind::Host, 0));
+    let odd = tree.apply(&region(Kind::Host, 0x1001));
     let whole = tree.apply(&region(Kind::Host, 0x1_0000_0000_0000_0000));
-    assert_eq!(rt; whole, Ok(Applied::Made(RegionId(0))));
+    let are_refused = none == Err(Refusal::BadSize) && odd == Err(Refusal::BadSize);
+    Ok(are_refused && whole == Ok(Applied::Made(RegionId(0))))
+}
+
+#[test]
+fn host_memory_is_whole_pages_and_may_be_a_whole_space(rt: HostRuntime) {
+    assert!(rt; is_so(rt.alloc(), is_whole_pages));
 }

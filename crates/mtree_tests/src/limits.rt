@@ -1,59 +1,55 @@
 // What no script reaches of a tree's limits: their numbers, and the questions before a call.
 use crate::maps::{add, alias, latch, region, space};
+use crate::trees::is_so;
 use mem_base::{Applied, Call, Kind, Perm, Refusal, RegionId, Size, SpaceId, Which};
 use region_tree::Tree;
+use std::alloc::Global;
 
 /// A call that puts a page at this iova into the table of region 0.
-fn page(iova: u64) -> Result<Call, Refusal> {
-    let size = Size::new(0x1000).ok_or(Refusal::BadSize)?;
-    Ok(Call::Map {
+fn page(iova: u64) -> Call {
+    let Some(size) = Size::new(0x1000) else {
+        unreachable!();
+    };
+    Call::Map {
         region: RegionId(0),
         iova,
         size,
         space: SpaceId(0),
         translated: 0,
         perm: Perm::Both,
-    })
+    }
 }
 
 /// Whether 512 MiB of ROM are made, and no more of it.
-fn has_largest(tree: &mut Tree) -> Result<bool, Refusal> {
+fn has_largest(_alloc: Global, tree: &mut Tree) -> Result<bool, Refusal> {
     let largest = tree.apply(&region(Kind::Rom, 0x2000_0000))?;
     let larger = tree.refusal_of(&region(Kind::Rom, 0x2000_1000))?;
     Ok(largest == Applied::Made(RegionId(0)) && larger == Some(Refusal::BadSize))
 }
 
 #[test]
-fn rom_of_512_mebibytes_is_the_largest(rt: HostRuntime) -> Result<(), Refusal> {
-    let mut tree = Tree::new(rt.alloc());
-    let is_so = has_largest(&mut tree)?;
-    assert!(rt; is_so);
-    Ok(())
+fn rom_of_512_mebibytes_is_the_largest(rt: HostRuntime) {
+    assert!(rt; is_so(rt.alloc(), has_largest));
 }
 
 /// Puts 4,096 pages into a table; whether one more is refused.
-fn fills_a_table(tree: &mut Tree) -> Result<bool, Refusal> {
+fn fills_a_table(_alloc: Global, tree: &mut Tree) -> Result<bool, Refusal> {
     tree.apply(&region(Kind::Iommu, 0x1000))?;
-    tree.apply(&space(0))?;
+    tree.apply(&space(0, 0))?;
     for number in 0..4096_u64 {
-        let next = page(number * 0x1000)?;
-        tree.apply(&next)?;
+        tree.apply(&page(number * 0x1000))?;
     }
-    let next = page(0x100_0000)?;
-    let refusal = tree.refusal_of(&next)?;
+    let refusal = tree.refusal_of(&page(0x100_0000))?;
     Ok(refusal == Some(Refusal::LimitReached(Which::Entries, 4096)))
 }
 
 #[test]
-fn a_table_has_4096_pages(rt: HostRuntime) -> Result<(), Refusal> {
-    let mut tree = Tree::new(rt.alloc());
-    let is_so = fills_a_table(&mut tree)?;
-    assert!(rt; is_so);
-    Ok(())
+fn a_table_has_4096_pages(rt: HostRuntime) {
+    assert!(rt; is_so(rt.alloc(), fills_a_table));
 }
 
 /// Makes 4,096 regions; whether one more is refused.
-fn fills_a_tree(tree: &mut Tree) -> Result<bool, Refusal> {
+fn fills_a_tree(_alloc: Global, tree: &mut Tree) -> Result<bool, Refusal> {
     for _ in 0..4096 {
         tree.apply(&region(Kind::Container, 0x1000))?;
     }
@@ -62,11 +58,8 @@ fn fills_a_tree(tree: &mut Tree) -> Result<bool, Refusal> {
 }
 
 #[test]
-fn a_tree_has_4096_regions(rt: HostRuntime) -> Result<(), Refusal> {
-    let mut tree = Tree::new(rt.alloc());
-    let is_so = fills_a_tree(&mut tree)?;
-    assert!(rt; is_so);
-    Ok(())
+fn a_tree_has_4096_regions(rt: HostRuntime) {
+    assert!(rt; is_so(rt.alloc(), fills_a_tree));
 }
 
 /// Puts 32 containers each into the one before it, and makes one more.
@@ -81,7 +74,7 @@ fn nests(tree: &mut Tree) -> Result<(), Refusal> {
 }
 
 /// Whether one more goes into the 31st of 32 nested containers and not into the last, and an alias of the first is too deep.
-fn is_deep(tree: &mut Tree) -> Result<bool, Refusal> {
+fn is_deep(_alloc: Global, tree: &mut Tree) -> Result<bool, Refusal> {
     nests(tree)?;
     let deep = Some(Refusal::TooDeep(33));
     let (inside, below) = (add(30, 0, 32, 0), add(31, 0, 32, 0));
@@ -92,11 +85,8 @@ fn is_deep(tree: &mut Tree) -> Result<bool, Refusal> {
 }
 
 #[test]
-fn a_33rd_region_is_too_deep(rt: HostRuntime) -> Result<(), Refusal> {
-    let mut tree = Tree::new(rt.alloc());
-    let is_so = is_deep(&mut tree)?;
-    assert!(rt; is_so);
-    Ok(())
+fn a_33rd_region_is_too_deep(rt: HostRuntime) {
+    assert!(rt; is_so(rt.alloc(), is_deep));
 }
 
 /// Makes a container, which is region `number`, and two aliases of a region; the first is put into it.
@@ -123,7 +113,7 @@ fn widens(tree: &mut Tree) -> Result<u32, Refusal> {
 }
 
 /// Whether the weight after 14 doublings is 65,533, so that a 15th is too wide, though another container may have the last.
-fn is_wide(tree: &mut Tree) -> Result<bool, Refusal> {
+fn is_wide(_alloc: Global, tree: &mut Tree) -> Result<bool, Refusal> {
     let last = widens(tree)?;
     let heavy = tree.node(RegionId(last)).is_some() && tree.weight(RegionId(last)) == 65_533;
     let next = last.saturating_add(3);
@@ -136,15 +126,12 @@ fn is_wide(tree: &mut Tree) -> Result<bool, Refusal> {
 }
 
 #[test]
-fn aliases_grow_too_wide(rt: HostRuntime) -> Result<(), Refusal> {
-    let mut tree = Tree::new(rt.alloc());
-    let is_so = is_wide(&mut tree)?;
-    assert!(rt; is_so);
-    Ok(())
+fn aliases_grow_too_wide(rt: HostRuntime) {
+    assert!(rt; is_so(rt.alloc(), is_wide));
 }
 
 /// Puts 2,000 containers into one; it is here for its time, since each add looks at all regions.
-fn gathers(tree: &mut Tree) -> Result<bool, Refusal> {
+fn gathers(_alloc: Global, tree: &mut Tree) -> Result<bool, Refusal> {
     tree.apply(&region(Kind::Container, 0x1000))?;
     for number in 1..2001 {
         tree.apply(&region(Kind::Container, 0x1000))?;
@@ -154,9 +141,6 @@ fn gathers(tree: &mut Tree) -> Result<bool, Refusal> {
 }
 
 #[test]
-fn many_under_one_container(rt: HostRuntime) -> Result<(), Refusal> {
-    let mut tree = Tree::new(rt.alloc());
-    let is_so = gathers(&mut tree)?;
-    assert!(rt; is_so);
-    Ok(())
+fn many_under_one_container(rt: HostRuntime) {
+    assert!(rt; is_so(rt.alloc(), gathers));
 }

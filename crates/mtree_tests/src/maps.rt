@@ -1,31 +1,11 @@
 // The calls of the tests.
 ghost use Rattle.std.specs.Prelude.{◌≤◌, ◌^◌};
 
-use mem_base::{Call, Device, DeviceKind, Kind, Ops, RegionId, Size, SpaceId};
+use mem_base::{Call, Device, DeviceKind, Kind, RegionId, Size, SpaceId};
 
-/// A device of one register, with accesses of 1 to 8 bytes.
+/// A device of one register.
 pub(crate) fn latch() -> Kind {
-    Kind::Io(Device {
-        kind: DeviceKind::Latch,
-        regs: 1,
-        ops: Ops {
-            valid_min: 1,
-            valid_max: 8,
-            valid_unaligned: false,
-            impl_min: 1,
-            impl_max: 8,
-            impl_unaligned: false,
-            big: false,
-        },
-    })
-}
-
-/// A ROM device with the same registers.
-pub(crate) fn flash() -> Kind {
-    match latch() {
-        Kind::Io(device) => Kind::RomDevice(device),
-        other => other,
-    }
+    Kind::Io(Device::plain(DeviceKind::Latch))
 }
 
 pub(crate) fn region(kind: Kind, bytes: u128) -> Call
@@ -58,9 +38,30 @@ pub(crate) fn add(parent: u32, offset: u64, child: u32, priority: i32) -> Call {
     }
 }
 
-pub(crate) fn space(root: u32) -> Call {
+/// Takes a region out of region 0.
+pub(crate) fn del(child: u32) -> Call {
+    Call::Del {
+        parent: RegionId(0),
+        child: RegionId(child),
+    }
+}
+
+/// Makes a space.
+pub(crate) fn space(number: u32, root: u32) -> Call {
     Call::Space {
-        space: SpaceId(0),
+        space: SpaceId(number),
         root: RegionId(root),
+    }
+}
+
+pub(crate) fn resize(region: u32, bytes: u128) -> Call
+    requires { bytes ≤ 2 ^ 64 }
+{
+    match Size::new(bytes) {
+        Some(size) => Call::Resize {
+            region: RegionId(region),
+            size,
+        },
+        None => unreachable!(),
     }
 }

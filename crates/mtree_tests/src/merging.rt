@@ -47,7 +47,7 @@ fn notes(alloc: Global, paths: &[(u32, u32)]) -> Result<Vec<Note>, AllocError> {
 
 /// Two pages that go on, then one each with another logging mask, with another leaf, after a hole and at another
 /// offset, and one that goes on there: each on a path of its own, which mergeable pages do not mind.
-fn seven_pages(alloc: Global) -> Result<Pieces, Fail> {
+fn seven_pages(alloc: Global) -> Result<Pieces, AllocError> {
     let ranges = vec![in alloc;
         page(0x0000, 1, 0x0000, 0, false),
         page(0x1000, 1, 0x1000, 0, false),
@@ -94,10 +94,15 @@ static MERGED: [(u64, u64, u32, u64); 5] = [
     (0x6000, 0x7fff, 2, 0x5000),
 ];
 
+/// Whether the pages merge so.
+fn merge(alloc: Global) -> Result<bool, AllocError> {
+    let pieces = seven_pages(alloc)?;
+    let view = simplify(pieces);
+    Ok(shows(&view, &MERGED))
+}
+
 #[test]
 fn only_neighbours_that_go_on_merge(rt: HostRuntime) -> Result<(), Fail> {
-    let pieces = seven_pages(rt.alloc())?;
-    let view = simplify(pieces);
-    assert!(rt; shows(&view, &MERGED));
+    assert!(rt; merge(rt.alloc())?);
     Ok(())
 }

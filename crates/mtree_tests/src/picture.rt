@@ -1,31 +1,29 @@
 // The paths of the picture of QEMU's manual, "The memory API", "Overlapping regions and priority", in the search and in the
 // rendering.
-use crate::cases::rendered;
 use crate::maps::{add, latch, region, space};
+use crate::trees::{is_so, rendered, run};
 use mem_base::{Kind, Path, Pieces, Refusal, SpaceId};
 use region_tree::Tree;
 use std::alloc::Global;
-use std::test::Fail;
 use tree_find::find_path;
 
-/// Containers A and B and devices C, D and E, numbered from 0.
-fn picture(alloc: Global) -> Result<Tree, Refusal> {
-    let mut tree = Tree::new(alloc);
-    for call in [
-        region(Kind::Container, 0x8000),
-        region(Kind::Container, 0x4000),
-        region(latch(), 0x6000),
-        region(latch(), 0x1000),
-        region(latch(), 0x1000),
-        add(0, 0x2000, 1, 2),
-        add(0, 0, 2, 1),
-        add(1, 0, 3, 0),
-        add(1, 0x2000, 4, 0),
-        space(0),
-    ] {
-        tree.apply(&call)?;
-    }
-    Ok(tree)
+/// Makes containers A and B and devices C, D and E, numbered from 0.
+fn build(tree: &mut Tree) -> Result<(), Refusal> {
+    run(
+        tree,
+        &[
+            region(Kind::Container, 0x8000),
+            region(Kind::Container, 0x4000),
+            region(latch(), 0x6000),
+            region(latch(), 0x1000),
+            region(latch(), 0x1000),
+            add(0, 0x2000, 1, 2),
+            add(0, 0, 2, 1),
+            add(1, 0, 3, 0),
+            add(1, 0x2000, 4, 0),
+            space(0, 0),
+        ],
+    )
 }
 
 /// The first two regions of a path, and the last.
@@ -42,25 +40,24 @@ static FOUND: [(u64, Option<(u32, u32, u32)>); 4] = [
     (0x6000, None),
 ];
 
-/// The first address that is found on another path.
-fn first_astray(tree: &Tree) -> Option<u64> {
+/// Whether each address is found on its path.
+fn are_found(_alloc: Global, tree: &mut Tree) -> Result<bool, Refusal> {
+    build(tree)?;
     for (addr, want) in &FOUND {
         let found = match find_path(tree, SpaceId(0), *addr) {
             Some((_, path)) => Some(ends(&path)),
             None => None,
         };
         if found != *want {
-            return Some(*addr);
+            return Ok(false);
         }
     }
-    None
+    Ok(true)
 }
 
 #[test]
-fn the_paths_of_the_picture(rt: HostRuntime) -> Result<(), Fail> {
-    let tree = picture(rt.alloc())?;
-    assert_eq!(rt; first_astray(&tree), None);
-    Ok(())
+fn the_paths_of_the_picture(rt: HostRuntime) {
+    assert!(rt; is_so(rt.alloc(), are_found));
 }
 
 /// Pieces: first and last address, leaf, offset in it, and the second region of the path.
@@ -86,10 +83,13 @@ fn are_pieces(pieces: &Pieces) -> bool {
     pieces.ranges().len() == PIECES.len()
 }
 
+fn are_rendered(alloc: Global, tree: &mut Tree) -> Result<bool, Refusal> {
+    build(tree)?;
+    let pieces = rendered(alloc, tree, SpaceId(0))?;
+    Ok(are_pieces(&pieces))
+}
+
 #[test]
-fn the_ranges_of_the_picture_with_their_paths(rt: HostRuntime) -> Result<(), Fail> {
-    let tree = picture(rt.alloc())?;
-    let pieces = rendered(rt.alloc(), &tree, SpaceId(0))?;
-    assert!(rt; are_pieces(&pieces));
-    Ok(())
+fn the_ranges_of_the_picture_with_their_paths(rt: HostRuntime) {
+    assert!(rt; is_so(rt.alloc(), are_rendered));
 }

@@ -4,7 +4,7 @@ use mem_base::{Attrs, Call, Client, Kind, RegionId, Size, SpaceId, Spot};
 use std::alloc::{AllocError, Global};
 
 /// A region as it stands.
-#[derive(Clone, Copy, Debug)]
+#[derive(Clone, Copy)]
 struct Region {
     id: RegionId,
     kind: Kind,
@@ -92,7 +92,7 @@ fn named(call: &Call) -> Option<RegionId> {
 }
 
 /// All regions, by the order in which they were made, and the spaces.
-#[derive(Debug, Drop)]
+#[derive(Drop)]
 pub(crate) struct Plain {
     regions: Vec<Region>,
     spaces: Vec<(SpaceId, RegionId)>,
@@ -111,8 +111,8 @@ impl Plain {
     }
 
     /// How many regions were made.
-    pub(crate) fn made(&self) -> usize {
-        self.regions.len()
+    pub(crate) fn made(&self) -> u32 {
+        u32::try_from(self.regions.len()).unwrap_or(u32::MAX)
     }
 
     /// Does a call that was accepted.
@@ -134,7 +134,7 @@ impl Plain {
     }
 
     fn make(&mut self, kind: Kind, size: Size) -> Result<(), AllocError> {
-        let id = RegionId(u32::try_from(self.regions.len()).unwrap_or(u32::MAX));
+        let id = RegionId(self.made());
         self.regions.push(Region::new(id, kind, size))?;
         Ok(())
     }

@@ -2,6 +2,7 @@
 use mem_base::{
     Attrs, Kind, PassId, Refusal, RegionId, SpaceId, Spot, TxResult, User, WatcherId, What, Which,
 };
+use std::alloc::{AllocError, Global};
 use std::test::Fail;
 
 static REFUSALS: [(Refusal, &str); 8] = [
@@ -39,16 +40,25 @@ static REFUSALS: [(Refusal, &str); 8] = [
     ),
 ];
 
-#[test]
-fn refusals_read_as_sentences(rt: HostRuntime) -> Result<(), Fail> {
+/// Whether refusals read so.
+fn refusals_read(alloc: Global) -> Result<bool, AllocError> {
     for (why, expected) in &REFUSALS {
-        assert_eq!(rt; why.to_string(rt.alloc())?.as_str(), *expected);
+        let text = why.to_string(alloc)?;
+        if text.as_str() != *expected {
+            return Ok(false);
+        }
     }
-    Ok(())
+    Ok(true)
 }
 
 #[test]
-fn what_a_search_finds_is_told(rt: HostRuntime) -> Result<(), Fail> {
+fn refusals_read_as_sentences(rt: HostRuntime) -> Result<(), Fail> {
+    assert!(rt; refusals_read(rt.alloc())?);
+    Ok(())
+}
+
+/// Whether a spot reads so.
+fn spot_reads(alloc: Global) -> Result<bool, AllocError> {
     let spot = Spot {
         leaf: RegionId(4),
         offset: 0x1f00,
@@ -60,25 +70,34 @@ fn what_a_search_finds_is_told(rt: HostRuntime) -> Result<(), Fail> {
             log: 5,
         },
     };
-    let text = spot.to_string(rt.alloc())?;
-    let expected = "region 4 at 0x1f00 (read-only, unmergeable, logging mask 5)";
-    assert_eq!(rt; text.as_str(), expected);
-    Ok(())
+    let text = spot.to_string(alloc)?;
+    Ok(text.as_str() == "region 4 at 0x1f00 (read-only, unmergeable, logging mask 5)")
 }
 
-#[test]
-fn kinds_and_results_are_told(rt: HostRuntime) -> Result<(), Fail> {
+/// Whether a kind reads so.
+fn kind_reads(alloc: Global) -> Result<bool, AllocError> {
     let window = Kind::Alias {
         target: RegionId(1),
         offset: 0xc0000,
     };
-    let text = window.to_string(rt.alloc())?;
-    assert_eq!(rt; text.as_str(), "alias of region 1 from 0xc0000");
+    let text = window.to_string(alloc)?;
+    Ok(text.as_str() == "alias of region 1 from 0xc0000")
+}
+
+/// Whether the result of an access reads so.
+fn result_reads(alloc: Global) -> Result<bool, AllocError> {
     let ended = TxResult {
         error: false,
         decode: true,
     };
-    let text = ended.to_string(rt.alloc())?;
-    assert_eq!(rt; text.as_str(), "decode error");
+    let text = ended.to_string(alloc)?;
+    Ok(text.as_str() == "decode error")
+}
+
+#[test]
+fn spots_kinds_and_results_are_told(rt: HostRuntime) -> Result<(), Fail> {
+    assert!(rt; spot_reads(rt.alloc())?);
+    assert!(rt; kind_reads(rt.alloc())?);
+    assert!(rt; result_reads(rt.alloc())?);
     Ok(())
 }

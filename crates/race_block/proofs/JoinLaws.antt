@@ -87,7 +87,7 @@ ran_in (x ∷ xs) c d v w all inside h =
     ran_in xs h.clerk d h.pass w h.rest s.0 h.then ∙ s.1
 
 of_one : (cabinet : TableId) (a b : BlockActor) → CanAct cabinet a → HasActed cabinet a b → IsOf cabinet (without_clerk b)
-of_one cabinet (Pass a) (Pass b) can r = ran_in _ a.clerk b.clerk a.vcpu b.vcpu b.got.items can.0.inside r.ran ∙ can.1
+of_one cabinet (Pass a) (Pass b) can r = ran_in _ a.clerk b.clerk a.vcpu b.vcpu r.all can.0.inside r.ran ∙ can.1
 of_one cabinet (Desk a) (Desk b) can r = r.1
 of_one cabinet Gone Gone can r = tt
 of_one cabinet (Pass a) (Desk b) can r = absurd r

@@ -5,4 +5,5 @@ pub mod DeskLaws
 pub mod DeskRunLaws
 pub mod JoinLaws
 pub mod TextLaws
+pub mod PlainLaws
 pub mod HandedOn

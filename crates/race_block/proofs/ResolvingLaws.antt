@@ -1,12 +1,14 @@
 -- The tasks of a pass's lines: they are those of a pass, there is room for what they copy, and they are made one after another.
 use Rattle.std.proofs.Common.{◌≡◌, ℕ, ◌+◌, ◌<◌, ◌≤◌, zero, suc, true, List, [], ◌∷◌, ◌++◌, All, length, take, get_or, refl, sym, ap, subst, ◌∙◌, arith}
-use Rattle.std.proofs.Common.{Option, None, Result, Ok, Err, inl, inr}
+use Rattle.std.proofs.Common.{Option, None, Some, Result, Ok, Err, ◌⊎◌, inl, inr}
 use Rattle.std.proofs.lemmas.List.{map_push}
 use Rattle.std.proofs.lemmas.List.Elements.{All-push}
 use Rattle.mem_base.specs.declared.machine.records.DeskOrder.TheVariants as orders
 use Rattle.mem_base.specs.declared.script.commands.Command.{Command}
 use Rattle.mem_base.specs.declared.script.commands.Command.TheVariants as commands
+use Rattle.mem_base.specs.declared.map.ids.PassId.{PassId}
 use Rattle.mem_base.specs.machine.Passes.{pass_id}
+use Rattle.mem_base.specs.machine.Records.{Clerk}
 use Rattle.mem_base.specs.map.Limits.{most_passes}
 use Rattle.mem_base.specs.script.Race.{actor_number}
 use Rattle.mem_base.specs.script.Scripts.{Line}
@@ -15,6 +17,8 @@ use Rattle.mem_base.specs.script.Tasks.{Known, Resolved, Task, change_of, space,
 use Rattle.mem_base.specs.script.Tasks as tasks
 use Rattle.run_laws.specs.Fitting.{FitsCommand}
 use Rattle.race_laws.proofs.OutsideLaws.{orders_fit}
+use Rattle.generation.specs.Published.{Published}
+use Rattle.epoch_rule.specs.Values.{PassValue}
 use Rattle.race_lines.specs.declared.tasks.LineTask.{LineTask}
 use Rattle.race_lines.specs.declared.tasks.LineTask.TheVariants.{Idle, Ordered, Shown, Found, Watched, Unwatched, Entered, Left, Read, Written, Copied}
 use Rattle.race_lines.specs.declared.tasks.Refused.{Refused}
@@ -26,9 +30,10 @@ use Rattle.race_block.specs.declared.tasks.OwnLine.{OwnLine}
 use Rattle.race_block.specs.declared.passes.PassActor.{PassActor}
 use Rattle.race_block.specs.Desks.{line_meant, lines_meant}
 use Rattle.race_block.specs.declared.tasks.LineGot.{LineGot}
-use Rattle.race_block.specs.Lines.{FitsLine, FitsTask, HasRun, HasRunLines, HaveRun, IsReady}
-use Rattle.race_block.specs.Resolving.{AreTasksIn, AreTasksOf, IsOfPass, IsTaskOf, StandsFor, copy_room, tasks_in}
-use Rattle.race_block.specs.Texts.{IsTextOf}
+use Rattle.race_block.specs.declared.tasks.PassLines.{PassLines}
+use Rattle.race_block.specs.Lines.{FitsLine, FitsTask, HasDoneTasks, HasRunBy, HasRunLines, HasRunTasks, HaveRun}
+use Rattle.race_block.specs.Resolving.{AreTasksOf, IsOfPass, IsTaskOf, StandsFor, copy_room, tasks_in}
+use Rattle.race_block.specs.Texts.{IsTextOf, KeepsTold}
 use Rattle.mem_base.proofs.BoolLaws.{true_is_not_false}
 use Rattle.desk_lock.proofs.ReceiptLaws.{has_notifier}
 
@@ -83,25 +88,25 @@ task_fits k c _ h l s = tt
 pub no_tasks : (k : Known) (xs : List BlockLine) → xs ≡ [] → AreTasksOf k [] xs
 no_tasks k xs none = subst (λ (ys : List BlockLine). AreTasksOf k [] ys) (sym none) tt
 
-tasks_push : (k : Known) (lines : List Line) (xs : List BlockLine) (line : Line) (x : BlockLine) → AreTasksOf k lines xs → IsTaskOf k line x
+pub tasks_push : (k : Known) (lines : List Line) (xs : List BlockLine) (line : Line) (x : BlockLine) → AreTasksOf k lines xs → IsTaskOf k line x
     → AreTasksOf k (lines ++ line ∷ []) (xs ++ x ∷ [])
 tasks_push k [] [] line x h t = (t.0, t.1, tt)
 tasks_push k (l ∷ lines) (y ∷ xs) line x h t = (h.0, h.1, tasks_push k lines xs line x h.2 t)
 tasks_push k [] (y ∷ xs) line x h t = absurd h
 tasks_push k (l ∷ lines) [] line x h t = absurd h
 
-take_more : (xs : List OwnLine) (i : ℕ) (x : OwnLine) → i < length xs → get_or xs i x ≡ x → take (i + 1) xs ≡ take i xs ++ x ∷ []
+pub take_more : (xs : List OwnLine) (i : ℕ) (x : OwnLine) → i < length xs → get_or xs i x ≡ x → take (i + 1) xs ≡ take i xs ++ x ∷ []
 take_more [] i x l is = absurd (omega (arith, l))
 take_more (y ∷ xs) zero x l is = ap (λ (z : OwnLine). z ∷ []) is
 take_more (y ∷ xs) (suc i) x l is =
     let next : suc i + 1 ≡ suc (i + 1) = omega arith in
     ap (λ (n : ℕ). take n (y ∷ xs)) next ∙ ap (λ (zs : List OwnLine). y ∷ zs) (take_more xs i x (omega (arith, l)) is)
 
-pub take_all : (xs : List OwnLine) (n : ℕ) → length xs ≤ n → take n xs ≡ xs
+pub take_all : {X : Type 0} (xs : List X) (n : ℕ) → length xs ≤ n → take n xs ≡ xs
 take_all [] zero l = refl
 take_all [] (suc n) l = refl
 take_all (x ∷ xs) zero l = absurd (omega (arith, l))
-take_all (x ∷ xs) (suc n) l = ap (λ (zs : List OwnLine). x ∷ zs) (take_all xs n (omega (arith, l)))
+take_all (x ∷ xs) (suc n) l = ap (λ zs. x ∷ zs) (take_all xs n (omega (arith, l)))
 
 pub task_pushed : (k : Known) (lines : List OwnLine) (i : ℕ) (line : OwnLine) (xs more : List BlockLine) (x : BlockLine) → i < length lines
     → get_or lines i line ≡ line → AreTasksOf k (lines_meant (take i lines)) xs × All (FitsLine copy_room) xs → IsTaskOf k (line_meant line) x
@@ -114,30 +119,55 @@ task_pushed k lines i line xs more x room is h task fits put =
       subst (All (FitsLine copy_room)) (sym put) (All-push (FitsLine copy_room) xs x h.1 fits),
     )
 
--- an actor that did its lines, or had no memory for their tasks
+-- a pass that did its lines, or had no memory for their tasks
 
-pub has_run : (a b : PassActor) (text : Option Text) (xs : List BlockLine) → AreTasksIn a.lines xs → HasRunLines xs a.bounce a.clerk a.vcpu b
-    → IsTextOf (pass_id b.clerk.who) (tasks_in b.lines) b.got.items text → HasRun a (record b { text = text })
-has_run a b text xs tasks h told =
-    subst (λ (ys : List BlockLine). AreTasksIn a.lines ys → HasRunLines ys a.bounce a.clerk a.vcpu b → HasRun a (record b { text = text })) h.lines
-    (λ these ran. record {
-      lines = inl these;
-      bounce = ran.bounce_is;
-      most = ran.most;
-      ran = ran.ran;
-      whole = ran.whole;
-      text = told;
-    }) tasks h
+-- it keeps the text that it made, or else its tasks and what they got
+keeps_told : (pass : PassId) (xs : List BlockLine) (lines : PassLines) (got : List LineGot) (text : Option Text) → tasks_in lines ≡ xs
+    → IsTextOf pass (tasks_in lines) got text → KeepsTold pass xs got lines got text
+keeps_told pass xs lines got None is told = (is, refl)
+keeps_told pass xs lines got (Some text) is told = subst (λ (ys : List BlockLine). IsTextOf pass ys got (Some text)) is told
 
-pub none_run : (a b : PassActor) → IsReady a → b.bounce ≡ a.bounce → b.clerk ≡ a.clerk → b.vcpu ≡ a.vcpu → b.got ≡ a.got → b.out_of_memory ≡ true
-    → b.text ≡ None → HasRun a b
-none_run a b r bounce clerk vcpu got out untold =
-    let none : b.got.items ≡ [] = ap (λ g. g.items) got ∙ r.nothing in record {
-      lines = inr (out, none);
-      bounce = bounce;
-      most = subst (λ (gs : List LineGot). length gs ≤ length (tasks_in b.lines)) (sym none) (omega arith);
-      ran = subst (λ (gs : List LineGot). HaveRun (take (length gs) (tasks_in b.lines)) a.clerk a.vcpu gs b.clerk b.vcpu) (sym none)
-          (refl, clerk, vcpu);
-      whole = λ e. true_is_not_false b.out_of_memory out e;
-      text = subst (λ (t : Option Text). IsTextOf (pass_id b.clerk.who) (tasks_in b.lines) b.got.items t) (sym untold) tt;
-    }
+pub tasks_run : (xs : List BlockLine) (room : ℕ) (c : Clerk) (v : PassValue Published) (b : PassActor) (text : Option Text) → HasRunLines xs room c v b
+    → IsTextOf (pass_id b.clerk.who) (tasks_in b.lines) b.got.items text → HasDoneTasks xs room c v (record b { text = text })
+tasks_run xs room c v b text h told = record {
+  tasks = xs;
+  all = b.got.items;
+  lines = inl refl;
+  bounce = h.bounce_is;
+  most = h.most;
+  ran = h.ran;
+  whole = h.whole;
+  text = λ lasted. keeps_told (pass_id b.clerk.who) xs b.lines b.got.items text h.lines told;
+}
+
+pub runs_as : (Are Begin These First : List BlockLine → Type 0) (room : ℕ) (c : Clerk) (v : PassValue Published) (b : PassActor)
+    → ((xs : List BlockLine) → Are xs → These xs) → ((xs : List BlockLine) → Begin xs → First xs) → HasRunTasks Are Begin room c v b
+    → HasRunTasks These First room c v b
+runs_as Are Begin These First room c v b all some h = record {
+  tasks = h.tasks;
+  all = h.all;
+  lines = go h.lines;
+  bounce = h.bounce;
+  most = h.most;
+  ran = h.ran;
+  whole = h.whole;
+  text = h.text;
+}
+  where
+    go : (Are h.tasks ⊎ ((b.out_of_memory ≡ true) × Begin (take (length h.all) h.tasks)))
+        → These h.tasks ⊎ ((b.out_of_memory ≡ true) × First (take (length h.all) h.tasks))
+    go (inl are) = inl (all h.tasks are)
+    go (inr begin) = inr (begin.0, some (take (length h.all) h.tasks) begin.1)
+
+pub none_run : (k : Known) (lines : List OwnLine) (room : ℕ) (c : Clerk) (v : PassValue Published) (b : PassActor) → b.bounce ≡ room → b.clerk ≡ c
+    → b.vcpu ≡ v → b.out_of_memory ≡ true → HasRunBy k lines room c v b
+none_run k lines room c v b bounce clerk vcpu out = record {
+  tasks = [];
+  all = [];
+  lines = inr (out, (0, tt));
+  bounce = bounce;
+  most = omega arith;
+  ran = (refl, clerk, vcpu);
+  whole = λ e. true_is_not_false b.out_of_memory out e;
+  text = λ e. true_is_not_false b.out_of_memory out e;
+}

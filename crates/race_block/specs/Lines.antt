@@ -2,10 +2,13 @@
 use Rattle.std.specs.Prelude.{◌≡◌, ◌⊎◌, ℕ, ◌≤◌, true, false, List, [], ◌∷◌, ◌++◌, length, take}
 use mathlib.Core.List.{IsPrefix}
 use Rattle.std.specs.Prelude.{All}
+use Rattle.std.specs.List.{list_any}
 use Rattle.mem_base.specs.declared.machine.records.DeskOrder.{DeskOrder}
 use Rattle.mem_base.specs.access.AccessSteps.{reading, writing}
+use Rattle.mem_base.specs.machine.Passes.{pass_id}
 use Rattle.mem_base.specs.machine.Records.{Clerk}
-use Rattle.mem_base.specs.script.Tasks.{Task, entered, left, accessed, copied}
+use Rattle.mem_base.specs.script.Spelling.{Text}
+use Rattle.mem_base.specs.script.Tasks.{Known, Task, entered, left, accessed, copied}
 use Rattle.generation.specs.Published.{Published}
 use Rattle.epoch_rule.specs.Values.{PassValue}
 use Rattle.desk_lock.specs.declared.orders.Receipt.{Receipt}
@@ -22,8 +25,10 @@ use Rattle.race_block.specs.declared.tasks.LineGot.TheVariants as gots
 use Rattle.race_block.specs.declared.tasks.PassLines.{PassLines}
 use Rattle.race_block.specs.declared.tasks.PassLines.TheVariants as kinds
 use Rattle.race_block.specs.declared.passes.PassActor.{PassActor}
-use Rattle.race_block.specs.Resolving.{AreTasksIn, IsPassLine, copy_room, tasks_in}
-use Rattle.race_block.specs.Texts.{IsItsText}
+use Rattle.race_block.specs.declared.tasks.OwnLine.{OwnLine}
+use Rattle.race_block.specs.Desks.{lines_meant}
+use Rattle.race_block.specs.Resolving.{AreFirstTasksIn, AreFirstTasksOf, AreTasksIn, AreTasksOf, IsPassLine, copy_room, tasks_in}
+use Rattle.race_block.specs.Texts.{KeepsTold, gave_order, plain_texts}
 
 -- what is asked of a task: the bounce has room for what it copies, and a notifier that is to be taken is one of those that there are
 abbrev pub FitsTask : ℕ → PassTask → Type 0
@@ -123,12 +128,53 @@ pub record HasRunLines (xs : List BlockLine) (bounce : ℕ) (c : Clerk) (v : Pas
   pub ran : HaveRun (take (length b.got.items) xs) c v b.got.items b.clerk b.vcpu
   pub whole : b.out_of_memory ≡ false → length b.got.items ≡ length xs
 
--- the actor did all its lines, or out of memory the first of them; or there was no memory to resolve their names. What it keeps as their text, if anything,
--- is all that these lines write
-pub record HasRun (a b : PassActor) : Type 0 where
-  pub lines : AreTasksIn a.lines (tasks_in b.lines) ⊎ ((b.out_of_memory ≡ true) × (b.got.items ≡ []))
-  pub bounce : b.bounce ≡ a.bounce
-  pub most : length b.got.items ≤ length (tasks_in b.lines)
-  pub ran : HaveRun (take (length b.got.items) (tasks_in b.lines)) a.clerk a.vcpu b.got.items b.clerk b.vcpu
-  pub whole : b.out_of_memory ≡ false → length b.got.items ≡ length (tasks_in b.lines)
-  pub text : IsItsText b.clerk.who b
+-- the first lines of a pass were done, and memory ran out then
+pub record HasStopped (k : Known) (lines : List OwnLine) (c : Clerk) (v : PassValue Published) (d : Clerk) (w : PassValue Published) : Type 0 where
+  pub at : ℕ
+  pub tasks : List BlockLine
+  pub all : List LineGot
+  pub are : AreTasksOf k (lines_meant (take at lines)) tasks
+  pub count : length all ≡ length tasks
+  pub ran : HaveRun tasks c v all d w
+
+-- the first `at` lines of a pass were done, none of which gave an order, and this is what they wrote
+pub record IsTold (k : Known) (lines : List OwnLine) (c : Clerk) (v : PassValue Published) (at : ℕ) (d : Clerk) (w : PassValue Published) (text : Text)
+    : Type 0 where
+  pub tasks : List BlockLine
+  pub all : List LineGot
+  pub are : AreTasksOf k (lines_meant (take at lines)) tasks
+  pub count : length all ≡ length tasks
+  pub ran : HaveRun tasks c v all d w
+  pub none : list_any gave_order all ≡ false
+  pub told : text ≡ plain_texts (pass_id c.who) tasks all
+  pub clerk : d ≡ c
+  pub inside : IsInItsGeneration w
+  pub cabinet : w.cabinet ≡ v.cabinet
+
+-- Lines were done, with a bounce, what a clerk had written down and what a pass was: all of them, or out of memory the first of them. `Are` says which
+-- tasks all have, and `Begin` which the first of them. Where all were done, the pass keeps what they wrote
+pub record HasRunTasks (Are Begin : List BlockLine → Type 0) (room : ℕ) (c : Clerk) (v : PassValue Published) (b : PassActor) : Type 0 where
+  pub tasks : List BlockLine
+  pub all : List LineGot
+  pub lines : Are tasks ⊎ ((b.out_of_memory ≡ true) × Begin (take (length all) tasks))
+  pub bounce : b.bounce ≡ room
+  pub most : length all ≤ length tasks
+  pub ran : HaveRun (take (length all) tasks) c v all b.clerk b.vcpu
+  pub whole : b.out_of_memory ≡ false → length all ≡ length tasks
+  pub text : b.out_of_memory ≡ false → KeepsTold (pass_id b.clerk.who) tasks all b.lines b.got.items b.text
+
+-- so tasks were done, all of them or the first
+abbrev pub HasDoneTasks : List BlockLine → ℕ → Clerk → PassValue Published → PassActor → Type 0
+HasDoneTasks xs room c v b = HasRunTasks (λ ys. ys ≡ xs) (λ ys. ⊥) room c v b
+
+-- so lines were done whose names are resolved or are still to be
+abbrev pub HasRunFrom : PassLines → ℕ → Clerk → PassValue Published → PassActor → Type 0
+HasRunFrom own room c v b = HasRunTasks (AreTasksIn own) (AreFirstTasksIn own) room c v b
+
+-- and so lines whose names are resolved by these
+abbrev pub HasRunBy : Known → List OwnLine → ℕ → Clerk → PassValue Published → PassActor → Type 0
+HasRunBy k lines room c v b = HasRunTasks (AreTasksOf k (lines_meant lines)) (AreFirstTasksOf k lines) room c v b
+
+-- the actor did its lines
+abbrev pub HasRun : PassActor → PassActor → Type 0
+HasRun a b = HasRunFrom a.lines a.bounce a.clerk a.vcpu b

@@ -1,6 +1,8 @@
 -- The lines of a pass in a block, and their tasks once their names are resolved.
-use Rattle.std.specs.Prelude.{◌≡◌, ℕ, ◌<◌, List, [], ◌∷◌, Result, Ok, Err}
+use Rattle.std.specs.Prelude.{◌≡◌, ℕ, ◌<◌, Bool, true, false, List, [], ◌∷◌, take, Result, Ok, Err}
 use Rattle.mem_base.specs.access.AccessSteps.{reading, writing}
+use Rattle.mem_base.specs.declared.script.commands.Command.{Command}
+use Rattle.mem_base.specs.declared.script.commands.Command.TheVariants.{PassDo}
 use Rattle.mem_base.specs.map.Limits.{most_passes}
 use Rattle.mem_base.specs.script.Race.{actor_number}
 use Rattle.mem_base.specs.script.Scripts.{Line}
@@ -67,6 +69,19 @@ tasks_in (kinds.Resolved tasks) = tasks.items
 abbrev pub AreTasksIn : PassLines → List BlockLine → Type 0
 AreTasksIn (kinds.Unresolved lines names) xs = AreTasksOf names.now (lines_meant lines.items) xs
 AreTasksIn (kinds.Resolved tasks) xs = xs ≡ tasks.items
+
+-- these are the tasks of the first of the lines
+abbrev pub AreFirstTasksOf : Known → List OwnLine → List BlockLine → Type 0
+AreFirstTasksOf k lines xs = (n : ℕ) × AreTasksOf k (lines_meant (take n lines)) xs
+
+abbrev pub AreFirstTasksIn : PassLines → List BlockLine → Type 0
+AreFirstTasksIn (kinds.Unresolved lines names) xs = AreFirstTasksOf names.now lines.items xs
+AreFirstTasksIn (kinds.Resolved tasks) xs = (n : ℕ) × (xs ≡ take n tasks.items)
+
+-- the command of a pass is an order to the desk
+abbrev pub gives_order : Command → Bool
+gives_order (PassDo pass change) = true
+gives_order _ = false
 
 -- these are the lines of the script, and their names are resolved by what is known, or are still to be
 abbrev pub AreLinesBy : Known → List Line → PassLines → Type 0

@@ -3,7 +3,6 @@ use Rattle.std.specs.Prelude.{◌≡◌, ℕ, Bool, true, false, List, [], ◌�
 use Rattle.mem_base.specs.declared.map.ids.PassId.{PassId}
 use Rattle.mem_base.specs.declared.machine.records.DeskEntry.{DeskEntry}
 use Rattle.mem_base.specs.views.Listening.{Delivery}
-use Rattle.mem_base.specs.machine.Passes.{pass_id}
 use Rattle.mem_base.specs.script.Spelling.{Text}
 use Rattle.mem_base.specs.script.Named.{Names}
 use Rattle.mem_base.specs.script.RefusalLines.{refused_line}
@@ -11,12 +10,12 @@ use Rattle.mem_base.specs.script.RaceLines.{Said, do_text, entry_at, said_text, 
 use Rattle.pass_lines.specs.declared.answers.LineAnswer.TheVariants as answers
 use Rattle.pass_lines.specs.Texts.{answer_text}
 use Rattle.race_lines.specs.LineTasks.{refused_text}
-use Rattle.race_block.specs.declared.passes.PassActor.{PassActor}
 use Rattle.race_block.specs.declared.tasks.BlockLine.{BlockLine}
 use Rattle.race_block.specs.declared.tasks.LineGot.{LineGot}
 use Rattle.race_block.specs.declared.tasks.LineGot.TheVariants as gots
 use Rattle.race_block.specs.declared.tasks.PassTask.{PassTask}
 use Rattle.race_block.specs.declared.tasks.PassTask.TheVariants.{Refused}
+use Rattle.race_block.specs.declared.tasks.PassLines.{PassLines}
 use Rattle.race_block.specs.Resolving.{tasks_in}
 
 -- how many entries of the clerk's list are a line's
@@ -72,6 +71,7 @@ IsTextOf pass xs all None = Unit {0}
 IsTextOf pass xs all (Some text) = (names : Names) (journal : List Delivery) (entries : List DeskEntry)
     → flat_map (said_text names journal) (lines_said names pass xs all entries) ≡ text
 
--- the same of an actor, whose pass has this number
-abbrev pub IsItsText : ℕ → PassActor → Type 0
-IsItsText who a = IsTextOf (pass_id who) (tasks_in a.lines) a.got.items a.text
+-- A pass keeps what these lines wrote: their text, or else their tasks, and what they got
+abbrev pub KeepsTold : PassId → List BlockLine → List LineGot → PassLines → List LineGot → Option Text → Type 0
+KeepsTold pass xs all lines got None = (tasks_in lines ≡ xs) × (got ≡ all)
+KeepsTold pass xs all lines got (Some text) = IsTextOf pass xs all (Some text)

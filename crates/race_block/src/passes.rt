@@ -4,19 +4,22 @@ ghost use Rattle.mem_base.specs.access.AccessSteps.{reading};
 ghost use Rattle.mem_base.specs.script.Tasks.{accessed};
 ghost use Rattle.desk_lock.specs.Receipts.{HasNotifier};
 ghost use Rattle.pass_lines.specs.Doing.{IsInItsGeneration};
-ghost use Rattle.race_block.specs.Lines.{FitsLine, FitsTask, HasDone, HasGot, HasOrdered, HasRun, HasRunLines, HasStepped, IsReady};
+ghost use Rattle.race_block.specs.Lines.{FitsLine, FitsTask, HasDone, HasDoneTasks, HasGot, HasOrdered, HasRun, HasRunBy, HasRunLines, HasStepped, IsReady};
+ghost use Rattle.race_block.specs.Resolving.{IsPassLine, copy_room};
 ghost use Rattle.race_block.specs.declared.tasks.LineGot.TheVariants.{Ordered};
 ghost use Rattle.vcpu_pass.specs.Calls.{HasAccessed};
 
 use crate::few::FewBytes;
-use crate::resolving::resolve;
-use crate::tasks::{BlockLine, LineGot, PassLines, PassTask};
+use crate::plain::{any_gives_order, run_plain};
+use crate::resolving::resolve_lines;
+use crate::tasks::{BlockLine, LineGot, OwnLine, PassLines, PassTask};
 use crate::texts::{tasks_in, text_of};
 use desk_lock::{Clerk, Orderly, Receipt};
 use io_window::Bounce;
 use mem_base::{Access, DeskOrder, PassId, SpaceId};
 use outside::{Actor, Gate};
 use pass_lines::{copy, enter, leave, read, write};
+use race_lines::KnownNames;
 use script_lines::Line;
 use std::alloc::{AllocError, Global};
 use std::sync::Wait;
@@ -29,7 +32,7 @@ pub struct PassActor<'a, 'k> {
     pub bounce: Bounce,
     pub clerk: Clerk,
     pub lines: PassLines<'a, 'k>,
-    /// What the first lines got, one for each.
+    /// What the first lines got, one for each; nothing where their text alone is kept.
     pub got: Vec<LineGot>,
     /// Memory ran out before the next line was done.
     pub out_of_memory: bool,
@@ -104,8 +107,8 @@ fn read_bytes(
     Ok(LineGot::Answered(answer))
 }
 
-// Does what a line asks for. Out of memory nothing was done.
-fn do_task<'a, O: Orderly, R: Wait>(
+/// Does what a line asks for. Out of memory nothing was done.
+pub(crate) fn do_task<'a, O: Orderly, R: Wait>(
     rt: &R,
     alloc: Global,
     desk: &mut O,
@@ -253,9 +256,107 @@ fn run_lines<'a, 'k, O: Orderly, G: Gate, R: Wait>(
     }
 }
 
+// Does lines with their tasks, and then makes the text of what they wrote, where none gave an order.
+fn run_tasks<'a, 'k, O: Orderly, G: Gate, R: Wait>(
+    rt: &R,
+    alloc: Global,
+    gate: &G,
+    desk: &mut O,
+    vcpu: Vcpu<'a>,
+    bounce: Bounce,
+    clerk: Clerk,
+    tasks: Vec<BlockLine<'a>>,
+    got: Vec<LineGot>,
+) -> PassActor<'a, 'k>
+    requires own { O.cabinet desk.old ≡ vcpu.cabinet }
+    requires inside { IsInItsGeneration vcpu }
+    requires fits { All (FitsLine bounce) tasks.items }
+    requires nothing { got.items ≡ [] }
+    ensures run { HasDoneTasks tasks.entry.items bounce clerk vcpu.entry result }
+    ensures desk { O.cabinet desk.new ≡ O.cabinet desk.old }
+{
+    let mut actor = run_lines(rt, alloc, gate, desk, vcpu, bounce, clerk, tasks, got);
+    actor.text = text_of(
+        alloc,
+        PassId(actor.clerk.who()),
+        tasks_in(&actor.lines),
+        actor.got.as_slice(),
+    );
+    actor
+}
+
+// Resolves the names of lines, and does them then. Out of memory for that nothing was done.
+fn run_resolved<'a, 'k, O: Orderly, G: Gate, R: Wait>(
+    rt: &R,
+    alloc: Global,
+    gate: &G,
+    desk: &mut O,
+    vcpu: Vcpu<'a>,
+    bounce: Bounce,
+    clerk: Clerk,
+    lines: &[OwnLine<'a>],
+    names: &KnownNames,
+    got: Vec<LineGot>,
+) -> PassActor<'a, 'k>
+    requires own { O.cabinet desk.old ≡ vcpu.cabinet }
+    requires inside { IsInItsGeneration vcpu }
+    requires room { bounce ≡ copy_room }
+    requires fits { All IsPassLine lines.now }
+    requires nothing { got.items ≡ [] }
+    ensures run { HasRunBy names.now lines.now bounce clerk vcpu.entry result }
+    ensures desk { O.cabinet desk.new ≡ O.cabinet desk.old }
+{
+    let Ok(tasks) = resolve_lines(alloc, names, lines) else {
+        return PassActor {
+            vcpu,
+            bounce,
+            clerk,
+            lines: PassLines::Resolved(Vec::new(alloc)),
+            got,
+            out_of_memory: true,
+            text: None,
+        };
+    };
+    run_tasks(rt, alloc, gate, desk, vcpu, bounce, clerk, tasks, got)
+}
+
+// Does lines by names that nobody changes: one after another, where none gives an order.
+fn run_unresolved<'a, 'k, O: Orderly, G: Gate, R: Wait>(
+    rt: &R,
+    alloc: Global,
+    gate: &G,
+    desk: &mut O,
+    vcpu: Vcpu<'a>,
+    bounce: Bounce,
+    clerk: Clerk,
+    lines: &[OwnLine<'a>],
+    names: &KnownNames,
+    got: Vec<LineGot>,
+) -> PassActor<'a, 'k>
+    requires own { O.cabinet desk.old ≡ vcpu.cabinet }
+    requires inside { IsInItsGeneration vcpu }
+    requires room { bounce ≡ copy_room }
+    requires fits { All IsPassLine lines.now }
+    requires nothing { got.items ≡ [] }
+    ensures run { HasRunBy names.now lines.now bounce clerk vcpu.entry result }
+    ensures desk { O.cabinet desk.new ≡ O.cabinet desk.old }
+{
+    if any_gives_order(lines) {
+        return run_resolved(
+            rt, alloc, gate, desk, vcpu, bounce, clerk, lines, names, got,
+        );
+    }
+    run_plain(
+        rt, alloc, gate, desk, vcpu, bounce, clerk, lines, names, got,
+    )
+}
+
 impl<'a, 'k> PassActor<'a, 'k> {
-    /// Resolves the names of the lines, where this was not done before; then does the lines in order, and reaches the gate before each. Where
-    /// memory runs out it stops, and has done the first of them. At the end it makes the text of what they wrote, where no line gave an order.
+    /// Does the lines in order, and reaches the gate before each. Where memory runs out it stops, and has done the first of them.
+    ///
+    /// Where their names are not resolved yet and none gives an order, each line is resolved, done and told before the next one, and its text alone
+    /// is kept. Else all names are resolved before, and what the lines got is kept; the text of what they wrote is made at the end, where no line
+    /// gave an order.
     ///
     /// The desk is of the machine of the virtual CPU, the bounce has room for what is copied, and nothing was done yet.
     pub fn run<O: Orderly, G: Gate, R: Wait>(
@@ -279,24 +380,22 @@ impl<'a, 'k> PassActor<'a, 'k> {
             out_of_memory: _,
             text: _text,
         } = self;
-        let Ok(lines) = resolve(alloc, lines) else {
-            return PassActor {
+        match lines {
+            PassLines::Resolved(tasks) => {
+                run_tasks(rt, alloc, gate, desk, vcpu, bounce, clerk, tasks, got)
+            }
+            PassLines::Unresolved { lines, names } => run_unresolved(
+                rt,
+                alloc,
+                gate,
+                desk,
                 vcpu,
                 bounce,
                 clerk,
-                lines: PassLines::Resolved(Vec::new(alloc)),
+                lines.as_slice(),
+                names,
                 got,
-                out_of_memory: true,
-                text: None,
-            };
-        };
-        let mut actor = run_lines(rt, alloc, gate, desk, vcpu, bounce, clerk, lines, got);
-        actor.text = text_of(
-            alloc,
-            PassId(actor.clerk.who()),
-            tasks_in(&actor.lines),
-            actor.got.as_slice(),
-        );
-        actor
+            ),
+        }
     }
 }

@@ -2,10 +2,10 @@
 ghost use Rattle.std.specs.Prelude.{◌≡◌, All, IfOk};
 ghost use Rattle.race_lines.specs.LineTasks.{resolved};
 ghost use Rattle.race_block.specs.Desks.{line_meant, lines_meant};
-ghost use Rattle.race_block.specs.Lines.{AreFit, FitsLine};
-ghost use Rattle.race_block.specs.Resolving.{AreTasksIn, AreTasksOf, IsOfPass, IsPassLine, IsTaskOf, StandsFor, copy_room};
+ghost use Rattle.race_block.specs.Lines.{FitsLine};
+ghost use Rattle.race_block.specs.Resolving.{AreTasksOf, IsOfPass, IsPassLine, IsTaskOf, StandsFor, copy_room};
 
-use crate::tasks::{BlockLine, OwnLine, PassLines, PassTask};
+use crate::tasks::{BlockLine, OwnLine, PassTask};
 use race_lines::{KnownNames, LineTask, ResolvedTask, task_of};
 use std::alloc::{AllocError, Global};
 
@@ -40,8 +40,8 @@ fn pass_task(task: ResolvedTask<'_>) -> PassTask<'_>
     }
 }
 
-// A line of a pass, with its task by what is known.
-fn block_line<'a>(
+/// A line of a pass, with its task by what is known.
+pub(crate) fn block_line<'a>(
     alloc: Global,
     known: &KnownNames,
     line: &OwnLine<'a>,
@@ -75,22 +75,4 @@ pub fn resolve_lines<'a>(
         own.push(own_line)?;
     }
     Ok(own)
-}
-
-// The tasks of a pass's lines.
-pub(crate) fn resolve<'a>(
-    alloc: Global,
-    lines: PassLines<'a, '_>,
-) -> Result<Vec<BlockLine<'a>>, AllocError>
-    requires fits { AreFit lines }
-    ensures tasks { IfOk result (λ own. AreTasksIn lines.entry own.items) }
-    ensures fits { IfOk result (λ own. All (FitsLine copy_room) own.items) }
-{
-    match lines {
-        PassLines::Resolved(tasks) => Ok(tasks),
-        PassLines::Unresolved { lines, names } => {
-            let own = resolve_lines(alloc, names, lines.as_slice())?;
-            Ok(own)
-        }
-    }
 }

@@ -51,8 +51,8 @@ pub fn add_few(
     add_read_line(text, pass, access, bytes.as_slice())
 }
 
-// Adds what a line of a pass wrote that gave no order.
-fn add_plain(
+/// Adds what a line of a pass wrote that gave no order.
+pub(crate) fn add_plain(
     text: &mut Line,
     pass: PassId,
     line: &BlockLine<'_>,

@@ -116,13 +116,13 @@ module _ (k : Known) (lines : List Line) (v w : RecordState) (s : Seated) (h : A
     rest = all_rest lines v w cpus after back met;
   }
 
-  pub texts_are : actors_said (names_now s.known.now news) w.part.desk.listening.journal news clerks ++ differs_line differs
-      ≡ block_text k lines w news clerks differs
-  texts_are =
+  pub texts_are : list_any is_out_of_memory news ≡ false
+      → actors_said (names_now s.known.now news) w.part.desk.listening.journal news clerks ++ differs_line differs ≡ block_text k lines w news clerks differs
+  texts_are lasted =
       ap (λ (t : Text). t ++ differs_line differs)
       (ap (λ names. actors_said names w.part.desk.listening.journal news clerks) parts.names
       ∙ texts_after k lines v w r.later.grew.cabinet (known_after_block k news).names w.part.desk.listening.journal (actors_in (block lines)) s.actors.items
-      news clerks (seated_start k lines v s h) (seated_can k lines v s h) r.all_news r.all_clerks r.joined)
+      news clerks (seated_start k lines v s h) (seated_can k lines v s h) r.all_news r.all_clerks r.joined lasted)
 
   -- what is known then
   pub known_list : (rest less : List BlockActor) (got : Option BlockActor) → rest ≡ parts.front → rest ≡ less ++ option_to_list got
@@ -162,7 +162,7 @@ steps_on k lines v w last s h news shown clerks told differs r next before after
       written = block_text k lines w news clerks differs;
       text = put ∙ ap (λ (t : Text). before ++ t)
           ((λ i. actors_said (names_now s.known.now (same_news i)) w.part.desk.listening.journal (same_news i) (same_clerks i) ++ differs_line differs)
-          ∙ texts_are k lines v w s h news clerks differs r);
+          ∙ texts_are k lines v w s h news clerks differs r (subst (λ (xs : List BlockActor). list_any is_out_of_memory xs ≡ false) same_news all));
       steps = subst (λ (z : RecordState × Known). StepsOn v k (block lines) z.0 z.1 (block_text k lines w news clerks differs)) (λ i. (sym same i, sym known i))
           (steps (subst (λ (xs : List BlockActor). list_any is_out_of_memory xs ≡ false) same_news all));
     })

@@ -1,12 +1,9 @@
 -- The actors of a block after it: their virtual CPUs, what is known, and what they write.
-use Rattle.std.proofs.lemmas.List.{nil_from_length}
-use Rattle.mem_base.specs.declared.map.ids.PassId.{PassId}
-use Rattle.mem_base.specs.declared.machine.events.HistoryEntry.{HistoryEntry}
-use Rattle.mem_base.specs.declared.machine.records.DeskEntry.{DeskEntry}
-use Rattle.epoch_rule.specs.Values.{PassValue}
-use Rattle.std.proofs.Common.{◌≡◌, ℕ, ◌+◌, zero, suc, ◌<◌, Bool, true, List, [], ◌∷◌, ◌++◌, length, take, get_or, refl, sym, ap, subst, ◌∙◌, arith}
+use Rattle.std.proofs.Common.{◌≡◌, ℕ, suc, ◌<◌, false, List, [], ◌∷◌, ◌++◌, length, take, get_or, refl, sym, ap, ◌∙◌, arith}
 use Rattle.std.proofs.Common.{Option, Some, None, option_map, ◌⊎◌, inl, inr}
 use Rattle.std.specs.Prelude.{flat_map}
+use Rattle.std.specs.List.{list_any}
+use Rattle.mem_base.proofs.BoolLaws.{neither_first, neither_second}
 use Rattle.mem_base.specs.lists.Every.{Every}
 use Rattle.mem_base.specs.map.Limits.{most_passes}
 use Rattle.mem_base.specs.views.Listening.{Delivery}
@@ -23,86 +20,29 @@ use Rattle.race_block.proofs.HandedOn.{IsInItsGeneration, state_seen, state_then
 use Rattle.race_block.specs.declared.blocks.BlockActor.{BlockActor}
 use Rattle.race_block.specs.declared.blocks.BlockActor.TheVariants.{Desk, Pass, Gone}
 use Rattle.race_block.specs.declared.passes.PassActor.{PassActor}
-use Rattle.race_block.specs.declared.tasks.BlockLine.{BlockLine}
-use Rattle.race_block.specs.declared.tasks.LineGot.{LineGot}
 use Rattle.race_block.specs.Blocks.{CanAct}
 use Rattle.race_block.specs.Laws.{HasKept, saids}
-use Rattle.race_block.specs.Resolving.{AreTasksOf, tasks_in}
-use Rattle.race_block.specs.Texts.{IsItsText, IsTextOf, lines_said}
-use Rattle.race_block.specs.Lines.{HaveRun}
+use Rattle.race_block.specs.Resolving.{tasks_in}
+use Rattle.race_block.specs.Texts.{lines_said}
 use Rattle.race_block.proofs.KeptLaws.{passes_keep_lines}
 use Rattle.race_block.specs.Joined.{HasJoined, HasJoinedPass}
 use Rattle.race_inside.specs.Starts.{AreAtStart, IsAtStart, PassStarts}
-use Rattle.race_inside.specs.Ran.{actor_text, actors_text, known_after_block}
+use Rattle.race_inside.specs.Ran.{actor_text, actors_text, is_out_of_memory, known_after_block}
 use Rattle.race_inside.specs.Seats.{AreActorsOf, HaveSeatOf, IsKnown, IsSeatOf, SeatsDesk, acting, known_now}
-use Rattle.race_inside.specs.Texts.{HasItsText, HaveTheirTexts, actor_said, actors_said, names_now}
-use Rattle.race_inside.proofs.PassLaws.{tasks_done}
-use Rattle.race_inside.proofs.TextLaws.{lines_same}
-
--- the first of a pass's lines, with their tasks
-tasks_taken : (k : Known) (n : ℕ) (lines : List Line) (xs : List BlockLine) → AreTasksOf k lines xs → AreTasksOf k (take n lines) (take n xs)
-tasks_taken k zero lines xs are = tt
-tasks_taken k (suc n) [] [] are = tt
-tasks_taken k (suc n) [] (x ∷ xs) are = absurd are
-tasks_taken k (suc n) (line ∷ lines) [] are = absurd are
-tasks_taken k (suc n) (line ∷ lines) (x ∷ xs) are = (are.0, are.1, tasks_taken k n lines xs are.2)
-
--- those of the lines that a pass did
-tasks_first : (k : Known) (n : ℕ) (lines : List Line) (xs : List BlockLine) (out : Bool) → (AreTasksOf k lines xs ⊎ ((out ≡ true) × (n ≡ 0)))
-    → AreTasksOf k (take n lines) (take n xs)
-tasks_first k n lines xs out (inl h) = tasks_taken k n lines xs h
-tasks_first k n lines xs out (inr h) = subst (λ (m : ℕ). AreTasksOf k (take m lines) (take m xs)) (sym h.1) tt
-
--- what they say
-said_same : (names : Names) (k : Known) (pass : PassId) (lines : List Line) (xs : List BlockLine) (c d : Clerk) (v w : PassValue Published)
-    (all : List LineGot) (entries : List DeskEntry) (out : Bool) → (AreTasksOf k lines xs ⊎ ((out ≡ true) × (length all ≡ 0)))
-    → HaveRun (take (length all) xs) c v all d w → lines_said names pass xs all entries ≡ saids names k pass lines all entries
-said_same names k pass lines xs c d v w all entries out (inl are) h = lines_same names k pass lines xs c d v w all entries are h
-said_same names k pass lines xs c d v w all entries out (inr none) h =
-    let empty : all ≡ [] = nil_from_length all none.1 in
-    ap (λ (gs : List LineGot). lines_said names pass xs gs entries) empty ∙ none_said names pass xs entries ∙ sym (no_saids names k pass lines entries)
-    ∙ ap (λ (gs : List LineGot). saids names k pass lines gs entries) (sym empty)
-  where
-    none_said : (names : Names) (pass : PassId) (xs : List BlockLine) (entries : List DeskEntry) → lines_said names pass xs [] entries ≡ []
-    none_said names pass [] entries = refl
-    none_said names pass (x ∷ xs) entries = refl
-
-    no_saids : (names : Names) (k : Known) (pass : PassId) (lines : List Line) (entries : List DeskEntry) → saids names k pass lines [] entries ≡ []
-    no_saids names k pass [] entries = refl
-    no_saids names k pass (line ∷ lines) entries = refl
-
--- the text that a pass made of its lines
-pass_told : (seen : List HistoryEntry) (a b : PassActor) (c : Clerk) → HasJoinedPass seen a b c → IsItsText c.who b
-pass_told seen a b c j =
-    let who : j.after.clerk.who ≡ c.who = ap (λ (d : Clerk). d.who) (sym j.clerk) in
-    let lines : tasks_in j.after.lines ≡ tasks_in b.lines = ap tasks_in (sym j.lines) in
-    let got : j.after.got.items ≡ b.got.items = sym (ap (λ l. l.items) j.got) in
-    let text : j.after.text ≡ b.text = sym j.text in
-    subst (λ (z : ℕ × List BlockLine × List LineGot × Option Text). IsTextOf (pass_id z.0) z.1 z.2 z.3) (λ i. (who i, lines i, got i, text i)) j.run.text
-
-actor_told : (seen : List HistoryEntry) (a b : BlockActor) (c : Clerk) → HasJoined seen a b c → HasItsText b c
-actor_told seen (Pass a) (Pass b) c j = pass_told seen a b c j
-actor_told seen (Desk a) (Pass b) c j = absurd j
-actor_told seen Gone (Pass b) c j = absurd j
-actor_told seen a (Desk b) c j = tt
-actor_told seen a Gone c j = tt
-
-pub actors_told : (seen : List HistoryEntry) (olds news : List BlockActor) (clerks : List Clerk) → length news ≡ length olds
-    → ((i : ℕ) (d : BlockActor) (c : Clerk) → i < length olds → HasJoined seen (get_or olds i d) (get_or news i d) (get_or clerks i c))
-    → HaveTheirTexts news clerks
-actors_told seen olds news clerks long h i d c near within =
-    actor_told seen (get_or olds i d) (get_or news i d) (get_or clerks i c) (h i d c (omega (arith, near, long)))
+use Rattle.race_inside.specs.Texts.{actor_said, actors_said, names_now, text_or}
+use Rattle.race_inside.proofs.PassLaws.{FirstDone, first_done, listed}
 
 -- a pass after the block
 module _ (k : Known) (lines : List Line) (v w : RecordState) (who : ℕ) (a b : PassActor) (c : Clerk) (starts : PassStarts k lines v.seat.seen who a)
     (can : CanAct v.seat.cabinet (Pass a)) (same : w.seat.cabinet ≡ v.seat.cabinet) (j : HasJoinedPass w.seat.seen a b c) where
   abbrev count : ℕ
-  count = length j.after.got.items
+  count = length j.run.all
 
-  kept : HasKept k (take count (lines_by who (block lines))) a.clerk a.vcpu j.after.got.items j.after.clerk j.after.vcpu
-  kept = passes_keep_lines k (take count (lines_by who (block lines))) (take count (tasks_in j.after.lines)) a.clerk a.vcpu j.after.got.items
-      j.after.clerk j.after.vcpu j.run.ran (tasks_first k count (lines_by who (block lines)) (tasks_in j.after.lines) j.after.out_of_memory
-      (tasks_done k (lines_by who (block lines)) a j.after starts.lines_are j.run)) can.0.inside
+  first : FirstDone k count (lines_by who (block lines)) j.run.tasks j.after.out_of_memory
+  first = first_done k count (lines_by who (block lines)) a.lines j.run.tasks j.after.out_of_memory starts.lines_are j.run.lines j.run.whole
+
+  kept : HasKept k first.front a.clerk a.vcpu j.run.all j.after.clerk j.after.vcpu
+  kept = passes_keep_lines k first.front (take count j.run.tasks) a.clerk a.vcpu j.run.all j.after.clerk j.after.vcpu j.run.ran first.tasks can.0.inside
 
   number : b.vcpu.number ≡ who
   number = j.grew.number ∙ kept.grew.number ∙ starts.number
@@ -120,24 +60,17 @@ module _ (k : Known) (lines : List Line) (v w : RecordState) (who : ℕ) (a b : 
     inside = inside;
   }
 
-  clerk_is : c.who ≡ b.vcpu.number
-  clerk_is = ap (λ (d : Clerk). d.who) j.clerk ∙ ap (λ (d : Clerk). d.who) kept.clerk ∙ ap (λ (d : Clerk). d.who) starts.clerk ∙ sym number
-
-  pub pass_text : (names : Names) (journal : List Delivery) → actor_said names journal (Pass b) c ≡ actor_text k lines names journal (Pass b) c
-  pass_text names journal =
-      let told : List LineGot = b.got.items in
-      let got_is : told ≡ j.after.got.items = ap (λ l. l.items) j.got in
-      let xs : List BlockLine = tasks_in j.after.lines in
-      let out : Bool = j.after.out_of_memory in
-      let tasks : AreTasksOf k (lines_by b.vcpu.number (block lines)) xs ⊎ ((out ≡ true) × (length told ≡ 0)) =
-      subst (λ (z : ℕ × List LineGot). AreTasksOf k (lines_by z.0 (block lines)) xs ⊎ ((out ≡ true) × (length z.1 ≡ 0)))
-      (λ i. (sym number i, sym got_is i)) (tasks_done k (lines_by who (block lines)) a j.after starts.lines_are j.run) in
-      let ran : HaveRun (take (length told) xs) a.clerk a.vcpu told j.after.clerk j.after.vcpu =
-      subst (λ (gs : List LineGot). HaveRun (take (length gs) xs) a.clerk a.vcpu gs j.after.clerk j.after.vcpu) (sym got_is) j.run.ran in
-      ap (λ (ss : List Said). flat_map (said_text names journal) ss)
-      ((λ i. lines_said names (pass_id (clerk_is i)) (tasks_in (j.lines i)) told c.got)
-      ∙ said_same names k (pass_id b.vcpu.number) (lines_by b.vcpu.number (block lines)) xs a.clerk j.after.clerk a.vcpu j.after.vcpu told c.got out
-      tasks ran)
+  pub pass_text : b.out_of_memory ≡ false → (names : Names) (journal : List Delivery)
+      → actor_said names journal (Pass b) c ≡ actor_text k lines names journal (Pass b) c
+  pass_text lasted names journal = go b.text refl
+    where
+      go : (t : Option Text) → b.text ≡ t
+          → text_or t (flat_map (said_text names journal) (lines_said names (pass_id c.who) (tasks_in b.lines) b.got.items c.got))
+          ≡ text_or t (flat_map (said_text names journal)
+          (saids names k (pass_id b.vcpu.number) (lines_by b.vcpu.number (block lines)) b.got.items c.got))
+      go (Some text) is = refl
+      go None is = ap (λ (ss : List Said). flat_map (said_text names journal) ss)
+          (listed k lines v.seat.seen w.seat.seen who a b c starts can.0 j lasted is names)
 
 module _ (k : Known) (lines : List Line) (v w : RecordState) (same : w.seat.cabinet ≡ v.seat.cabinet) where
   -- what each actor is after the block
@@ -177,27 +110,31 @@ module _ (k : Known) (lines : List Line) (v w : RecordState) (same : w.seat.cabi
   seats_after (p ∷ ps) [] news clerks near starts can long wide h = absurd starts
 
   one_text : (who : ℕ) (names : Names) (journal : List Delivery) (a b : BlockActor) (c : Clerk) → IsAtStart k lines v.seat.seen who a
-      → CanAct v.seat.cabinet a → HasJoined w.seat.seen a b c → actor_said names journal b c ≡ actor_text k lines names journal b c
-  one_text who names journal (Pass a) (Pass b) c s can j = pass_text k lines v w who a b c s can same j names journal
-  one_text who names journal (Desk a) (Desk b) c s can j = refl
-  one_text who names journal a Gone c s can j = refl
-  one_text who names journal (Pass a) (Desk b) c s can j = absurd j
-  one_text who names journal (Desk a) (Pass b) c s can j = absurd j
-  one_text who names journal Gone (Pass b) c s can j = absurd s
-  one_text who names journal Gone (Desk b) c s can j = absurd s
+      → CanAct v.seat.cabinet a → HasJoined w.seat.seen a b c → is_out_of_memory b ≡ false
+      → actor_said names journal b c ≡ actor_text k lines names journal b c
+  one_text who names journal (Pass a) (Pass b) c s can j lasted = pass_text k lines v w who a b c s can same j lasted names journal
+  one_text who names journal (Desk a) (Desk b) c s can j lasted = refl
+  one_text who names journal a Gone c s can j lasted = refl
+  one_text who names journal (Pass a) (Desk b) c s can j lasted = absurd j
+  one_text who names journal (Desk a) (Pass b) c s can j lasted = absurd j
+  one_text who names journal Gone (Pass b) c s can j lasted = absurd s
+  one_text who names journal Gone (Desk b) c s can j lasted = absurd s
 
   -- what they write
   pub texts_after : (names : Names) (journal : List Delivery) (whos : List ℕ) (olds news : List BlockActor) (clerks : List Clerk)
       → AreAtStart k lines v.seat.seen whos olds → Every (CanAct v.seat.cabinet) olds → length news ≡ length olds → length clerks ≡ length olds
-      → HaveJoined olds news clerks → actors_said names journal news clerks ≡ actors_text k lines names journal news clerks
-  texts_after names journal whos olds [] clerks starts can long wide h = refl
-  texts_after names journal whos [] (b ∷ news) clerks starts can long wide h = absurd (omega (arith, long))
-  texts_after names journal whos (a ∷ olds) (b ∷ news) [] starts can long wide h = refl
-  texts_after names journal [] (a ∷ olds) (b ∷ news) (c ∷ clerks) starts can long wide h = absurd starts
-  texts_after names journal (who ∷ whos) (a ∷ olds) (b ∷ news) (c ∷ clerks) starts can long wide h =
-      (λ i. one_text who names journal a b c starts.0 can.0 (joined_first a b c olds news clerks h) i
+      → HaveJoined olds news clerks → list_any is_out_of_memory news ≡ false
+      → actors_said names journal news clerks ≡ actors_text k lines names journal news clerks
+  texts_after names journal whos olds [] clerks starts can long wide h lasted = refl
+  texts_after names journal whos [] (b ∷ news) clerks starts can long wide h lasted = absurd (omega (arith, long))
+  texts_after names journal whos (a ∷ olds) (b ∷ news) [] starts can long wide h lasted = refl
+  texts_after names journal [] (a ∷ olds) (b ∷ news) (c ∷ clerks) starts can long wide h lasted = absurd starts
+  texts_after names journal (who ∷ whos) (a ∷ olds) (b ∷ news) (c ∷ clerks) starts can long wide h lasted =
+      let first = neither_first (is_out_of_memory b) (list_any is_out_of_memory news) lasted in
+      let rest = neither_second (is_out_of_memory b) (list_any is_out_of_memory news) lasted in
+      (λ i. one_text who names journal a b c starts.0 can.0 (joined_first a b c olds news clerks h) first i
       ++ texts_after names journal whos olds news clerks starts.1 can.1 (omega (arith, long)) (omega (arith, wide))
-      (joined_rest a b c olds news clerks h) i)
+      (joined_rest a b c olds news clerks h) rest i)
 
   -- where no desk is among them, it is known what was
   pub known_passes : (ps : List ℕ) (news : List BlockActor) → AreActorsOf w ps news → known_after_block k news ≡ k

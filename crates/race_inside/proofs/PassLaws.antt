@@ -1,6 +1,7 @@
 -- A pass after a block, held against what all have seen then: it did its lines, or the first of them.
 use Rattle.std.proofs.Common.{◌≡◌, ◌<◌, ◌+◌, ℕ, zero, suc, Bool, true, false, List, [], ◌∷◌, ◌++◌, length, map, take, refl, sym}
-use Rattle.std.proofs.Common.{ap, subst, ◌∙◌, append-nil, arith, ◌⊎◌, inl, inr}
+use Rattle.std.proofs.Common.{ap, subst, ◌∙◌, append-nil, arith, ◌⊎◌, inl, inr, drop, Option, Some, None}
+use Rattle.std.specs.Prelude.{flat_map}
 use Rattle.mem_base.specs.declared.machine.events.HistoryEntry.{HistoryEntry}
 use Rattle.mem_base.specs.declared.machine.records.DeskEntry.{DeskEntry}
 use Rattle.mem_base.specs.map.Limits.{most_passes}
@@ -12,7 +13,9 @@ use Rattle.mem_base.specs.machine.Turns.{replies_of}
 use Rattle.mem_base.specs.script.Named.{Names}
 use Rattle.mem_base.specs.script.Scripts.{Line}
 use Rattle.mem_base.specs.script.Tasks.{Known}
-use Rattle.mem_base.specs.script.RaceLines.{lines_of_pass}
+use Rattle.mem_base.specs.script.RaceLines.{Said, lines_of_pass, said_text}
+use Rattle.mem_base.specs.script.Spelling.{Text}
+use Rattle.mem_base.specs.views.Listening.{Delivery}
 use Rattle.mem_base.specs.script.Race.{block, lines_by, pass_state}
 use Rattle.race_laws.specs.Acting.{PassAt}
 use Rattle.race_block.proofs.HandedOn.{state_seen, at_later, published_prefix}
@@ -21,11 +24,19 @@ use Rattle.race_block.specs.declared.tasks.BlockLine.{BlockLine}
 use Rattle.race_block.specs.Lines as passes
 use Rattle.race_block.specs.declared.tasks.PassLines.{PassLines}
 use Rattle.race_block.specs.declared.tasks.PassLines.TheVariants.{Unresolved, Resolved}
-use Rattle.race_block.specs.Resolving.{AreLinesBy, AreTasksIn, AreTasksOf, tasks_in}
+use Rattle.race_block.specs.declared.blocks.BlockActor.TheVariants.{Pass}
+use Rattle.race_block.specs.declared.tasks.LineGot.{LineGot}
+use Rattle.race_block.specs.declared.tasks.OwnLine.{OwnLine}
+use Rattle.race_block.specs.Desks.{line_meant, lines_meant}
+use Rattle.race_block.specs.Resolving.{AreFirstTasksIn, AreLinesBy, AreTasksIn, AreTasksOf, tasks_in}
+use Rattle.race_block.specs.Texts.{KeepsTold, lines_said}
 use Rattle.race_block.specs.Laws.{HasKept, count_own, deed_from, saids}
 use Rattle.race_block.proofs.KeptLaws.{passes_keep_lines}
 use Rattle.race_block.specs.Joined.{HasJoinedPass}
+use Rattle.race_inside.specs.Ran.{actor_text}
 use Rattle.race_inside.specs.Starts.{PassStarts}
+use Rattle.race_inside.specs.Texts.{text_or}
+use Rattle.race_inside.proofs.TextLaws.{lines_same}
 use Rattle.mem_base.proofs.BoolLaws.{true_is_not_false}
 
 -- the first of some lines, with their tasks
@@ -55,30 +66,13 @@ first_tasks k (suc n) (line ∷ lines) (x ∷ xs) h =
 first_tasks k (suc n) [] (x ∷ xs) h = absurd h
 first_tasks k (suc n) (line ∷ lines) [] h = absurd h
 
--- the same, by what a pass did: it resolved the names of its lines, or had no memory for that and did nothing
-record FirstDone (k : Known) (n : ℕ) (lines : List Line) (xs : List BlockLine) (out : Bool) : Type 0 where
-  front : List Line
-  left : List Line
-  cut : lines ≡ front ++ left
-  tasks : AreTasksOf k front (take n xs)
-  whole : out ≡ false → left ≡ []
-
-first_done : (k : Known) (n : ℕ) (lines : List Line) (xs : List BlockLine) (out : Bool) → (AreTasksOf k lines xs ⊎ ((out ≡ true) × (n ≡ 0)))
-    → (out ≡ false → n ≡ length xs) → FirstDone k n lines xs out
-first_done k n lines xs out (inl h) all = let f = first_tasks k n lines xs h in record {
-  front = f.front;
-  left = f.left;
-  cut = f.cut;
-  tasks = f.tasks;
-  whole = λ e. f.whole (all e);
-}
-first_done k n lines xs out (inr h) all = record {
-  front = [];
-  left = lines;
-  cut = refl;
-  tasks = subst (λ (m : ℕ). AreTasksOf k [] (take m xs)) (sym h.1) tt;
-  whole = λ e. true_is_not_false out h.0 e;
-}
+-- the same, by what a pass did: all its lines, or out of memory the first of them
+pub record FirstDone (k : Known) (n : ℕ) (lines : List Line) (xs : List BlockLine) (out : Bool) : Type 0 where
+  pub front : List Line
+  pub left : List Line
+  pub cut : lines ≡ front ++ left
+  pub tasks : AreTasksOf k front (take n xs)
+  pub whole : out ≡ false → left ≡ []
 
 -- the tasks of a pass's lines
 tasks_by : (k : Known) (lines : List Line) (own : PassLines) (xs : List BlockLine) → AreLinesBy k lines own → AreTasksIn own xs → AreTasksOf k lines xs
@@ -86,14 +80,66 @@ tasks_by k lines (Unresolved ls names) xs s h =
     subst (λ (z : Known × List Line). AreTasksOf z.0 z.1 xs) (λ i. (s.1 i, s.0 i)) h
 tasks_by k lines (Resolved ys) xs s h = subst (λ (zs : List BlockLine). AreTasksOf k lines zs) (sym h) s
 
-pub tasks_done : (k : Known) (lines : List Line) (a b : PassActor) → AreLinesBy k lines a.lines → passes.HasRun a b
-    → AreTasksOf k lines (tasks_in b.lines) ⊎ ((b.out_of_memory ≡ true) × (length b.got.items ≡ 0))
-tasks_done k lines a b s h = go h.lines
-  where
-    go : (AreTasksIn a.lines (tasks_in b.lines) ⊎ ((b.out_of_memory ≡ true) × (b.got.items ≡ [])))
-        → AreTasksOf k lines (tasks_in b.lines) ⊎ ((b.out_of_memory ≡ true) × (length b.got.items ≡ 0))
-    go (inl t) = inl (tasks_by k lines a.lines (tasks_in b.lines) s t)
-    go (inr t) = inr (t.0, ap length t.1)
+-- those of the first of them
+tasks_taken : (k : Known) (n : ℕ) (lines : List Line) (xs : List BlockLine) → AreTasksOf k lines xs → AreTasksOf k (take n lines) (take n xs)
+tasks_taken k zero lines xs are = tt
+tasks_taken k (suc n) [] [] are = tt
+tasks_taken k (suc n) [] (x ∷ xs) are = absurd are
+tasks_taken k (suc n) (line ∷ lines) [] are = absurd are
+tasks_taken k (suc n) (line ∷ lines) (x ∷ xs) are = (are.0, are.1, tasks_taken k n lines xs are.2)
+
+record Begun (k : Known) (lines : List Line) (ys : List BlockLine) : Type 0 where
+  front : List Line
+  left : List Line
+  cut : lines ≡ front ++ left
+  tasks : AreTasksOf k front ys
+
+cut_at : (n : ℕ) (xs : List Line) → xs ≡ take n xs ++ drop n xs
+cut_at zero xs = refl
+cut_at (suc n) [] = refl
+cut_at (suc n) (x ∷ xs) = ap (λ (ys : List Line). x ∷ ys) (cut_at n xs)
+
+meant_at : (n : ℕ) (xs : List OwnLine) → lines_meant xs ≡ lines_meant (take n xs) ++ lines_meant (drop n xs)
+meant_at zero xs = refl
+meant_at (suc n) [] = refl
+meant_at (suc n) (x ∷ xs) = ap (λ (ys : List Line). line_meant x ∷ ys) (meant_at n xs)
+
+begun : (k : Known) (lines : List Line) (own : PassLines) (ys : List BlockLine) → AreLinesBy k lines own → AreFirstTasksIn own ys → Begun k lines ys
+begun k lines (Unresolved ls names) ys s h = record {
+  front = lines_meant (take h.0 ls.items);
+  left = lines_meant (drop h.0 ls.items);
+  cut = sym s.0 ∙ meant_at h.0 ls.items;
+  tasks = subst (λ (z : Known). AreTasksOf z (lines_meant (take h.0 ls.items)) ys) s.1 h.1;
+}
+begun k lines (Resolved xs) ys s h = record {
+  front = take h.0 lines;
+  left = drop h.0 lines;
+  cut = cut_at h.0 lines;
+  tasks = subst (λ (zs : List BlockLine). AreTasksOf k (take h.0 lines) zs) (sym h.1) (tasks_taken k h.0 lines xs.items s);
+}
+
+pub first_done : (k : Known) (n : ℕ) (lines : List Line) (own : PassLines) (xs : List BlockLine) (out : Bool) → AreLinesBy k lines own
+    → (AreTasksIn own xs ⊎ ((out ≡ true) × AreFirstTasksIn own (take n xs))) → (out ≡ false → n ≡ length xs) → FirstDone k n lines xs out
+first_done k n lines own xs out s (inl h) all = let f = first_tasks k n lines xs (tasks_by k lines own xs s h) in record {
+  front = f.front;
+  left = f.left;
+  cut = f.cut;
+  tasks = f.tasks;
+  whole = λ e. f.whole (all e);
+}
+first_done k n lines own xs out s (inr h) all = let f = begun k lines own (take n xs) s h.1 in record {
+  front = f.front;
+  left = f.left;
+  cut = f.cut;
+  tasks = f.tasks;
+  whole = λ e. true_is_not_false out h.0 e;
+}
+
+-- where memory lasted, all have their tasks
+pub all_tasks : (k : Known) (lines : List Line) (own : PassLines) (xs ys : List BlockLine) (out : Bool) → AreLinesBy k lines own
+    → (AreTasksIn own xs ⊎ ((out ≡ true) × AreFirstTasksIn own ys)) → out ≡ false → AreTasksOf k lines xs
+all_tasks k lines own xs ys out s (inl h) lasted = tasks_by k lines own xs s h
+all_tasks k lines own xs ys out s (inr h) lasted = true_is_not_false out h.0 lasted
 
 -- the pass of a number after its block, with its clerk: by what it had seen before
 pub record PassEnded (k : Known) (lines : List Line) (before seen : List HistoryEntry) (who : ℕ) (b : PassActor) (c : Clerk) : Type 0 where
@@ -108,9 +154,12 @@ pub record PassEnded (k : Known) (lines : List Line) (before seen : List History
   pub at : PassAt (generations_published seen) k (pass_id who) seen (length (own_entries (who + 1) before))
       (deed_from (pass_state (pass_id who) before) front own c.got (pass_state (pass_id who) seen))
   pub whole : b.out_of_memory ≡ false → left ≡ []
+  pub all : List LineGot
   pub writes : b.out_of_memory ≡ false → (names : Names) → map (λ x. x.said)
       (lines_of_pass (generations_published seen) k names (pass_id who) (pass_state (pass_id who) before) (lines_by who (block lines)) (replies_of own) c.got)
-      ≡ saids names k (pass_id who) (lines_by who (block lines)) b.got.items c.got
+      ≡ saids names k (pass_id who) (lines_by who (block lines)) all c.got
+  pub told : b.out_of_memory ≡ false → (names : Names) (journal : List Delivery) → actor_text k lines names journal (Pass b) c
+      ≡ flat_map (said_text names journal) (saids names k (pass_id who) (lines_by who (block lines)) all c.got)
 
 module _ (k : Known) (lines : List Line) (before seen : List HistoryEntry) (who : ℕ) (a b : PassActor) (c : Clerk)
     (s : PassStarts k lines before who a) (ready : passes.IsReady a) (j : HasJoinedPass seen a b c) where
@@ -118,14 +167,13 @@ module _ (k : Known) (lines : List Line) (before seen : List HistoryEntry) (who 
   mine = lines_by who (block lines)
 
   abbrev did : ℕ
-  did = length j.after.got.items
+  did = length j.run.all
 
-  first : FirstDone k did mine (tasks_in j.after.lines) j.after.out_of_memory
-  first = first_done k did mine (tasks_in j.after.lines) j.after.out_of_memory (tasks_done k mine a j.after s.lines_are j.run) j.run.whole
+  first : FirstDone k did mine j.run.tasks j.after.out_of_memory
+  first = first_done k did mine a.lines j.run.tasks j.after.out_of_memory s.lines_are j.run.lines j.run.whole
 
-  kept : HasKept k first.front a.clerk a.vcpu j.after.got.items j.after.clerk j.after.vcpu
-  kept = passes_keep_lines k first.front (take did (tasks_in j.after.lines)) a.clerk a.vcpu j.after.got.items j.after.clerk j.after.vcpu j.run.ran first.tasks
-      ready.inside
+  kept : HasKept k first.front a.clerk a.vcpu j.run.all j.after.clerk j.after.vcpu
+  kept = passes_keep_lines k first.front (take did j.run.tasks) a.clerk a.vcpu j.run.all j.after.clerk j.after.vcpu j.run.ran first.tasks ready.inside
 
   wrote : c ≡ record { who = who; got = kept.got }
   wrote = j.clerk ∙ kept.clerk ∙ ap (λ (d : Clerk). let y : Clerk = record { who = d.who; got = d.got ++ kept.got } in y) s.clerk
@@ -169,21 +217,60 @@ module _ (k : Known) (lines : List Line) (before seen : List HistoryEntry) (who 
 
   says : b.out_of_memory ≡ false → (names : Names) → map (λ x. x.said)
       (lines_of_pass (generations_published seen) k names (pass_id who) (pass_state (pass_id who) before) mine (replies_of kept.own) c.got)
-      ≡ saids names k (pass_id who) mine b.got.items c.got
+      ≡ saids names k (pass_id who) mine j.run.all c.got
   says e names =
       let more = published_prefix j.after.vcpu.seen seen j.heard in
-      let items : j.after.got.items ≡ b.got.items = (λ i. (sym j.got i).items) in
       let h = kept.writes names more.0 [] [] in
       subst (λ (z : List Generation × ℕ × PassState × List Line × List ℕ × List DeskEntry). map (λ x. x.said)
-      (lines_of_pass z.0 k names (pass_id z.1) z.2 z.3 z.4 z.5) ≡ saids names k (pass_id who) mine b.got.items c.got)
+      (lines_of_pass z.0 k names (pass_id z.1) z.2 z.3 z.4 z.5) ≡ saids names k (pass_id who) mine j.run.all c.got)
       (λ i. (more.1 i, s.number i, before_is i, front_is e i, append-nil (replies_of kept.own) i, (append-nil kept.got ∙ got_is) i))
-      (h ∙ (λ i. saids names k (pass_id (s.number i)) (front_is e i) (items i) (got_is i)))
+      (h ∙ (λ i. saids names k (pass_id (s.number i)) (front_is e i) j.run.all (got_is i)))
+
+  who_is : c.who ≡ who
+  who_is = ap (λ (d : Clerk). d.who) wrote
+
+  number_is : b.vcpu.number ≡ who
+  number_is = j.grew.number ∙ after_number
+
+  -- what they say, by what they got
+  said_all : b.out_of_memory ≡ false → (names : Names) → lines_said names (pass_id who) j.run.tasks j.run.all c.got ≡ saids names k (pass_id who) mine j.run.all c.got
+  said_all e names =
+      lines_same names k (pass_id who) mine j.run.tasks a.clerk j.after.clerk a.vcpu j.after.vcpu j.run.all c.got
+      (all_tasks k mine a.lines j.run.tasks (take did j.run.tasks) j.after.out_of_memory s.lines_are j.run.lines (sym j.out_of_memory ∙ e)) j.run.ran
+
+  -- what the pass keeps of that
+  keeps : b.out_of_memory ≡ false → (t : Option Text) → b.text ≡ t
+      → KeepsTold (pass_id who) j.run.tasks j.run.all b.lines b.got.items t
+  keeps e t is =
+      let clerk : j.after.clerk.who ≡ who = ap (λ (d : Clerk). d.who) (sym j.clerk) ∙ who_is in
+      subst (λ (z : ℕ × PassLines × List LineGot × Option Text). KeepsTold (pass_id z.0) j.run.tasks j.run.all z.1 z.2 z.3)
+      (λ i. (clerk i, sym j.lines i, (sym j.got i).items, (sym j.text ∙ is) i)) (j.run.text (sym j.out_of_memory ∙ e))
+
+  -- the lines of a pass that keeps no text, as they are told
+  pub listed : b.out_of_memory ≡ false → b.text ≡ None → (names : Names)
+      → lines_said names (pass_id c.who) (tasks_in b.lines) b.got.items c.got
+      ≡ saids names k (pass_id b.vcpu.number) (lines_by b.vcpu.number (block lines)) b.got.items c.got
+  listed e none names =
+      let kept_here = keeps e None none in
+      (λ i. lines_said names (pass_id (who_is i)) (kept_here.0 i) (kept_here.1 i) c.got) ∙ said_all e names
+      ∙ (λ i. saids names k (pass_id (sym number_is i)) (lines_by (sym number_is i) (block lines)) (sym kept_here.1 i) c.got)
+
+  tells : b.out_of_memory ≡ false → (names : Names) (journal : List Delivery) → actor_text k lines names journal (Pass b) c
+      ≡ flat_map (said_text names journal) (saids names k (pass_id who) mine j.run.all c.got)
+  tells e names journal = go b.text refl
+    where
+      go : (t : Option Text) → b.text ≡ t → text_or t (flat_map (said_text names journal)
+          (saids names k (pass_id b.vcpu.number) (lines_by b.vcpu.number (block lines)) b.got.items c.got))
+          ≡ flat_map (said_text names journal) (saids names k (pass_id who) mine j.run.all c.got)
+      go (Some text) is = sym (keeps e (Some text) is names journal c.got) ∙ ap (λ (ss : List Said). flat_map (said_text names journal) ss) (said_all e names)
+      go None is = λ i. flat_map (said_text names journal)
+          (saids names k (pass_id (number_is i)) (lines_by (number_is i) (block lines)) ((keeps e None is).1 i) c.got)
 
   pub pass_ended : PassEnded k lines before seen who b c
   pass_ended = record {
     near = s.near;
-    number = j.grew.number ∙ after_number;
-    who_is = ap (λ (d : Clerk). d.who) wrote;
+    number = number_is;
+    who_is = who_is;
     front = first.front;
     left = first.left;
     cut = first.cut;
@@ -191,5 +278,7 @@ module _ (k : Known) (lines : List Line) (before seen : List HistoryEntry) (who 
     own_is = own_same ∙ own_after;
     at = at_end;
     whole = did_all;
+    all = j.run.all;
     writes = says;
+    told = tells;
   }

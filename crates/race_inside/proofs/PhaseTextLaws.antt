@@ -35,7 +35,6 @@ use Rattle.race_block.specs.declared.blocks.BlockActor.TheVariants.{Desk, Pass, 
 use Rattle.race_block.specs.declared.desks.DeskActor.{DeskActor}
 use Rattle.race_block.specs.declared.passes.PassActor.{PassActor}
 use Rattle.race_block.specs.Desks.{DeskKeeps}
-use Rattle.race_block.specs.Laws.{saids}
 use Rattle.race_outside.specs.Outside.{StepsOn, stand_of}
 use Rattle.race_inside.specs.Ran.{HasRunBlock, actor_text, actors_text, block_text, known_after_block}
 use Rattle.race_inside.specs.Laws.{BlocksMayStop, BlocksStepOn}
@@ -162,7 +161,7 @@ module _ (k : Known) (lines : List Line) (v w : RecordState) (olds news : List B
       let state : PassState = pass_state (pass_id n) v.seat.seen in
       let seen = block_phases.cut k lines v w olds news clerks differs h in
       let own = sym (block_phases.own_of k lines v w olds news clerks differs h n e.own e.own_is) in
-      (λ i. flat_map written (saids names k (pass_id (e.number i)) (lines_by (e.number i) (block lines)) b.got.items c.got))
+      e.told lasted names after.writer.desk.listening.journal
       ∙ ap (λ (xs : List Said). flat_map written xs) (sym (e.writes lasted names))
       ∙ flat_map-map written (λ (x : PassLine). x.said)
       (lines_of_pass (generations_published w.seat.seen) k names (pass_id n) state mine (replies_of e.own) c.got)

@@ -1,23 +1,19 @@
 -- What lines write, one after another.
-use Rattle.std.proofs.Common.{◌≡◌, ℕ, ◌≤◌, List, [], ◌∷◌, ◌++◌, Option, Some, length, drop, refl, sym, ap, subst, ◌∙◌, append-nil}
+use Rattle.std.proofs.Common.{◌≡◌, ℕ, ◌≤◌, List, [], ◌∷◌, ◌++◌, length, drop, refl, sym, ap, ◌∙◌, append-nil}
 use Rattle.std.specs.Prelude.{flat_map}
 use Rattle.std.proofs.lemmas.List.{drop_all}
 use Rattle.mem_base.specs.declared.map.ids.PassId.{PassId}
 use Rattle.mem_base.specs.declared.machine.records.DeskEntry.{DeskEntry}
 use Rattle.mem_base.specs.views.Listening.{Delivery}
-use Rattle.mem_base.specs.machine.Passes.{pass_id}
 use Rattle.mem_base.specs.machine.Records.{Clerk}
 use Rattle.mem_base.specs.script.Named.{Names}
 use Rattle.mem_base.specs.script.RaceLines.{Said, said_text}
 use Rattle.mem_base.specs.script.Spelling.{Text}
 use Rattle.race_block.specs.declared.blocks.BlockActor.{BlockActor}
-use Rattle.race_block.specs.declared.blocks.BlockActor.TheVariants.{Pass}
-use Rattle.race_block.specs.declared.passes.PassActor.{PassActor}
 use Rattle.race_block.specs.declared.tasks.BlockLine.{BlockLine}
 use Rattle.race_block.specs.declared.tasks.LineGot.{LineGot}
-use Rattle.race_block.specs.Resolving.{tasks_in}
-use Rattle.race_block.specs.Texts.{IsItsText, IsTextOf, lines_said}
-use Rattle.race_inside.specs.Texts.{actor_said, actors_said}
+use Rattle.race_block.specs.Texts.{lines_said}
+use Rattle.race_inside.specs.Texts.{actors_said}
 
 -- lines of which none was done, and actors without a clerk, write nothing
 
@@ -49,9 +45,3 @@ no_clerk names journal i actors clerks text whole past h =
     sym (append-nil text)
     ∙ ap (λ (t : Text). text ++ t)
     (sym (ap (λ (cs : List Clerk). actors_said names journal actors cs) (drop_all i clerks past) ∙ no_clerks names journal actors)) ∙ h
-
--- the text that a pass has made of its lines
-pub made_text : (names : Names) (journal : List Delivery) (a : PassActor) (c : Clerk) (text : Text) → a.text ≡ Some text → IsItsText c.who a
-    → text ≡ actor_said names journal (Pass a) c
-made_text names journal a c text is h =
-    sym (subst (λ (t : Option Text). IsTextOf (pass_id c.who) (tasks_in a.lines) a.got.items t) is h names journal c.got)

@@ -20,6 +20,7 @@ use Rattle.race_block.specs.Blocks.{CanAct}
 use Rattle.race_block.specs.Laws.{saids}
 use Rattle.race_block.specs.Joined.{HasJoined}
 use Rattle.race_inside.specs.Starts.{AreAtStart}
+use Rattle.race_inside.specs.Texts.{text_or}
 
 -- The lines ran as a block, from a record to a later one, where this was known: what the actors were and are, what their clerks wrote
 -- down, and how that stands to the record. All have seen the same then, and a pass without lines made nothing
@@ -48,11 +49,11 @@ known_after_block k [] = k
 known_after_block k (Desk a ∷ actors) = a.known
 known_after_block k (a ∷ actors) = known_after_block k actors
 
--- what an actor's lines write, by what they got and what its clerk wrote down
+-- what an actor's lines write: the text that a pass has made of them, or else by what they got and what its clerk wrote down
 abbrev pub actor_text : Known → List Line → Names → List Delivery → BlockActor → Clerk → Text
 actor_text k lines names journal (Desk a) c = flat_map (said_text names journal) a.said.items
-actor_text k lines names journal (Pass a) c =
-    flat_map (said_text names journal) (saids names k (pass_id a.vcpu.number) (lines_by a.vcpu.number (block lines)) a.got.items c.got)
+actor_text k lines names journal (Pass a) c = text_or a.text
+    (flat_map (said_text names journal) (saids names k (pass_id a.vcpu.number) (lines_by a.vcpu.number (block lines)) a.got.items c.got))
 actor_text k lines names journal Gone c = []
 
 -- those of the actors, each with its clerk, one after another

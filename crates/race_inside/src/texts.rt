@@ -4,10 +4,10 @@ ghost use Rattle.std.specs.List.{list_any};
 ghost use Rattle.mem_base.specs.script.Race.{differs_line};
 ghost use Rattle.mem_base.specs.script.RaceLines.{entry_at, said_text};
 ghost use Rattle.race_block.specs.declared.blocks.BlockActor.TheVariants.{Pass};
-ghost use Rattle.race_block.specs.Texts.{IsItsText, line_said, lines_said, ordered_said, taken_by};
+ghost use Rattle.race_block.specs.Texts.{line_said, lines_said, ordered_said, taken_by};
 ghost use Rattle.race_inside.specs.Ran.{is_out_of_memory};
 ghost use Rattle.race_inside.specs.Seats.{IsKnown};
-ghost use Rattle.race_inside.specs.Texts.{HasItsText, HaveTheirTexts, actor_said, actors_said, names_now};
+ghost use Rattle.race_inside.specs.Texts.{actor_said, actors_said, names_now};
 ghost use Rattle.script_names.specs.Tables.{printed_names};
 
 use mem_base::{DeskEntry, Differs, ListenerEvent, ListenerId, PassId};
@@ -126,7 +126,6 @@ fn add_pass(
     pass: &PassActor<'_, '_>,
     clerk: &Clerk,
 ) -> Result<(), AllocError>
-    requires text { IsItsText clerk.now.who pass.now }
     ensures { OnOk result (text.new ≡ text.old ++ actor_said (printed_names names.now) journal.now (Pass pass.now) clerk.now) }
 {
     match &pass.text {
@@ -154,7 +153,6 @@ fn add_actor(
     actor: &BlockActor<'_, '_>,
     clerk: &Clerk,
 ) -> Result<(), AllocError>
-    requires text { HasItsText actor.now clerk.now }
     ensures { OnOk result (text.new ≡ text.old ++ actor_said (printed_names names.now) journal.now actor.now clerk.now) }
 {
     match actor {
@@ -172,7 +170,6 @@ fn add_actors(
     actors: &[BlockActor<'_, '_>],
     clerks: &[Clerk],
 ) -> Result<(), AllocError>
-    requires texts { HaveTheirTexts actors.now clerks.now }
     ensures { OnOk result (text.new ≡ text.old ++ actors_said (printed_names names.now) journal.now actors.now clerks.now) }
 {
     for i in 0..actors.len() {
@@ -192,7 +189,6 @@ fn add_by_desk(
     clerks: &[Clerk],
 ) -> Result<(), AllocError>
     requires known { IsKnown None actors.now }
-    requires texts { HaveTheirTexts actors.now clerks.now }
     ensures { OnOk result (text.new ≡ text.old ++ actors_said (names_now None actors.now) journal.now actors.now clerks.now) }
 {
     match actors.first() {
@@ -237,7 +233,6 @@ pub(crate) fn add_block(
     differs: Option<Differs>,
 ) -> Result<(), AllocError>
     requires known { IsKnown known.now actors.now }
-    requires texts { HaveTheirTexts actors.now clerks.now }
     ensures lasted { OnOk result (list_any is_out_of_memory actors.now ≡ false) }
     ensures text { OnOk result (text.new ≡ text.old
         ++ (actors_said (names_now known.now actors.now) desk.now.part.desk.listening.journal actors.now clerks.now ++ differs_line differs)) }

@@ -12,8 +12,8 @@ use crate::answers::{Told, answer_to};
 use json_build::{Fields, Items, Value};
 use mem_base::{RangeEvent, SpaceId};
 use scope_run::{
-    Fault, ToldMap, Which, difference_of, differs, is_kept, let_go, read_told, space_count,
-    space_of, stopped,
+    Fault, ToldMap, Which, difference_of, differs, is_kept, read_told, space_count, space_of,
+    stopped,
 };
 use scope_values::change;
 use script_names::NameTable;
@@ -88,7 +88,9 @@ fn add_common(
         × TellsBetween first.now.state second.now.state name.now (Some from) (Some to) here) }
 {
     let difference = difference_of(alloc, first, from, second, to)?;
-    add_difference(alloc, items, name, &difference)
+    let added = add_difference(alloc, items, name, &difference);
+    drop(difference);
+    added
 }
 
 // A space of one script alone.
@@ -226,7 +228,7 @@ fn diff_with(alloc: Global, first: &ToldMap, second: &[u8]) -> Result<Told, Faul
     match read_told(alloc, second) {
         Ok(map) => {
             let answer = diff_in(alloc, first, &map);
-            let_go(map);
+            drop(map);
             answer
         }
         Err(stop) => Err(stopped(Which::Second, stop)),
@@ -243,7 +245,7 @@ pub(crate) fn diff(alloc: Global, first: &[u8], second: &[u8]) -> Result<Told, F
     match read_told(alloc, first) {
         Ok(map) => {
             let answer = diff_with(alloc, &map, second);
-            let_go(map);
+            drop(map);
             answer
         }
         Err(stop) => Err(stopped(Which::First, stop)),

@@ -11,7 +11,7 @@ ghost use Rattle.scope_json.specs.Draws.{TellsDraw, draw_data};
 use crate::answers::{Told, answer_to};
 use json_build::Value;
 use mem_base::{Name, SpaceId};
-use scope_run::{Fault, ToldMap, Which, let_go, read_told, rows_in, stopped};
+use scope_run::{Fault, ToldMap, Which, read_told, rows_in, stopped};
 use scope_values::row_list;
 use std::alloc::{AllocError, Global};
 
@@ -52,7 +52,7 @@ pub(crate) fn draw(alloc: Global, script: &[u8], name: &Name) -> Result<Told, Fa
     match read_told(alloc, script) {
         Ok(map) => {
             let answer = draw_in(alloc, &map, name);
-            let_go(map);
+            drop(map);
             answer
         }
         Err(stop) => Err(stopped(Which::First, stop)),

@@ -124,7 +124,11 @@ pub(crate) fn explain(alloc: Global, script: &[u8]) -> Result<Told, Fault>
     ensures fails { IfErr result (λ fault. fault ≡ Memory) }
 {
     match read(alloc, script) {
-        Ok(map) => explain_refused(alloc, map.refused()),
+        Ok(map) => {
+            let told = explain_refused(alloc, map.refused());
+            drop(map);
+            told
+        }
         Err(MapStop::Bad(bad)) => explain_bad(alloc, bad),
         Err(MapStop::Memory) => Err(Fault::Memory),
     }

@@ -143,7 +143,9 @@ fn told_after(alloc: Global, lines: &[(u32, Command)], map: ScriptMap) -> Result
     ensures data { IfOk result (λ t. view t.value ≡ lint_by lines.now map.refused (left_state map)) }
     ensures mends { IfOk result (λ t. t.something ≡ mends_by lines.now map.refused (left_state map)) }
 {
-    told_of(alloc, lines, &map)
+    let told = told_of(alloc, lines, &map);
+    drop(map);
+    told
 }
 
 fn lint_script(alloc: Global, script: &Script) -> Result<Told, Fault>

@@ -18,8 +18,8 @@ use generation::Generation;
 use json_build::{Fields, Items, Value};
 use mem_base::{Edition, FlatRange, RangeEvent, SpaceId, View};
 use scope_run::{
-    Fault, ToldHistory, ToldMap, Which, edges_of, follow_told, let_history_go, slot_number,
-    space_count, space_of, table_in,
+    Fault, ToldHistory, ToldMap, Which, edges_of, follow_told, slot_number, space_count, space_of,
+    table_in,
 };
 use scope_values::slot;
 use script_names::Names;
@@ -223,7 +223,7 @@ fn slots_of(alloc: Global, text: &[u8], script: &Script) -> Result<Told, Fault>
     match follow_told(alloc, text, script) {
         Ok(history) => {
             let answer = slots_in(alloc, &history);
-            let_history_go(history);
+            drop(history);
             answer
         }
         Err(_) => Err(Fault::Memory),

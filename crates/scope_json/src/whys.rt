@@ -12,7 +12,7 @@ use crate::answers::{Told, answer_to};
 use find_why::why as find_hops;
 use json_build::Value;
 use mem_base::{Name, RegionId, SpaceId};
-use scope_run::{Fault, ToldMap, Which, let_go, read_told, region_asked, stopped};
+use scope_run::{Fault, ToldMap, Which, read_told, region_asked, stopped};
 use scope_values::search_list;
 use std::alloc::{AllocError, Global};
 
@@ -74,7 +74,7 @@ pub(crate) fn why(
     match read_told(alloc, script) {
         Ok(map) => {
             let answer = why_in(alloc, &map, space, addr, region);
-            let_go(map);
+            drop(map);
             answer
         }
         Err(stop) => Err(stopped(Which::First, stop)),

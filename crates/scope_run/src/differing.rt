@@ -9,7 +9,7 @@ ghost use Rattle.scope_run.specs.Scripts.{FailsOnBoth, FailsOnSecond, OfScript, 
 ghost use Rattle.scope_run.specs.declared.answers.Fault.TheVariants.{Memory};
 
 use crate::answers::{Answer, Fault, Which, found, stopped};
-use crate::views::{let_go, space_count, view_in};
+use crate::views::{space_count, view_in};
 use mem_base::{Name, RangeEvent, SpaceId};
 use script_lines::Line;
 use script_memory::{ToldMap, read_told};
@@ -94,7 +94,9 @@ fn add_common(
         × TellsBetween first.now.state second.now.state name.now (Some from) (Some to) here) }
 {
     let difference = difference_of(alloc, first, from, second, to)?;
-    add_difference(text, name, &difference)
+    let added = add_difference(text, name, &difference);
+    drop(difference);
+    added
 }
 
 // `space NAME`, and in which script alone it is.
@@ -227,7 +229,7 @@ fn diff_with(alloc: Global, first: &ToldMap, second: &[u8]) -> Result<Answer, Fa
     match read_told(alloc, second) {
         Ok(map) => {
             let answer = diff_in(alloc, first, &map);
-            let_go(map);
+            drop(map);
             answer
         }
         Err(stop) => Err(stopped(Which::Second, stop)),
@@ -247,7 +249,7 @@ pub fn diff(alloc: Global, first: &[u8], second: &[u8]) -> Result<Answer, Fault>
     match read_told(alloc, first) {
         Ok(map) => {
             let answer = diff_with(alloc, &map, second);
-            let_go(map);
+            drop(map);
             answer
         }
         Err(stop) => Err(stopped(Which::First, stop)),

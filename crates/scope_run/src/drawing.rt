@@ -7,11 +7,12 @@ ghost use Rattle.view_picture.specs.Rows.{Tiles, ranges_of};
 ghost use Rattle.scope_run.specs.Scripts.{FailsIn, FailsOn, OfScript, told_by};
 
 use crate::answers::{Answer, Fault, Which, stopped, told};
-use crate::views::{let_go, root_in, view_in};
+use crate::views::{root_in, view_in};
 use mem_base::{Name, SpaceId};
 use scope_words::Style;
 use script_lines::Line;
 use script_memory::{ToldMap, read_told};
+use script_names::Names;
 use std::alloc::{AllocError, Global};
 use view_picture::{Row, Window, add_picture, add_svg, rows_of, windows_of};
 
@@ -33,6 +34,41 @@ pub fn rows_in(alloc: Global, map: &ToldMap, space: SpaceId) -> Result<Vec<Row>,
     rows_of(alloc, &view)
 }
 
+// Adds rows and windows as a picture.
+fn add_drawing(
+    alloc: Global,
+    text: &mut Line,
+    names: &Names,
+    rows: &[Row],
+    windows: &[Window],
+    style: Style,
+) -> Result<(), AllocError> {
+    match style {
+        Style::Text => add_picture(alloc, text, names, rows, windows),
+        Style::Svg => add_svg(alloc, text, names, rows, windows),
+    }
+}
+
+// Adds the picture of a space.
+fn add_space(
+    alloc: Global,
+    text: &mut Line,
+    map: &ToldMap,
+    space: SpaceId,
+    style: Style,
+) -> Result<(), AllocError> {
+    let rows = rows_in(alloc, map, space)?;
+    let windows = windows_in(alloc, map, space)?;
+    add_drawing(
+        alloc,
+        text,
+        map.names(),
+        rows.as_slice(),
+        windows.as_slice(),
+        style,
+    )
+}
+
 fn picture_of(
     alloc: Global,
     map: &ToldMap,
@@ -40,24 +76,7 @@ fn picture_of(
     style: Style,
 ) -> Result<Line, AllocError> {
     let mut text = Line::new(alloc);
-    let rows = rows_in(alloc, map, space)?;
-    let windows = windows_in(alloc, map, space)?;
-    match style {
-        Style::Text => add_picture(
-            alloc,
-            &mut text,
-            map.names(),
-            rows.as_slice(),
-            windows.as_slice(),
-        )?,
-        Style::Svg => add_svg(
-            alloc,
-            &mut text,
-            map.names(),
-            rows.as_slice(),
-            windows.as_slice(),
-        )?,
-    }
+    add_space(alloc, &mut text, map, space, style)?;
     Ok(text)
 }
 
@@ -84,7 +103,7 @@ pub fn draw(alloc: Global, script: &[u8], space: &Name, style: Style) -> Result<
     match read_told(alloc, script) {
         Ok(map) => {
             let answer = draw_in(alloc, &map, space, style);
-            let_go(map);
+            drop(map);
             answer
         }
         Err(stop) => Err(stopped(Which::First, stop)),

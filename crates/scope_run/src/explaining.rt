@@ -62,7 +62,11 @@ pub fn explain(alloc: Global, script: &[u8]) -> Result<Answer, Fault>
     ensures fails { IfErr result (λ fault. fault ≡ Memory) }
 {
     match read(alloc, script) {
-        Ok(map) => explain_refused(alloc, script, map.refused()),
+        Ok(map) => {
+            let answer = explain_refused(alloc, script, map.refused());
+            drop(map);
+            answer
+        }
         Err(MapStop::Bad(bad)) => explain_bad(alloc, script, bad),
         Err(MapStop::Memory) => Err(Fault::Memory),
     }

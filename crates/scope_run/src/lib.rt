@@ -33,5 +33,5 @@ pub use script_lint::{idle_par, taken_along_by, unclosed};
 pub use script_memory::{ToldHistory, ToldMap, follow_told, read_told};
 pub use slotting::{edges_of, slot_number, slots, table_in};
 pub use top::{address_of, mscope, name_of, refuse, region_of, say, text_in};
-pub use views::{let_go, let_history_go, space_count, view_in};
+pub use views::{space_count, view_in};
 pub use whys::{region_asked, why};

@@ -45,7 +45,9 @@ fn text_of(alloc: Global, script: &Script, map: &ScriptMap) -> Result<Line, Allo
 fn text_after(alloc: Global, script: &Script, map: ScriptMap) -> Result<Line, AllocError>
     ensures { IfOk result (λ text. text ≡ line_findings_text script.now map.refused ++ faults_text (left_state map)) }
 {
-    text_of(alloc, script, &map)
+    let text = text_of(alloc, script, &map);
+    drop(map);
+    text
 }
 
 fn lint_script(alloc: Global, script: &Script) -> Result<Answer, Fault>

@@ -14,7 +14,7 @@ ghost use Rattle.scope_run.specs.declared.answers.Fault.TheVariants.{Memory};
 
 use crate::answers::{Answer, Fault, Which, told};
 use crate::differing::space_of;
-use crate::views::{let_history_go, space_count, view_in};
+use crate::views::{space_count, view_in};
 use generation::Generation;
 use mem_base::{Edition, FlatRange, RangeEvent, SpaceId, View};
 use script_lines::Line;
@@ -235,7 +235,7 @@ fn slots_of(alloc: Global, text: &[u8], script: &Script) -> Result<Answer, Fault
     match follow_told(alloc, text, script) {
         Ok(history) => {
             let answer = slots_in(alloc, &history);
-            let_history_go(history);
+            drop(history);
             answer
         }
         Err(_) => Err(Fault::Memory),

@@ -5,7 +5,6 @@ ghost use Rattle.script_names.specs.Tables.{printed_names};
 
 use generation::Generation;
 use mem_base::{RegionId, SpaceId, View};
-use script_memory::{ToldHistory, ToldMap};
 use script_names::Names;
 use std::alloc::{AllocError, Global};
 
@@ -41,14 +40,4 @@ pub fn space_count(names: &Names) -> Result<u32, AllocError>
         return Err(AllocError);
     }
     Ok(made as u32)
-}
-
-/// Lets a map go. What owns a map calls it before it ends: the proof of all that a map frees is long, and so it is made once.
-pub fn let_go(map: ToldMap) {
-    let _ = &map;
-}
-
-/// Lets a history go, for the same reason.
-pub fn let_history_go(history: ToldHistory) {
-    let _ = &history;
 }

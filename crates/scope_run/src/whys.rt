@@ -11,7 +11,6 @@ ghost use Rattle.scope_run.specs.declared.answers.Fault.TheVariants as faults;
 ghost use Rattle.std.specs.Prelude.{List};
 
 use crate::answers::{Answer, Fault, Which, stopped, told};
-use crate::views::let_go;
 use find_why::{Hops, why as find_hops};
 use mem_base::{Name, RegionId, SpaceId};
 use scope_lines::{add_region_lines, add_why_lines};
@@ -105,7 +104,7 @@ pub fn why(
     match read_told(alloc, script) {
         Ok(map) => {
             let answer = why_in(alloc, &map, space, addr, region);
-            let_go(map);
+            drop(map);
             answer
         }
         Err(stop) => Err(stopped(Which::First, stop)),

@@ -1,2 +1,3 @@
 mod Viewed
 mod Walks
+mod Subcommands

@@ -11,6 +11,9 @@ word_rule id = record (new_rule id) { required = true; action = Some Set }
 abbrev pub more_rule : Text → Rule
 more_rule id = record (new_rule id) { action = Some Set }
 
+abbrev pub flag_rule : Text → Rule
+flag_rule id = record (new_rule id) { long = Some id; action = Some SetTrue }
+
 abbrev pub json_rule : Rule
 json_rule = record (new_rule (codes "json")) { long = Some (codes "json"); action = Some SetTrue }
 

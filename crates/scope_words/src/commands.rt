@@ -1,12 +1,52 @@
 // The command line as clap is told it.
 ghost use Rattle.std.specs.Prelude.{◌≡◌, IfOk, false, codes};
-ghost use Rattle.clap.specs.Words.{app_of, with_rule, with_subcommand};
+ghost use Rattle.clap.specs.Words.{App, app_of, rule_of, with_rule, with_subcommand};
 ghost use Rattle.clap.specs.declared.Command.TheViews.{out-Command};
-ghost use Rattle.scope_words.specs.App.{check_app, diff_app, draw_app, explain_app, import_app, map_app, more_rule, named_app};
+ghost use Rattle.scope_words.specs.App.{check_app, diff_app, draw_app, explain_app, flag_rule, import_app, map_app, more_rule, named_app};
 ghost use Rattle.scope_words.specs.App.{one_file, scope_app, spaces_rule, top_app, why_app, word_rule};
 
 use clap::{Arg, ArgAction, Command};
 use std::alloc::{AllocError, Global};
+
+// A word, which may be left out.
+fn word<'a>(alloc: Global, id: &'a str, help: &'a str) -> Arg<'a>
+    ensures rule { rule_of result ≡ more_rule id.entry.now }
+    ensures local { result.global ≡ false }
+{
+    Arg::new(alloc, id).action(ArgAction::Set).help(help)
+}
+
+// A command with one more flag.
+fn with_flag<'a>(
+    alloc: Global,
+    command: Command<'a>,
+    id: &'a str,
+    help: &'a str,
+) -> Result<Command<'a>, AllocError>
+    requires { (out-Command command).has_globals ≡ false }
+    ensures app { IfOk result (λ c. app_of c ≡ with_rule (app_of command.entry) (flag_rule id.entry.now)) }
+    ensures local { IfOk result (λ c. (out-Command c).has_globals ≡ false) }
+{
+    let flag = Arg::new(alloc, id)
+        .long(id)
+        .action(ArgAction::SetTrue)
+        .help(help);
+    command.arg(flag)
+}
+
+// A command with one more word, which may be left out.
+fn with_more<'a>(
+    alloc: Global,
+    command: Command<'a>,
+    id: &'a str,
+    help: &'a str,
+) -> Result<Command<'a>, AllocError>
+    requires { (out-Command command).has_globals ≡ false }
+    ensures app { IfOk result (λ c. app_of c ≡ with_rule (app_of command.entry) (more_rule id.entry.now)) }
+    ensures local { IfOk result (λ c. (out-Command c).has_globals ≡ false) }
+{
+    command.arg(word(alloc, id, help))
+}
 
 // A command with one more word, which has to stand there.
 fn with_word<'a>(
@@ -19,11 +59,7 @@ fn with_word<'a>(
     ensures app { IfOk result (λ c. app_of c ≡ with_rule (app_of command.entry) (word_rule id.entry.now)) }
     ensures local { IfOk result (λ c. (out-Command c).has_globals ≡ false) }
 {
-    let word = Arg::new(alloc, id)
-        .required(true)
-        .action(ArgAction::Set)
-        .help(help);
-    command.arg(word)
+    command.arg(word(alloc, id, help).required(true))
 }
 
 // A command with the script that it is about.
@@ -40,15 +76,17 @@ fn with_script<'a>(alloc: Global, command: Command<'a>) -> Result<Command<'a>, A
     )
 }
 
-// A command with the name of a space.
+// A command with the script that it is about, and the name of a space.
 fn with_space<'a>(alloc: Global, command: Command<'a>) -> Result<Command<'a>, AllocError>
     requires { (out-Command command).has_globals ≡ false }
-    ensures app { IfOk result (λ c. app_of c ≡ with_rule (app_of command.entry) (word_rule (codes "SPACE"))) }
+    ensures app { IfOk result (λ c. app_of c
+        ≡ with_rule (with_rule (app_of command.entry) (word_rule (codes "SCRIPT"))) (word_rule (codes "SPACE"))) }
     ensures local { IfOk result (λ c. (out-Command c).has_globals ≡ false) }
 {
+    let script = with_script(alloc, command)?;
     with_word(
         alloc,
-        command,
+        script,
         "SPACE",
         "The name of an address space in the script",
     )
@@ -59,11 +97,8 @@ fn named<'a>(alloc: Global, name: &'a str, about: &'a str) -> Result<Command<'a>
     ensures app { IfOk result (λ c. app_of c ≡ named_app name.entry.now) }
     ensures local { IfOk result (λ c. (out-Command c).has_globals ≡ false) }
 {
-    let json = Arg::new(alloc, "json")
-        .long("json")
-        .action(ArgAction::SetTrue)
-        .help("Writes the answer as one JSON text");
-    Command::new(alloc, name).about(about).arg(json)
+    let command = Command::new(alloc, name).about(about);
+    with_flag(alloc, command, "json", "Writes the answer as one JSON text")
 }
 
 fn why<'a>(alloc: Global) -> Result<Command<'a>, AllocError>
@@ -71,18 +106,14 @@ fn why<'a>(alloc: Global) -> Result<Command<'a>, AllocError>
     ensures local { IfOk result (λ c. (out-Command c).has_globals ≡ false) }
 {
     let about = "Why a region answers an address of a space, and why the others do not";
-    let script = with_script(alloc, named(alloc, "why", about)?)?;
-    let space = with_space(alloc, script)?;
+    let space = with_space(alloc, named(alloc, "why", about)?)?;
     let addr = with_word(
         alloc,
         space,
         "ADDR",
         "The address, as 0xc8000 or 819200 or 800K",
     )?;
-    let region = Arg::new(alloc, "REGION")
-        .action(ArgAction::Set)
-        .help("Tells of this region alone");
-    addr.arg(region)
+    with_more(alloc, addr, "REGION", "Tells of this region alone")
 }
 
 fn lint<'a>(alloc: Global) -> Result<Command<'a>, AllocError>
@@ -120,13 +151,14 @@ fn draw<'a>(alloc: Global) -> Result<Command<'a>, AllocError>
     ensures local { IfOk result (λ c. (out-Command c).has_globals ≡ false) }
 {
     let about = "A picture of the view of a space, with the windows of the tree beside it";
-    let svg = Arg::new(alloc, "svg")
-        .long("svg")
-        .action(ArgAction::SetTrue)
-        .help("Draws a file of SVG in place of text");
-    let flagged = named(alloc, "draw", about)?.arg(svg)?;
-    let script = with_script(alloc, flagged)?;
-    with_space(alloc, script)
+    let command = named(alloc, "draw", about)?;
+    let flagged = with_flag(
+        alloc,
+        command,
+        "svg",
+        "Draws a file of SVG in place of text",
+    )?;
+    with_space(alloc, flagged)
 }
 
 fn explain<'a>(alloc: Global) -> Result<Command<'a>, AllocError>
@@ -148,23 +180,8 @@ fn with_spaces<'a>(alloc: Global, command: Command<'a>) -> Result<Command<'a>, A
     ensures app { IfOk result (λ c. app_of c ≡ with_rule (app_of command.entry) spaces_rule) }
     ensures local { IfOk result (λ c. (out-Command c).has_globals ≡ false) }
 {
-    let spaces = Arg::new(alloc, "space")
-        .long("space")
-        .action(ArgAction::Set)
-        .help("Takes these address spaces alone, by their names with commas between them");
-    command.arg(spaces)
-}
-
-// A command with the monitor's views, which may be left out.
-fn with_views<'a>(alloc: Global, command: Command<'a>) -> Result<Command<'a>, AllocError>
-    requires { (out-Command command).has_globals ≡ false }
-    ensures app { IfOk result (λ c. app_of c ≡ with_rule (app_of command.entry) (more_rule (codes "FLAT"))) }
-    ensures local { IfOk result (λ c. (out-Command c).has_globals ≡ false) }
-{
-    let flat = Arg::new(alloc, "FLAT").action(ArgAction::Set).help(
-        "What `info mtree -f` printed, which settles what the tree leaves open",
-    );
-    command.arg(flat)
+    let help = "Takes these address spaces alone, by their names with commas between them";
+    command.arg(word(alloc, "space", help).long("space"))
 }
 
 fn import<'a>(alloc: Global) -> Result<Command<'a>, AllocError>
@@ -180,7 +197,12 @@ fn import<'a>(alloc: Global) -> Result<Command<'a>, AllocError>
         "TREE",
         "What `info mtree -D` printed; - is the standard input",
     )?;
-    with_views(alloc, tree)
+    with_more(
+        alloc,
+        tree,
+        "FLAT",
+        "What `info mtree -f` printed, which settles what the tree leaves open",
+    )
 }
 
 fn check<'a>(alloc: Global) -> Result<Command<'a>, AllocError>
@@ -205,12 +227,22 @@ fn top<'a>(alloc: Global) -> Command<'a>
         .disable_help_subcommand(true)
 }
 
-// A command with one more subcommand.
-fn with_sub<'a>(command: Command<'a>, sub: Command<'a>) -> Result<Command<'a>, AllocError>
-    requires { (out-Command sub).has_globals ≡ false }
-    ensures { IfOk result (λ c. app_of c ≡ with_subcommand (app_of command.entry) (app_of sub.entry).top) }
+// A command with one more subcommand, if there was memory for that. Here alone a command is let go: those that call it hand all on.
+fn with_sub<'a>(
+    command: Command<'a>,
+    sub: Result<Command<'a>, AllocError>,
+) -> Result<Command<'a>, AllocError>
+    requires { IfOk sub (λ s. (out-Command s).has_globals ≡ false) }
+    ensures { (app : App) → IfOk sub.entry (λ s. app_of s ≡ app)
+        → IfOk result (λ c. app_of c ≡ with_subcommand (app_of command.entry) app.top) }
 {
-    command.subcommand(sub)
+    match sub {
+        Ok(sub) => command.subcommand(sub),
+        Err(error) => {
+            drop(command);
+            Err(error)
+        }
+    }
 }
 
 // The first three subcommands.
@@ -218,24 +250,24 @@ fn asking<'a>(alloc: Global) -> Result<Command<'a>, AllocError>
     ensures { IfOk result (λ c. app_of c ≡ with_subcommand (with_subcommand (with_subcommand top_app why_app.top)
         (one_file (codes "lint")).top) diff_app.top) }
 {
-    let why = with_sub(top(alloc), why(alloc)?)?;
-    let lint = with_sub(why, lint(alloc)?)?;
-    with_sub(lint, diff(alloc)?)
+    let why = with_sub(top(alloc), why(alloc))?;
+    let lint = with_sub(why, lint(alloc))?;
+    with_sub(lint, diff(alloc))
 }
 
 // The first six.
 fn on_maps<'a>(alloc: Global) -> Result<Command<'a>, AllocError>
     ensures { IfOk result (λ c. app_of c ≡ map_app) }
 {
-    let slots = with_sub(asking(alloc)?, slots(alloc)?)?;
-    let draw = with_sub(slots, draw(alloc)?)?;
-    with_sub(draw, explain(alloc)?)
+    let slots = with_sub(asking(alloc)?, slots(alloc))?;
+    let draw = with_sub(slots, draw(alloc))?;
+    with_sub(draw, explain(alloc))
 }
 
 /// The whole command line.
 pub(crate) fn command<'a>(alloc: Global) -> Result<Command<'a>, AllocError>
     ensures { IfOk result (λ c. app_of c ≡ scope_app) }
 {
-    let import = with_sub(on_maps(alloc)?, import(alloc)?)?;
-    with_sub(import, check(alloc)?)
+    let import = with_sub(on_maps(alloc)?, import(alloc))?;
+    with_sub(import, check(alloc))
 }

@@ -120,7 +120,11 @@ fn check_blocks(alloc: Global, script: &[u8], blocks: &[Block]) -> Result<Checke
     ensures faults { (flat : List ℕ) → IfErr result (Explains script.now flat) }
 {
     match read_told(alloc, script) {
-        Ok(map) => check_map(alloc, blocks, &map),
+        Ok(map) => {
+            let checked = check_map(alloc, blocks, &map);
+            drop(map);
+            checked
+        }
         Err(MapStop::Bad(bad)) => Err(CheckFault::Script(bad)),
         Err(MapStop::Memory) => Err(CheckFault::Memory),
     }

@@ -127,7 +127,10 @@ pub(crate) fn finished(
 {
     match done {
         Ok(()) => Ok(ScriptMap { session, refused }),
-        Err(fault) => Err(fault),
+        Err(fault) => {
+            drop(session);
+            Err(fault)
+        }
     }
 }
 

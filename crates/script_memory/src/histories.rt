@@ -5,7 +5,7 @@ ghost use Rattle.script_memory.specs.Told.{told_of};
 
 use crate::maps::{ToldMap, told};
 use generation::Generation;
-use script_map::follow;
+use script_map::{History, follow};
 use script_text::Script;
 use std::alloc::{AllocError, Global};
 use std::sync::Arc;
@@ -27,10 +27,12 @@ pub fn follow_told(alloc: Global, text: &[u8], script: &Script) -> Result<ToldHi
     ensures map { IfOk result (λ h. h.map ≡ told_of text.now script.now) }
     ensures published { IfOk result (λ h. all_shown h.published.items ≡ published_in (first_of script.now) script.now) }
 {
-    let history = follow(alloc, script)?;
-    let map = told(alloc, text, script, history.map)?;
-    Ok(ToldHistory {
-        map,
-        published: history.published,
-    })
+    let History { map, published } = follow(alloc, script)?;
+    match told(alloc, text, script, map) {
+        Ok(map) => Ok(ToldHistory { map, published }),
+        Err(fault) => {
+            drop(published);
+            Err(fault)
+        }
+    }
 }

@@ -7,7 +7,7 @@ ghost use Rattle.script_names.specs.Tables.{printed_names};
 ghost use Rattle.script_map.specs.Left.{left_state, shown_by, shown_in};
 ghost use Rattle.script_map.specs.Reads.{IfBad};
 ghost use Rattle.script_memory.specs.Regions.{memory_of};
-ghost use Rattle.script_memory.specs.Told.{IsToldByText, told_in, told_of};
+ghost use Rattle.script_memory.specs.Told.{IsToldByText, told_in, told_names, told_of};
 
 use crate::names::told_names;
 use crate::regions::memory_of;
@@ -80,6 +80,23 @@ impl ToldMap {
     }
 }
 
+// The regions of a map that are read as memory, and the names by which its lines are told.
+fn read_as(
+    alloc: Global,
+    text: &[u8],
+    script: &Script,
+    map: &ScriptMap,
+) -> Result<(Vec<RegionId>, Names), AllocError>
+    ensures memory { IfOk result (λ read. read.0.items ≡ memory_of text.now map.now.refused script.now) }
+    ensures names { IfOk result (λ read. printed_names read.1 ≡ told_names read.0.items (left_state map.now).names) }
+{
+    let memory = memory_of(alloc, text, map.refused(), script.lines())?;
+    match told_names(alloc, map.names(), &memory) {
+        Ok(names) => Ok((memory, names)),
+        Err(fault) => Err(fault),
+    }
+}
+
 /// The map of a script of this text, as it is told.
 pub(crate) fn told(
     alloc: Global,
@@ -89,9 +106,13 @@ pub(crate) fn told(
 ) -> Result<ToldMap, AllocError>
     ensures { IfOk result (λ m. m ≡ told_in (memory_of text.now map.refused script.now) (left_state map)) }
 {
-    let memory = memory_of(alloc, text, map.refused(), script.lines())?;
-    let names = told_names(alloc, map.names(), &memory)?;
-    Ok(ToldMap { map, memory, names })
+    match read_as(alloc, text, script, &map) {
+        Ok((memory, names)) => Ok(ToldMap { map, memory, names }),
+        Err(fault) => {
+            drop(map);
+            Err(fault)
+        }
+    }
 }
 
 // The map that a script leaves, as it is told by the script's text.
@@ -110,7 +131,11 @@ pub fn read_told(alloc: Global, text: &[u8]) -> Result<ToldMap, MapStop>
     ensures bad { IfErr result (λ stop. IfBad stop (script_of text.now)) }
 {
     match parse(alloc, text) {
-        Ok(script) => Ok(told_after(alloc, text, &script)?),
+        Ok(script) => {
+            let map = told_after(alloc, text, &script);
+            drop(script);
+            Ok(map?)
+        }
         Err(ParseFault::Bad(bad)) => Err(MapStop::Bad(bad)),
         Err(ParseFault::Memory) => Err(MapStop::Memory),
     }

@@ -123,12 +123,12 @@ fn add_names(
     Ok(())
 }
 
-// The names, once all were added.
-fn finished(told: Names, done: Result<(), AllocError>) -> Result<Names, AllocError>
-    ensures { IfOk result (λ t. (t ≡ told) × (is_ok done ≡ true)) }
+// The value, once all was done to it.
+fn finished<T: Drop>(value: T, done: Result<(), AllocError>) -> Result<T, AllocError>
+    ensures { IfOk result (λ t. (t ≡ value) × (is_ok done ≡ true)) }
 {
     match done {
-        Ok(()) => Ok(told),
+        Ok(()) => Ok(value),
         Err(fault) => Err(fault),
     }
 }

@@ -1,7 +1,7 @@
 // Texts at the edges of the language, each with the commands or the fault that its rules give, worked out by hand.
 
 use mem_base::{BadScript, Cause};
-use script_text::{MOST_TEXT, ParseFault, parse, pool_words, print};
+use script_text::{MOST_TEXT, ParseFault, Script, parse, pool_words, print};
 use std::alloc::{AllocError, Global};
 use std::test::Fail;
 
@@ -18,11 +18,46 @@ fn is_faulty(alloc: Global, line: &[u8], cause: Cause) -> bool {
     line.is_empty() || fault_of(alloc, line) == Some(BadScript { line: 1, cause })
 }
 
-// What is printed of a text's commands, where it has any.
-fn printed(alloc: Global, text: &str) -> Result<Option<Vec<u8>>, AllocError> {
+// Whether each of these lines is.
+fn are_faulty(alloc: Global, lines: &str, cause: Cause) -> bool {
+    for line in lines.as_bytes().split(|byte| *byte == b'\n') {
+        if !is_faulty(alloc, line, cause) {
+            return false;
+        }
+    }
+    true
+}
+
+// How many commands a text has, where it is a script.
+fn count_in(alloc: Global, text: &[u8]) -> Option<usize> {
+    match parse(alloc, text) {
+        Ok(script) => Some(script.lines().len()),
+        Err(_) => None,
+    }
+}
+
+// The words of a text's pool, where it is a script.
+fn pool_of(alloc: Global, text: &str) -> Option<usize> {
     match parse(alloc, text.as_bytes()) {
-        Ok(script) => Ok(Some(print(alloc, &script)?)),
-        Err(_) => Ok(None),
+        Ok(script) => Some(pool_words(&script)),
+        Err(_) => None,
+    }
+}
+
+// Whether this is printed of a script.
+fn is_print(alloc: Global, script: &Script, wanted: &str) -> Result<bool, AllocError> {
+    let text = print(alloc, script)?;
+    Ok(text.as_slice() == wanted.as_bytes())
+}
+
+// Whether it is printed of a text's commands.
+fn prints(alloc: Global, text: &str, wanted: &str) -> Result<bool, AllocError> {
+    match parse(alloc, text.as_bytes()) {
+        Ok(script) => {
+            let is_so = is_print(alloc, &script, wanted);
+            is_so
+        }
+        Err(_) => Ok(false),
     }
 }
 
@@ -37,9 +72,7 @@ begin\x0c\n";
 
 #[test]
 fn bytes_that_may_not_stand(rt: HostRuntime) {
-    for line in BYTES.as_bytes().split(|byte| *byte == b'\n') {
-        assert!(rt; is_faulty(rt.alloc(), line, Cause::Byte));
-    }
+    assert!(rt; are_faulty(rt.alloc(), BYTES, Cause::Byte));
 }
 
 const WORDS: &str = "frob # \x01\n\
@@ -88,9 +121,7 @@ v0 dma S 0 4 S 4\n";
 
 #[test]
 fn words_that_are_none(rt: HostRuntime) {
-    for line in WORDS.as_bytes().split(|byte| *byte == b'\n') {
-        assert!(rt; is_faulty(rt.alloc(), line, Cause::Word));
-    }
+    assert!(rt; are_faulty(rt.alloc(), WORDS, Cause::Word));
 }
 
 const NAMES: &str = "enable aaaaaaaaaaaaaaaaaaaaaaaaaaaaaaaaa\n\
@@ -124,9 +155,7 @@ enable :\n";
 
 #[test]
 fn names_out_of_form(rt: HostRuntime) {
-    for line in NAMES.as_bytes().split(|byte| *byte == b'\n') {
-        assert!(rt; is_faulty(rt.alloc(), line, Cause::Name));
-    }
+    assert!(rt; are_faulty(rt.alloc(), NAMES, Cause::Name));
 }
 
 const NUMBERS: &str = "region A container 18446744073709551617\n\
@@ -218,9 +247,7 @@ region A ram 0xG1\n";
 
 #[test]
 fn numbers_out_of_form_or_range(rt: HostRuntime) {
-    for line in NUMBERS.as_bytes().split(|byte| *byte == b'\n') {
-        assert!(rt; is_faulty(rt.alloc(), line, Cause::Number));
-    }
+    assert!(rt; are_faulty(rt.alloc(), NUMBERS, Cause::Number));
 }
 
 const COUNTS: &str = "begin begin\n\
@@ -291,9 +318,7 @@ commit 1\n";
 
 #[test]
 fn tokens_missing_or_left_over(rt: HostRuntime) {
-    for line in COUNTS.as_bytes().split(|byte| *byte == b'\n') {
-        assert!(rt; is_faulty(rt.alloc(), line, Cause::Count));
-    }
+    assert!(rt; are_faulty(rt.alloc(), COUNTS, Cause::Count));
 }
 
 const LINES: [(&str, u32, Cause); 22] = [
@@ -544,83 +569,82 @@ region D io 0x8 latch valid 255-255\n\
 region A ram 0xf\n\
 region A ram 0xa\n";
 
+// The first of these texts in which another line is at fault, or by another cause.
+fn first_other(alloc: Global) -> Option<&'static str> {
+    for (text, line, cause) in LINES {
+        if fault_of(alloc, text.as_bytes()) != Some(BadScript { line, cause }) {
+            return Some(text);
+        }
+    }
+    None
+}
+
 #[test]
 fn the_first_line_at_fault_is_named(rt: HostRuntime) {
-    for (text, line, cause) in LINES {
-        assert_eq!(rt;
-            fault_of(rt.alloc(), text.as_bytes()),
-            Some(BadScript { line, cause }),
-            "{text}"
-        );
-    }
+    let other = first_other(rt.alloc());
+    assert!(rt; other.is_none(), "{other:?}");
 }
 
 #[test]
 fn commands_are_printed_without_defaults(rt: HostRuntime) -> Result<(), Fail> {
-    match printed(rt.alloc(), WRITTEN)? {
-        Some(text) => assert_eq!(rt; text.as_slice(), PRINTED.as_bytes()),
-        None => assert!(rt; false),
-    }
+    assert!(rt; prints(rt.alloc(), WRITTEN, PRINTED)?);
     Ok(())
 }
 
+const BLOCK: &str = "machine 4K\n\
+\n\
+par\n\
+region A ram 1\n\
+v0 enter\n\
+watch W M 0 0\n\
+end\n\
+space S A\n";
+
+const PRINTED_BLOCK: &str = "machine 0x1000\n\
+par\n\
+region A ram 0x1\n\
+v0 enter\n\
+watch W M 0x0 0x0\n\
+end\n\
+space S A\n";
+
 #[test]
 fn a_script_has_one_block(rt: HostRuntime) -> Result<(), Fail> {
-    let text = "machine 4K\n\npar\nregion A ram 1\nv0 enter\nwatch W M 0 0\nend\nspace S A\n";
-    let wanted =
-        "machine 0x1000\npar\nregion A ram 0x1\nv0 enter\nwatch W M 0x0 0x0\nend\nspace S A\n";
-    match printed(rt.alloc(), text)? {
-        Some(text) => assert_eq!(rt; text.as_slice(), wanted.as_bytes()),
-        None => assert!(rt; false),
-    }
+    assert!(rt; prints(rt.alloc(), BLOCK, PRINTED_BLOCK)?);
     Ok(())
+}
+
+// Whether as many line feeds as a text may have are no commands, and one more is too long.
+fn has_its_length(alloc: Global) -> Result<bool, AllocError> {
+    let mut text = vec![in alloc; b'\n'; MOST_TEXT]?;
+    let most = count_in(alloc, text.as_slice());
+    text.push(b'\n')?;
+    let long = BadScript {
+        line: 0,
+        cause: Cause::Long,
+    };
+    Ok(most == Some(0) && fault_of(alloc, text.as_slice()) == Some(long))
 }
 
 #[test]
 fn a_script_is_at_most_a_mebibyte(rt: HostRuntime) -> Result<(), Fail> {
-    let mut text = Vec::new(rt.alloc());
-    for _ in 0..MOST_TEXT {
-        text.push(b'\n')?;
-    }
-    match parse(rt.alloc(), &text) {
-        Ok(script) => assert_eq!(rt; script.lines().len(), 0),
-        Err(_) => assert!(rt; false),
-    }
-    text.push(b'\n')?;
-    match parse(rt.alloc(), &text) {
-        Err(ParseFault::Bad(bad)) => assert_eq!(rt;
-            bad,
-            BadScript {
-                line: 0,
-                cause: Cause::Long
-            }
-        ),
-        _ => assert!(rt; false),
-    }
+    assert!(rt; has_its_length(rt.alloc())?);
     Ok(())
 }
 
 #[test]
-fn a_comment_is_any_bytes(rt: HostRuntime) -> Result<(), Fail> {
-    match parse(rt.alloc(), b"reap # \xff\x00\r\x80\n") {
-        Ok(script) => assert_eq!(rt; script.lines().len(), 1),
-        Err(_) => assert!(rt; false),
-    }
-    Ok(())
+fn a_comment_is_any_bytes(rt: HostRuntime) {
+    assert!(rt; count_in(rt.alloc(), b"reap # \xff\x00\r\x80\n") == Some(1));
 }
 
 #[test]
-fn the_pool_is_what_machine_names(rt: HostRuntime) -> Result<(), Fail> {
+fn the_pool_is_what_machine_names(rt: HostRuntime) {
     for (text, words) in [
         ("", 2_097_152),
         ("machine 8K\n", 1024),
         ("reap\n", 2_097_152),
         ("# pool\n\nmachine 512M", 67_108_864),
     ] {
-        match parse(rt.alloc(), text.as_bytes()) {
-            Ok(script) => assert_eq!(rt; pool_words(&script), words, "{text}"),
-            Err(_) => assert!(rt; false, "{text}"),
-        }
+        assert!(rt; pool_of(rt.alloc(), text) == Some(words), "{text}");
     }
-    Ok(())
 }

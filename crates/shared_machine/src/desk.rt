@@ -1,5 +1,5 @@
 // The writer's desk with its share of the cabinet.
-ghost use Rattle.std.specs.Prelude.{◌≡◌, ◌≢◌, ◌<◌, ◌≤◌, ◌^◌, Err, IfOk, None, []};
+ghost use Rattle.std.specs.Prelude.{◌≡◌, ◌≢◌, ◌<◌, ◌≤◌, ◌^◌, Err, IfOk, None, [], drop};
 ghost use Rattle.std.specs.Arc.{arc_value};
 ghost use Rattle.mem_base.specs.map.Limits.{most_passes, notifier_count};
 ghost use Rattle.mem_base.specs.machine.Answers.{answer_with, harvest_answer, notifier_answer, reap_answer};
@@ -7,7 +7,7 @@ ghost use Rattle.mem_base.specs.machine.Orders.{configure, harvest, notified, re
 ghost use Rattle.mem_base.specs.machine.Publishing.{current_forest};
 ghost use Rattle.mem_base.specs.machine.Reaps.{first_writer};
 ghost use Rattle.writer_run.specs.Turns.{answer_by};
-ghost use Rattle.config_desk.specs.Configs.{IsTurnOf};
+ghost use Rattle.config_desk.specs.Configs.{IsTurnOf, with_calls};
 ghost use Rattle.shared_machine.specs.Desks.{HandsOut, handed};
 
 use crate::cpu::Cpu;
@@ -107,12 +107,20 @@ impl Desk {
         self.config.harvest(region, client)
     }
 
-    /// All calls that the listeners got, in order.
+    /// The calls that the listeners got and that are not forgotten, in order.
     pub fn journal(&self) -> &[(ListenerId, ListenerEvent)]
         ensures { result.now ≡ self.now.part.desk.listening.journal }
     {
         let _ = &self.cabinet;
         self.config.journal()
+    }
+
+    /// Forgets the first `count` calls of the journal, all of them where there are fewer. The listeners stay, and are told nothing. It
+    /// takes no memory.
+    pub fn forget(&mut self, count: usize)
+        ensures { self.new ≡ with_calls (drop count self.old.part.desk.listening.journal) self.old }
+    {
+        self.config.forget(count);
     }
 
     /// The generation that is current.

@@ -1,144 +1,33 @@
 -- Nothing but the answer of a journal looks at the journal: the machine goes on alike, whichever calls stand in it before the others.
-use Rattle.std.proofs.Common.{◌≡◌, ℕ, ◌+◌, Bool, true, false, ◌&&◌, if◌then◌else◌, List, [], ◌∷◌, ◌++◌, append_assoc, refl, sym, ap, subst, ◌∙◌}
+use Rattle.std.proofs.Common.{◌≡◌, ℕ, ◌+◌, Bool, ◌&&◌, if◌then◌else◌, List, [], ◌∷◌, ◌++◌, refl, sym, ap, subst, ◌∙◌}
 use Rattle.std.proofs.Common.{Option, Some, None}
-use Rattle.std.specs.Prelude.{◌==◌, ◌-◌, ◌||◌, not, Result, Ok, Err}
-use Rattle.mem_base.specs.declared.map.ids.ListenerId.{ListenerId}
+use Rattle.std.specs.Prelude.{◌-◌, ◌||◌, not, Result, Ok}
 use Rattle.mem_base.specs.declared.map.ids.RegionId.{RegionId}
-use Rattle.mem_base.specs.declared.map.forests.Forest.{Forest}
-use Rattle.mem_base.specs.declared.map.calls.Applied.{Applied}
-use Rattle.mem_base.specs.declared.map.calls.Applied.TheVariants.{Done, Made}
-use Rattle.mem_base.specs.declared.map.calls.Call.{Call}
-use Rattle.mem_base.specs.declared.map.calls.Call.TheVariants as calls
-use Rattle.mem_base.specs.declared.map.calls.Config.{Config}
-use Rattle.mem_base.specs.declared.map.calls.Config.TheVariants as configs
 use Rattle.mem_base.specs.declared.map.refusals.Refusal.{Refusal}
-use Rattle.mem_base.specs.declared.map.refusals.Refusal.TheVariants.{NoTransaction, TooNested}
-use Rattle.mem_base.specs.declared.views.listening.Listener.{Listener}
 use Rattle.mem_base.specs.declared.machine.events.Event.{Event}
 use Rattle.mem_base.specs.declared.machine.events.Event.TheVariants as events
 use Rattle.mem_base.specs.declared.machine.events.Hand.TheVariants as hands
 use Rattle.mem_base.specs.declared.machine.events.Reply.{Reply}
 use Rattle.mem_base.specs.declared.machine.events.Reply.TheVariants.{Old}
-use Rattle.mem_base.specs.map.Calls.{after, answer_of, is_quiet}
-use Rattle.mem_base.specs.map.Limits.{most_nested}
-use Rattle.mem_base.specs.map.Refusals.{first_refusal, unknown_space}
 use Rattle.mem_base.specs.access.Cells.{Touch}
-use Rattle.mem_base.specs.access.Places.{Extent, extent_of, first_fit, words_of}
-use Rattle.mem_base.specs.views.Flattened.{view_of}
-use Rattle.mem_base.specs.views.LiveEvents.{lives_of}
-use Rattle.mem_base.specs.views.Listening.{Delivery, ascending, changes_between, deliveries_of_changes, deliveries_to, join_refusal, joined, joining, leave_refusal}
-use Rattle.mem_base.specs.views.Listening.{leaving, left}
+use Rattle.mem_base.specs.views.Listening.{Delivery}
 use Rattle.mem_base.specs.machine.Composites.{completed}
-use Rattle.mem_base.specs.machine.Configs.{after_call, answers, backed, begun, committed, configured, kept_back, listened, made, unlistened, without_listener}
-use Rattle.mem_base.specs.machine.Desk.{Desk, carried_by, is_all_swept, unswept}
-use Rattle.mem_base.specs.machine.Generations.{Generations, generations_after}
+use Rattle.mem_base.specs.machine.Configs.{answers}
+use Rattle.mem_base.specs.machine.Desk.{carried_by, is_all_swept, unswept}
+use Rattle.mem_base.specs.machine.Generations.{generations_after}
 use Rattle.mem_base.specs.machine.History.{PureEntry, Ran, IsLegalFrom, after_entries, after_entry, pure_entry, ran, run_events}
 use Rattle.mem_base.specs.machine.Orders.{Order, configure, current, events_after, events_before, harvest, journal, load, notified, private_of, reap, sweeps}
 use Rattle.mem_base.specs.machine.Passes.{passes_after}
-use Rattle.mem_base.specs.machine.Publishing.{Settled, current_forest, held_up, publishing, readied, refused_desk, settled, unless_refused, would_publish}
+use Rattle.mem_base.specs.machine.Publishing.{Settled}
 use Rattle.mem_base.specs.machine.Reaps.{writer}
 use Rattle.mem_base.specs.machine.World.{World, after_telling, blocks_for, is_at_rest, number_in, old_at, possible, reply, touch_at, world, world_after}
 use Rattle.history_laws.proofs.PureAppends.{ends_then, run_ends}
 use Rattle.world_laws.specs.Legal.{IsFitting, IsLegalCall}
-use Rattle.world_hand.specs.Taken.{desk_with, told_before}
-
--- of two branches each may be changed alike
-either_branch : {A B : Type 0} (f : A → B) (test : Bool) (x y : A) (u v : B) → u ≡ f x → v ≡ f y → (if test then u else v) ≡ f (if test then x else y)
-either_branch f true x y u v a b = a
-either_branch f false x y u v a b = b
-
--- the desk with one listener more, which was told what there is
-abbrev with_listener : Generations → Listener → Desk → Desk
-with_listener g l d = record d { listening = joined d.listening l (view_of (current_forest g) l.space) (lives_of (current_forest g) l.space) }
+use Rattle.writer_run.proofs.TakenLaws.{configured_before, would_before}
+use Rattle.world_hand.specs.Taken.{told_before}
 
 module _ (taken : List Delivery) where
-  -- the desk with them before the others
-  abbrev desk_before : Desk → Desk
-  desk_before d = desk_with (taken ++ d.listening.journal) d
-
-  abbrev settled_before : Settled → Settled
-  settled_before s = record { desk = desk_before s.desk; answer = s.answer }
-
-  -- a private event leaves them, and answers the same
-
-  module _ (g : Generations) (d : Desk) where
-    publishing_before : (f : Forest) (answer : Applied) → publishing g (desk_before d) f answer ≡ settled_before (publishing g d f answer)
-    publishing_before f answer = go (held_up g)
-      where
-        go : (o : Option Refusal) → unless_refused o (desk_before d) (settled (readied g (desk_before d) f) answer)
-            ≡ settled_before (unless_refused o d (settled (readied g d f) answer))
-        go None = ap (λ (js : List Delivery). settled (desk_with js (readied g d f)) answer)
-            (append_assoc taken d.listening.journal (deliveries_of_changes (ascending d.listening.listeners) (changes_between (current_forest g) f)))
-        go (Some why) = refl
-
-    made_before : (f : Forest) (region : RegionId) (x : Extent) → made (desk_before d) f region x ≡ settled_before (made d f region x)
-    made_before f region x =
-        either_branch settled_before (words_of x == 0) (settled (record d { forest = f }) (Made region))
-        (backed d f region x (first_fit d.pool_words d.places (words_of x))) _ _ refl (go (first_fit d.pool_words d.places (words_of x)))
-      where
-        go : (o : Option ℕ) → backed (desk_before d) f region x o ≡ settled_before (backed d f region x o)
-        go None = refl
-        go (Some start) = refl
-
-    kept_before : (call : Call) (f : Forest) → kept_back (desk_before d) call f ≡ settled_before (kept_back d call f)
-    kept_before (calls.Region kind size) f = made_before f (record { 0 = d.forest.made }) (extent_of kind size)
-    kept_before _ f = refl
-
-    call_before : (call : Call) (x : Result Forest Refusal) → after_call g (desk_before d) call x ≡ settled_before (after_call g d call x)
-    call_before call (Ok f) =
-        either_branch settled_before ((d.depth == 0) && not (is_quiet call)) (publishing g d f (answer_of d.forest call)) (kept_back d call f) _ _
-        (publishing_before f (answer_of d.forest call)) (kept_before call f)
-    call_before call (Err why) = refl
-
-    begun_before : begun (desk_before d) ≡ settled_before (begun d)
-    begun_before = either_branch settled_before (d.depth == most_nested) (refused_desk d TooNested) (settled (record d { depth = d.depth + 1 }) Done) _ _ refl refl
-
-    committed_before : committed g (desk_before d) ≡ settled_before (committed g d)
-    committed_before =
-        either_branch settled_before (d.depth == 0) (refused_desk d NoTransaction)
-        (if (d.depth == 1) && d.pending then publishing g d d.forest Done else settled (record d { depth = d.depth - 1 }) Done) _ _ refl
-        (either_branch settled_before ((d.depth == 1) && d.pending) (publishing g d d.forest Done) (settled (record d { depth = d.depth - 1 }) Done) _ _
-        (publishing_before d.forest Done) refl)
-
-    listened_before : (l : Listener) → listened g (desk_before d) l ≡ settled_before (listened g d l)
-    listened_before l = go (first_refusal (unknown_space d.forest l.space ∷ join_refusal d.listening l.listener ∷ []))
-      where
-        go : (o : Option Refusal) → unless_refused o (desk_before d) (settled (with_listener g l (desk_before d)) Done)
-            ≡ settled_before (unless_refused o d (settled (with_listener g l d) Done))
-        go None = ap (λ (js : List Delivery). settled (desk_with js (with_listener g l d)) Done)
-            (append_assoc taken d.listening.journal (deliveries_to l.listener (joining (view_of (current_forest g) l.space) (lives_of (current_forest g) l.space))))
-        go (Some why) = refl
-
-    gone_before : (ls : List Listener) (id : ListenerId) → without_listener ls id g (desk_before d) ≡ desk_before (without_listener ls id g d)
-    gone_before [] id = refl
-    gone_before (l ∷ ls) id =
-        let ranges = view_of (current_forest g) l.space in
-        let lives = lives_of (current_forest g) l.space in
-        either_branch desk_before (l.listener.0 == id.0) (record d { listening = left d.listening id ranges lives }) (without_listener ls id g d) _ _
-        (ap (λ (js : List Delivery). desk_with js (record d { listening = left d.listening id ranges lives }))
-        (append_assoc taken d.listening.journal (deliveries_to id (leaving ranges lives))))
-        (gone_before ls id)
-
-    unlistened_before : (id : ListenerId) → unlistened g (desk_before d) id ≡ settled_before (unlistened g d id)
-    unlistened_before id = go (leave_refusal d.listening id)
-      where
-        go : (o : Option Refusal) → unless_refused o (desk_before d) (settled (without_listener d.listening.listeners id g (desk_before d)) Done)
-            ≡ settled_before (unless_refused o d (settled (without_listener d.listening.listeners id g d) Done))
-        go None = ap (λ (e : Desk). settled e Done) (gone_before d.listening.listeners id)
-        go (Some why) = refl
-
-    configured_before : (k : Config) → configured g (desk_before d) k ≡ settled_before (configured g d k)
-    configured_before configs.Begin = begun_before
-    configured_before (configs.Call call) = call_before call (after d.forest call)
-    configured_before configs.Commit = committed_before
-    configured_before (configs.Listen listener space priority) = listened_before (record { listener = listener; space = space; priority = priority })
-    configured_before (configs.Unlisten listener) = unlistened_before listener
-
-  would_before : (d : Desk) (k : Config) → would_publish (desk_before d) k ≡ would_publish d k
-  would_before d configs.Begin = refl
-  would_before d _ = refl
-
-  -- so does every event
+  -- every event goes on alike
 
   abbrev before : World → World
   before w = told_before taken w
@@ -146,7 +35,7 @@ module _ (taken : List Delivery) where
   possible_before : (w : World) (e : Event) → possible (before w) e ≡ possible w e
   possible_before w (events.Word (hands.Pass pass) c step) = refl
   possible_before w (events.Config k) =
-      ap (λ (b : Bool). is_at_rest w.writer.desk && (not b || is_all_swept w.writer.desk)) (would_before w.writer.desk k)
+      ap (λ (b : Bool). is_at_rest w.writer.desk && (not b || is_all_swept w.writer.desk)) (would_before taken w.writer.desk k)
   possible_before w _ = refl
 
   old_before : (w : World) (region : RegionId) (o : Option Touch) → old_at (before w) (Some region) o ≡ old_at w (Some region) o
@@ -157,14 +46,15 @@ module _ (taken : List Delivery) where
   reply_before w (events.Word hand c step) = ap (λ (n : ℕ). Ok (Old n)) (old_before w c.region (touch_at w (events.Word hand c step) (Some c.region)))
   reply_before w (events.Harvest region client index) =
       ap (λ (n : ℕ). Ok (Old n)) (old_before w region (touch_at w (events.Harvest region client index) (Some region)))
-  reply_before w (events.Config k) = ap (λ (s : Settled). answers k s.answer) (configured_before w.writer.generations w.writer.desk k)
+  reply_before w (events.Config k) = ap (λ (s : Settled). answers k s.answer) (configured_before taken w.writer.generations w.writer.desk k)
   reply_before w _ = refl
 
   telling_before : (w : World) (e : Event) (n : ℕ) → after_telling (before w) e n ≡ before (after_telling w e n)
   telling_before w (events.Config k) n =
-      ap (λ (s : Settled). world (writer (unswept s.desk) (generations_after w.writer.generations (events.Config k) (carried_by w.writer.desk (events.Config k)) n))
+      ap (λ (s : Settled). world
+      (writer (unswept s.desk) (generations_after w.writer.generations (events.Config k) (carried_by w.writer.desk (events.Config k)) n))
       (passes_after w.passes (events.Config k) n) (blocks_for w.blocks (unswept s.desk)))
-      (configured_before w.writer.generations w.writer.desk k)
+      (configured_before taken w.writer.generations w.writer.desk k)
   telling_before w _ n = refl
 
   -- and every history
@@ -204,7 +94,7 @@ module _ (taken : List Delivery) where
       λ i. ran (rest i).world (pure_entry e (reply_before w e i) ∷ (rest i).entries)
 
   first_before : (w : World) (k : Order) → events_before (before w).writer k ≡ events_before w.writer k
-  first_before w (configure c) = ap (λ (b : Bool). if b then sweeps w.writer.generations else []) (would_before w.writer.desk c)
+  first_before w (configure c) = ap (λ (b : Bool). if b then sweeps w.writer.generations else []) (would_before taken w.writer.desk c)
   first_before w reap = refl
   first_before w (load region offset bytes) = refl
   first_before w (harvest region client) = refl

@@ -15,12 +15,11 @@ const STEPS: u32 = 10_000;
 /// The words of the pool, which the drawn regions fill now and then.
 const WORDS: usize = 24_576;
 
-/// A machine that is asked for drawn composites, and what its listeners have by their calls.
+/// What draws composites for a machine, and what its listeners have by their calls.
 #[derive(Drop)]
 struct Churn {
     alloc: Global,
     draws: Draws,
-    machine: Machine,
     replays: Vec<Replay>,
     // how many calls the listeners have taken
     heard: usize,
@@ -41,26 +40,29 @@ fn agrees(churn: &Churn, generation: &Generation, replay: &Replay) -> Result<boo
 }
 
 impl Churn {
-    fn new(alloc: Global) -> Result<Churn, AllocError> {
-        Ok(Churn {
+    fn new(alloc: Global) -> Churn {
+        Churn {
             alloc,
             draws: Draws::new(alloc, 7),
-            machine: Machine::new(alloc, WORDS)?,
             replays: Vec::new(alloc),
             heard: 0,
             tallies: Tallies::new(),
             ranges: 0,
             lives: 0,
-        })
+        }
     }
 
     /// Asks for one composite, gives each listener its calls, and says whether these fit.
-    fn step(&mut self, composite: &Composite) -> Result<(Outcome, bool), AllocError> {
-        let outcome = composite.ask(&mut self.machine)?;
+    fn step(
+        &mut self,
+        machine: &mut Machine,
+        composite: &Composite,
+    ) -> Result<(Outcome, bool), AllocError> {
+        let outcome = composite.ask(machine)?;
         if let (Composite::Listen(listener, space, _), Outcome::Done) = (*composite, outcome) {
             self.replays.push(Replay::new(self.alloc, listener, space))?;
         }
-        let fits = self.hear()?;
+        let fits = self.hear(machine)?;
         if let (Composite::Unlisten(listener), Outcome::Done) = (*composite, outcome) {
             return Ok((outcome, self.leave(listener) && fits));
         }
@@ -68,13 +70,13 @@ impl Churn {
     }
 
     /// Gives each listener the calls that it has not taken; whether they fit.
-    fn hear(&mut self) -> Result<bool, AllocError> {
-        let journal = self.machine.journal();
+    fn hear(&mut self, machine: &Machine) -> Result<bool, AllocError> {
+        let journal = machine.journal();
         let Some(later) = journal.get(self.heard..) else {
             return Ok(false);
         };
         self.heard = journal.len();
-        Ok(take_all(self.replays.as_mut_slice(), later)?)
+        take_all(self.replays.as_mut_slice(), later)
     }
 
     /// Forgets a listener that has left; whether it has nothing then.
@@ -92,8 +94,8 @@ impl Churn {
     }
 
     /// Whether each listener has what the current generation shows in its space.
-    fn all_agree(&self) -> Result<bool, AllocError> {
-        let generation = self.machine.current();
+    fn all_agree(&self, machine: &Machine) -> Result<bool, AllocError> {
+        let generation = machine.current();
         for replay in self.replays.iter() {
             if !agrees(self, generation, replay)? {
                 return Ok(false);
@@ -112,31 +114,48 @@ impl Churn {
     }
 
     /// Asks for the next composite; whether each listener has what its space shows after that.
-    fn goes_on(&mut self) -> Result<bool, AllocError> {
-        let composite = self.draws.next(self.machine.current().forest());
-        let (outcome, fits) = self.step(&composite)?;
+    fn goes_on(&mut self, machine: &mut Machine) -> Result<bool, AllocError> {
+        let composite = self.draws.next(machine.current().forest());
+        let (outcome, fits) = self.step(machine, &composite)?;
         self.draws.learn(&composite, outcome)?;
         self.tallies.count(&composite, outcome);
         self.count();
-        Ok(self.all_agree()? && fits)
+        Ok(self.all_agree(machine)? && fits)
     }
 
-    /// The number of the first composite after which some listener has something else.
-    fn first_astray(&mut self) -> Result<Option<u32>, AllocError> {
+    /// The number of the first composite after which some listener has something else, and whether each kind was accepted and refused,
+    /// and the listeners had much.
+    fn first_astray(&mut self, machine: &mut Machine) -> Result<(Option<u32>, bool), AllocError> {
         for step in 0..STEPS {
-            if !self.goes_on()? {
-                return Ok(Some(step));
+            if !self.goes_on(machine)? {
+                return Ok((Some(step), false));
             }
         }
-        Ok(None)
+        let has_much = self.ranges > 50_000 && self.lives > 50_000;
+        Ok((None, has_much && self.tallies.first_idle().is_none()))
     }
+}
+
+/// The same of drawn composites in a machine.
+fn first_astray_in(
+    alloc: Global,
+    machine: &mut Machine,
+) -> Result<(Option<u32>, bool), AllocError> {
+    let mut churn = Churn::new(alloc);
+    let found = churn.first_astray(machine);
+    found
+}
+
+/// The same in a machine of its own.
+fn first_astray(alloc: Global) -> Result<(Option<u32>, bool), AllocError> {
+    let mut machine = Machine::new(alloc, WORDS)?;
+    let found = first_astray_in(alloc, &mut machine);
+    found
 }
 
 #[test]
 fn each_listener_has_by_its_calls_what_its_space_shows(rt: HostRuntime) -> Result<(), AllocError> {
-    let mut churn = Churn::new(rt.alloc())?;
-    assert_eq!(rt; churn.first_astray()?, None);
-    assert_eq!(rt; churn.tallies.first_idle(), None);
-    assert!(rt; churn.ranges > 50_000 && churn.lives > 50_000);
+    let (step, is_so) = first_astray(rt.alloc())?;
+    assert!(rt; step.is_none() && is_so, "{step:?}");
     Ok(())
 }

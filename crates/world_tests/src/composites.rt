@@ -7,7 +7,7 @@ use std::alloc::AllocError;
 pub(crate) const MOST: usize = 16;
 
 /// What the writer or a virtual CPU asks for.
-#[derive(Clone, Copy, Debug)]
+#[derive(Clone, Copy)]
 pub(crate) enum Composite {
     Call(Call),
     Begin,
@@ -28,7 +28,7 @@ pub(crate) enum Composite {
 }
 
 /// What came of it.
-#[derive(Clone, Copy, Debug, PartialEq, Eq)]
+#[derive(Clone, Copy)]
 pub(crate) enum Outcome {
     /// It was accepted, and made this region.
     Made(RegionId),
@@ -86,7 +86,7 @@ fn loaded(
 ) -> Result<Outcome, AllocError> {
     let bytes = [value; MOST];
     match bytes.get(..count) {
-        Some(bytes) => Ok(came(machine.load(region, offset, bytes))?),
+        Some(bytes) => came(machine.load(region, offset, bytes)),
         None => Ok(Outcome::Not),
     }
 }
@@ -126,18 +126,18 @@ impl Composite {
     /// Asks a machine for it. It fails only where memory runs out.
     pub(crate) fn ask(&self, machine: &mut Machine) -> Result<Outcome, AllocError> {
         match *self {
-            Composite::Call(call) => Ok(called(machine, &call)?),
-            Composite::Begin => Ok(came(machine.begin())?),
-            Composite::Commit => Ok(came(machine.commit())?),
+            Composite::Call(call) => called(machine, &call),
+            Composite::Begin => came(machine.begin()),
+            Composite::Commit => came(machine.commit()),
             Composite::Listen(listener, space, priority) => {
-                Ok(came(machine.listen(listener, space, priority))?)
+                came(machine.listen(listener, space, priority))
             }
-            Composite::Unlisten(listener) => Ok(came(machine.unlisten(listener))?),
-            Composite::Reap => Ok(reaped(machine)?),
+            Composite::Unlisten(listener) => came(machine.unlisten(listener)),
+            Composite::Reap => reaped(machine),
             Composite::Load(region, offset, count, value) => {
-                Ok(loaded(machine, region, offset, count, value)?)
+                loaded(machine, region, offset, count, value)
             }
-            Composite::Harvest(region, client) => Ok(came(machine.harvest(region, client))?),
+            Composite::Harvest(region, client) => came(machine.harvest(region, client)),
             Composite::Notified(number) => Ok(done_if(machine.notified(number) != 0)),
             _ => Ok(by_vcpu(machine, self)),
         }

@@ -3,6 +3,7 @@ use mem_base::{
     Applied, Call, Cell, Client, Config, Device, DeviceKind, Event, Hand, Kind, PassId, Refusal,
     RegionId, Reply, Size, SpaceId, WordStep,
 };
+use std::alloc::{AllocError, Global};
 use std::test::Fail;
 use world_core::World;
 
@@ -199,10 +200,15 @@ fn all(world: &mut World) -> bool {
     is_shown && is_entered
 }
 
+// All of it, in a machine of its own.
+fn goes_on(alloc: Global) -> Result<bool, AllocError> {
+    let mut world = World::new(alloc, 8, 2)?;
+    let is_so = all(&mut world);
+    Ok(is_so)
+}
+
 #[test]
 fn a_region_is_made_cleared_and_published_event_by_event(rt: HostRuntime) -> Result<(), Fail> {
-    let mut world = World::new(rt.alloc(), 8, 2)?;
-    let is_so = all(&mut world);
-    assert!(rt; is_so);
+    assert!(rt; goes_on(rt.alloc())?);
     Ok(())
 }

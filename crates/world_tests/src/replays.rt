@@ -96,7 +96,7 @@ impl Replay {
     fn take_range(&mut self, change: &RangeEvent) -> Result<bool, AllocError> {
         match *change {
             RangeEvent::Delete(range) => Ok(self.del_range(&range)),
-            RangeEvent::Add(range) => Ok(self.add_range(range)?),
+            RangeEvent::Add(range) => self.add_range(range),
             RangeEvent::Keep(range) => Ok(position(self.ranges.as_slice(), &range).is_some()),
             RangeEvent::LogStart { range, from, to } => Ok(
                 to & !from != 0 && self.set_log(&range, to),

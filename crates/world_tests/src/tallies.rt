@@ -6,14 +6,14 @@ use mem_base::Call;
 const KINDS: usize = 31;
 
 /// The counts of one kind.
-#[derive(Clone, Copy, Debug, Default, PartialEq, Eq)]
+#[derive(Clone, Copy, Default)]
 pub(crate) struct Tally {
     pub(crate) done: u32,
     pub(crate) not: u32,
 }
 
 /// The counts of all kinds.
-#[derive(Clone, Copy, Debug)]
+#[derive(Drop)]
 pub(crate) struct Tallies {
     each: [Tally; KINDS],
 }

@@ -495,6 +495,9 @@ unsafe extern "C" {
     /// A machine that runs for long keeps what listeners were told until it is forgotten here.
     pub fn vb_forget(handle: *mut vb_machine, count: usize) -> vb_answer;
 
+    /// Forgets what the listeners of a desk were told, as `vb_forget` does: `vb_desk_delivery` counts from the first call that is not forgotten.
+    pub fn vb_desk_forget(handle: *mut vb_desk, count: usize) -> vb_answer;
+
     /// Takes the marks of a region for one client, 0 display, 1 code, 2 migration: the pages that were written since they were last taken.
     /// Page 64 i + b, of 4,096 bytes, was written where bit b of word i of `out` is set. `value` of the answer is how many pages were. QEMU's
     /// core, `cpu_physical_memory_snapshot_and_clear_dirty`.

@@ -1,6 +1,6 @@
 //! A machine that virtual CPUs share: its desk, and the virtual CPUs, each on a thread of its own.
 use crate::refusal::accepted;
-use crate::{Access, Client, FlatRange, Found, Ioevent, Kind, ListenerCall, ListenerId, Pages, Perm, Refusal, RegionId, SpaceId, access, published};
+use crate::{Access, Client, FlatRange, Found, Ioevent, Kind, ListenerCall, ListenerId, Pages, Perm, Refusal, RegionId, SpaceId, access, published, told};
 use std::ptr::null_mut;
 use vobrekan_sys as sys;
 
@@ -93,6 +93,8 @@ pub struct Desk {
     handle: sys::vb_desk,
     /// How many regions were dropped and are not released yet, at most.
     dropped: usize,
+    /// How many calls of listeners are forgotten.
+    forgotten: usize,
 }
 
 // The library proves that the handle may go to another thread. A call takes `&mut self`, so one works on it at a time.
@@ -107,7 +109,7 @@ impl Drop for Desk {
 impl Desk {
     /// A machine over a pool of this many words of 8 bytes, at most 2^26, and its desk.
     pub fn new(words: usize) -> Result<Desk, Refusal> {
-        let mut desk = Desk { handle: sys::vb_desk { at: null_mut() }, dropped: 0 };
+        let mut desk = Desk { handle: sys::vb_desk { at: null_mut() }, dropped: 0, forgotten: 0 };
         accepted(unsafe { sys::vb_desk_new(&mut desk.handle, words) })?;
         Ok(desk)
     }
@@ -173,18 +175,18 @@ impl Desk {
         }
     }
 
-    /// The calls that listeners got from the index `from` on, counted from the first that was ever made.
+    /// The calls that listeners got from the index `from` on, counted from the first that was ever made: a caller that goes on from
+    /// where it came to misses none. Refused where the call `from` is forgotten.
     pub fn told(&mut self, from: usize) -> Result<Vec<ListenerCall>, Refusal> {
-        let mut calls = Vec::new();
-        loop {
-            let mut call = ListenerCall::default();
-            let index = from.saturating_add(calls.len());
-            let count = accepted(unsafe { sys::vb_desk_delivery(&mut self.handle, index, &mut call) })?.value;
-            if index as u64 >= count {
-                return Ok(calls);
-            }
-            calls.push(call);
-        }
+        told(from, self.forgotten, |index, call| unsafe { sys::vb_desk_delivery(&mut self.handle, index, call) })
+    }
+
+    /// Forgets the calls of listeners before the index `until`, counted from the first that was ever made. The others keep their
+    /// indices, and the listeners stay. A desk that works for long keeps all that listeners were told until it is forgotten here.
+    pub fn forget(&mut self, until: usize) -> Result<(), Refusal> {
+        let count = until.saturating_sub(self.forgotten);
+        self.forgotten += accepted(unsafe { sys::vb_desk_forget(&mut self.handle, count) })?.value as usize;
+        Ok(())
     }
 }
 

@@ -128,6 +128,22 @@ impl Drop for Machine {
     }
 }
 
+/// What listeners were told from the index `from` on, where the first `forgotten` calls are forgotten; `delivery` tells one of the others.
+fn told(
+    from: usize, forgotten: usize, mut delivery: impl FnMut(usize, &mut ListenerCall) -> sys::vb_answer,
+) -> Result<Vec<ListenerCall>, Refusal> {
+    let from = from.checked_sub(forgotten).ok_or(Refusal::Forgotten(forgotten as u64))?;
+    let mut calls = Vec::new();
+    loop {
+        let mut call = ListenerCall::default();
+        let index = from.saturating_add(calls.len());
+        if index as u64 >= accepted(delivery(index, &mut call))?.value {
+            return Ok(calls);
+        }
+        calls.push(call);
+    }
+}
+
 /// The number of the generation that was published, if one was.
 fn published(answer: sys::vb_answer) -> Option<u64> {
     (answer.other != 0).then_some(answer.other)
@@ -315,17 +331,7 @@ impl Machine {
     /// The calls that listeners got from the index `from` on, counted from the first that was ever made: a caller that goes on from
     /// where it came to misses none. Refused where the call `from` is forgotten.
     pub fn told(&mut self, from: usize) -> Result<Vec<ListenerCall>, Refusal> {
-        let from = from.checked_sub(self.forgotten).ok_or(Refusal::Forgotten(self.forgotten as u64))?;
-        let mut calls = Vec::new();
-        loop {
-            let mut call = ListenerCall::default();
-            let index = from.saturating_add(calls.len());
-            let count = accepted(unsafe { sys::vb_delivery(&mut self.handle, index, &mut call) })?.value;
-            if index as u64 >= count {
-                return Ok(calls);
-            }
-            calls.push(call);
-        }
+        told(from, self.forgotten, |index, call| unsafe { sys::vb_delivery(&mut self.handle, index, call) })
     }
 
     /// Forgets the calls of listeners before the index `until`, counted from the first that was ever made. The others keep their

@@ -1,6 +1,6 @@
 //! Virtual CPUs on threads of their own, beside the desk of their machine.
 use std::thread;
-use vobrekan::{Cpu, Desk, Kind, Order, Refusal, RegionId, SpaceId};
+use vobrekan::{Cpu, Desk, Kind, ListenerId, Order, Refusal, RegionId, SpaceId};
 
 const SPACE: SpaceId = SpaceId(0);
 
@@ -103,4 +103,22 @@ fn the_first_bytes_of_a_write() {
     let mut out = [0; 10];
     cpu.read(SPACE, 0x20, &mut out).unwrap();
     assert_eq!(&out, b"01234567\0\0");
+}
+
+#[test]
+fn what_the_listeners_of_a_desk_were_told_is_forgotten() {
+    let (mut desk, ram, window) = map();
+    desk.ask(Order::Listen(ListenerId(3), SPACE, 0)).unwrap();
+    let mut end = desk.told(0).unwrap().len();
+    for round in 1..=100 {
+        desk.forget(end).unwrap();
+        assert_eq!(desk.told(end), Ok(vec![]));
+        desk.ask(Order::Retarget(window, 0x1000 * (round % 2))).unwrap();
+        let told = desk.told(end).unwrap();
+        assert!(told.iter().any(|call| call.what == 2 && call.range.start == 0 && call.range.region == ram.0));
+        assert_eq!(desk.told(end - 1), Err(Refusal::Forgotten(end as u64)));
+        end += told.len();
+    }
+    desk.forget(usize::MAX).unwrap();
+    assert_eq!(desk.told(end), Ok(vec![]));
 }

@@ -1,8 +1,6 @@
-use Rattle.std.proofs.Common.{rules, ◌≡◌, None, List, length, All, option_to_list, ap, sym, subst, ◌∙◌}
-use Rattle.mem_base.specs.machine.Records.{Clerk}
+use Rattle.std.proofs.Common.{rules, ◌≡◌, None, length, All, option_to_list, ap, sym, subst, ◌∙◌}
 use Rattle.mem_base.specs.script.Race.{block}
 use Rattle.race_block.proofs.HandedOn.{RecordState}
-use Rattle.race_block.specs.declared.blocks.BlockActor.{BlockActor}
 use Rattle.race_block.specs.Blocks.{CanAct}
 use Rattle.race_outside.specs.Ready.{AreReady}
 use Rattle.race_outside.specs.Outside.{StopsIn}
@@ -11,8 +9,6 @@ use Rattle.race_inside.proofs.PhaseTextLaws.{blocks_may_stop, blocks_step_on}
 use Rattle.race_inside.specs.Seats.{IsKnown, IsTold, names_then}
 use Rattle.race_inside.proofs.BackLaws.{all_heard, all_own, all_ready}
 use Rattle.race_inside.specs.Blocks.{HasRunAll}
-use Rattle.race_inside.specs.Texts.{HaveTheirTexts}
-use Rattle.race_inside.proofs.JoinedLaws.{actors_told}
 use Rattle.race_inside.proofs.BlockLaws.{came_back, has_run, is_told, known_is, known_list, names_same, parts, seated_can_all, steps_on}
 use Rattle.race_inside.proofs.blocks.run_in.Goals as goal
 
@@ -21,8 +17,8 @@ run_actors-after-requires-clause-ready g c κs within =
     subst (λ (z : RecordState). All (CanAct z.seat.cabinet) c.args.seated.actors.items) c.requires.start
     (seated_can_all c.requires.seated.0 c.args.lines.now c.args.desk c.args.seated c.requires.seated.1)
 
-pub add_block-done-requires-clause-known : goal.add_block-done-requires-clause-known
-add_block-done-requires-clause-known g c =
+pub add_block-done-requires : goal.add_block-done-requires
+add_block-done-requires g c =
     let v : RecordState = c.args.desk in
     let w : RecordState = c.run_actors-after.result.0 in
     let s = c.args.seated in
@@ -32,20 +28,7 @@ add_block-done-requires-clause-known g c =
     let differs = c.run_actors-after.result.1 in
     let r : HasRunAll v w s.actors.items news clerks differs = c.run_actors-after.ensures in
     let same : c.as_slice.result.now ≡ news = c.as_slice.ensures.value in
-    subst (IsKnown s.known.now) (sym same) (parts c.requires.seated.0 lines v w s c.requires.seated.1 news clerks differs r).known
-
-pub add_block-done-requires-clause-texts : goal.add_block-done-requires-clause-texts
-add_block-done-requires-clause-texts g c =
-    let v : RecordState = c.args.desk in
-    let w : RecordState = c.run_actors-after.result.0 in
-    let s = c.args.seated in
-    let news = c.run_actors-after.new.actors.items in
-    let clerks = c.run_actors-after.new.clerks.items in
-    let r : HasRunAll v w s.actors.items news clerks c.run_actors-after.result.1 = c.run_actors-after.ensures in
-    let same_actors : c.as_slice.result.now ≡ news = c.as_slice.ensures.value in
-    let same_clerks : c.as_slice-2.result.now ≡ clerks = c.as_slice-2.ensures.value in
-    subst (λ (z : List BlockActor × List Clerk). HaveTheirTexts z.0 z.1) (λ i. (sym same_actors i, sym same_clerks i))
-    (actors_told w.seat.seen s.actors.items news clerks r.all_news r.joined)
+    record { known = subst (IsKnown s.known.now) (sym same) (parts c.requires.seated.0 lines v w s c.requires.seated.1 news clerks differs r).known }
 
 pub meet-requires-clause-own : goal.meet-requires-clause-own
 meet-requires-clause-own g c =

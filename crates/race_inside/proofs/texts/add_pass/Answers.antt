@@ -1,11 +1,19 @@
-use Rattle.std.proofs.Common.{◌++◌, ap, ◌∙◌}
+use Rattle.std.proofs.Common.{Option, ◌++◌, ap, sym, ◌∙◌}
+use Rattle.std.specs.Prelude.{flat_map}
+use Rattle.mem_base.specs.machine.Passes.{pass_id}
+use Rattle.mem_base.specs.script.RaceLines.{said_text}
 use Rattle.mem_base.specs.script.Spelling.{Text}
+use Rattle.race_block.specs.Resolving.{tasks_in}
+use Rattle.race_block.specs.Texts.{lines_said}
+use Rattle.race_inside.specs.Texts.{text_or}
 use Rattle.script_names.specs.Tables.{printed_names}
-use Rattle.race_inside.proofs.TextLists.{made_text}
 use Rattle.race_inside.proofs.texts.add_pass.Goals as goal
 
 pub returns-in_ok-bytes-in-Some : goal.returns-in_ok-bytes-in-Some
 returns-in_ok-bytes-in-Some c =
+    let names = printed_names c.args.names.now in
+    let clerk = c.args.clerk.now in
+    let listed : Text = flat_map (said_text names c.args.journal.now)
+    (lines_said names (pass_id clerk.who) (tasks_in c.args.pass.now.lines) c.args.pass.now.got.items clerk.got) in
     c.in_ok-bytes-in-Some.ensures
-    ∙ ap (λ (t : Text). c.args.text.now ++ t) (c.as_bytes.ensures
-    ∙ made_text (printed_names c.args.names.now) c.args.journal.now c.args.pass.now c.args.clerk.now c.in-Some.own c.in-Some.is c.requires.text)
+    ∙ ap (λ (t : Text). c.args.text.now ++ t) (c.as_bytes.ensures ∙ ap (λ (t : Option Text). text_or t listed) (sym c.in-Some.is))

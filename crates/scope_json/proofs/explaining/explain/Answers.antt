@@ -34,13 +34,13 @@ mended_bad : (text : Text) (stop : MapStop) (bad : BadScript) (b : Bool) → sto
 mended_bad text stop bad b is h e = subst (λ (m : Meaning). b ≡ explain_mends m) (sym (is_bad text stop bad is h)) e
 
 pub returns-in-Ok-clause-data : goal.returns-in-Ok-clause-data
-returns-in-Ok-clause-data c = IfOk-weaker c.explain_refused.result _ _
+returns-in-Ok-clause-data c = IfOk-weaker c.explain_refused-told.result _ _
     (λ t is. explained c.args.script.now c.in-Ok.map c.refused.result.now
-    (view t.value) c.in-Ok.ensures.map c.refused.ensures is) c.explain_refused.ensures.data
+    (view t.value) c.in-Ok.ensures.map c.refused.ensures is) c.explain_refused-told.ensures.data
 
 pub returns-in-Ok-clause-mends : goal.returns-in-Ok-clause-mends
-returns-in-Ok-clause-mends c = IfOk-weaker c.explain_refused.result _ _
-    (λ t is. mended c.args.script.now c.in-Ok.map c.refused.result.now t.something c.in-Ok.ensures.map c.refused.ensures is) c.explain_refused.ensures.mends
+returns-in-Ok-clause-mends c = IfOk-weaker c.explain_refused-told.result _ _
+    (λ t is. mended c.args.script.now c.in-Ok.map c.refused.result.now t.something c.in-Ok.ensures.map c.refused.ensures is) c.explain_refused-told.ensures.mends
 
 pub returns-in-Err-Bad-clause-data : goal.returns-in-Err-Bad-clause-data
 returns-in-Err-Bad-clause-data c = IfOk-weaker c.explain_bad.result _ _

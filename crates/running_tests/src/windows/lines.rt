@@ -1,0 +1,102 @@
+// The lines of a worked case: what the writer and one virtual CPU do, and what that has to answer.
+use crate::windows::movers::{Mover, Span, copies, finds_none, gets, has_bytes, puts};
+use config_desk::Config;
+use mem_base::{Call, Client, RegionId, TxResult};
+use std::sync::Wait;
+
+/// What is done, and what it has to answer.
+#[derive(Clone, Copy)]
+pub(crate) enum Line {
+    /// The writer does a call.
+    Do(Call),
+    Begin,
+    Commit,
+    /// The writer puts bytes into a region, from an offset on.
+    Load(u32, u64, &'static [u8]),
+    /// These pages of a region were written since its marks were last taken.
+    Marks(u32, &'static [u64]),
+    /// Without a bounce there is no window to read, or to write, in the generation of this number.
+    None(Span, bool, u64),
+    /// A window is got whole: is it direct, which bytes has it, and how does it end.
+    Get(Span, bool, &'static [u8], TxResult),
+    /// These bytes are put into a window: is it direct, and how does it end.
+    Put(Span, bool, &'static [u8], TxResult),
+    /// As many bytes as the first span has are copied to the second: how does it end.
+    Copy(Span, Span, TxResult),
+}
+
+/// Some bytes of space 0.
+pub(crate) const fn at(addr: u64, len: u64) -> Span {
+    Span {
+        space: 0,
+        addr,
+        len,
+    }
+}
+
+/// Does what a line of the writer says, and answers whether that was as it has to be.
+fn writer_does<R: Wait>(rt: &R, config: &mut Config, line: &Line) -> bool {
+    match *line {
+        Line::Do(call) => config.call(&call).is_ok(),
+        Line::Begin => config.begin().is_ok(),
+        Line::Commit => config.commit().is_ok(),
+        Line::Load(region, offset, bytes) => {
+            config
+                .load_bytes(rt, RegionId(region), offset, bytes)
+                .is_ok()
+        }
+        Line::Marks(region, pages) => match config.harvest(RegionId(region), Client::Vga) {
+            Ok(found) => found.as_slice() == pages,
+            Err(_) => false,
+        },
+        _ => true,
+    }
+}
+
+/// Does nothing: no window has such bytes.
+fn astray(mover: Mover<'_>) -> Mover<'_> {
+    let Mover { vcpu, bounce, .. } = mover;
+    let good = false;
+    Mover { vcpu, bounce, good }
+}
+
+/// Does what a line of the virtual CPU says.
+fn mover_does<'c, R: Wait>(rt: &R, mover: Mover<'c>, line: &Line) -> Mover<'c> {
+    match *line {
+        Line::None(span, write, number) if has_bytes(span.addr, span.len) => {
+            finds_none(rt, mover, span, write, number)
+        }
+        Line::Get(span, direct, bytes, wanted) if has_bytes(span.addr, span.len) => {
+            gets(rt, mover, span, direct, bytes, wanted)
+        }
+        Line::Put(span, direct, bytes, wanted) if has_bytes(span.addr, span.len) => {
+            puts(rt, mover, span, direct, bytes, wanted)
+        }
+        Line::Copy(from, to, wanted)
+            if has_bytes(from.addr, from.len) && has_bytes(to.addr, from.len) => {
+            copies(rt, mover, from, to, wanted)
+        }
+        Line::None(..) | Line::Get(..) | Line::Put(..) | Line::Copy(..) => astray(mover),
+        _ => mover,
+    }
+}
+
+/// Does lines, up to the first that is not as it has to be; how many were.
+pub(crate) fn goes<'c, R: Wait>(
+    rt: &R,
+    config: &mut Config,
+    mover: Mover<'c>,
+    lines: &[Line],
+) -> (Mover<'c>, usize) {
+    let mut mover = mover;
+    let mut right = 0usize;
+    for line in lines {
+        let done = writer_does(rt, config, line);
+        mover = mover_does(rt, mover, line);
+        if !done || !mover.good {
+            break;
+        }
+        right = right.saturating_add(1);
+    }
+    (mover, right)
+}
