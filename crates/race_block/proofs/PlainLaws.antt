@@ -1,6 +1,6 @@
 -- A pass whose lines give no order: one line more, and all of them.
 use Rattle.std.proofs.Common.{◌≡◌, ℕ, ◌+◌, ◌<◌, ◌≤◌, zero, suc, Bool, true, false, ◌||◌, List, [], ◌∷◌, ◌++◌, length, take, get_or, refl, sym, ap}
-use Rattle.std.proofs.Common.{subst, ◌∙◌, append-nil, append_assoc, length-append, arith, Option, Some, Ok, Err, inl, inr}
+use Rattle.std.proofs.Common.{subst, ◌∙◌, append-nil, append_assoc, length-append, arith, Option, Some, None, Result, Ok, Err, OnOk, is_ok, inl, inr}
 use Rattle.std.specs.List.{list_any}
 use Rattle.std.proofs.lemmas.List.{map_push}
 use Rattle.mem_base.specs.declared.map.ids.PassId.{PassId}
@@ -11,6 +11,7 @@ use Rattle.mem_base.specs.machine.Records.{Clerk}
 use Rattle.mem_base.specs.map.Limits.{most_passes}
 use Rattle.mem_base.specs.script.Race.{actor_number}
 use Rattle.mem_base.specs.script.Scripts.{Line}
+use Rattle.mem_base.specs.script.RefusalLines.{unknown_text}
 use Rattle.mem_base.specs.script.Spelling.{Text}
 use Rattle.mem_base.specs.script.Tasks.{Known, Resolved, Task, space, task_of, then_resolved}
 use Rattle.mem_base.specs.script.Tasks as tasks
@@ -27,7 +28,7 @@ use Rattle.race_block.specs.declared.tasks.OwnLine.{OwnLine}
 use Rattle.race_block.specs.declared.tasks.LineGot.{LineGot}
 use Rattle.race_block.specs.declared.tasks.LineGot.TheVariants as gots
 use Rattle.race_block.specs.Desks.{line_meant, lines_meant}
-use Rattle.race_block.specs.Lines.{HasDone, HasRunBy, HasStopped, HaveRun, IsAnswer, IsTold}
+use Rattle.race_block.specs.Lines.{HasDone, HasRunBy, HasStopped, HasTold, HaveRun, IsAnswer, IsTold}
 use Rattle.race_block.specs.Resolving.{AreTasksOf, IsTaskOf, StandsFor, gives_order}
 use Rattle.race_block.specs.Texts.{KeepsTold, gave_order, plain_text, plain_texts}
 use Rattle.race_block.proofs.ResolvingLaws.{take_all, take_more, tasks_push}
@@ -51,6 +52,20 @@ no_order k (commands.PassWrite pass name addr bytes) l n = then_no (space k name
 no_order k (commands.PassDo pass change) l n = true_is_not_false true refl n
 no_order k (commands.PassDma pass name addr len to_name to_addr) l n = then_no (space k name) _ (λ s. then_no (space k to_name) _ (λ t. tt))
 no_order k _ l n = absurd (omega (arith, l))
+
+-- what a name stands for, nothing or something, and then the task of the line
+pub then_unknown : {I : Type 0} (name : Text) (o : Option I) (rest : I → Resolved Task) → o ≡ None
+    → then_resolved (tasks.known name o) rest ≡ Err (unknown_text name)
+then_unknown name o rest none = ap (λ x. then_resolved (tasks.known name x) rest) none
+
+pub then_known : {I : Type 0} (name : Text) (o : Option I) (id : I) (rest : I → Resolved Task) → o ≡ Some id
+    → then_resolved (tasks.known name o) rest ≡ rest id
+then_known name o id rest some = ap (λ x. then_resolved (tasks.known name x) rest) some
+
+-- what holds where a call succeeds
+pub where_ok : {T E : Type 0} (r : Result T E) (P : Type 0) → is_ok r ≡ true → OnOk r P → P
+where_ok (Ok x) P ok h = h
+where_ok (Err e) P ok h = true_is_not_false false ok refl
 
 answered_plain : (got : LineGot) (answer : LineAnswer) → IsAnswer got answer → gave_order got ≡ false
 answered_plain gots.Refused answer is = absurd is
@@ -136,12 +151,12 @@ module _ (k : Known) (lines : List OwnLine) (c : Clerk) (v : PassValue Published
     stopped_then = record { at = at + 1; tasks = h.tasks ++ own ∷ []; all = h.all ++ got ∷ []; are = are; count = count; ran = ran }
 
     -- one line more was done and told
-    pub told_then : (more : Text) → actor_number line.command.now < most_passes → list_any (λ y. gives_order y.command.now) lines ≡ false
+    pub told_then : (more : Text) → actor_number line.line.now.1 < most_passes → list_any (λ y. gives_order y.line.now.1) lines ≡ false
         → more ≡ text ++ plain_text (pass_id c.who) own got → IsTold k lines c v (at + 1) e x more
     told_then more near none put =
-        let gives : gives_order line.command.now ≡ false =
-        ap (λ (y : OwnLine). gives_order y.command.now) (sym is) ∙ none_at (λ y. gives_order y.command.now) lines at line none room in
-        let plain = done_plain own.task (task_of k line.command.now) d w got e x (no_order k line.command.now near gives) task.1 done in
+        let gives : gives_order line.line.now.1 ≡ false =
+        ap (λ (y : OwnLine). gives_order y.line.now.1) (sym is) ∙ none_at (λ y. gives_order y.line.now.1) lines at line none room in
+        let plain = done_plain own.task (task_of k line.line.now.1) d w got e x (no_order k line.line.now.1 near gives) task.1 done in
         let stays = stays_inside own.task d w got e x h.inside done in record {
           tasks = h.tasks ++ own ∷ [];
           all = h.all ++ got ∷ [];
@@ -154,6 +169,21 @@ module _ (k : Known) (lines : List OwnLine) (c : Clerk) (v : PassValue Published
           inside = stays.0;
           cabinet = stays.1 ∙ h.cabinet;
         }
+
+  module _ (at : ℕ) (d e : Clerk) (w x : PassValue Published) (text more : Text) (lasted : Bool) (line : OwnLine) (h : IsTold k lines c v at d w text)
+      (room : at < length lines) (is : get_or lines at line ≡ line) where
+    -- memory ran out with the next line
+    pub stops : lasted ≡ false → HasTold k (line_meant line) d w text lasted e x more → HasStopped k lines c v e x
+    stops ends (inl t) = stopped_here at d e w x text h t.1 t.2
+    stops ends (inr t) = stopped_then at d e w x text line t.own t.got h room is t.task t.done
+
+    -- the next line was done and told
+    pub tells : lasted ≡ true → actor_number line.line.now.1 < most_passes → list_any (λ y. gives_order y.line.now.1) lines ≡ false
+        → HasTold k (line_meant line) d w text lasted e x more → IsTold k lines c v (at + 1) e x more
+    tells goes near none (inl t) = true_is_not_false lasted goes t.0
+    tells goes near none (inr t) =
+        told_then at d e w x text line t.own t.got h room is t.task t.done more near none
+        (t.told goes ∙ (λ i. text ++ plain_text (pass_id (h.clerk i).who) t.own t.got))
 
   -- a pass that told its lines, or stopped
   pub plain_run : (room : ℕ) (b : PassActor) (whole : Bool) (text : Text) → (whole ≡ true → IsTold k lines c v (length lines) b.clerk b.vcpu text)

@@ -34,11 +34,11 @@ use Rattle.race_block.specs.declared.desks.DeskActor.{DeskActor}
 
 -- the line of the script
 abbrev pub line_meant : OwnLine → Line
-line_meant x = (x.number, x.command.now)
+line_meant x = x.line.now
 
 -- the numbers of its command fit
 abbrev pub FitsLine : OwnLine → Type 0
-FitsLine x = FitsCommand x.command.now
+FitsLine x = FitsCommand x.line.now.1
 
 -- an order was given, and what it got is its receipt's; the clerk wrote it down, and the receipt's note was kept
 pub record Gives (cabinet : TableId) (order : DeskOrder) (c : Clerk) (notes : List NoteValue) (got : Given) (d : Clerk) (more : List NoteValue)

@@ -1,5 +1,5 @@
 -- What a pass does in a block, line by line.
-use Rattle.std.specs.Prelude.{◌≡◌, ◌⊎◌, ℕ, ◌≤◌, true, false, List, [], ◌∷◌, ◌++◌, length, take}
+use Rattle.std.specs.Prelude.{◌≡◌, ◌⊎◌, ℕ, ◌≤◌, Bool, true, false, List, [], ◌∷◌, ◌++◌, length, take}
 use mathlib.Core.List.{IsPrefix}
 use Rattle.std.specs.Prelude.{All}
 use Rattle.std.specs.List.{list_any}
@@ -7,6 +7,7 @@ use Rattle.mem_base.specs.declared.machine.records.DeskOrder.{DeskOrder}
 use Rattle.mem_base.specs.access.AccessSteps.{reading, writing}
 use Rattle.mem_base.specs.machine.Passes.{pass_id}
 use Rattle.mem_base.specs.machine.Records.{Clerk}
+use Rattle.mem_base.specs.script.Scripts.{Line}
 use Rattle.mem_base.specs.script.Spelling.{Text}
 use Rattle.mem_base.specs.script.Tasks.{Known, Task, entered, left, accessed, copied}
 use Rattle.generation.specs.Published.{Published}
@@ -27,8 +28,8 @@ use Rattle.race_block.specs.declared.tasks.PassLines.TheVariants as kinds
 use Rattle.race_block.specs.declared.passes.PassActor.{PassActor}
 use Rattle.race_block.specs.declared.tasks.OwnLine.{OwnLine}
 use Rattle.race_block.specs.Desks.{lines_meant}
-use Rattle.race_block.specs.Resolving.{AreFirstTasksIn, AreFirstTasksOf, AreTasksIn, AreTasksOf, IsPassLine, copy_room, tasks_in}
-use Rattle.race_block.specs.Texts.{KeepsTold, gave_order, plain_texts}
+use Rattle.race_block.specs.Resolving.{AreFirstTasksIn, AreFirstTasksOf, AreTasksIn, AreTasksOf, IsPassLine, IsTaskOf, copy_room, tasks_in}
+use Rattle.race_block.specs.Texts.{KeepsTold, gave_order, plain_text, plain_texts}
 
 -- what is asked of a task: the bounce has room for what it copies, and a notifier that is to be taken is one of those that there are
 abbrev pub FitsTask : ℕ → PassTask → Type 0
@@ -150,6 +151,20 @@ pub record IsTold (k : Known) (lines : List OwnLine) (c : Clerk) (v : PassValue 
   pub clerk : d ≡ c
   pub inside : IsInItsGeneration w
   pub cabinet : w.cabinet ≡ v.cabinet
+
+-- a line of a pass that gives no order was done, and where memory lasted it was told: what it wrote was added to a text
+pub record HasDoneLine (k : Known) (line : Line) (c : Clerk) (v : PassValue Published) (before : Text) (lasted : Bool) (d : Clerk) (w : PassValue Published)
+    (after : Text) : Type 0 where
+  pub own : BlockLine
+  pub got : LineGot
+  pub task : IsTaskOf k line own
+  pub done : HasDone own.task c v got d w
+  pub told : lasted ≡ true → after ≡ before ++ plain_text (pass_id c.who) own got
+
+-- so a line was done, or memory ran out before anything was
+abbrev pub HasTold : Known → Line → Clerk → PassValue Published → Text → Bool → Clerk → PassValue Published → Text → Type 0
+HasTold k line c v before lasted d w after =
+    ((lasted ≡ false) × (d ≡ c) × (w ≡ v)) ⊎ HasDoneLine k line c v before lasted d w after
 
 -- Lines were done, with a bounce, what a clerk had written down and what a pass was: all of them, or out of memory the first of them. `Are` says which
 -- tasks all have, and `Begin` which the first of them. Where all were done, the pass keeps what they wrote

@@ -1,13 +1,15 @@
 -- The lines of a pass in a block, and their tasks once their names are resolved.
-use Rattle.std.specs.Prelude.{◌≡◌, ℕ, ◌<◌, Bool, true, false, List, [], ◌∷◌, take, Result, Ok, Err}
+use Rattle.std.specs.Prelude.{◌≡◌, ℕ, ◌<◌, Bool, true, false, List, [], ◌∷◌, take, Option, None, Some, Result, Ok, Err}
+use Rattle.std.specs.Borrow.{Bor}
 use Rattle.mem_base.specs.access.AccessSteps.{reading, writing}
+use Rattle.mem_base.specs.declared.map.ids.SpaceId.{SpaceId}
 use Rattle.mem_base.specs.declared.script.commands.Command.{Command}
 use Rattle.mem_base.specs.declared.script.commands.Command.TheVariants.{PassDo}
 use Rattle.mem_base.specs.map.Limits.{most_passes}
 use Rattle.mem_base.specs.script.Race.{actor_number}
 use Rattle.mem_base.specs.script.Scripts.{Line}
 use Rattle.mem_base.specs.script.Spelling.{Text}
-use Rattle.mem_base.specs.script.Tasks.{Known, Resolved, Task, task_of, ordered, entered, left, accessed, copied}
+use Rattle.mem_base.specs.script.Tasks.{Known, Resolved, Task, space_named, task_of, ordered, entered, left, accessed, copied}
 use Rattle.run_laws.specs.Fitting.{FitsCommand}
 use Rattle.race_lines.specs.declared.tasks.LineTask.{LineTask}
 use Rattle.race_lines.specs.declared.tasks.LineTask.TheVariants as asked
@@ -41,6 +43,11 @@ AreTasksOf k _ _ = ⊥
 abbrev pub IsTaskOf : Known → Line → BlockLine → Type 0
 IsTaskOf k line x = (x.number ≡ line.0) × StandsFor x.task (task_of k line.1)
 
+-- what is at hand, if anything, is a name and the space that it stands for
+abbrev pub IsLast : Known → Option (Bor Text × SpaceId) → Type 0
+IsLast k None = Unit {0}
+IsLast k (Some x) = space_named k x.0.now ≡ Some x.1
+
 -- how many bytes a line copies at most
 abbrev pub copy_room : ℕ
 copy_room = 64
@@ -58,7 +65,7 @@ IsOfPass _ = ⊥
 
 -- a line of a pass, the numbers of whose command fit
 abbrev pub IsPassLine : OwnLine → Type 0
-IsPassLine x = (actor_number x.command.now < most_passes) × FitsCommand x.command.now
+IsPassLine x = (actor_number x.line.now.1 < most_passes) × FitsCommand x.line.now.1
 
 -- the tasks of a pass's lines, once their names are resolved
 abbrev pub tasks_in : PassLines → List BlockLine

@@ -111,15 +111,15 @@ fn ask_line<'a, O: Orderly, R: Wait>(
     known: &KnownNames,
     clerk: &mut Clerk,
     notes: &mut Vec<Note<Generation>>,
-    line: &OwnLine<'a>,
+    own: &OwnLine<'a>,
 ) -> Result<Asked<'a>, AllocError>
-    requires fits { FitsLine line.now }
-    ensures asked { IfOk result (λ x. IsAsked known.now (line_meant line.now) clerk.old notes.old.items x clerk.new notes.new.items) }
-    ensures stopped { OnErr result (StopsIn known.now (line_meant line.now) clerk.old notes.old.items clerk.new notes.new.items) }
+    requires fits { FitsLine own.now }
+    ensures asked { IfOk result (λ x. IsAsked known.now (line_meant own.now) clerk.old notes.old.items x clerk.new notes.new.items) }
+    ensures stopped { OnErr result (StopsIn known.now (line_meant own.now) clerk.old notes.old.items clerk.new notes.new.items) }
     ensures own { KeepsNotes (O.cabinet desk.old) notes.old.items notes.new.items }
     ensures desk { O.cabinet desk.new ≡ O.cabinet desk.old }
 {
-    let task = task_of(alloc, known, line.command)?;
+    let task = task_of(alloc, known, &own.line.1)?;
     let got = ask_own(rt, desk, clerk, notes, &task)?;
     let Given { current, .. } = ask(rt, desk, clerk, notes, &DeskOrder::Look)?;
     match current {
@@ -174,20 +174,20 @@ fn do_line<O: Orderly, G: Gate, R: Wait>(
     clerk: &mut Clerk,
     notes: &mut Vec<Note<Generation>>,
     said: &mut Vec<LineSaid>,
-    line: &OwnLine<'_>,
+    own: &OwnLine<'_>,
 ) -> bool
-    requires fits { FitsLine line.now }
-    ensures done { result ≡ true → DoesDeskLine known.old (line_meant line.now) clerk.old notes.old.items said.old.items clerk.new notes.new.items
+    requires fits { FitsLine own.now }
+    ensures done { result ≡ true → DoesDeskLine known.old (line_meant own.now) clerk.old notes.old.items said.old.items clerk.new notes.new.items
         known.new said.new.items }
-    ensures stopped { result ≡ false → IsNotDone known.old (line_meant line.now) clerk.old notes.old.items clerk.new notes.new.items }
+    ensures stopped { result ≡ false → IsNotDone known.old (line_meant own.now) clerk.old notes.old.items clerk.new notes.new.items }
     ensures own { KeepsNotes (O.cabinet desk.old) notes.old.items notes.new.items }
     ensures desk { O.cabinet desk.new ≡ O.cabinet desk.old }
 {
-    gate.arrive(Actor::Desk, line.number);
-    let Ok(asked) = ask_line(rt, alloc, desk, known, clerk, notes, line) else {
+    gate.arrive(Actor::Desk, own.line.0);
+    let Ok(asked) = ask_line(rt, alloc, desk, known, clerk, notes, own) else {
         return false;
     };
-    let Ok(()) = write_line(alloc, known, said, line.number, &asked) else {
+    let Ok(()) = write_line(alloc, known, said, own.line.0, &asked) else {
         return false;
     };
     true
@@ -219,9 +219,9 @@ impl<'a> DeskActor<'a> {
             out_of_memory: _,
         } = self;
         for at in 0..lines.len() {
-            let line = &lines[at];
+            let own = &lines[at];
             let done = do_line(
-                rt, alloc, gate, desk, &mut known, &mut clerk, &mut notes, &mut said, line,
+                rt, alloc, gate, desk, &mut known, &mut clerk, &mut notes, &mut said, own,
             );
             if !done {
                 return DeskActor {

@@ -23,6 +23,7 @@ mod laws;
 mod passes;
 mod plain;
 mod resolving;
+mod spaces;
 mod tasks;
 mod texts;
 

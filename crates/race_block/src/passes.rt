@@ -1,5 +1,5 @@
 // A pass that does its lines.
-ghost use Rattle.std.specs.Prelude.{◌≡◌, ◌≤◌, [], true, false, All, IfOk, OnErr, take};
+ghost use Rattle.std.specs.Prelude.{◌≡◌, ◌≤◌, [], true, false, All, IfOk, OnErr, length, take};
 ghost use Rattle.mem_base.specs.access.AccessSteps.{reading};
 ghost use Rattle.mem_base.specs.script.Tasks.{accessed};
 ghost use Rattle.desk_lock.specs.Receipts.{HasNotifier};
@@ -60,15 +60,15 @@ fn order<O: Orderly, R: Wait>(
     Ok(LineGot::Ordered)
 }
 
-// Reads bytes into the first places of what is at hand.
-fn read_first(
+/// Reads bytes into the first places of what is at hand.
+pub(crate) fn read_first(
     vcpu: &mut Vcpu<'_>,
     space: SpaceId,
     addr: u64,
     count: usize,
-    bytes: &mut [u8; 16],
+    bytes: &mut [u8],
 ) -> Access
-    requires few { count ≤ 16 }
+    requires few { count ≤ length bytes.old }
     ensures { HasAccessed vcpu.old space addr (reading count) result (take count bytes.new) vcpu.new }
 {
     vcpu.read(space, addr, &mut bytes[..count])

@@ -44,15 +44,15 @@ fn pass_task(task: ResolvedTask<'_>) -> PassTask<'_>
 pub(crate) fn block_line<'a>(
     alloc: Global,
     known: &KnownNames,
-    line: &OwnLine<'a>,
+    own: &OwnLine<'a>,
 ) -> Result<BlockLine<'a>, AllocError>
-    requires fits { IsPassLine line.now }
-    ensures is { IfOk result (IsTaskOf known.now (line_meant line.now)) }
+    requires fits { IsPassLine own.now }
+    ensures is { IfOk result (IsTaskOf known.now (line_meant own.now)) }
     ensures fits { IfOk result (FitsLine copy_room) }
 {
-    let task = task_of(alloc, known, line.command)?;
+    let task = task_of(alloc, known, &own.line.1)?;
     Ok(BlockLine {
-        number: line.number,
+        number: own.line.0,
         task: pass_task(task),
     })
 }

@@ -5,11 +5,10 @@ use mem_base::{Access, Bytes, Command, DeskOrder, SpaceId};
 use pass_lines::LineAnswer;
 use race_lines::{KnownNames, Refused};
 
-/// A line of an actor in a block: its number in the script, and its command.
+/// A line of an actor in a block, as it stands in the script: its number and its command.
 #[derive(Clone, Copy)]
 pub struct OwnLine<'a> {
-    pub number: u32,
-    pub command: &'a Command,
+    pub line: &'a (u32, Command),
 }
 
 /// What a line asks of a pass, once its names are resolved.

@@ -1,10 +1,10 @@
 -- The lines of the actors, dealt one after another, and the tasks of the passes'.
-use Rattle.std.proofs.Common.{◌≡◌, ◌≢◌, ℕ, ◌+◌, ◌<◌, ◌≤◌, ◌==◌, Bool, true, false, List, [], ◌∷◌, ◌++◌, All, length, drop, get_or, append_assoc, append-nil}
+use Rattle.std.proofs.Common.{◌≡◌, ◌≢◌, ℕ, ◌+◌, ◌<◌, ◌≤◌, ◌==◌, Bool, true, false, List, [], ◌∷◌, ◌++◌, All, length, drop, get_or, map, append_assoc, append-nil}
 use Rattle.std.proofs.Common.{refl, sym, ap, subst, ◌∙◌, arith}
 use Rattle.std.proofs.Common.{if◌then◌else◌}
 use Rattle.std.specs.Prelude.{nat_le, slice_index_or, slice_set}
 use Rattle.std.proofs.lemmas.Bool.Decides.{nat_tests}
-use Rattle.std.proofs.lemmas.List.{at_drop_more, get_or_append_left, get_or_push, get_or-set_same, get_or-set_other, get_or_default}
+use Rattle.std.proofs.lemmas.List.{at_drop_more, get_or_append_left, get_or_push, get_or-map, get_or-set_same, get_or-set_other, get_or_default}
 use Rattle.std.proofs.lemmas.List.{length-map, length-set, length_push, map_push}
 use borrow.Author.Count.{below_more}
 use Rattle.mem_base.specs.lists.Every.{Every}
@@ -24,7 +24,7 @@ use Rattle.race_block.specs.Lines as passes
 use Rattle.race_block.specs.Resolving.{AreTasksOf, IsPassLine, copy_room}
 use Rattle.race_inside.specs.declared.rooms.Work.{Work}
 use Rattle.race_inside.specs.Rooms.{AreAll, AreIdle, AreOwn, ArePrepared, AreWorksOf, HasDesksWork, HasOwn}
-use Rattle.race_inside.specs.Rooms.{HasTasks, IsPrepared, IsWorkOf, TakesLine, most_actors}
+use Rattle.race_inside.specs.Rooms.{HasTasks, IsPrepared, IsWorkOf, TakesLine, most_actors, whose_line}
 
 -- what is left of a list, with its first one
 pub next_left : (lines : List Line) (i : ℕ) (line : Line) → i < length lines → slice_index_or lines i line ≡ line
@@ -131,6 +131,12 @@ one_dealt whole left rest line works after is fits t h =
       each = λ p d within. each_dealt whole left rest line who works after p d (who == p) is refl t near refl
           (h.each p d (omega (arith, within, long))) (λ later. h.each who later near);
     }
+
+-- what was noted of a line is whose it is
+pub noted_at : (lines : List Line) (whose : List ℕ) (i d : ℕ) (line : Line) → whose ≡ map whose_line lines → i < length lines
+    → get_or lines i line ≡ line → get_or whose i d ≡ actor_number line.1
+noted_at lines whose i d line all room is =
+    (λ j. get_or (all j) i d) ∙ get_or-map whose_line lines i line d room ∙ ap whose_line is
 
 -- all lines are dealt
 pub all_dealt : (whole left : List Line) (works : List Work) → left ≡ [] → AreDealt whole left works → AreAll whole works

@@ -1,5 +1,5 @@
 // A block, from what its runner has before it to what it has after it.
-ghost use Rattle.std.specs.Prelude.{◌≡◌, ℕ, ◌<◌, ◌≤◌, [], All, OnOk, length, slice_index_or, vec_capacity};
+ghost use Rattle.std.specs.Prelude.{◌≡◌, ℕ, ◌<◌, ◌≤◌, [], All, IfOk, OnOk, length, map, slice_index_or, vec_capacity};
 ghost use Rattle.mem_base.specs.script.Race.{block};
 ghost use Rattle.mem_base.specs.script.Tasks.{Known};
 ghost use Rattle.run_laws.specs.Fitting.{AreFitting};
@@ -11,6 +11,7 @@ ghost use Rattle.race_outside.specs.Levels.{HasMet, IsHeard, IsOfCabinet};
 ghost use Rattle.race_outside.specs.Ready.{AreReady};
 ghost use Rattle.race_outside.specs.Outside.{StopsIn, WritesOn};
 ghost use Rattle.race_inside.specs.Blocks.{HasRunAll};
+ghost use Rattle.race_inside.specs.Rooms.{whose_line};
 ghost use Rattle.race_inside.specs.Seats.{AreSeated, IsTold, names_then};
 
 use crate::rooms::{Room, room_for};
@@ -123,8 +124,8 @@ fn run_in<'c, J: Naming + Send + Sync, G: Gate, R: Threads + Wait + Sync>(
 /// A block of a race: its actors do their lines beside one another, each in a thread of its own where one can be made, over one lock before
 /// the desk; then all have seen the same history, and what the block writes is added to the text.
 ///
-/// It takes the record of the desk, the virtual CPUs and what is known of names, and gives back all of them. The numbers of the commands
-/// fit, as those of every script that was read do, and the actors reach the gate before each of their lines. Out of memory nothing was
+/// It takes the record of the desk, the virtual CPUs and what is known of names, and gives back all of them. `whose` has whose each line is,
+/// or tells that there was no memory for that; it is made as the script is taken apart, when its lines are near. The numbers of the commands fit, as those of every script that was read do, and the actors reach the gate before each of their lines. Out of memory nothing was
 /// done, or each actor has done the first of its lines, or the block is whole and its text is lost: the text may then end within the
 /// block's.
 pub fn block<'c, G: Gate, R: Threads + Wait + Sync>(
@@ -135,16 +136,18 @@ pub fn block<'c, G: Gate, R: Threads + Wait + Sync>(
     cpus: Vec<Vcpu<'c>>,
     known: KnownNames,
     lines: &'c [(u32, Command)],
+    whose: Result<Vec<u8>, AllocError>,
     text: &mut Line,
 ) -> (Record, Vec<Vcpu<'c>>, KnownNames, Result<(), AllocError>)
     requires fits { AreFitting lines.now }
+    requires whose { IfOk whose (λ whose. whose.items ≡ map whose_line lines.now) }
     requires ready { AreReady desk cpus.items }
     ensures ready { AreReady result.0 result.1.items }
     ensures later { IsLater desk result.0 }
     ensures step { OnOk result.3 (WritesOn desk known (block lines.now) result.0 result.2 text.old text.new) }
     ensures stopped { StopsIn desk known (block lines.now) result.0 }
 {
-    match room_for(alloc, &known, lines) {
+    match room_for(alloc, &known, lines, whose) {
         Ok(room) => {
             let Room {
                 desk_lines,

@@ -4,7 +4,7 @@ ghost use Rattle.mem_base.specs.map.Limits.{most_passes};
 ghost use Rattle.mem_base.specs.script.Race.{block, desk_number, lines_by};
 ghost use Rattle.run_laws.specs.Fitting.{AreFitting};
 ghost use Rattle.race_block.specs.Desks.{lines_meant};
-ghost use Rattle.race_inside.specs.Rooms.{AreIdle, AreOwn, AreWorksOf, HasDesksWork, IsRoomFor, acts, most_actors};
+ghost use Rattle.race_inside.specs.Rooms.{AreIdle, AreOwn, AreWorksOf, HasDesksWork, IsRoomFor, acts, most_actors, whose_line};
 
 use crate::tasks::{deal, prepare_all};
 use io_window::Bounce;
@@ -129,12 +129,15 @@ pub(crate) fn room_for<'a, 'k>(
     alloc: Global,
     known: &KnownNames,
     lines: &'a [(u32, Command)],
+    whose: Result<Vec<u8>, AllocError>,
 ) -> Result<Room<'a, 'k>, AllocError>
     requires fits { AreFitting lines.now }
+    requires whose { IfOk whose (λ whose. whose.items ≡ map whose_line lines.now) }
     ensures { IfOk result (IsRoomFor known.now lines.now) }
 {
+    let whose = whose?;
     let mut works = no_works(alloc, lines.len() / MOST_PASSES as usize)?;
-    deal(lines, &mut works)?;
+    deal(lines, whose.as_slice(), &mut works)?;
     let desk_lines = take_desk(&mut works);
     prepare_for(alloc, known, lines, desk_lines.as_slice(), &mut works)?;
     let busy = busy_of(alloc, works.as_slice())?;

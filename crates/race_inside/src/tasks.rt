@@ -1,10 +1,9 @@
 // The lines of a block by whose they are, and their tasks, where these are made before the block.
-ghost use Rattle.std.specs.Prelude.{◌≡◌, ◌<◌, [], ◌∷◌, ◌++◌, All, OnOk, ℕ, length, slice_index_or};
+ghost use Rattle.std.specs.Prelude.{◌≡◌, ◌<◌, [], ◌∷◌, ◌++◌, All, IfOk, OnOk, ℕ, length, map, slice_index_or};
 ghost use Rattle.run_laws.specs.Fitting.{AreFitting, FitsCommand};
-ghost use Rattle.mem_base.specs.script.Race.{actor_number};
 ghost use Rattle.race_block.specs.Desks.{line_meant};
 ghost use Rattle.race_block.specs.Resolving.{IsPassLine};
-ghost use Rattle.race_inside.specs.Rooms.{AreAll, AreIdle, ArePrepared, IsPrepared, TakesLine, most_actors};
+ghost use Rattle.race_inside.specs.Rooms.{AreAll, AreIdle, ArePrepared, IsPrepared, TakesLine, most_actors, whose_line};
 
 use crate::rooms::Work;
 use mem_base::Command;
@@ -17,10 +16,7 @@ use std::alloc::{AllocError, Global};
 fn own_line(line: &(u32, Command)) -> OwnLine<'_>
     ensures { line_meant result ≡ line.now }
 {
-    OwnLine {
-        number: line.0,
-        command: &line.1,
-    }
+    OwnLine { line }
 }
 
 // Puts a line to those that an actor has to do.
@@ -46,28 +42,45 @@ fn deal_to<'a>(
     Ok(())
 }
 
-// Deals a line of a block to its actor.
-fn deal_line<'a>(line: &'a (u32, Command), works: &mut Vec<Work<'a>>) -> Result<(), AllocError>
+// Whose line it is: the number of its actor.
+fn whose_line(line: &(u32, Command)) -> u8
     requires fits { FitsCommand line.now.1 }
-    requires all { length works.old.items ≡ most_actors }
-    ensures { OnOk result (TakesLine line.now (actor_number line.now.1) works.old.items works.new.items) }
+    ensures { result ≡ whose_line line.now }
 {
-    let who = actor_number(&line.1);
-    deal_to(who, line, works)?;
-    Ok(())
+    actor_number(&line.1) as u8
 }
 
-/// Deals the lines of a block to their actors, by one walk. It fails only where memory runs out.
+/// Whose each line of a block is: the number of its actor. It fails only where memory runs out.
+///
+/// The numbers of the commands fit, as those of every script that was read do.
+pub fn whose_lines(alloc: Global, lines: &[(u32, Command)]) -> Result<Vec<u8>, AllocError>
+    requires fits { AreFitting lines.now }
+    ensures { IfOk result (λ whose. whose.items ≡ map whose_line lines.now) }
+{
+    let mut whose = Vec::with_capacity(alloc, lines.len())?;
+    for line in lines {
+        whose.push(whose_line(line))?;
+    }
+    Ok(whose)
+}
+
+/// Deals the lines of a block to their actors, by whose each is. It fails only where memory runs out.
+///
+/// The lines themselves are not looked at: each would have to be fetched from memory that is far.
 pub(crate) fn deal<'a>(
     lines: &'a [(u32, Command)],
+    whose: &[u8],
     works: &mut Vec<Work<'a>>,
 ) -> Result<(), AllocError>
     requires fits { AreFitting lines.now }
+    requires whose { whose.now ≡ map whose_line lines.now }
     requires idle { AreIdle works.old.items }
     ensures { OnOk result (AreAll lines.now works.new.items) }
 {
+    let mut at = 0;
     for line in lines {
-        deal_line(line, works)?;
+        deal_to(whose[at] as u32, line, works)?;
+        at += 1;
     }
     Ok(())
 }

@@ -1,16 +1,17 @@
 // The phases of a race, one after another.
-ghost use Rattle.std.specs.Prelude.{◌≡◌, ◌<◌, [], ◌∷◌, Err, IfSome, OnErr, OnOk, length};
+ghost use Rattle.std.specs.Prelude.{◌≡◌, ◌<◌, [], ◌∷◌, Err, IfOk, IfSome, OnErr, OnOk, length, map};
 ghost use Rattle.outside.specs.Causes.{failed};
 ghost use Rattle.outside.specs.Sink.{Writes};
 ghost use Rattle.mem_base.specs.script.Race.{alone, phases_of};
 ghost use Rattle.run_laws.specs.Fitting.{AreFitting, FitsCommand};
 ghost use Rattle.race_laws.specs.Outside.{block_of, phases_alone};
+ghost use Rattle.race_inside.specs.Rooms.{whose_line};
 ghost use Rattle.race_run.specs.Racing.{Goes, IsReady};
 
 use crate::racers::Racer;
 use mem_base::Command;
 use outside::{Failed, Gate, Sink, write_all};
-use race_inside::{block, outside_line};
+use race_inside::{block, outside_line, whose_lines};
 use race_phases::parts_of;
 use script_lines::Line;
 use script_run::RunFault;
@@ -118,10 +119,12 @@ fn go_block<'c, R: Threads + Wait + Sync, S: Sink, G: Gate>(
     alloc: Global,
     racer: Racer<'c>,
     lines: &'c [(u32, Command)],
+    whose: Result<Vec<u8>, AllocError>,
     sink: &mut S,
     gate: &G,
 ) -> (Racer<'c>, Result<(), RunFault>)
     requires fits { AreFitting lines.now }
+    requires whose { IfOk whose (λ whose. whose.items ≡ map whose_line lines.now) }
     requires ready { IsReady racer }
     ensures ready { IsReady result.0 }
     ensures goes { Goes S.written S.holds S.faults sink.old sink.new (block_of lines.now) racer.entry result.0 result.1 }
@@ -136,7 +139,9 @@ fn go_block<'c, R: Threads + Wait + Sync, S: Sink, G: Gate>(
         bounce,
     } = racer;
     let mut text = Line::new(alloc);
-    let (desk, cpus, known, done) = block(rt, alloc, gate, desk, cpus, known, lines, &mut text);
+    let (desk, cpus, known, done) = block(
+        rt, alloc, gate, desk, cpus, known, lines, whose, &mut text,
+    );
     let said = say(done, &text, sink);
     let racer = Racer {
         desk,
@@ -162,11 +167,12 @@ pub(crate) fn go_through<'c, R: Threads + Wait + Sync, S: Sink, G: Gate>(
     ensures goes { Goes S.written S.holds S.faults sink.old sink.new (phases_of script.now) racer.entry result.0 result.1 }
 {
     let parts = parts_of(script.lines());
+    let whose = whose_lines(alloc, parts.block);
     let (racer, done) = go_lines(rt, alloc, racer, parts.before, sink);
     if let Err(fault) = done {
         return (racer, Err(fault));
     }
-    let (racer, done) = go_block(rt, alloc, racer, parts.block, sink, gate);
+    let (racer, done) = go_block(rt, alloc, racer, parts.block, whose, sink, gate);
     if let Err(fault) = done {
         return (racer, Err(fault));
     }

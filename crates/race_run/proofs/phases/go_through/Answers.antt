@@ -8,6 +8,13 @@ use Rattle.race_run.proofs.LineLaws.{in_parts, phases_are}
 use Rattle.race_run.proofs.RacingLaws.{goes_first_fault, goes_second_fault, goes_three}
 use Rattle.race_run.proofs.phases.go_through.Goals as goal
 
+pub whose_lines-whose-requires : goal.whose_lines-whose-requires
+whose_lines-whose-requires g c =
+    let p = c.parts_of-parts.result in record {
+      fits = (in_parts (λ line. FitsCommand line.1) c.lines.result.now p.before.now p.block.now p.after.now c.parts_of-parts.ensures.lines
+          (subst AreFitting (sym c.lines.ensures.value) (sound_fits Start c.args.script.now c.lines.ensures.sound))).in_it;
+    }
+
 pub go_lines-racer-requires-clause-fits : goal.go_lines-racer-requires-clause-fits
 go_lines-racer-requires-clause-fits g c =
     let p = c.parts_of-parts.result in

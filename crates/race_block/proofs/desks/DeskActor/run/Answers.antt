@@ -21,7 +21,7 @@ pub returns-then-not-done-clause-run : goal.returns-then-not-done-clause-run
 returns-then-not-done-clause-run g c =
     let a = c.args.self in
     let l = c.loop-at in
-    let line = c.index-line.result.now in
+    let line = c.index-own.result.now in
     let was = l.invariant in
     let failed : c.do_line-done.result ≡ false = search rules in
     let room : l.at < length a.lines.items = let t = c.loop-at-test.true in let e = was.2 in omega (arith, t, e) in
@@ -36,7 +36,7 @@ pub loop-at-preserved : goal.loop-at-preserved
 loop-at-preserved g c =
     let a = c.args.self in
     let l = c.loop-at in
-    let line = c.index-line.result.now in
+    let line = c.index-own.result.now in
     let was = l.invariant in
     let done : c.do_line-done.result ≡ true = search rules in
     let room : l.at < length a.lines.items = let t = c.loop-at-test.true in let e = was.2 in omega (arith, t, e) in
