@@ -1,117 +1,59 @@
-// How long a change takes that is published at once: in the space of a map, in a small space beside it, and told to a listener.
+// How long a change takes that is published at once: told to a listener, and unheard, in a large space and a small one.
 use crate::maps::{Map, WORDS, moves_of};
-use crate::times::{Bench, Least, Result, Unit};
+use crate::times::{Bench, Ledger, Result, sum_of};
 use mem_base::{Call, Config, ListenerId, SpaceId};
-use std::sync::ledger::Ledger;
-use transact::{BackedDesk, Step};
 use writer_desk::{ListenedDesk, Planned};
 
 impl<L: Ledger> Bench<L> {
-    /// Moves regions of a map, whose space has one listener, with what the listener is told of it. Each round begins with a new desk, so
-    /// that what the listener was told in the one before is gone.
-    pub(crate) fn run_listened(&mut self, map: &Map) -> Result<()> {
-        let rt = self.rt;
+    /// Moves regions of a map while its space has one listener, and, in four times as many rounds, where none hears it,
+    /// with one in a small space of two regions as often; and copies the forest and the tree.
+    pub fn run_changes(&mut self, mut map: Map) -> Result<()> {
+        let (clock, rt) = (self.clock, self.clock.rt);
+        let small_moves = moves_of(map.add_small_space()?, 0, 0x1000);
         let moves = map.moves(rt, 16, 0x1000)?;
-        let (count, mut told) = (moves.len(), 0);
-        let mut least = Least::new(Unit::NanosEach(count));
-        for _ in 0..self.rounds {
-            told = self.time_listened(map, moves.as_slice(), &mut least)?;
-        }
-        println!(rt; "{map} listened to: moves {count}, told {told}")?;
-        eprintln!(rt; "{map} listened to: a move {least}")?;
-        Ok(())
-    }
-
-    /// One round: how many calls the listener got in it.
-    fn time_listened(&mut self, map: &Map, moves: &[Call], least: &mut Least) -> Result<usize> {
-        let mut desk = ListenedDesk::new(self.rt.alloc(), WORDS)?;
+        let count = moves.len();
+        let small_moves = small_moves.repeat(rt.alloc(), count / 2)?;
+        let mut desk = ListenedDesk::new(rt.alloc(), WORDS)?;
         self.tell(&mut desk, &Config::Begin);
-        self.tell_all(&mut desk, map.calls.as_slice());
+        self.tell_all(&mut desk, &map.calls);
         self.tell(&mut desk, &Config::Commit);
-        let (listener, space, priority) = (ListenerId(0), SpaceId(0), 0);
-        self.tell(
-            &mut desk,
-            &Config::Listen {
-                listener,
-                space,
-                priority,
-            },
-        );
-        let before = desk.listeners().journal().len();
-        least.time(self.rt, || self.tell_all(&mut desk, moves));
-        Ok(desk.listeners().journal().len().saturating_sub(before))
+        let listen = Config::Listen {
+            listener: ListenerId(0),
+            space: SpaceId(0),
+            priority: 0,
+        };
+        self.tell(&mut desk, &listen);
+        desk.forget(usize::MAX);
+        let (heard, told) = clock.least(1, count, || {
+            self.tell_all(&mut desk, &moves);
+            desk.take_journal()
+        });
+        self.tell(&mut desk, &Config::Unlisten(ListenerId(0)));
+        let (large, accepted) = clock.least(4, count, || self.tell_all(&mut desk, &moves));
+        let (small, _) = clock.least(4, count, || self.tell_all(&mut desk, &small_moves));
+        let tree = desk.backed().desk().tree();
+        let (forests, _) = clock.least(4, 1, || tree.forest());
+        let (trees, _) = clock.least(4, 1, || tree.try_copy());
+        drop(desk);
+        let (told, refused) = (told.len(), (count as u64).saturating_sub(accepted));
+        println!(rt; "{map} listened to: moves {count}, told {told}")?;
+        eprintln!(rt; "{map} listened to: a move {heard} ns")?;
+        println!(rt; "{map} changed: moves {count}, refused {refused}")?;
+        eprint!(rt; "{map} changed: a move {large} ns, in the small space {small} ns, ")?;
+        Ok(eprintln!(rt; "a copy of the forest {forests} ns, of the tree {trees} ns")?)
     }
 
-    fn tell_all(&mut self, desk: &mut ListenedDesk, calls: &[Call]) {
-        for call in calls {
-            self.tell(desk, &Config::Call(*call));
-        }
+    fn tell_all(&mut self, desk: &mut ListenedDesk, calls: &[Call]) -> u64 {
+        sum_of(calls, |call| self.tell(desk, &Config::Call(call)))
     }
 
-    /// Does an event of the writer, and publishes what it makes ready. It may be refused.
-    fn tell(&mut self, desk: &mut ListenedDesk, event: &Config) {
-        if let Ok(Planned::Ready(due)) = desk.prepare(event, &mut self.steps) {
+    /// Does an event of the writer, and publishes what it makes ready: 1 where it is accepted.
+    fn tell(&mut self, desk: &mut ListenedDesk, event: &Config) -> u64 {
+        let planned = desk.prepare(event, &mut self.steps);
+        let accepted = u64::from(planned.is_ok());
+        if let Ok(Planned::Ready(due)) = planned {
             desk.tell(&due);
             desk.done(due);
-        }
-    }
-
-    /// Moves regions of a map, and one in a small space of two regions beside it as often: the mean of a round, the least of four times
-    /// as many rounds; and copies the forest and the tree.
-    pub(crate) fn run_changes(&mut self, mut map: Map) -> Result<()> {
-        map.add_small_space()?;
-        let mut desk = BackedDesk::new(self.rt.alloc(), WORDS)?;
-        let done = self.time_changes(&mut desk, &map);
-        done
-    }
-
-    fn time_changes(&mut self, desk: &mut BackedDesk, map: &Map) -> Result<()> {
-        let rt = self.rt;
-        self.publish(desk, map)?;
-        let moves = map.moves(rt, 16, 0x1000)?;
-        let (count, mut accepted) = (moves.len(), 0);
-        let small_moves = moves_of(map.latest(), 0, 0x1000).repeat(rt.alloc(), count / 2)?;
-        let [mut large, mut small] = [Least::new(Unit::NanosEach(count)); 2];
-        let [mut forests, mut trees] = [Least::new(Unit::NanosEach(1)); 2];
-        for _ in 0..self.rounds.saturating_mul(4) {
-            accepted = large.time(rt, || self.change_all(desk, moves.as_slice()));
-            small.time(rt, || self.change_all(desk, small_moves.as_slice()));
-            forests.time(rt, || desk.desk().tree().forest())?;
-            trees.time(rt, || desk.desk().tree().try_copy())?;
-        }
-        let refused = count.saturating_sub(accepted);
-        println!(rt; "{map} changed: moves {count}, refused {refused}")?;
-        eprintln!(rt;
-            "{map} changed: a move {large}, in the small space {small}, a copy of the forest {forests}, of the tree {trees}"
-        )?;
-        Ok(())
-    }
-
-    /// Makes a map at a new desk, all of it published in one generation. Some of its calls may be refused.
-    fn publish(&mut self, desk: &mut BackedDesk, map: &Map) -> Result<()> {
-        desk.begin()?;
-        for call in &map.calls {
-            if desk.desk().depth() != 0 {
-                let _ = desk.call(call);
-            }
-        }
-        if let Step::Ready(prepared) = desk.commit_prepare(&[], &mut self.steps)? {
-            desk.done(prepared);
-        }
-        Ok(())
-    }
-
-    /// Does changes, each of which is published in a generation of its own, and counts those that are accepted.
-    fn change_all(&mut self, desk: &mut BackedDesk, calls: &[Call]) -> usize {
-        let mut accepted: usize = 0;
-        for call in calls {
-            if desk.desk().depth() != 0 || call.is_quiet() {
-                continue;
-            }
-            if let Ok(prepared) = desk.call_prepare(call, &[], &mut self.steps) {
-                desk.done(prepared);
-                accepted = accepted.saturating_add(1);
-            }
         }
         accepted
     }

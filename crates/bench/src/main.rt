@@ -1,96 +1,77 @@
-//! How long the memory map takes: all calls that build a map, moves, look-ups of one address, a view, its atlas, and a
-//! walk to the next view; how long places in a pool take, routes of accesses, accesses to registers, and changes that are
-//! published; how long a cabinet takes, and what a pass does in it; how long reads and writes of virtual CPUs take, and those of the
-//! pure machine and of a bus of one's own; and how long the text of a script takes to be read and printed (`scripts`).
+//! How long the memory map takes: the calls that build a map, moves, look-ups, a view, its atlas and a walk to the next
+//! one; routes of accesses, accesses to registers, and changes that are published; reads and writes of virtual CPUs, of
+//! the pure machine and of a bus of one's own; a pool and a cabinet; and the text of a script, read and printed.
 //!
-//! Standard output has a line for each map, which is the same in every run: how many calls it takes, how many of them
-//! were refused, how many ranges its view has, and a sum over what the look-ups found; and one for each text: its bytes,
-//! its commands, the bytes printed of them, and the line at fault, 0 where none is. Standard error has the times,
-//! the least of some rounds. With the word `full` the maps have their full sizes, as in docs/SPEED.md; with no word
-//! they are small.
+//! Standard output is the same in every run: calls, refusals and ranges of a map, and sums over what was found; of a
+//! text its bytes, its commands, the bytes printed of them, and the line at fault, 0 where none is. Standard error has
+//! the times, the least of some rounds. With the word `full` the sizes are those of docs/SPEED.md, else small.
 #![tactic(auto)]
 
 ghost use Rattle.std.specs.Prelude.{◌≡◌, ◌<◌};
 
 mod accesses;
-mod cabinets;
 mod changes;
+mod lookups;
 mod maps;
-mod pools;
-mod readers;
-mod routes;
 mod scripts;
 mod times;
-mod trees;
-mod vcpus;
+mod words;
 
 use crate::maps::Shape;
-use crate::times::{Bench, Result};
+use crate::times::{Bench, Clock, Result};
 use std::marker::Brand;
-use std::process::ExitCode;
 use std::sync::Wait;
 use std::sync::ledger::{Blank, Ledger};
 use std::thread::Threads;
 use step_counter::Steps;
 
 /// The maps, each with its size and its full size.
-static MAPS: [(Shape, u32, u32); 11] = [
-    (Shape::Generated, 50, 500),
-    (Shape::Generated, 100, 1000),
-    (Shape::Generated, 150, 2000),
-    (Shape::Generated, 200, 4000),
-    (Shape::Flat, 50, 2000),
-    (Shape::Flat, 100, 4000),
-    (Shape::ChainsDown, 4, 120),
-    (Shape::ChainsUp, 4, 120),
-    (Shape::Zigzag, 100, 2000),
-    (Shape::Aliases, 100, 4000),
-    (Shape::Heavy, 20, 1000),
+static MAPS: [(&str, Shape, u32, u32); 11] = [
+    ("generated", Shape::Generated, 50, 500),
+    ("generated", Shape::Generated, 100, 1000),
+    ("generated", Shape::Generated, 150, 2000),
+    ("generated", Shape::Generated, 200, 4000),
+    ("flat", Shape::Flat, 50, 2000),
+    ("flat", Shape::Flat, 100, 4000),
+    ("chains down", Shape::Chains(true), 4, 120),
+    ("chains up", Shape::Chains(false), 4, 120),
+    ("zigzag", Shape::Zigzag, 100, 2000),
+    ("aliases", Shape::Aliases, 100, 4000),
+    ("heavy", Shape::Heavy, 20, 1000),
 ];
 
-fn main(rt: HostRuntime) -> ExitCode {
-    let is_full = match std::env::args(&rt) {
-        Ok(args) => args.skip(1).any(|word| word.as_str() == "full"),
-        Err(_) => false,
-    };
-    match run_all::<Brand, HostRuntime>(rt, &rt, is_full, Blank::new(1)) {
-        Ok(()) => ExitCode::from(0),
-        Err(_) => ExitCode::from(1),
-    }
+fn main(rt: HostRuntime) -> Result<()> {
+    run::<Brand, HostRuntime>(rt, &rt, Blank::new(1))
 }
 
 /// All of it: small maps once each, or the maps of docs/SPEED.md in five rounds, with 60 views each.
-fn run_all<L: Ledger, R: Threads + Wait + Sync>(
-    rt: HostRuntime,
-    threads: &R,
-    is_full: bool,
-    blank: Blank,
-) -> Result<()>
+fn run<L: Ledger, R: Threads + Wait + Sync>(rt: HostRuntime, host: &R, blank: Blank) -> Result<()>
     requires name { blank.name ≡ L.name }
     requires parts { blank.parts ≡ L.parts }
     requires some { 0 < L.parts }
 {
+    let is_full = std::env::args(&rt)?
+        .skip(1)
+        .any(|word| word.as_str() == "full");
     let (rounds, views, middle) = if is_full { (5, 60, 2000) } else { (1, 1, 150) };
-    let steps = Steps::<L>::new(blank);
-    let mut bench = Bench {
-        rt,
-        is_full,
-        rounds,
-        steps,
-    };
-    for (shape, small, full) in MAPS {
-        let map = shape.map(rt, if is_full { full } else { small })?;
+    let (clock, steps) = (Clock { rt, rounds }, Steps::<L>::new(blank));
+    let mut bench = Bench { clock, steps };
+    for (name, shape, small, full) in MAPS {
+        let map = shape.map(rt, name, if is_full { full } else { small })?;
         bench.run_tree(&map, views)?;
     }
-    let map = Shape::Generated.map(rt, middle)?;
+    let map = Shape::Generated.map(rt, "generated", middle)?;
     bench.run_views(&map)?;
-    bench.run_accesses(threads, &map)?;
+    bench.run_accesses(host, &map)?;
     for size in [middle, middle * 2] {
-        let map = Shape::Generated.map(rt, size)?;
-        bench.run_listened(&map)?;
-        bench.run_changes(map)?;
+        bench.run_changes(Shape::Generated.map(rt, "generated", size)?)?;
     }
-    bench.run_pool()?;
-    bench.run_cabinet()?;
-    bench.run_scripts()
+    clock.run_pool()?;
+    let (words, count) = if is_full {
+        (1 << 26, 1_000_000)
+    } else {
+        (32_771, 1000)
+    };
+    clock.run_cabinet(words, count)?;
+    clock.run_scripts(is_full)
 }

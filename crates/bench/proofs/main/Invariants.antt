@@ -1,4 +1,4 @@
 use Rattle.bench.proofs.main.Given as goal
 
-abbrev pub ghosts-run_all : goal.ghosts-run_all
-ghosts-run_all g a = record { name = a.blank.name; parts = a.blank.parts }
+abbrev pub ghosts-run : goal.ghosts-run
+ghosts-run g a = record { name = a.blank.name; parts = a.blank.parts }

@@ -1,6 +1,6 @@
 use Rattle.std.proofs.Common.{[], sym, ◌∙◌}
 use Rattle.access_cut.proofs.PieceLaws.{given_is_cut}
-use Rattle.bench.proofs.routes.callbacks.Goals as goal
+use Rattle.bench.proofs.lookups.callbacks.Goals as goal
 
 pub accesses-places-requires-clause-cut : goal.accesses-places-requires-clause-cut
 accesses-places-requires-clause-cut c =

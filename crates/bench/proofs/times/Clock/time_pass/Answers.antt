@@ -1,6 +1,6 @@
 use Rattle.std.proofs.Common.{rules, sym, ◌∙◌}
 use Rattle.bench.proofs.PlaceLaws.{has_found}
-use Rattle.bench.proofs.cabinets.load_all.Goals as goal
+use Rattle.bench.proofs.times.Clock.time_pass.Goals as goal
 
 pub loop-word-init : goal.loop-word-init
 loop-word-init c =

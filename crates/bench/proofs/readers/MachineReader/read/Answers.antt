@@ -1,5 +1,0 @@
-use Rattle.bench.proofs.ReadyLaws.{still_ready}
-use Rattle.bench.proofs.readers.MachineReader.read.Goals as goal
-
-pub invariant_of-self : goal.invariant_of-self
-invariant_of-self c = still_ready c.self.inside.world c.read.new.self c.self.invariant c.read.ensures.keeps
