@@ -16,7 +16,7 @@ use Rattle.race_outside.proofs.CopyLaws.{is_pass}
 use Rattle.mem_base.specs.script.Scripts.{Line}
 use Rattle.mem_base.specs.script.Tasks.{Known}
 use Rattle.mem_base.specs.script.Race.{actor_number, block, desk_number, lines_by}
-use Rattle.race_phases.specs.Plain.{has_lines}
+use Rattle.race_phases.specs.Plain.{has_lines, whose_line}
 use Rattle.race_block.specs.declared.tasks.OwnLine.{OwnLine}
 use Rattle.race_block.specs.Desks as desks
 use Rattle.race_block.specs.Desks.{line_meant, lines_meant}
@@ -24,7 +24,7 @@ use Rattle.race_block.specs.Lines as passes
 use Rattle.race_block.specs.Resolving.{AreTasksOf, IsPassLine, copy_room}
 use Rattle.race_inside.specs.declared.rooms.Work.{Work}
 use Rattle.race_inside.specs.Rooms.{AreAll, AreIdle, AreOwn, ArePrepared, AreWorksOf, HasDesksWork, HasOwn}
-use Rattle.race_inside.specs.Rooms.{HasTasks, IsPrepared, IsWorkOf, TakesLine, most_actors, whose_line}
+use Rattle.race_inside.specs.Rooms.{HasTasks, IsPrepared, IsWorkOf, TakesLine, most_actors}
 
 -- what is left of a list, with its first one
 pub next_left : (lines : List Line) (i : ℕ) (line : Line) → i < length lines → slice_index_or lines i line ≡ line

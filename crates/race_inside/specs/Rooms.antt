@@ -4,7 +4,7 @@ use Rattle.std.specs.Prelude.{slice_set, vec_capacity}
 use Rattle.mem_base.specs.map.Limits.{most_passes}
 use Rattle.mem_base.specs.script.Scripts.{Line}
 use Rattle.mem_base.specs.script.Tasks.{Known}
-use Rattle.mem_base.specs.script.Race.{actor_number, block, desk_number, lines_by}
+use Rattle.mem_base.specs.script.Race.{block, desk_number, lines_by}
 use Rattle.race_phases.specs.Plain.{has_lines}
 use Rattle.race_block.specs.declared.tasks.OwnLine.{OwnLine}
 use Rattle.race_block.specs.Desks as desks
@@ -30,10 +30,6 @@ pub record IsIdle (work : Work) : Type 0 where
 pub record AreIdle (works : List Work) : Type 0 where
   pub all : length works ≡ most_actors
   pub each : (p : ℕ) (d : Work) → p < length works → IsIdle (slice_index_or works p d)
-
--- whose line it is
-abbrev pub whose_line : Line → ℕ
-whose_line line = actor_number line.1
 
 -- the actor of a number takes the line, and no other does
 pub record TakesLine (line : Line) (who : ℕ) (works after : List Work) : Type 0 where

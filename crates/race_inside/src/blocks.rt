@@ -5,13 +5,13 @@ ghost use Rattle.mem_base.specs.script.Tasks.{Known};
 ghost use Rattle.run_laws.specs.Fitting.{AreFitting};
 ghost use Rattle.generation.specs.Published.{Published};
 ghost use Rattle.epoch_rule.specs.Values.{PassValue};
+ghost use Rattle.race_phases.specs.Plain.{whose_line};
 ghost use Rattle.race_block.specs.HandedOn.{IsLater};
 ghost use Rattle.race_block.specs.Blocks.{CanAct};
 ghost use Rattle.race_outside.specs.Levels.{HasMet, IsHeard, IsOfCabinet};
 ghost use Rattle.race_outside.specs.Ready.{AreReady};
 ghost use Rattle.race_outside.specs.Outside.{StopsIn, WritesOn};
 ghost use Rattle.race_inside.specs.Blocks.{HasRunAll};
-ghost use Rattle.race_inside.specs.Rooms.{whose_line};
 ghost use Rattle.race_inside.specs.Seats.{AreSeated, IsTold, names_then};
 
 use crate::rooms::{Room, room_for};

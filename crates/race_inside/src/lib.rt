@@ -18,4 +18,3 @@ pub use blocks::block;
 pub use laws::{blocks_may_stop, blocks_step_on};
 pub use race_block::{Config, Record};
 pub use race_outside::outside_line;
-pub use tasks::whose_lines;

@@ -3,8 +3,9 @@ ghost use Rattle.std.specs.Prelude.{◌≡◌, IfOk, OnOk, length, map};
 ghost use Rattle.mem_base.specs.map.Limits.{most_passes};
 ghost use Rattle.mem_base.specs.script.Race.{block, desk_number, lines_by};
 ghost use Rattle.run_laws.specs.Fitting.{AreFitting};
+ghost use Rattle.race_phases.specs.Plain.{whose_line};
 ghost use Rattle.race_block.specs.Desks.{lines_meant};
-ghost use Rattle.race_inside.specs.Rooms.{AreIdle, AreOwn, AreWorksOf, HasDesksWork, IsRoomFor, acts, most_actors, whose_line};
+ghost use Rattle.race_inside.specs.Rooms.{AreIdle, AreOwn, AreWorksOf, HasDesksWork, IsRoomFor, acts, most_actors};
 
 use crate::tasks::{deal, prepare_all};
 use io_window::Bounce;

@@ -1,15 +1,15 @@
 // The lines of a block by whose they are, and their tasks, where these are made before the block.
-ghost use Rattle.std.specs.Prelude.{◌≡◌, ◌<◌, [], ◌∷◌, ◌++◌, All, IfOk, OnOk, ℕ, length, map, slice_index_or};
-ghost use Rattle.run_laws.specs.Fitting.{AreFitting, FitsCommand};
+ghost use Rattle.std.specs.Prelude.{◌≡◌, ◌<◌, [], ◌∷◌, ◌++◌, All, OnOk, ℕ, length, map, slice_index_or};
+ghost use Rattle.run_laws.specs.Fitting.{AreFitting};
+ghost use Rattle.race_phases.specs.Plain.{whose_line};
 ghost use Rattle.race_block.specs.Desks.{line_meant};
 ghost use Rattle.race_block.specs.Resolving.{IsPassLine};
-ghost use Rattle.race_inside.specs.Rooms.{AreAll, AreIdle, ArePrepared, IsPrepared, TakesLine, most_actors, whose_line};
+ghost use Rattle.race_inside.specs.Rooms.{AreAll, AreIdle, ArePrepared, IsPrepared, TakesLine, most_actors};
 
 use crate::rooms::Work;
 use mem_base::Command;
 use race_block::{OwnLine, resolve_lines};
 use race_lines::KnownNames;
-use race_phases::actor_number;
 use std::alloc::{AllocError, Global};
 
 // A line of an actor.
@@ -40,28 +40,6 @@ fn deal_to<'a>(
 {
     put_line(&mut works[who as usize], own_line(line))?;
     Ok(())
-}
-
-// Whose line it is: the number of its actor.
-fn whose_line(line: &(u32, Command)) -> u8
-    requires fits { FitsCommand line.now.1 }
-    ensures { result ≡ whose_line line.now }
-{
-    actor_number(&line.1) as u8
-}
-
-/// Whose each line of a block is: the number of its actor. It fails only where memory runs out.
-///
-/// The numbers of the commands fit, as those of every script that was read do.
-pub fn whose_lines(alloc: Global, lines: &[(u32, Command)]) -> Result<Vec<u8>, AllocError>
-    requires fits { AreFitting lines.now }
-    ensures { IfOk result (λ whose. whose.items ≡ map whose_line lines.now) }
-{
-    let mut whose = Vec::with_capacity(alloc, lines.len())?;
-    for line in lines {
-        whose.push(whose_line(line))?;
-    }
-    Ok(whose)
 }
 
 /// Deals the lines of a block to their actors, by whose each is. It fails only where memory runs out.

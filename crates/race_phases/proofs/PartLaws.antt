@@ -13,6 +13,9 @@ use Rattle.mem_base.specs.lists.Every.{Every}
 use Rattle.mem_base.specs.script.Scripts.{Line, placed, rule_of}
 use Rattle.mem_base.specs.script.Race.{is_end, is_par, phases_of}
 use Rattle.mem_base.specs.script.Sound.{Sound}
+use Rattle.mem_base.proofs.EveryLaws.{every_drop}
+use Rattle.run_laws.specs.Fitting.{AreFitting, FitsCommand}
+use Rattle.run_laws.proofs.FittingLaws.{sound_fits}
 use Rattle.view_laws.proofs.Tests.{none_is_not_some}
 use Rattle.race_laws.specs.Outside.{IsPlain, block_of, phases_alone}
 use Rattle.race_laws.proofs.OutsideLaws.{has_phases}
@@ -263,3 +266,9 @@ around_lines lines front back rest inside more after line k j is f b first is' i
     ∙ take-append-drop (plain_count lines) lines in
     parts_around lines front inside more after line (subst are_plain (sym before) (cut test lines).passes) (subst (AtFirst test) behind (cut test lines).fails)
     (subst are_plain (sym within) (cut test rest).passes) whole a h
+
+-- the numbers of the commands after `par` fit
+pub fits_behind : (lines back rest : List Line) (line : Line) (k : ℕ) → back ≡ drop k lines → back ≡ line ∷ rest → Sound Start lines
+    → AreFitting rest
+fits_behind lines back rest line k b first h =
+    (subst AreFitting (sym b ∙ first) (every_drop (λ line. FitsCommand line.1) lines k (sound_fits Start lines h))).1

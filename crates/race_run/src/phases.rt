@@ -5,13 +5,13 @@ ghost use Rattle.outside.specs.Sink.{Writes};
 ghost use Rattle.mem_base.specs.script.Race.{alone, phases_of};
 ghost use Rattle.run_laws.specs.Fitting.{AreFitting, FitsCommand};
 ghost use Rattle.race_laws.specs.Outside.{block_of, phases_alone};
-ghost use Rattle.race_inside.specs.Rooms.{whose_line};
+ghost use Rattle.race_phases.specs.Plain.{whose_line};
 ghost use Rattle.race_run.specs.Racing.{Goes, IsReady};
 
 use crate::racers::Racer;
 use mem_base::Command;
 use outside::{Failed, Gate, Sink, write_all};
-use race_inside::{block, outside_line, whose_lines};
+use race_inside::{block, outside_line};
 use race_phases::parts_of;
 use script_lines::Line;
 use script_run::RunFault;
@@ -166,8 +166,7 @@ pub(crate) fn go_through<'c, R: Threads + Wait + Sync, S: Sink, G: Gate>(
     ensures ready { IsReady result.0 }
     ensures goes { Goes S.written S.holds S.faults sink.old sink.new (phases_of script.now) racer.entry result.0 result.1 }
 {
-    let parts = parts_of(script.lines());
-    let whose = whose_lines(alloc, parts.block);
+    let (parts, whose) = parts_of(alloc, script.lines());
     let (racer, done) = go_lines(rt, alloc, racer, parts.before, sink);
     if let Err(fault) = done {
         return (racer, Err(fault));

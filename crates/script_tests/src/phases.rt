@@ -2,7 +2,7 @@
 
 use race_phases::{has_line, parts_of};
 use script_text::{Script, parse};
-use std::alloc::Global;
+use std::alloc::{AllocError, Global};
 
 const BLOCK: &str = "region A container 0x1000\n\
 space S A\n\
@@ -14,19 +14,28 @@ v4 leave\n\
 end\n\
 show S\n";
 
+// Whether the lines of the block are noted as those of v4, the desk, v1 and v4.
+fn is_noted(whose: &Result<Vec<u8>, AllocError>) -> bool {
+    match whose {
+        Ok(whose) => whose.as_slice() == [4, 16, 1, 4],
+        Err(_) => false,
+    }
+}
+
 // Whether the script has two lines before its block, four in it, one after it, and just these actors.
-fn is_cut(script: &Script) -> bool {
-    let parts = parts_of(script.lines());
+fn is_cut(alloc: Global, script: &Script) -> bool {
+    let (parts, whose) = parts_of(alloc, script.lines());
     parts.before.len() == 2
         && parts.block.len() == 4
         && parts.after.len() == 1
+        && is_noted(&whose)
         && has_line(4, parts.block)
         && !has_line(0, parts.block)
 }
 
 fn holds(alloc: Global) -> bool {
     match parse(alloc, BLOCK.as_bytes()) {
-        Ok(script) => is_cut(&script),
+        Ok(script) => is_cut(alloc, &script),
         Err(_) => false,
     }
 }
