@@ -24,7 +24,6 @@ use seat_run::{Recent, SeatHand};
 use std::alloc::{AllocError, Global};
 use std::marker::Model;
 use std::sync::{Arc, Wait};
-use transact::fits_types;
 use writer_desk::IdleDesk;
 use writer_run::{configure, harvest, notified, reap};
 
@@ -54,7 +53,7 @@ fn fits(event: &Event)
     ensures { FitsConfig event.now }
 {
     match *event {
-        Event::Call(call) => fits_types(&call),
+        Event::Call(call) => call.knows_fits(),
         _ => {}
     }
 }

@@ -1,5 +1,5 @@
 // The desk is asked: each order is the call of the writer's desk that it names.
-ghost use Rattle.std.specs.Prelude.{◌≡◌, ◌≢◌, Err, Ok, IfOk, OnErr, MatchResult};
+ghost use Rattle.std.specs.Prelude.{◌≡◌, ◌≢◌, Err, Ok, IfOk, OnErr};
 ghost use Rattle.mem_base.specs.machine.Answers.{answer_with, call_answer, commit_answer, harvest_answer, plain_answer, reap_answer};
 ghost use Rattle.mem_base.specs.machine.Records.{FitsDeskOrder, told};
 ghost use Rattle.desk_lock.specs.Receipts.{HasNotifier};
@@ -9,7 +9,6 @@ use config_desk::Config;
 use mem_base::{Applied, DeskAnswer, DeskOrder, Edition, Ids, Pages, Refusal, RegionId};
 use std::alloc::AllocError;
 use std::sync::Wait;
-use transact::fits_types;
 
 // What is told of a begin, a load, or a listener that joins or leaves.
 fn told_plain(done: Result<(), Refusal>) -> Result<DeskAnswer, AllocError>
@@ -87,7 +86,7 @@ pub(crate) fn fits_order(order: &DeskOrder)
     ensures { FitsDeskOrder order.now }
 {
     if let DeskOrder::Call(call) = order {
-        fits_types(call);
+        call.knows_fits();
     }
 }
 

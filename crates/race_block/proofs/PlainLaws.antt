@@ -6,6 +6,7 @@ use Rattle.std.proofs.lemmas.List.{map_push}
 use Rattle.mem_base.specs.declared.map.ids.PassId.{PassId}
 use Rattle.mem_base.specs.declared.script.commands.Command.{Command}
 use Rattle.mem_base.specs.declared.script.commands.Command.TheVariants as commands
+use Rattle.mem_base.specs.declared.script.commands.PassCommand.TheVariants as pass_commands
 use Rattle.mem_base.specs.machine.Passes.{pass_id}
 use Rattle.mem_base.specs.machine.Records.{Clerk}
 use Rattle.mem_base.specs.map.Limits.{most_passes}
@@ -45,12 +46,12 @@ then_no (Ok x) rest h = h x
 then_no (Err why) rest h = tt
 
 no_order : (k : Known) (c : Command) → actor_number c < most_passes → gives_order c ≡ false → IsNoOrder (task_of k c)
-no_order k (commands.PassEnter pass) l n = tt
-no_order k (commands.PassLeave pass) l n = tt
-no_order k (commands.PassRead pass name addr len) l n = then_no (space k name) _ (λ s. tt)
-no_order k (commands.PassWrite pass name addr bytes) l n = then_no (space k name) _ (λ s. tt)
-no_order k (commands.PassDo pass change) l n = true_is_not_false true refl n
-no_order k (commands.PassDma pass name addr len to_name to_addr) l n = then_no (space k name) _ (λ s. then_no (space k to_name) _ (λ t. tt))
+no_order k (commands.Pass pass pass_commands.Enter) l n = tt
+no_order k (commands.Pass pass pass_commands.Leave) l n = tt
+no_order k (commands.Pass pass (pass_commands.Read name addr len)) l n = then_no (space k name) _ (λ s. tt)
+no_order k (commands.Pass pass (pass_commands.Write name addr bytes)) l n = then_no (space k name) _ (λ s. tt)
+no_order k (commands.Pass pass (pass_commands.Do change)) l n = true_is_not_false true refl n
+no_order k (commands.Pass pass (pass_commands.Dma name addr len to_name to_addr)) l n = then_no (space k name) _ (λ s. then_no (space k to_name) _ (λ t. tt))
 no_order k _ l n = absurd (omega (arith, l))
 
 -- what a name stands for, nothing or something, and then the task of the line

@@ -6,6 +6,7 @@ use Rattle.std.proofs.lemmas.List.Elements.{All-push}
 use Rattle.mem_base.specs.declared.machine.records.DeskOrder.TheVariants as orders
 use Rattle.mem_base.specs.declared.script.commands.Command.{Command}
 use Rattle.mem_base.specs.declared.script.commands.Command.TheVariants as commands
+use Rattle.mem_base.specs.declared.script.commands.PassCommand.TheVariants as pass_commands
 use Rattle.mem_base.specs.declared.map.ids.PassId.{PassId}
 use Rattle.mem_base.specs.machine.Passes.{pass_id}
 use Rattle.mem_base.specs.machine.Records.{Clerk}
@@ -52,12 +53,12 @@ then_can (Ok x) rest h = h x
 then_can (Err why) rest h = tt
 
 can_be : (k : Known) (c : Command) → FitsCommand c → actor_number c < most_passes → CanBeOfPass (task_of k c)
-can_be k (commands.PassEnter pass) h l = tt
-can_be k (commands.PassLeave pass) h l = tt
-can_be k (commands.PassRead pass name addr len) h l = then_can (space k name) _ (λ s. tt)
-can_be k (commands.PassWrite pass name addr bytes) h l = then_can (space k name) _ (λ s. tt)
-can_be k (commands.PassDo pass change) h l = then_can (change_of k change) _ (λ call. tt)
-can_be k (commands.PassDma pass name addr len to_name to_addr) h l = then_can (space k name) _ (λ s. then_can (space k to_name) _ (λ t. h.1))
+can_be k (commands.Pass pass pass_commands.Enter) h l = tt
+can_be k (commands.Pass pass pass_commands.Leave) h l = tt
+can_be k (commands.Pass pass (pass_commands.Read name addr len)) h l = then_can (space k name) _ (λ s. tt)
+can_be k (commands.Pass pass (pass_commands.Write name addr bytes)) h l = then_can (space k name) _ (λ s. tt)
+can_be k (commands.Pass pass (pass_commands.Do change)) h l = then_can (change_of k change) _ (λ call. tt)
+can_be k (commands.Pass pass (pass_commands.Dma name addr len to_name to_addr)) h l = then_can (space k name) _ (λ s. then_can (space k to_name) _ (λ t. h.1))
 can_be k _ h l = absurd (omega (arith, l))
 
 -- what the code resolved is a task of a pass

@@ -4,7 +4,8 @@ use Rattle.std.specs.Borrow.{Bor}
 use Rattle.mem_base.specs.access.AccessSteps.{reading, writing}
 use Rattle.mem_base.specs.declared.map.ids.SpaceId.{SpaceId}
 use Rattle.mem_base.specs.declared.script.commands.Command.{Command}
-use Rattle.mem_base.specs.declared.script.commands.Command.TheVariants.{PassDo}
+use Rattle.mem_base.specs.declared.script.commands.Command.TheVariants.{Pass}
+use Rattle.mem_base.specs.declared.script.commands.PassCommand.TheVariants as pass_commands
 use Rattle.mem_base.specs.map.Limits.{most_passes}
 use Rattle.mem_base.specs.script.Race.{actor_number}
 use Rattle.mem_base.specs.script.Scripts.{Line}
@@ -87,7 +88,7 @@ AreFirstTasksIn (kinds.Resolved tasks) xs = (n : ℕ) × (xs ≡ take n tasks.it
 
 -- the command of a pass is an order to the desk
 abbrev pub gives_order : Command → Bool
-gives_order (PassDo pass change) = true
+gives_order (Pass pass (pass_commands.Do change)) = true
 gives_order _ = false
 
 -- these are the lines of the script, and their names are resolved by what is known, or are still to be

@@ -2,7 +2,8 @@
 ghost use Rattle.std.specs.Prelude.{◌≡◌, ◌≤◌, true, false, All, IfSome, None, [], length};
 ghost use Rattle.std.specs.List.{list_any};
 ghost use Rattle.mem_base.specs.declared.map.ids.PassId.{PassId};
-ghost use Rattle.mem_base.specs.declared.script.commands.Command.TheVariants.{PassRead, PassWrite};
+ghost use Rattle.mem_base.specs.declared.script.commands.Command.TheVariants.{Pass};
+ghost use Rattle.mem_base.specs.declared.script.commands.PassCommand.TheVariants as pass_commands;
 ghost use Rattle.pass_lines.specs.Doing.{IsInItsGeneration};
 ghost use Rattle.race_block.specs.Desks.{line_meant};
 ghost use Rattle.race_block.specs.Lines.{HasDone, HasRunBy, HasStopped, HasTold, IsTold};
@@ -15,7 +16,7 @@ use crate::tasks::{BlockLine, LineGot, OwnLine, PassLines};
 use crate::texts::{add_answer, add_plain};
 use desk_lock::{Clerk, Orderly};
 use io_window::Bounce;
-use mem_base::{Bytes, Command, Name, PassId};
+use mem_base::{Bytes, Command, Name, PassCommand, PassId};
 use outside::{Actor, Gate};
 use pass_lines::write;
 use race_lines::KnownNames;
@@ -29,7 +30,10 @@ fn gives_order(command: &Command) -> bool
     ensures { result ≡ gives_order command.now }
 {
     match command {
-        Command::PassDo { pass: _, change: _ } => true,
+        Command::Pass {
+            pass: _,
+            command: PassCommand::Do(_),
+        } => true,
         _ => false,
     }
 }
@@ -131,7 +135,7 @@ fn tell_read<'l>(
 ) -> bool
     requires inside { IsInItsGeneration vcpu.old }
     requires few { len ≤ 64 }
-    ensures told { (pass : PassId) → HasTold spaces.old (number, PassRead pass space.now addr len) clerk.now vcpu.old text.old result clerk.now vcpu.new text.new }
+    ensures told { (pass : PassId) → HasTold spaces.old (number, Pass pass (pass_commands.Read space.now addr len)) clerk.now vcpu.old text.old result clerk.now vcpu.new text.new }
     ensures spaces { spaces.new ≡ spaces.old }
 {
     let Some(from) = spaces.space(space) else {
@@ -155,7 +159,7 @@ fn tell_write<'l, R: Wait>(
     text: &mut Line,
 ) -> bool
     requires inside { IsInItsGeneration vcpu.old }
-    ensures told { (pass : PassId) → HasTold spaces.old (number, PassWrite pass space.now addr bytes.now) clerk.now vcpu.old text.old result clerk.now vcpu.new text.new }
+    ensures told { (pass : PassId) → HasTold spaces.old (number, Pass pass (pass_commands.Write space.now addr bytes.now)) clerk.now vcpu.old text.old result clerk.now vcpu.new text.new }
     ensures spaces { spaces.new ≡ spaces.old }
 {
     let Some(to) = spaces.space(space) else {
@@ -187,24 +191,17 @@ fn tell_line<'a, 'l, O: Orderly, R: Wait>(
     ensures room { result.1 ≡ bounce }
     ensures desk { O.cabinet desk.new ≡ O.cabinet desk.old }
 {
-    match &own.line.1 {
-        Command::PassRead {
-            pass: _,
-            space,
-            addr,
-            len,
-        } => {
+    let Command::Pass { pass: _, command } = &own.line.1 else {
+        unreachable!()
+    };
+    match command {
+        PassCommand::Read { space, addr, len } => {
             let told = tell_read(
                 &mut vcpu, clerk, spaces, own.line.0, space, *addr, *len, text,
             );
             (vcpu, bounce, told)
         }
-        Command::PassWrite {
-            pass: _,
-            space,
-            addr,
-            bytes,
-        } => {
+        PassCommand::Write { space, addr, bytes } => {
             let told = tell_write(
                 rt, &mut vcpu, clerk, spaces, own.line.0, space, *addr, bytes, text,
             );

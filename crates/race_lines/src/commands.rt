@@ -1,18 +1,18 @@
 // What each line asks for: its names are resolved from left to right, and then a new name is tried.
-ghost use Rattle.std.specs.Prelude.{◌≡◌, IfOk, false, true};
+ghost use Rattle.std.specs.Prelude.{◌≡◌, Err, IfErr, IfOk, Ok};
 ghost use Rattle.mem_base.specs.declared.script.commands.Command.TheVariants as commands;
-ghost use Rattle.mem_base.specs.script.Run.{is_desk_line};
-ghost use Rattle.mem_base.specs.script.Tasks.{listened, region_made, space_made, task_of, unless_taken};
+ghost use Rattle.mem_base.specs.declared.script.commands.PassCommand.TheVariants as pass_commands;
+ghost use Rattle.mem_base.specs.script.RefusalLines.{unknown_text};
+ghost use Rattle.mem_base.specs.script.Tasks.{kind_of, listened, pass_task, region_made, space_made, task_of, unless_taken};
 ghost use Rattle.mem_base.specs.script.Tasks as tasks;
-ghost use Rattle.script_lines.specs.Groups.{is_region_line};
 ghost use Rattle.race_lines.specs.LineTasks.{Resolves};
 
 use crate::changes::{call_of, known_region, known_space};
 use crate::known::KnownNames;
 use crate::tasks::{LineTask, Naming, Refused, ResolvedTask};
 use mem_base::{
-    Bytes, Call, Client, Command, DeskOrder, Kind, ListenerId, MapChange, Name, RegionId, Size,
-    SpaceId,
+    Bytes, Call, Client, Command, DeskOrder, Kind, ListenerId, MapChange, Name, PassCommand,
+    RegionId, RegionKind, Size, SpaceId,
 };
 use std::alloc::{AllocError, Global};
 
@@ -29,46 +29,41 @@ fn made_region<'a>(known: &KnownNames, name: &'a Name, kind: Kind, size: Size) -
     }
 }
 
-// `region NAME alias SIZE REGION OFFSET`
-fn made_alias<'a>(
-    known: &KnownNames,
-    name: &'a Name,
-    size: Size,
-    target: &'a Name,
-    offset: u64,
-) -> ResolvedTask<'a>
-    ensures { Resolves known.now result (task_of known.now (commands.RegionAlias name.now size target.now offset)) }
+// The kind of a region, where the target of an alias is known; else its name.
+fn known_kind<'a>(known: &KnownNames, kind: &'a RegionKind) -> Result<Kind, &'a Name>
+    ensures found { IfOk result (λ it. kind_of known.now kind.now ≡ Ok it) }
+    ensures unknown { IfErr result (λ name. kind_of known.now kind.now ≡ Err (unknown_text name.now)) }
 {
-    match known_region(known, target) {
-        Ok(target) => made_region(known, name, Kind::Alias { target, offset }, size),
-        Err(unknown) => Err(Refused::Unknown(unknown)),
+    match kind {
+        RegionKind::Container => Ok(Kind::Container),
+        RegionKind::Ram => Ok(Kind::Ram),
+        RegionKind::Rom => Ok(Kind::Rom),
+        RegionKind::RomDevice(device) => Ok(Kind::RomDevice(*device)),
+        RegionKind::Io(device) => Ok(Kind::Io(*device)),
+        RegionKind::Iommu => Ok(Kind::Iommu),
+        RegionKind::Alias { target, offset } => {
+            let target = known_region(known, target)?;
+            Ok(Kind::Alias {
+                target,
+                offset: *offset,
+            })
+        }
+        RegionKind::Reserve => Ok(Kind::Reserve),
     }
 }
 
-// A line that makes a region.
-fn region_task<'a>(known: &KnownNames, command: &'a Command) -> ResolvedTask<'a>
-    requires { is_region_line command.now ≡ true }
-    ensures { Resolves known.now result (task_of known.now command.now) }
+// `region NAME KIND SIZE`, and what the kind takes
+fn region_task<'a>(
+    known: &KnownNames,
+    name: &'a Name,
+    size: Size,
+    kind: &'a RegionKind,
+) -> ResolvedTask<'a>
+    ensures { Resolves known.now result (task_of known.now (commands.Region name.now size kind.now)) }
 {
-    match command {
-        Command::RegionContainer { name, size } => made_region(known, name, Kind::Container, *size),
-        Command::RegionRam { name, size } => made_region(known, name, Kind::Ram, *size),
-        Command::RegionRom { name, size } => made_region(known, name, Kind::Rom, *size),
-        Command::RegionRomDevice { name, size, device } => {
-            made_region(known, name, Kind::RomDevice(*device), *size)
-        }
-        Command::RegionIo { name, size, device } => {
-            made_region(known, name, Kind::Io(*device), *size)
-        }
-        Command::RegionIommu { name, size } => made_region(known, name, Kind::Iommu, *size),
-        Command::RegionAlias {
-            name,
-            size,
-            target,
-            offset,
-        } => made_alias(known, name, *size, target, *offset),
-        Command::RegionReserve { name, size } => made_region(known, name, Kind::Reserve, *size),
-        _ => unreachable!(),
+    match known_kind(known, kind) {
+        Ok(kind) => made_region(known, name, kind, size),
+        Err(unknown) => Err(Refused::Unknown(unknown)),
     }
 }
 
@@ -295,7 +290,7 @@ fn dirty_task<'a>(known: &KnownNames, region: &'a Name, client: Client) -> Resol
 
 // `vN read SPACE ADDR LEN`
 fn read_task<'a>(known: &KnownNames, space: &'a Name, addr: u64, len: u8) -> ResolvedTask<'a>
-    ensures { Resolves known.now result (task_of known.now (commands.PassRead (record { 0 = 0 }) space.now addr len)) }
+    ensures { Resolves known.now result (pass_task known.now (pass_commands.Read space.now addr len)) }
 {
     match known_space(known, space) {
         Ok(space) => Ok(LineTask::Read { space, addr, len }),
@@ -310,7 +305,7 @@ fn write_task<'a>(
     addr: u64,
     bytes: &'a Bytes,
 ) -> ResolvedTask<'a>
-    ensures { Resolves known.now result (task_of known.now (commands.PassWrite (record { 0 = 0 }) space.now addr bytes.now)) }
+    ensures { Resolves known.now result (pass_task known.now (pass_commands.Write space.now addr bytes.now)) }
 {
     match known_space(known, space) {
         Ok(space) => Ok(LineTask::Written { space, addr, bytes }),
@@ -327,8 +322,7 @@ fn copy_task<'a>(
     to_space: &'a Name,
     to_addr: u64,
 ) -> ResolvedTask<'a>
-    ensures { Resolves known.now result
-        (task_of known.now (commands.PassDma (record { 0 = 0 }) space.now addr len to_space.now to_addr)) }
+    ensures { Resolves known.now result (pass_task known.now (pass_commands.Dma space.now addr len to_space.now to_addr)) }
 {
     match (known_space(known, space), known_space(known, to_space)) {
         (Ok(space), Ok(to_space)) => Ok(LineTask::Copied {
@@ -343,37 +337,23 @@ fn copy_task<'a>(
     }
 }
 
-// A line of a pass, or an end of a block of such lines.
-fn pass_task<'a>(known: &KnownNames, command: &'a Command) -> ResolvedTask<'a>
-    requires { is_desk_line command.now ≡ false }
-    ensures { Resolves known.now result (task_of known.now command.now) }
+// A line of a pass.
+fn pass_task<'a>(known: &KnownNames, command: &'a PassCommand) -> ResolvedTask<'a>
+    ensures { Resolves known.now result (pass_task known.now command.now) }
 {
     match command {
-        Command::PassEnter { pass: _ } => Ok(LineTask::Entered),
-        Command::PassLeave { pass: _ } => Ok(LineTask::Left),
-        Command::PassRead {
-            pass: _,
-            space,
-            addr,
-            len,
-        } => read_task(known, space, *addr, *len),
-        Command::PassWrite {
-            pass: _,
-            space,
-            addr,
-            bytes,
-        } => write_task(known, space, *addr, bytes),
-        Command::PassDo { pass: _, change } => change_task(known, change),
-        Command::PassDma {
-            pass: _,
+        PassCommand::Enter => Ok(LineTask::Entered),
+        PassCommand::Leave => Ok(LineTask::Left),
+        PassCommand::Read { space, addr, len } => read_task(known, space, *addr, *len),
+        PassCommand::Write { space, addr, bytes } => write_task(known, space, *addr, bytes),
+        PassCommand::Do(change) => change_task(known, change),
+        PassCommand::Dma {
             space,
             addr,
             len,
             to_space,
             to_addr,
         } => copy_task(known, space, *addr, *len, to_space, *to_addr),
-        Command::Par | Command::End => Ok(LineTask::Idle),
-        _ => unreachable!(),
     }
 }
 
@@ -390,6 +370,7 @@ pub fn task_of<'a>(
 {
     match command {
         Command::Machine { size: _ } => Ok(Ok(LineTask::Idle)),
+        Command::Region { name, size, kind } => Ok(region_task(known, name, *size, kind)),
         Command::Space { name, root } => space_task(known, name, root),
         Command::Change(change) => Ok(change_task(known, change)),
         Command::Load {
@@ -430,14 +411,7 @@ pub fn task_of<'a>(
             naming: Naming::Keeps,
         })),
         Command::Dirty { region, client } => Ok(dirty_task(known, region, *client)),
-        Command::PassEnter { .. }
-        | Command::PassLeave { .. }
-        | Command::PassRead { .. }
-        | Command::PassWrite { .. }
-        | Command::PassDo { .. }
-        | Command::PassDma { .. }
-        | Command::Par
-        | Command::End => Ok(pass_task(known, command)),
-        _ => Ok(region_task(known, command)),
+        Command::Pass { pass: _, command } => Ok(pass_task(known, command)),
+        Command::Par | Command::End => Ok(Ok(LineTask::Idle)),
     }
 }

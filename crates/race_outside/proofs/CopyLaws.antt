@@ -4,10 +4,11 @@ use Rattle.mem_base.specs.declared.map.calls.Call.{Call}
 use Rattle.mem_base.specs.declared.machine.records.DeskOrder.TheVariants as orders
 use Rattle.mem_base.specs.declared.script.commands.Command.{Command}
 use Rattle.mem_base.specs.declared.script.commands.Command.TheVariants as commands
+use Rattle.mem_base.specs.declared.script.commands.PassCommand.TheVariants as pass_commands
 use Rattle.mem_base.specs.map.Limits.{most_passes}
 use Rattle.mem_base.specs.script.Spelling.{Text}
 use Rattle.mem_base.specs.script.Race.{actor_number, desk_number}
-use Rattle.mem_base.specs.script.Tasks.{Known, Resolved, Task, change_of, known, listener_named, plain, region, space, task_of, then_resolved, unless_taken}
+use Rattle.mem_base.specs.script.Tasks.{Known, kind_of, Resolved, Task, change_of, known, listener_named, plain, region, space, task_of, then_resolved, unless_taken}
 use Rattle.mem_base.specs.script.Tasks.{watcher_named}
 use Rattle.mem_base.specs.script.Tasks as tasks
 use Rattle.run_laws.specs.Fitting.{FitsCommand}
@@ -40,14 +41,7 @@ called (Ok call) = tt
 called (Err why) = tt
 
 copies_few : (k : Known) (c : Command) → FitsCommand c → AreFew (task_of k c)
-copies_few k (commands.RegionContainer name size) h = free name _ _ tt
-copies_few k (commands.RegionRam name size) h = free name _ _ tt
-copies_few k (commands.RegionRom name size) h = free name _ _ tt
-copies_few k (commands.RegionRomDevice name size device) h = free name _ _ tt
-copies_few k (commands.RegionIo name size device) h = free name _ _ tt
-copies_few k (commands.RegionIommu name size) h = free name _ _ tt
-copies_few k (commands.RegionAlias name size target offset) h = task_then (region k target) _ (λ t. free name _ _ tt)
-copies_few k (commands.RegionReserve name size) h = free name _ _ tt
+copies_few k (commands.Region name size kind) h = task_then (kind_of k kind) _ (λ it. free name _ _ tt)
 copies_few k (commands.Space name root) h = task_then (region k root) _ (λ r. free name _ _ tt)
 copies_few k (commands.Change change) h = called (change_of k change)
 copies_few k (commands.Load name offset bytes) h = task_then (region k name) _ (λ r. tt)
@@ -59,10 +53,10 @@ copies_few k (commands.Unwatch name) h = task_then (known name (watcher_named k 
 copies_few k (commands.Show name) h = task_then (space k name) _ (λ s. tt)
 copies_few k (commands.At name addr) h = task_then (space k name) _ (λ s. tt)
 copies_few k (commands.Dirty name client) h = task_then (region k name) _ (λ r. tt)
-copies_few k (commands.PassRead pass name addr len) h = task_then (space k name) _ (λ s. tt)
-copies_few k (commands.PassWrite pass name addr bytes) h = task_then (space k name) _ (λ s. tt)
-copies_few k (commands.PassDo pass change) h = called (change_of k change)
-copies_few k (commands.PassDma pass name addr len to_name to_addr) h = task_then (space k name) _ (λ s. task_then (space k to_name) _ (λ t. h.1))
+copies_few k (commands.Pass pass (pass_commands.Read name addr len)) h = task_then (space k name) _ (λ s. tt)
+copies_few k (commands.Pass pass (pass_commands.Write name addr bytes)) h = task_then (space k name) _ (λ s. tt)
+copies_few k (commands.Pass pass (pass_commands.Do change)) h = called (change_of k change)
+copies_few k (commands.Pass pass (pass_commands.Dma name addr len to_name to_addr)) h = task_then (space k name) _ (λ s. task_then (space k to_name) _ (λ t. h.1))
 copies_few k _ h = tt
 
 few : (len room : ℕ) → len ≤ 64 → 64 ≤ room → len ≤ room
@@ -86,10 +80,5 @@ fits_task k c room (Err why) r fits wide = tt
 
 -- a command that is not the desk's is one of the sixteen passes'
 pub is_pass : (c : Command) → FitsCommand c → actor_number c ≢ desk_number → actor_number c < most_passes
-is_pass (commands.PassEnter pass) h other = h
-is_pass (commands.PassLeave pass) h other = h
-is_pass (commands.PassRead pass name addr len) h other = h.0
-is_pass (commands.PassWrite pass name addr bytes) h other = h
-is_pass (commands.PassDo pass change) h other = h.0
-is_pass (commands.PassDma pass name addr len to_name to_addr) h other = h.0
+is_pass (commands.Pass pass command) h other = h.0
 is_pass _ h other = absurd (other refl)

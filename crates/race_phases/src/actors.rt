@@ -15,29 +15,7 @@ pub fn actor_number(command: &Command) -> u32
     ensures { result ≡ actor_number command.now }
 {
     match command {
-        Command::PassEnter { pass } => pass.0,
-        Command::PassLeave { pass } => pass.0,
-        Command::PassRead {
-            pass,
-            space: _,
-            addr: _,
-            len: _,
-        } => pass.0,
-        Command::PassWrite {
-            pass,
-            space: _,
-            addr: _,
-            bytes: _,
-        } => pass.0,
-        Command::PassDo { pass, change: _ } => pass.0,
-        Command::PassDma {
-            pass,
-            space: _,
-            addr: _,
-            len: _,
-            to_space: _,
-            to_addr: _,
-        } => pass.0,
+        Command::Pass { pass, command: _ } => pass.0,
         _ => DESK_NUMBER,
     }
 }

@@ -1,10 +1,9 @@
 // The calls that change the forest.
 
-ghost use Rattle.std.specs.Prelude.{◌≡◌, ◌≢◌, ◌<◌, ◌^◌, None, IsSome, IfOk, IfErr, IsTrue, OnOk, OnErr};
+ghost use Rattle.std.specs.Prelude.{◌≡◌, ◌≢◌, ◌<◌, None, IsSome, IfOk, IfErr, OnOk, OnErr};
 ghost use Rattle.mem_base.specs.map.Changes.{changed, made_region};
 ghost use Rattle.mem_base.specs.map.Calls.{after, answer_of, counted, refusal_of};
 ghost use Rattle.mem_base.specs.map.Edits.{edits};
-ghost use Rattle.mem_base.specs.map.Forest.{FitsTypes};
 
 use crate::conditions::{no_more_calls, no_place};
 use crate::tree::Tree;
@@ -33,27 +32,6 @@ fn new_node(alloc: Global, id: RegionId, kind: Kind, size: Size) -> Node
         log: 0,
         entries: Entries::new(alloc),
         events: Events::new(alloc),
-    }
-}
-
-/// The region whose fields a call changes, if it is such a call.
-fn edited_region(call: &Call) -> Option<RegionId>
-    ensures { result ≡ edits call.now }
-{
-    match *call {
-        Call::Resize { region, .. } => Some(region),
-        Call::Retarget { alias, .. } => Some(alias),
-        Call::Enable { region, .. } => Some(region),
-        Call::Readonly { region, .. } => Some(region),
-        Call::Nonvolatile { region, .. } => Some(region),
-        Call::Unmergeable { region, .. } => Some(region),
-        Call::Romd { region, .. } => Some(region),
-        Call::Log { region, .. } => Some(region),
-        Call::Map { region, .. } => Some(region),
-        Call::Unmap { region, .. } => Some(region),
-        Call::Event { region, .. } => Some(region),
-        Call::Unevent { region, .. } => Some(region),
-        _ => None,
     }
 }
 
@@ -262,8 +240,8 @@ impl Tree {
         ensures ok { OnOk result (self.new ≡ counted (changed self.old call.now)) }
         ensures err { OnErr result (self.new ≡ self.old) }
     {
-        fits(call);
-        let Some(region) = edited_region(call) else {
+        call.knows_fits();
+        let Some(region) = call.edits() else {
             unreachable!()
         };
         self.slots.edit(region, call)?;
@@ -284,26 +262,5 @@ impl Tree {
         self.kept.forget(at, target, region);
         self.slots.remove(region);
         self.calls += 1;
-    }
-}
-
-/// That an offset is below 2^64.
-fn fits_offset(offset: u64)
-    ensures { offset < 2 ^ 64 }
-{}
-
-/// That the numbers of a call are such as their types hold.
-fn fits(call: &Call)
-    ensures { FitsTypes call.now }
-{
-    match *call {
-        Call::Region { size, .. } | Call::Resize { size, .. } => {
-            size.knows_most();
-        }
-        Call::Map { iova, size, .. } => {
-            fits_offset(iova);
-            size.knows_most();
-        }
-        _ => {}
     }
 }

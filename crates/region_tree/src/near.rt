@@ -6,7 +6,7 @@ ghost use Rattle.mem_base.specs.map.Region.{IsAscending};
 ghost use Rattle.region_slots.specs.Slots.{nodes_of};
 ghost use Rattle.region_tree.specs.Near.{OthersAre, AreLeft, IsBound, is_below, is_touched};
 
-use mem_base::{Chunk, MOST_CHUNK, Nodes, RegionId};
+use mem_base::{Chunk, Nodes, RegionId};
 use region_slots::{Slot, copied};
 use std::alloc::{AllocError, Global};
 use std::sync::Arc;
@@ -36,7 +36,7 @@ pub(crate) fn push_copies(
 {
     let mut rest = slots;
     while !rest.is_empty() {
-        let (part, left) = rest.split_at(rest.len().min(MOST_CHUNK));
+        let (part, left) = rest.split_at(rest.len().min(Chunk::MOST));
         chunks.push(chunk_of(alloc, part)?)?;
         rest = left;
     }
@@ -156,7 +156,7 @@ pub(crate) fn nodes_anew(alloc: Global, slots: &[Slot]) -> Result<Nodes, AllocEr
     requires { IsAscending (nodes_of slots.now) }
     ensures { IfOk result (λ nodes. nodes ≡ nodes_of slots.now) }
 {
-    let mut chunks = Vec::with_capacity(alloc, slots.len() / MOST_CHUNK + 1)?;
+    let mut chunks = Vec::with_capacity(alloc, slots.len() / Chunk::MOST + 1)?;
     push_copies(alloc, &mut chunks, slots)?;
     Ok(Nodes::new(chunks))
 }
@@ -166,5 +166,5 @@ pub(crate) fn nodes_anew(alloc: Global, slots: &[Slot]) -> Result<Nodes, AllocEr
 pub(crate) fn is_sparse(chunks: usize, regions: usize) -> bool
     ensures { result ≡ nat_lt (regions / 32 + 4) chunks }
 {
-    regions / (MOST_CHUNK / 2) + 4 < chunks
+    regions / (Chunk::MOST / 2) + 4 < chunks
 }

@@ -16,6 +16,8 @@ use Rattle.mem_base.specs.declared.script.changes.MapChange.{MapChange}
 use Rattle.mem_base.specs.declared.script.changes.MapChange.TheVariants as changes
 use Rattle.mem_base.specs.declared.script.commands.Command.{Command}
 use Rattle.mem_base.specs.declared.script.commands.Command.TheVariants as commands
+use Rattle.mem_base.specs.declared.script.commands.PassCommand.TheVariants as pass_commands
+use Rattle.mem_base.specs.declared.script.commands.RegionKind.TheVariants as region_kinds
 use Rattle.mem_base.specs.declared.machine.events.Event.TheVariants as events
 use Rattle.mem_base.specs.map.Limits.{most_passes}
 use Rattle.mem_base.specs.map.Forest.{FitsTypes}
@@ -277,14 +279,14 @@ module _ (pool : ℕ) (xs : List PureEntry) where
                 (subst (λ (more : List PureEntry). LedOn pool xs w more) same whole)
 
     own : (line : ℕ) (c : Command) → FitsCommand c → Goes (asks state c) (own_step state line c)
-    own line (commands.RegionContainer name size) fits = make line name kinds.Container size fits
-    own line (commands.RegionRam name size) fits = make line name kinds.Ram size fits
-    own line (commands.RegionRom name size) fits = make line name kinds.Rom size fits
-    own line (commands.RegionRomDevice name size device) fits = make line name (kinds.RomDevice device) size fits
-    own line (commands.RegionIo name size device) fits = make line name (kinds.Io device) size fits
-    own line (commands.RegionIommu name size) fits = make line name kinds.Iommu size fits
-    own line (commands.RegionAlias name size target offset) fits = a_region line target _ _ λ t. make line name (kinds.Alias t offset) size fits
-    own line (commands.RegionReserve name size) fits = make line name kinds.Reserve size fits
+    own line (commands.Region name size region_kinds.Container) fits = make line name kinds.Container size fits
+    own line (commands.Region name size region_kinds.Ram) fits = make line name kinds.Ram size fits
+    own line (commands.Region name size region_kinds.Rom) fits = make line name kinds.Rom size fits
+    own line (commands.Region name size (region_kinds.RomDevice device)) fits = make line name (kinds.RomDevice device) size fits
+    own line (commands.Region name size (region_kinds.Io device)) fits = make line name (kinds.Io device) size fits
+    own line (commands.Region name size region_kinds.Iommu) fits = make line name kinds.Iommu size fits
+    own line (commands.Region name size (region_kinds.Alias target offset)) fits = a_region line target _ _ λ t. make line name (kinds.Alias t offset) size fits
+    own line (commands.Region name size region_kinds.Reserve) fits = make line name kinds.Reserve size fits
     own line (commands.Space name root) fits = a_region line root _ _ λ r. space line name r
     own line (commands.Change c) fits = change line c _ fits λ call f. maps line call f
     own line (commands.Load region offset bytes) fits = a_region line region _ _ λ r. order line state.names (load r offset bytes) silent tt
@@ -301,13 +303,13 @@ module _ (pool : ℕ) (xs : List PureEntry) where
     own line (commands.At space addr) fits = asks_none line space (space_named state space) _ λ s. stays state.world k
     own line (commands.Notified number) fits = order line state.names (notified number) (value_in number) fits
     own line (commands.Dirty region client) fits = a_region line region _ _ λ r. order line state.names (harvest r client) (pages_in region client) tt
-    own line (commands.PassEnter pass) fits = entering pass fits
-    own line (commands.PassLeave pass) fits = leaving pass fits
-    own line (commands.PassRead pass space addr len) fits = a_space line space _ _ λ s. accessing pass fits.0 s addr (reading len)
-    own line (commands.PassWrite pass space addr bytes) fits = a_space line space _ _ λ s. accessing pass fits s addr (writing bytes)
-    own line (commands.PassDo pass c) fits = change line c _ fits.1 λ call f.
+    own line (commands.Pass pass pass_commands.Enter) fits = entering pass fits.0
+    own line (commands.Pass pass pass_commands.Leave) fits = leaving pass fits.0
+    own line (commands.Pass pass (pass_commands.Read space addr len)) fits = a_space line space _ _ λ s. accessing pass fits.0 s addr (reading len)
+    own line (commands.Pass pass (pass_commands.Write space addr bytes)) fits = a_space line space _ _ λ s. accessing pass fits.0 s addr (writing bytes)
+    own line (commands.Pass pass (pass_commands.Do c)) fits = change line c _ fits.1 λ call f.
         order line state.names (configure (configs.Call call)) (published_in pass) f
-    own line (commands.PassDma pass space addr len to_space to_addr) fits =
+    own line (commands.Pass pass (pass_commands.Dma space addr len to_space to_addr)) fits =
         a_space line space _ _ λ s. a_space line to_space _ _ λ t. copying pass fits.0 s addr len t to_addr
     own line _ fits = stays state.world k
 

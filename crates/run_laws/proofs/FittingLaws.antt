@@ -10,6 +10,8 @@ use Rattle.mem_base.specs.declared.script.changes.MapChange.{MapChange}
 use Rattle.mem_base.specs.declared.script.changes.MapChange.TheVariants as changes
 use Rattle.mem_base.specs.declared.script.commands.Command.{Command}
 use Rattle.mem_base.specs.declared.script.commands.Command.TheVariants as commands
+use Rattle.mem_base.specs.declared.script.commands.PassCommand.TheVariants as pass_commands
+use Rattle.mem_base.specs.declared.script.commands.RegionKind.TheVariants as region_kinds
 use Rattle.mem_base.specs.declared.script.places.Section.{Section}
 use Rattle.mem_base.specs.declared.script.places.Section.TheVariants.{Start}
 use Rattle.mem_base.specs.map.Limits.{most_passes}
@@ -212,42 +214,42 @@ change_fits t y e = took_form FitsAll change_forms t y change_table e λ form ag
 container_fits : (name : Text) → Spelled name_of name name → Fits (container name)
 container_fits name n t y e =
     took size_law t _ _ _ e λ bytes b t e.
-    ended FitsCommand (commands.RegionContainer name bytes) t _ e (size_fits (number_text bytes) bytes b.reads)
+    ended FitsCommand (commands.Region name bytes region_kinds.Container) t _ e (size_fits (number_text bytes) bytes b.reads)
 
 ram_fits : (name : Text) → Spelled name_of name name → Fits (ram name)
 ram_fits name n t y e =
     took size_law t _ _ _ e λ bytes b t e.
-    ended FitsCommand (commands.RegionRam name bytes) t _ e (size_fits (number_text bytes) bytes b.reads)
+    ended FitsCommand (commands.Region name bytes region_kinds.Ram) t _ e (size_fits (number_text bytes) bytes b.reads)
 
 rom_fits : (name : Text) → Spelled name_of name name → Fits (rom name)
 rom_fits name n t y e =
     took size_law t _ _ _ e λ bytes b t e.
-    ended FitsCommand (commands.RegionRom name bytes) t _ e (size_fits (number_text bytes) bytes b.reads)
+    ended FitsCommand (commands.Region name bytes region_kinds.Rom) t _ e (size_fits (number_text bytes) bytes b.reads)
 
 romdev_fits : (name : Text) → Spelled name_of name name → Fits (romdev name)
 romdev_fits name n t y e =
     took size_law t _ _ _ e λ bytes b t e. took_device t _ _ e λ d v t e.
-    ended_after FitsCommand d.ops.big (commands.RegionRomDevice name bytes d) t _ e (size_fits (number_text bytes) bytes b.reads)
+    ended_after FitsCommand d.ops.big (commands.Region name bytes (region_kinds.RomDevice d)) t _ e (size_fits (number_text bytes) bytes b.reads)
 
 io_fits : (name : Text) → Spelled name_of name name → Fits (io name)
 io_fits name n t y e =
     took size_law t _ _ _ e λ bytes b t e. took_device t _ _ e λ d v t e.
-    ended_after FitsCommand d.ops.big (commands.RegionIo name bytes d) t _ e (size_fits (number_text bytes) bytes b.reads)
+    ended_after FitsCommand d.ops.big (commands.Region name bytes (region_kinds.Io d)) t _ e (size_fits (number_text bytes) bytes b.reads)
 
 iommu_fits : (name : Text) → Spelled name_of name name → Fits (iommu name)
 iommu_fits name n t y e =
     took size_law t _ _ _ e λ bytes b t e.
-    ended FitsCommand (commands.RegionIommu name bytes) t _ e (size_fits (number_text bytes) bytes b.reads)
+    ended FitsCommand (commands.Region name bytes region_kinds.Iommu) t _ e (size_fits (number_text bytes) bytes b.reads)
 
 alias_fits : (name : Text) → Spelled name_of name name → Fits (alias name)
 alias_fits name n t y e =
     took size_law t _ _ _ e λ bytes b t e. took name_law t _ _ _ e λ target g t e. took address_law t _ _ _ e λ offset o t e.
-    ended FitsCommand (commands.RegionAlias name bytes target offset) t _ e (size_fits (number_text bytes) bytes b.reads)
+    ended FitsCommand (commands.Region name bytes (region_kinds.Alias target offset)) t _ e (size_fits (number_text bytes) bytes b.reads)
 
 reserve_fits : (name : Text) → Spelled name_of name name → Fits (reserve name)
 reserve_fits name n t y e =
     took size_law t _ _ _ e λ bytes b t e.
-    ended FitsCommand (commands.RegionReserve name bytes) t _ e (size_fits (number_text bytes) bytes b.reads)
+    ended FitsCommand (commands.Region name bytes region_kinds.Reserve) t _ e (size_fits (number_text bytes) bytes b.reads)
 
 region_table : (name : Text) → Spelled name_of name name → Every Fits (region_forms name)
 region_table name n = (
@@ -401,30 +403,30 @@ pass n = record { 0 = n }
 abbrev IsPass : ℕ → Type 0
 IsPass n = n < most_passes
 
-pass_enter_fits : (n : ℕ) → IsPass n → Fits (ends (commands.PassEnter (pass n)))
+pass_enter_fits : (n : ℕ) → IsPass n → Fits (ends (commands.Pass (pass n) pass_commands.Enter))
 pass_enter_fits n v t y e =
-    ended FitsCommand (commands.PassEnter (pass n)) t _ e v
+    ended FitsCommand (commands.Pass (pass n) pass_commands.Enter) t _ e (v, tt)
 
-pass_leave_fits : (n : ℕ) → IsPass n → Fits (ends (commands.PassLeave (pass n)))
+pass_leave_fits : (n : ℕ) → IsPass n → Fits (ends (commands.Pass (pass n) pass_commands.Leave))
 pass_leave_fits n v t y e =
-    ended FitsCommand (commands.PassLeave (pass n)) t _ e v
+    ended FitsCommand (commands.Pass (pass n) pass_commands.Leave) t _ e (v, tt)
 
 pass_read_fits : (n : ℕ) → IsPass n → Fits (pass_read (pass n))
 pass_read_fits n v t y e =
     took name_law t _ _ _ e λ space s t e. took address_law t _ _ _ e λ addr a t e. took length_law t _ _ _ e λ count l t e.
-    ended FitsCommand (commands.PassRead (pass n) space addr count) t _ e (v, length_fits (decimal count) count l.reads)
+    ended FitsCommand (commands.Pass (pass n) (pass_commands.Read space addr count)) t _ e (v, length_fits (decimal count) count l.reads)
 
 pass_write_fits : (n : ℕ) → IsPass n → Fits (pass_write (pass n))
 pass_write_fits n v t y e =
     took name_law t _ _ _ e λ space s t e. took address_law t _ _ _ e λ addr a t e. took bytes_law t _ _ _ e λ content c t e.
-    ended FitsCommand (commands.PassWrite (pass n) space addr content) t _ e v
+    ended FitsCommand (commands.Pass (pass n) (pass_commands.Write space addr content)) t _ e (v, tt)
 
 pass_do_fits : (n : ℕ) → IsPass n → Fits (pass_do (pass n))
 pass_do_fits n v t y e = by (change t) refl e
   where
-    by : (o : Outcome MapChange) → change t ≡ o → made_by (commands.PassDo (pass n)) o ≡ Ok y → FitsCommand y
+    by : (o : Outcome MapChange) → change t ≡ o → made_by (λ c. commands.Pass (pass n) (pass_commands.Do c)) o ≡ Ok y → FitsCommand y
     by (Err c) is e = no_ok e
-    by (Ok c) is e = subst FitsCommand (same_Ok (commands.PassDo (pass n) c) y (Ok (commands.PassDo (pass n) c)) refl e)
+    by (Ok c) is e = subst FitsCommand (same_Ok (commands.Pass (pass n) (pass_commands.Do c)) y (Ok (commands.Pass (pass n) (pass_commands.Do c))) refl e)
         (v, change_fits t c is)
 
 abbrev to_words : List (Text × Unit {0})
@@ -434,7 +436,7 @@ pass_dma_fits : (n : ℕ) → IsPass n → Fits (pass_dma (pass n))
 pass_dma_fits n v t y e =
     took name_law t _ _ _ e λ space s t e. took address_law t _ _ _ e λ addr a t e. took length_law t _ _ _ e λ count l t e.
     took to_law t _ _ _ e λ word w t e. took name_law t _ _ _ e λ to_space p t e. took address_law t _ _ _ e λ to_addr q t e.
-    ended FitsCommand (commands.PassDma (pass n) space addr count to_space to_addr) t _ e
+    ended FitsCommand (commands.Pass (pass n) (pass_commands.Dma space addr count to_space to_addr)) t _ e
     (v, length_fits (decimal count) count l.reads)
 
 pass_table : (n : ℕ) → IsPass n → Every Fits (pass_forms (pass n))
@@ -503,10 +505,5 @@ pool_fits [] h = omega arith
 pool_fits (line ∷ lines) h = words_fit line.1 h.0
 
 pub names_its : (c : Command) → FitsCommand c → NamesItsPass c
-names_its (commands.PassEnter pass) f = f
-names_its (commands.PassLeave pass) f = f
-names_its (commands.PassRead pass space addr len) f = f.0
-names_its (commands.PassWrite pass space addr bytes) f = f
-names_its (commands.PassDo pass change) f = f.0
-names_its (commands.PassDma pass space addr len to_space to_addr) f = f.0
+names_its (commands.Pass pass command) f = f.0
 names_its c f = tt

@@ -20,6 +20,8 @@ use Rattle.mem_base.specs.declared.script.changes.MapChange.{MapChange}
 use Rattle.mem_base.specs.declared.script.changes.MapChange.TheVariants as changes
 use Rattle.mem_base.specs.declared.script.commands.Command.{Command}
 use Rattle.mem_base.specs.declared.script.commands.Command.TheVariants as commands
+use Rattle.mem_base.specs.declared.script.commands.PassCommand.TheVariants as pass_commands
+use Rattle.mem_base.specs.declared.script.commands.RegionKind.TheVariants as region_kinds
 use Rattle.mem_base.specs.map.Limits.{most_passes}
 use Rattle.mem_base.specs.map.Calls.{is_quiet}
 use Rattle.mem_base.specs.machine.World.{World}
@@ -256,21 +258,28 @@ module _ (k : Known) (w : World) (line : ℕ) (a : KnowsNames k w.writer.desk) w
       → Pass pass (own_step state line c) (task_of k c) → IsSomeonesLine k w line c
   by_pass pass c actor near desk d = inr (pass, pass_line pass c actor near desk d)
 
+  then_again : {X Y Z : Type 0} → (x : Resolved X) (first : X → Resolved Y) (rest : Y → Resolved Z)
+      → then_resolved (then_resolved x first) rest ≡ then_resolved x (λ a. then_resolved (first a) rest)
+  then_again (Ok x) first rest = refl
+  then_again (Err why) first rest = refl
+
   alike : {x : Outcome} {t : Resolved Task} → x ≡ desk_step k w line t → IsKnownTask k t → Desk x t
   alike e i = record { same = e; fits = i }
 
   lines_are : (c : Command) → NamesItsPass c → is_par c ≡ false → is_end c ≡ false → IsSomeonesLine k w line c
   lines_are (commands.Machine size) n p e = by_desk (commands.Machine size) refl refl (alike refl tt)
-  lines_are (commands.RegionContainer name size) n p e = by_desk (commands.RegionContainer name size) refl refl (a_region name kinds.Container size)
-  lines_are (commands.RegionRam name size) n p e = by_desk (commands.RegionRam name size) refl refl (a_region name kinds.Ram size)
-  lines_are (commands.RegionRom name size) n p e = by_desk (commands.RegionRom name size) refl refl (a_region name kinds.Rom size)
-  lines_are (commands.RegionRomDevice name size device) n p e =
-      by_desk (commands.RegionRomDevice name size device) refl refl (a_region name (kinds.RomDevice device) size)
-  lines_are (commands.RegionIo name size device) n p e = by_desk (commands.RegionIo name size device) refl refl (a_region name (kinds.Io device) size)
-  lines_are (commands.RegionIommu name size) n p e = by_desk (commands.RegionIommu name size) refl refl (a_region name kinds.Iommu size)
-  lines_are (commands.RegionAlias name size target offset) n p e = by_desk (commands.RegionAlias name size target offset) refl refl
-      (desk_region target _ _ λ t f. a_region name (kinds.Alias t offset) size)
-  lines_are (commands.RegionReserve name size) n p e = by_desk (commands.RegionReserve name size) refl refl (a_region name kinds.Reserve size)
+  lines_are (commands.Region name size region_kinds.Container) n p e = by_desk (commands.Region name size region_kinds.Container) refl refl (a_region name kinds.Container size)
+  lines_are (commands.Region name size region_kinds.Ram) n p e = by_desk (commands.Region name size region_kinds.Ram) refl refl (a_region name kinds.Ram size)
+  lines_are (commands.Region name size region_kinds.Rom) n p e = by_desk (commands.Region name size region_kinds.Rom) refl refl (a_region name kinds.Rom size)
+  lines_are (commands.Region name size (region_kinds.RomDevice device)) n p e =
+      by_desk (commands.Region name size (region_kinds.RomDevice device)) refl refl (a_region name (kinds.RomDevice device) size)
+  lines_are (commands.Region name size (region_kinds.Io device)) n p e = by_desk (commands.Region name size (region_kinds.Io device)) refl refl (a_region name (kinds.Io device) size)
+  lines_are (commands.Region name size region_kinds.Iommu) n p e = by_desk (commands.Region name size region_kinds.Iommu) refl refl (a_region name kinds.Iommu size)
+  lines_are (commands.Region name size (region_kinds.Alias target offset)) n p e = by_desk (commands.Region name size (region_kinds.Alias target offset)) refl refl
+      (subst (Desk (with_region state line target (λ t. writer.make_region state line name (kinds.Alias t offset) size)))
+      (sym (then_again (region k target) (λ t. Ok (kinds.Alias t offset)) (λ kind. region_made k name kind size)))
+      (desk_region target (λ t. region_made k name (kinds.Alias t offset) size) _ λ t f. a_region name (kinds.Alias t offset) size))
+  lines_are (commands.Region name size region_kinds.Reserve) n p e = by_desk (commands.Region name size region_kinds.Reserve) refl refl (a_region name kinds.Reserve size)
   lines_are (commands.Space name root) n p e = by_desk (commands.Space name root) refl refl (desk_region root _ _ λ r f. a_space name r)
   lines_are (commands.Change change) n p e = by_desk (commands.Change change) refl refl
       (at_change (desk_step k w line) (IsKnownTask k) (λ why. refl) (λ why. tt) change _ _ λ call f q i. a_call call f i)
@@ -295,16 +304,16 @@ module _ (k : Known) (w : World) (line : ℕ) (a : KnowsNames k w.writer.desk) w
   lines_are (commands.Notified number) n p e = by_desk (commands.Notified number) refl refl (alike refl tt)
   lines_are (commands.Dirty name client) n p e = by_desk (commands.Dirty name client) refl refl
       (desk_region name _ _ λ r f. record { same = harvested r client name (region_called k name r f).0 _ _; fits = tt })
-  lines_are (commands.PassEnter pass) n p e = by_pass pass (commands.PassEnter pass) refl n refl (record { same = refl; fits = tt })
-  lines_are (commands.PassLeave pass) n p e = by_pass pass (commands.PassLeave pass) refl n refl (record { same = refl; fits = tt })
-  lines_are (commands.PassRead pass space addr len) n p e = by_pass pass (commands.PassRead pass space addr len) refl n refl
+  lines_are (commands.Pass pass pass_commands.Enter) n p e = by_pass pass (commands.Pass pass pass_commands.Enter) refl n refl (record { same = refl; fits = tt })
+  lines_are (commands.Pass pass pass_commands.Leave) n p e = by_pass pass (commands.Pass pass pass_commands.Leave) refl n refl (record { same = refl; fits = tt })
+  lines_are (commands.Pass pass (pass_commands.Read space addr len)) n p e = by_pass pass (commands.Pass pass (pass_commands.Read space addr len)) refl n refl
       (pass_space pass space _ _ λ s f. record { same = refl; fits = tt })
-  lines_are (commands.PassWrite pass space addr bytes) n p e = by_pass pass (commands.PassWrite pass space addr bytes) refl n refl
+  lines_are (commands.Pass pass (pass_commands.Write space addr bytes)) n p e = by_pass pass (commands.Pass pass (pass_commands.Write space addr bytes)) refl n refl
       (pass_space pass space _ _ λ s f. record { same = refl; fits = tt })
-  lines_are (commands.PassDo pass change) n p e = by_pass pass (commands.PassDo pass change) refl n refl
+  lines_are (commands.Pass pass (pass_commands.Do change)) n p e = by_pass pass (commands.Pass pass (pass_commands.Do change)) refl n refl
       (at_change (pass_step k w pass line) IsPassTask (λ why. refl) (λ why. tt) change _ _
       λ call f q i. record { same = changed pass call _ _ _; fits = q })
-  lines_are (commands.PassDma pass space addr len to_space to_addr) n p e = by_pass pass (commands.PassDma pass space addr len to_space to_addr) refl n refl
+  lines_are (commands.Pass pass (pass_commands.Dma space addr len to_space to_addr)) n p e = by_pass pass (commands.Pass pass (pass_commands.Dma space addr len to_space to_addr)) refl n refl
       (pass_space pass space _ _ λ s f. pass_space pass to_space _ _ λ t g. record { same = refl; fits = tt })
   lines_are commands.Par n p e = true_is_not_false true refl p
   lines_are commands.End n p e = true_is_not_false true refl e

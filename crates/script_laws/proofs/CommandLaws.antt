@@ -6,6 +6,8 @@ use Rattle.mem_base.specs.declared.map.ids.PassId.{PassId}
 use Rattle.mem_base.specs.declared.script.changes.MapChange.{MapChange}
 use Rattle.mem_base.specs.declared.script.commands.Command.{Command}
 use Rattle.mem_base.specs.declared.script.commands.Command.TheVariants as commands
+use Rattle.mem_base.specs.declared.script.commands.PassCommand.TheVariants as pass_commands
+use Rattle.mem_base.specs.declared.script.commands.RegionKind.TheVariants as region_kinds
 use Rattle.mem_base.specs.script.Spelling.{Text, name_of, pass_of}
 use Rattle.mem_base.specs.script.Operands.{Form, ends, then_read, value_in, with_value}
 use Rattle.mem_base.specs.script.RegionForms.{alias, container, io, iommu, ram, region, region_forms, reserve, rom, romdev}
@@ -32,42 +34,42 @@ Again f = (t : List Text) (y : Command) → f t ≡ Ok y → Reads y
 container_again : (name : Text) → Spelled name_of name name → Again (container name)
 container_again name n t y e =
     took size_law t _ _ _ e λ bytes b t e.
-    ended Reads (commands.RegionContainer name bytes) t _ e (rw (n.token, n.reads, b.token, b.reads) (refl, refl))
+    ended Reads (commands.Region name bytes region_kinds.Container) t _ e (rw (n.token, n.reads, b.token, b.reads) (refl, refl))
 
 ram_again : (name : Text) → Spelled name_of name name → Again (ram name)
 ram_again name n t y e =
     took size_law t _ _ _ e λ bytes b t e.
-    ended Reads (commands.RegionRam name bytes) t _ e (rw (n.token, n.reads, b.token, b.reads) (refl, refl))
+    ended Reads (commands.Region name bytes region_kinds.Ram) t _ e (rw (n.token, n.reads, b.token, b.reads) (refl, refl))
 
 rom_again : (name : Text) → Spelled name_of name name → Again (rom name)
 rom_again name n t y e =
     took size_law t _ _ _ e λ bytes b t e.
-    ended Reads (commands.RegionRom name bytes) t _ e (rw (n.token, n.reads, b.token, b.reads) (refl, refl))
+    ended Reads (commands.Region name bytes region_kinds.Rom) t _ e (rw (n.token, n.reads, b.token, b.reads) (refl, refl))
 
 romdev_again : (name : Text) → Spelled name_of name name → Again (romdev name)
 romdev_again name n t y e =
     took size_law t _ _ _ e λ bytes b t e. took_device t _ _ e λ d v t e.
-    ended_after Reads d.ops.big (commands.RegionRomDevice name bytes d) t _ e (rw (n.token, n.reads, b.token, b.reads, v.0, v.1) (refl, refl))
+    ended_after Reads d.ops.big (commands.Region name bytes (region_kinds.RomDevice d)) t _ e (rw (n.token, n.reads, b.token, b.reads, v.0, v.1) (refl, refl))
 
 io_again : (name : Text) → Spelled name_of name name → Again (io name)
 io_again name n t y e =
     took size_law t _ _ _ e λ bytes b t e. took_device t _ _ e λ d v t e.
-    ended_after Reads d.ops.big (commands.RegionIo name bytes d) t _ e (rw (n.token, n.reads, b.token, b.reads, v.0, v.1) (refl, refl))
+    ended_after Reads d.ops.big (commands.Region name bytes (region_kinds.Io d)) t _ e (rw (n.token, n.reads, b.token, b.reads, v.0, v.1) (refl, refl))
 
 iommu_again : (name : Text) → Spelled name_of name name → Again (iommu name)
 iommu_again name n t y e =
     took size_law t _ _ _ e λ bytes b t e.
-    ended Reads (commands.RegionIommu name bytes) t _ e (rw (n.token, n.reads, b.token, b.reads) (refl, refl))
+    ended Reads (commands.Region name bytes region_kinds.Iommu) t _ e (rw (n.token, n.reads, b.token, b.reads) (refl, refl))
 
 alias_again : (name : Text) → Spelled name_of name name → Again (alias name)
 alias_again name n t y e =
     took size_law t _ _ _ e λ bytes b t e. took name_law t _ _ _ e λ target g t e. took address_law t _ _ _ e λ offset o t e.
-    ended Reads (commands.RegionAlias name bytes target offset) t _ e (rw (n.token, n.reads, b.token, b.reads, g.token, g.reads, o.token, o.reads) (refl, refl))
+    ended Reads (commands.Region name bytes (region_kinds.Alias target offset)) t _ e (rw (n.token, n.reads, b.token, b.reads, g.token, g.reads, o.token, o.reads) (refl, refl))
 
 reserve_again : (name : Text) → Spelled name_of name name → Again (reserve name)
 reserve_again name n t y e =
     took size_law t _ _ _ e λ bytes b t e.
-    ended Reads (commands.RegionReserve name bytes) t _ e (rw (n.token, n.reads, b.token, b.reads) (refl, refl))
+    ended Reads (commands.Region name bytes region_kinds.Reserve) t _ e (rw (n.token, n.reads, b.token, b.reads) (refl, refl))
 
 region_table : (name : Text) → Spelled name_of name name → Every Again (region_forms name)
 region_table name n = (
@@ -201,34 +203,34 @@ pass n = record { 0 = n }
 abbrev IsPass : ℕ → Type 0
 IsPass n = Spelled pass_of (pass_text (pass n)) n
 
-pass_enter_again : (n : ℕ) → IsPass n → Again (ends (commands.PassEnter (pass n)))
+pass_enter_again : (n : ℕ) → IsPass n → Again (ends (commands.Pass (pass n) pass_commands.Enter))
 pass_enter_again n v t y e =
-    ended Reads (commands.PassEnter (pass n)) t _ e (rw (v.token, v.reads) (refl, refl))
+    ended Reads (commands.Pass (pass n) pass_commands.Enter) t _ e (rw (v.token, v.reads) (refl, refl))
 
-pass_leave_again : (n : ℕ) → IsPass n → Again (ends (commands.PassLeave (pass n)))
+pass_leave_again : (n : ℕ) → IsPass n → Again (ends (commands.Pass (pass n) pass_commands.Leave))
 pass_leave_again n v t y e =
-    ended Reads (commands.PassLeave (pass n)) t _ e (rw (v.token, v.reads) (refl, refl))
+    ended Reads (commands.Pass (pass n) pass_commands.Leave) t _ e (rw (v.token, v.reads) (refl, refl))
 
 pass_read_again : (n : ℕ) → IsPass n → Again (pass_read (pass n))
 pass_read_again n v t y e =
     took name_law t _ _ _ e λ space s t e. took address_law t _ _ _ e λ addr a t e. took length_law t _ _ _ e λ count l t e.
-    ended Reads (commands.PassRead (pass n) space addr count) t _ e (rw (v.token, v.reads, s.token, s.reads, a.token, a.reads, l.token, l.reads) (refl, refl))
+    ended Reads (commands.Pass (pass n) (pass_commands.Read space addr count)) t _ e (rw (v.token, v.reads, s.token, s.reads, a.token, a.reads, l.token, l.reads) (refl, refl))
 
 pass_write_again : (n : ℕ) → IsPass n → Again (pass_write (pass n))
 pass_write_again n v t y e =
     took name_law t _ _ _ e λ space s t e. took address_law t _ _ _ e λ addr a t e. took bytes_law t _ _ _ e λ content c t e.
-    ended Reads (commands.PassWrite (pass n) space addr content) t _ e
+    ended Reads (commands.Pass (pass n) (pass_commands.Write space addr content)) t _ e
     (rw (v.token, v.reads, s.token, s.reads, a.token, a.reads, c.token, c.reads) (refl, refl))
 
 pass_do_again : (n : ℕ) → IsPass n → Again (pass_do (pass n))
 pass_do_again n v t y e = by (change t) refl e
   where
-    of : (c : MapChange) → of_change.Reads c → Reads (commands.PassDo (pass n) c)
+    of : (c : MapChange) → of_change.Reads c → Reads (commands.Pass (pass n) (pass_commands.Do c))
     of c r = rw (v.token, v.reads, r.0, r.1) (refl, refl)
 
-    by : (o : Outcome MapChange) → change t ≡ o → made_by (commands.PassDo (pass n)) o ≡ Ok y → Reads y
+    by : (o : Outcome MapChange) → change t ≡ o → made_by (λ c. commands.Pass (pass n) (pass_commands.Do c)) o ≡ Ok y → Reads y
     by (Err c) is e = no_ok e
-    by (Ok c) is e = subst Reads (same_Ok (commands.PassDo (pass n) c) y (Ok (commands.PassDo (pass n) c)) refl e) (of c (change_again t c is))
+    by (Ok c) is e = subst Reads (same_Ok (commands.Pass (pass n) (pass_commands.Do c)) y (Ok (commands.Pass (pass n) (pass_commands.Do c))) refl e) (of c (change_again t c is))
 
 abbrev to_words : List (Text × Unit {0})
 to_words = (codes "to", tt) ∷ []
@@ -240,7 +242,7 @@ pass_dma_again : (n : ℕ) → IsPass n → Again (pass_dma (pass n))
 pass_dma_again n v t y e =
     took name_law t _ _ _ e λ space s t e. took address_law t _ _ _ e λ addr a t e. took length_law t _ _ _ e λ count l t e.
     took to_law t _ _ _ e λ word w t e. took name_law t _ _ _ e λ to_space p t e. took address_law t _ _ _ e λ to_addr q t e.
-    ended Reads (commands.PassDma (pass n) space addr count to_space to_addr) t _ e
+    ended Reads (commands.Pass (pass n) (pass_commands.Dma space addr count to_space to_addr)) t _ e
     (rw (v.token, v.reads, s.token, s.reads, a.token, a.reads, l.token, l.reads, p.token, p.reads, q.token, q.reads) (refl, refl))
 
 pass_table : (n : ℕ) → IsPass n → Every Again (pass_forms (pass n))

@@ -5,6 +5,8 @@ use Rattle.mem_base.specs.declared.map.ids.PassId.{PassId}
 use Rattle.mem_base.specs.declared.map.kinds.DeviceKind.TheVariants.{Bell, Latch}
 use Rattle.mem_base.specs.declared.script.changes.MapChange.TheVariants as changes
 use Rattle.mem_base.specs.declared.script.commands.Command.TheVariants as commands
+use Rattle.mem_base.specs.declared.script.commands.PassCommand.TheVariants as pass_commands
+use Rattle.mem_base.specs.declared.script.commands.RegionKind.TheVariants as region_kinds
 use Rattle.std.specs.Fmt.{digits}
 use Rattle.mem_base.specs.script.RegionForms.{device_with}
 use Rattle.mem_base.specs.script.Lines.{line_of}
@@ -19,19 +21,19 @@ add : line_of (codes " add\tsys 0x1fK  r0 prio -7 # low") ≡ Ok (Some (commands
 add = refl
 
 device : line_of (codes "region D io 16 bell regs 002 impl 1-8 iunaligned big") ≡ Ok
-    (Some (commands.RegionIo (codes "D") 16 (device_with Bell 2 (1, 4) (1, 8) false true true)))
+    (Some (commands.Region (codes "D") 16 (region_kinds.Io (device_with Bell 2 (1, 4) (1, 8) false true true))))
 device = refl
 
 write : line_of (codes "v15 write S 0X 0aFf") ≡ Err causes.Number
 write = refl
 
-write-good : line_of (codes "v15 write S 0 0aFf") ≡ Ok (Some (commands.PassWrite (pass 15) (codes "S") 0 (10 ∷ 255 ∷ [])))
+write-good : line_of (codes "v15 write S 0 0aFf") ≡ Ok (Some (commands.Pass (pass 15) (pass_commands.Write (codes "S") 0 (10 ∷ 255 ∷ []))))
 write-good = refl
 
-doing : line_of (codes "v0 do event D 8 4 0x3f data 1G") ≡ Ok (Some (commands.PassDo (pass 0) (changes.Event (codes "D") 8 4 63 (Some 1073741824))))
+doing : line_of (codes "v0 do event D 8 4 0x3f data 1G") ≡ Ok (Some (commands.Pass (pass 0) (pass_commands.Do (changes.Event (codes "D") 8 4 63 (Some 1073741824)))))
 doing = refl
 
-dma : line_of (codes "v3 dma S 0 0x10 to T 4K") ≡ Ok (Some (commands.PassDma (pass 3) (codes "S") 0 16 (codes "T") 4096))
+dma : line_of (codes "v3 dma S 0 0x10 to T 4K") ≡ Ok (Some (commands.Pass (pass 3) (pass_commands.Dma (codes "S") 0 16 (codes "T") 4096)))
 dma = refl
 
 -- causes
@@ -70,7 +72,7 @@ one-page = refl
 
 -- whole texts
 places : script_of (codes "machine 4K\r\n\nregion A ram 4K\npar\nv0 enter\nend") ≡ Ok
-    ((1, commands.Machine 4096) ∷ (3, commands.RegionRam (codes "A") 4096) ∷ (4, commands.Par) ∷ (5, commands.PassEnter (pass 0)) ∷ (6, commands.End) ∷ [])
+    ((1, commands.Machine 4096) ∷ (3, commands.Region (codes "A") 4096 region_kinds.Ram) ∷ (4, commands.Par) ∷ (5, commands.Pass (pass 0) pass_commands.Enter) ∷ (6, commands.End) ∷ [])
 places = refl
 
 no-end : script_of (codes "reap\npar\nshow S") ≡ bad 2 causes.Place
@@ -92,7 +94,7 @@ nothing : script_of [] ≡ Ok []
 nothing = refl
 
 print : printed ((1, commands.Change (changes.Add (codes "A") 255 (codes "B") (negsuc 6))) ∷
-    (2, commands.RegionIo (codes "D") 16 (device_with Latch 1 (1, 4) (2, 8) false true true)) ∷ []) ≡ codes
+    (2, commands.Region (codes "D") 16 (region_kinds.Io (device_with Latch 1 (1, 4) (2, 8) false true true))) ∷ []) ≡ codes
     "add A 0xff B prio -7\nregion D io 0x10 latch impl 2-8 iunaligned big\n"
 unfolding digits
 print = refl

@@ -1,14 +1,15 @@
 // The text of a command, as its tokens are written.
-ghost use Rattle.std.specs.Prelude.{◌≡◌, ◌++◌, [], ◌∷◌, OnOk, codes, decimal, false, true};
+ghost use Rattle.std.specs.Prelude.{◌≡◌, ◌++◌, [], ◌∷◌, OnOk, codes, decimal};
 ghost use Rattle.mem_base.specs.script.Printing.{bytes_text, change_tokens, client_text, command_tokens, data_tokens, device_kind_text};
-ghost use Rattle.mem_base.specs.script.Printing.{device_tokens, flag_tokens, number_text, pass_text, perm_text, prio_tokens, range_text};
-ghost use Rattle.mem_base.specs.script.Printing.{range_tokens, region_tokens, regs_tokens, switch_text};
-ghost use Rattle.mem_base.specs.script.Run.{is_desk_line};
-ghost use Rattle.script_lines.specs.Groups.{is_region_line};
+ghost use Rattle.mem_base.specs.script.Printing.{device_tokens, flag_tokens, kind_text, kind_tokens, number_text, pass_text, pass_tokens, perm_text};
+ghost use Rattle.mem_base.specs.script.Printing.{prio_tokens, range_text, range_tokens, regs_tokens, switch_text};
 ghost use Rattle.script_lines.specs.Tokens.{after_spaces};
 
 use crate::numbers::{push_bytes, push_decimal, push_hex, push_signed};
-use mem_base::{Bytes, Client, Command, Device, DeviceKind, MapChange, Name, PassId, Perm, Size};
+use mem_base::{
+    Bytes, Client, Command, Device, DeviceKind, MapChange, Name, PassCommand, PassId, Perm,
+    RegionKind, Size,
+};
 use std::alloc::AllocError;
 
 fn switch_text(on: bool) -> &'static [u8]
@@ -362,27 +363,54 @@ fn push_device(text: &mut Vec<u8>, device: Device) -> Result<(), AllocError>
     Ok(())
 }
 
-fn push_region(text: &mut Vec<u8>, name: &Name, kind: &[u8], size: Size) -> Result<(), AllocError>
-    ensures { OnOk result (text.new.items ≡ text.old.items ++ after_spaces (region_tokens name.now kind.now size [])) }
+fn kind_text(kind: &RegionKind) -> &'static [u8]
+    ensures { result.now ≡ kind_text kind.now }
 {
-    push_word(text, b"region")?;
-    push_word(text, name.as_bytes())?;
-    push_word(text, kind)?;
-    push_size(text, size)?;
+    match kind {
+        RegionKind::Container => b"container",
+        RegionKind::Ram => b"ram",
+        RegionKind::Rom => b"rom",
+        RegionKind::RomDevice(_) => b"romdev",
+        RegionKind::Io(_) => b"io",
+        RegionKind::Iommu => b"iommu",
+        RegionKind::Alias { .. } => b"alias",
+        RegionKind::Reserve => b"reserve",
+    }
+}
+
+fn push_target(text: &mut Vec<u8>, target: &Name, offset: u64) -> Result<(), AllocError>
+    ensures { OnOk result (text.new.items ≡ text.old.items ++ after_spaces (target.now ∷ number_text offset ∷ [])) }
+{
+    push_word(text, target.as_bytes())?;
+    push_number(text, offset)?;
     Ok(())
 }
 
-fn push_region_with(
+fn push_kind_tokens(text: &mut Vec<u8>, kind: &RegionKind) -> Result<(), AllocError>
+    ensures { OnOk result (text.new.items ≡ text.old.items ++ after_spaces (kind_tokens kind.now)) }
+{
+    match kind {
+        RegionKind::RomDevice(device) => push_device(text, *device),
+        RegionKind::Io(device) => push_device(text, *device),
+        RegionKind::Alias { target, offset } => push_target(text, target, *offset),
+        _ => Ok(()),
+    }
+}
+
+fn push_region(
     text: &mut Vec<u8>,
     name: &Name,
-    kind: &[u8],
     size: Size,
-    device: Device,
+    kind: &RegionKind,
 ) -> Result<(), AllocError>
-    ensures { OnOk result (text.new.items ≡ text.old.items ++ after_spaces (region_tokens name.now kind.now size (device_tokens device))) }
+    ensures { OnOk result (text.new.items ≡ text.old.items ++ after_spaces
+        (codes "region" ∷ name.now ∷ kind_text kind.now ∷ number_text size ∷ kind_tokens kind.now)) }
 {
-    push_region(text, name, kind, size)?;
-    push_device(text, device)?;
+    push_word(text, b"region")?;
+    push_word(text, name.as_bytes())?;
+    push_word(text, kind_text(kind))?;
+    push_size(text, size)?;
+    push_kind_tokens(text, kind)?;
     Ok(())
 }
 
@@ -394,25 +422,17 @@ fn push_pass(text: &mut Vec<u8>, pass: PassId) -> Result<(), AllocError>
     Ok(())
 }
 
-fn push_pass_read(
-    text: &mut Vec<u8>,
-    pass: PassId,
-    space: &Name,
-    addr: u64,
-    len: u8,
-) -> Result<(), AllocError>
-    ensures { OnOk result (text.new.items ≡ text.old.items ++ after_spaces (pass_text pass ∷ codes "read" ∷ space.now ∷ number_text addr ∷ decimal len ∷ [])) }
+fn push_read(text: &mut Vec<u8>, space: &Name, addr: u64, len: u8) -> Result<(), AllocError>
+    ensures { OnOk result (text.new.items ≡ text.old.items ++ after_spaces (codes "read" ∷ space.now ∷ number_text addr ∷ decimal len ∷ [])) }
 {
-    push_pass(text, pass)?;
     push_numbered(text, b"read", space, addr)?;
     push_decimal_token(text, u64::from(len))?;
     Ok(())
 }
 
-fn push_pass_do(text: &mut Vec<u8>, pass: PassId, change: &MapChange) -> Result<(), AllocError>
-    ensures { OnOk result (text.new.items ≡ text.old.items ++ after_spaces (pass_text pass ∷ codes "do" ∷ change_tokens change.now)) }
+fn push_do(text: &mut Vec<u8>, change: &MapChange) -> Result<(), AllocError>
+    ensures { OnOk result (text.new.items ≡ text.old.items ++ after_spaces (codes "do" ∷ change_tokens change.now)) }
 {
-    push_pass(text, pass)?;
     push_word(text, b"do")?;
     push_change(text, change)?;
     Ok(())
@@ -424,22 +444,6 @@ fn push_hex_bytes(text: &mut Vec<u8>, bytes: &[u8]) -> Result<(), AllocError>
 {
     text.push(b' ')?;
     push_bytes(text, bytes)?;
-    Ok(())
-}
-
-fn push_region_alias(
-    text: &mut Vec<u8>,
-    name: &Name,
-    size: Size,
-    target: &Name,
-    offset: u64,
-) -> Result<(), AllocError>
-    ensures { OnOk result (text.new.items ≡ text.old.items ++ after_spaces
-        (region_tokens name.now (codes "alias") size (target.now ∷ number_text offset ∷ []))) }
-{
-    push_region(text, name, b"alias", size)?;
-    push_word(text, target.as_bytes())?;
-    push_number(text, offset)?;
     Ok(())
 }
 
@@ -509,33 +513,17 @@ fn push_dirty(text: &mut Vec<u8>, region: &Name, client: Client) -> Result<(), A
     Ok(())
 }
 
-fn push_pass_word(text: &mut Vec<u8>, pass: PassId, word: &[u8]) -> Result<(), AllocError>
-    ensures { OnOk result (text.new.items ≡ text.old.items ++ after_spaces (pass_text pass ∷ word.now ∷ [])) }
-{
-    push_pass(text, pass)?;
-    push_word(text, word)?;
-    Ok(())
-}
-
-fn push_pass_write(
-    text: &mut Vec<u8>,
-    pass: PassId,
-    space: &Name,
-    addr: u64,
-    bytes: &Bytes,
-) -> Result<(), AllocError>
+fn push_write(text: &mut Vec<u8>, space: &Name, addr: u64, bytes: &Bytes) -> Result<(), AllocError>
     ensures { OnOk result (text.new.items ≡ text.old.items ++ after_spaces
-        (pass_text pass ∷ codes "write" ∷ space.now ∷ number_text addr ∷ bytes_text bytes.now ∷ [])) }
+        (codes "write" ∷ space.now ∷ number_text addr ∷ bytes_text bytes.now ∷ [])) }
 {
-    push_pass(text, pass)?;
     push_numbered(text, b"write", space, addr)?;
     push_hex_bytes(text, bytes.as_slice())?;
     Ok(())
 }
 
-fn push_pass_dma(
+fn push_dma(
     text: &mut Vec<u8>,
-    pass: PassId,
     space: &Name,
     addr: u64,
     len: u8,
@@ -543,10 +531,8 @@ fn push_pass_dma(
     to_addr: u64,
 ) -> Result<(), AllocError>
     ensures { OnOk result (text.new.items ≡ text.old.items ++ after_spaces
-        (pass_text pass ∷ codes "dma" ∷ space.now ∷ number_text addr ∷ decimal len ∷ codes "to" ∷ to_space.now ∷ number_text to_addr
-        ∷ [])) }
+        (codes "dma" ∷ space.now ∷ number_text addr ∷ decimal len ∷ codes "to" ∷ to_space.now ∷ number_text to_addr ∷ [])) }
 {
-    push_pass(text, pass)?;
     push_numbered(text, b"dma", space, addr)?;
     push_decimal_token(text, u64::from(len))?;
     push_numbered(text, b"to", to_space, to_addr)?;
@@ -560,66 +546,33 @@ fn push_bare(text: &mut Vec<u8>, word: &[u8]) -> Result<(), AllocError>
     Ok(())
 }
 
-// A line that makes a region.
-fn push_region_line(text: &mut Vec<u8>, command: &Command) -> Result<(), AllocError>
-    requires { is_region_line command.now ≡ true }
-    ensures { OnOk result (text.new.items ≡ text.old.items ++ after_spaces (command_tokens command.now)) }
+// What a pass does.
+fn push_pass_tokens(text: &mut Vec<u8>, command: &PassCommand) -> Result<(), AllocError>
+    ensures { OnOk result (text.new.items ≡ text.old.items ++ after_spaces (pass_tokens command.now)) }
 {
     match command {
-        Command::RegionContainer { name, size } => push_region(text, name, b"container", *size),
-        Command::RegionRam { name, size } => push_region(text, name, b"ram", *size),
-        Command::RegionRom { name, size } => push_region(text, name, b"rom", *size),
-        Command::RegionRomDevice { name, size, device } => push_region_with(
-            text, name, b"romdev", *size, *device,
-        ),
-        Command::RegionIo { name, size, device } => push_region_with(
-            text, name, b"io", *size, *device,
-        ),
-        Command::RegionIommu { name, size } => push_region(text, name, b"iommu", *size),
-        Command::RegionAlias {
-            name,
-            size,
-            target,
-            offset,
-        } => push_region_alias(text, name, *size, target, *offset),
-        Command::RegionReserve { name, size } => push_region(text, name, b"reserve", *size),
-        _ => unreachable!(),
-    }
-}
-
-// A line of a pass, or an end of a block of such lines.
-fn push_pass_line(text: &mut Vec<u8>, command: &Command) -> Result<(), AllocError>
-    requires { is_desk_line command.now ≡ false }
-    ensures { OnOk result (text.new.items ≡ text.old.items ++ after_spaces (command_tokens command.now)) }
-{
-    match command {
-        Command::PassEnter { pass } => push_pass_word(text, *pass, b"enter"),
-        Command::PassLeave { pass } => push_pass_word(text, *pass, b"leave"),
-        Command::PassRead {
-            pass,
-            space,
-            addr,
-            len,
-        } => push_pass_read(text, *pass, space, *addr, *len),
-        Command::PassWrite {
-            pass,
-            space,
-            addr,
-            bytes,
-        } => push_pass_write(text, *pass, space, *addr, bytes),
-        Command::PassDo { pass, change } => push_pass_do(text, *pass, change),
-        Command::PassDma {
-            pass,
+        PassCommand::Enter => push_bare(text, b"enter"),
+        PassCommand::Leave => push_bare(text, b"leave"),
+        PassCommand::Read { space, addr, len } => push_read(text, space, *addr, *len),
+        PassCommand::Write { space, addr, bytes } => push_write(text, space, *addr, bytes),
+        PassCommand::Do(change) => push_do(text, change),
+        PassCommand::Dma {
             space,
             addr,
             len,
             to_space,
             to_addr,
-        } => { push_pass_dma(text, *pass, space, *addr, *len, to_space, *to_addr) }
-        Command::Par => push_bare(text, b"par"),
-        Command::End => push_bare(text, b"end"),
-        _ => unreachable!(),
+        } => push_dma(text, space, *addr, *len, to_space, *to_addr),
     }
+}
+
+// A line of a pass.
+fn push_pass_line(text: &mut Vec<u8>, pass: PassId, command: &PassCommand) -> Result<(), AllocError>
+    ensures { OnOk result (text.new.items ≡ text.old.items ++ after_spaces (pass_text pass ∷ pass_tokens command.now)) }
+{
+    push_pass(text, pass)?;
+    push_pass_tokens(text, command)?;
+    Ok(())
 }
 
 /// Adds the tokens of a command to a text, each after a space.
@@ -628,6 +581,7 @@ pub fn push_tokens(text: &mut Vec<u8>, command: &Command) -> Result<(), AllocErr
 {
     match command {
         Command::Machine { size } => push_machine(text, *size),
+        Command::Region { name, size, kind } => push_region(text, name, *size, kind),
         Command::Space { name, root } => push_two_named(text, b"space", name, root),
         Command::Change(change) => push_change(text, change),
         Command::Load {
@@ -656,14 +610,8 @@ pub fn push_tokens(text: &mut Vec<u8>, command: &Command) -> Result<(), AllocErr
         Command::At { space, addr } => push_numbered(text, b"at", space, *addr),
         Command::Notified { number } => push_notified(text, *number),
         Command::Dirty { region, client } => push_dirty(text, region, *client),
-        Command::PassEnter { .. }
-        | Command::PassLeave { .. }
-        | Command::PassRead { .. }
-        | Command::PassWrite { .. }
-        | Command::PassDo { .. }
-        | Command::PassDma { .. }
-        | Command::Par
-        | Command::End => push_pass_line(text, command),
-        _ => push_region_line(text, command),
+        Command::Pass { pass, command } => push_pass_line(text, *pass, command),
+        Command::Par => push_bare(text, b"par"),
+        Command::End => push_bare(text, b"end"),
     }
 }

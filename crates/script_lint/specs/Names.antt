@@ -4,20 +4,14 @@ use Rattle.mem_base.specs.declared.script.changes.MapChange.{MapChange}
 use Rattle.mem_base.specs.declared.script.changes.MapChange.TheVariants as changes
 use Rattle.mem_base.specs.declared.script.commands.Command.{Command}
 use Rattle.mem_base.specs.declared.script.commands.Command.TheVariants as commands
+use Rattle.mem_base.specs.declared.script.commands.PassCommand.TheVariants as pass_commands
 use Rattle.mem_base.specs.script.Spelling.{Text}
 use Rattle.script_lint.specs.declared.names.Sort.{Sort}
 use Rattle.script_lint.specs.declared.names.Sort.TheVariants as sorts
 
 -- the name that a command makes, if it makes one
 abbrev pub made_name : Command → Option Text
-made_name (commands.RegionContainer name size) = Some name
-made_name (commands.RegionRam name size) = Some name
-made_name (commands.RegionRom name size) = Some name
-made_name (commands.RegionRomDevice name size device) = Some name
-made_name (commands.RegionIo name size device) = Some name
-made_name (commands.RegionIommu name size) = Some name
-made_name (commands.RegionAlias name size target offset) = Some name
-made_name (commands.RegionReserve name size) = Some name
+made_name (commands.Region name size kind) = Some name
 made_name (commands.Space name root) = Some name
 made_name (commands.Listen name space priority) = Some name
 made_name (commands.Watch name region first last) = Some name
@@ -56,11 +50,11 @@ abbrev pub asks : Command → Sort → Bool
 asks (commands.Listen name space priority) sort = is_space sort
 asks (commands.Show space) sort = is_space sort
 asks (commands.At space addr) sort = is_space sort
-asks (commands.PassRead pass space addr len) sort = is_space sort
-asks (commands.PassWrite pass space addr bytes) sort = is_space sort
-asks (commands.PassDma pass space addr len to_space to_addr) sort = is_space sort
+asks (commands.Pass pass (pass_commands.Read space addr len)) sort = is_space sort
+asks (commands.Pass pass (pass_commands.Write space addr bytes)) sort = is_space sort
+asks (commands.Pass pass (pass_commands.Dma space addr len to_space to_addr)) sort = is_space sort
 asks (commands.Unlisten name) sort = is_listener sort
 asks (commands.Unwatch name) sort = is_watcher sort
 asks (commands.Change change) sort = change_asks change sort
-asks (commands.PassDo pass change) sort = change_asks change sort
+asks (commands.Pass pass (pass_commands.Do change)) sort = change_asks change sort
 asks _ sort = is_region sort

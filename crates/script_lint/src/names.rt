@@ -2,7 +2,7 @@
 ghost use Rattle.std.specs.Prelude.{◌≡◌, option_map};
 ghost use Rattle.script_lint.specs.Names.{asks, change_asks, is_listener, is_region, is_space, is_watcher, made_name, made_sort};
 
-use mem_base::{Command, MapChange, Name};
+use mem_base::{Command, MapChange, Name, PassCommand};
 
 /// Whose name it is.
 #[derive(Clone, Copy, Debug, PartialEq, Eq)]
@@ -18,14 +18,7 @@ pub(crate) fn made_name(command: &Command) -> Option<&Name>
     ensures { option_map (λ n. n.now) result ≡ made_name command.now }
 {
     match command {
-        Command::RegionContainer { name, .. } => Some(name),
-        Command::RegionRam { name, .. } => Some(name),
-        Command::RegionRom { name, .. } => Some(name),
-        Command::RegionRomDevice { name, .. } => Some(name),
-        Command::RegionIo { name, .. } => Some(name),
-        Command::RegionIommu { name, .. } => Some(name),
-        Command::RegionAlias { name, .. } => Some(name),
-        Command::RegionReserve { name, .. } => Some(name),
+        Command::Region { name, .. } => Some(name),
         Command::Space { name, .. } => Some(name),
         Command::Listen { name, .. } => Some(name),
         Command::Watch { name, .. } => Some(name),
@@ -87,13 +80,25 @@ pub(crate) fn asks(command: &Command, sort: Sort) -> bool
         Command::Listen { .. } => is_space(sort),
         Command::Show { .. } => is_space(sort),
         Command::At { .. } => is_space(sort),
-        Command::PassRead { .. } => is_space(sort),
-        Command::PassWrite { .. } => is_space(sort),
-        Command::PassDma { .. } => is_space(sort),
+        Command::Pass {
+            command: PassCommand::Read { .. },
+            ..
+        } => is_space(sort),
+        Command::Pass {
+            command: PassCommand::Write { .. },
+            ..
+        } => is_space(sort),
+        Command::Pass {
+            command: PassCommand::Dma { .. },
+            ..
+        } => is_space(sort),
         Command::Unlisten { .. } => is_listener(sort),
         Command::Unwatch { .. } => is_watcher(sort),
         Command::Change(change) => change_asks(change, sort),
-        Command::PassDo { change, .. } => change_asks(change, sort),
+        Command::Pass {
+            command: PassCommand::Do(change),
+            ..
+        } => change_asks(change, sort),
         _ => is_region(sort),
     }
 }

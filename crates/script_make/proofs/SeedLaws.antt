@@ -16,6 +16,8 @@ use Rattle.rand_pcg.specs.Pcg.{multiplier_64, pcg32}
 use Rattle.mem_base.specs.declared.script.changes.MapChange.TheVariants as changes
 use Rattle.mem_base.specs.declared.script.commands.Command.{Command}
 use Rattle.mem_base.specs.declared.script.commands.Command.TheVariants as commands
+use Rattle.mem_base.specs.declared.script.commands.PassCommand.TheVariants as pass_commands
+use Rattle.mem_base.specs.declared.script.commands.RegionKind.TheVariants as region_kinds
 use Rattle.mem_base.specs.script.Spelling.{Text, bytes_of, length_of, may_follow, most_address, most_size, name_of, number_of, pass_of}
 use Rattle.mem_base.specs.declared.script.places.PlaceRule.TheVariants.{Anywhere}
 use Rattle.mem_base.specs.declared.script.places.Section.TheVariants.{Start, Setup}
@@ -165,20 +167,20 @@ stand_append [] ds a b = b
 stand_append (c ∷ cs) ds a b = (a.0, stand_append cs ds a.1 b)
 
 ram_line : (n s name : Text) (size : ℕ) → name_of n ≡ Some name → number_of most_size s ≡ Some size
-    → command (codes "region" ∷ n ∷ codes "ram" ∷ s ∷ []) ≡ Ok (commands.RegionRam name size)
+    → command (codes "region" ∷ n ∷ codes "ram" ∷ s ∷ []) ≡ Ok (commands.Region name size region_kinds.Ram)
 ram_line n s name size a b = rw (a, b) refl
 
 container_line : (n s name : Text) (size : ℕ) → name_of n ≡ Some name → number_of most_size s ≡ Some size
-    → command (codes "region" ∷ n ∷ codes "container" ∷ s ∷ []) ≡ Ok (commands.RegionContainer name size)
+    → command (codes "region" ∷ n ∷ codes "container" ∷ s ∷ []) ≡ Ok (commands.Region name size region_kinds.Container)
 container_line n s name size a b = rw (a, b) refl
 
 latch_line : (n s name : Text) (size : ℕ) → name_of n ≡ Some name → number_of most_size s ≡ Some size
-    → command (codes "region" ∷ n ∷ codes "io" ∷ s ∷ codes "latch" ∷ []) ≡ Ok (commands.RegionIo name size latch)
+    → command (codes "region" ∷ n ∷ codes "io" ∷ s ∷ codes "latch" ∷ []) ≡ Ok (commands.Region name size (region_kinds.Io latch))
 latch_line n s name size a b = rw (a, b) refl
 
 alias_line : (n s t o name target : Text) (size offset : ℕ) → name_of n ≡ Some name → number_of most_size s ≡ Some size → name_of t ≡ Some target
     → number_of most_address o ≡ Some offset
-    → command (codes "region" ∷ n ∷ codes "alias" ∷ s ∷ t ∷ o ∷ []) ≡ Ok (commands.RegionAlias name size target offset)
+    → command (codes "region" ∷ n ∷ codes "alias" ∷ s ∷ t ∷ o ∷ []) ≡ Ok (commands.Region name size (region_kinds.Alias target offset))
 alias_line n s t o name target size offset a b c d = rw (a, b, c, d) refl
 
 add_line_reads : (p o c parent child : Text) (offset : ℕ) (z : ℤ) (tokens : List Text) → name_of p ≡ Some parent → number_of most_address o ≡ Some offset
@@ -192,12 +194,12 @@ move_line c o child offset a b = rw (a, b) refl
 
 read_line : (pass : ℕ) (s a n space : Text) (addr len : ℕ) → pass_of (pass_text (record { 0 = pass })) ≡ Some pass → name_of s ≡ Some space
     → number_of most_address a ≡ Some addr → length_of n ≡ Some len
-    → command (pass_text (record { 0 = pass }) ∷ codes "read" ∷ s ∷ a ∷ n ∷ []) ≡ Ok (commands.PassRead (record { 0 = pass }) space addr len)
+    → command (pass_text (record { 0 = pass }) ∷ codes "read" ∷ s ∷ a ∷ n ∷ []) ≡ Ok (commands.Pass (record { 0 = pass }) (pass_commands.Read space addr len))
 read_line pass s a n space addr len b c d e = rw (b, c, d, e) refl
 
 write_line : (pass : ℕ) (s a t space : Text) (addr : ℕ) (bytes : List ℕ) → pass_of (pass_text (record { 0 = pass })) ≡ Some pass → name_of s ≡ Some space
     → number_of most_address a ≡ Some addr → bytes_of t ≡ Some bytes
-    → command (pass_text (record { 0 = pass }) ∷ codes "write" ∷ s ∷ a ∷ t ∷ []) ≡ Ok (commands.PassWrite (record { 0 = pass }) space addr bytes)
+    → command (pass_text (record { 0 = pass }) ∷ codes "write" ∷ s ∷ a ∷ t ∷ []) ≡ Ok (commands.Pass (record { 0 = pass }) (pass_commands.Write space addr bytes))
 write_line pass s a t space addr bytes b c d e = rw (b, c, d, e) refl
 
 -- What is drawn
@@ -208,33 +210,33 @@ below_drawn next n g some = mod-lt (next g).0 some
 page_drawn : {G : Type 0} (next : Generator G) (n : ℕ) (g : G) → 0 < n → n ≤ 4096 → (draw_page next n g).0 < 2 ^ 24
 page_drawn next n g some few = let low = below_drawn next n g some in omega (arith, low, few)
 
-ram_fine : (i : ℕ) → i < 2000 → Fine 44 (commands.RegionRam (region_name i) 0x1000)
+ram_fine : (i : ℕ) → i < 2000 → Fine 44 (commands.Region (region_name i) 0x1000 region_kinds.Ram)
 ram_fine i h =
     let name = name_long i h in let size = number_long 0x1000 (omega arith) in (
       (
-        command_again (codes "region" ∷ region_name i ∷ codes "ram" ∷ number_text 0x1000 ∷ []) (commands.RegionRam (region_name i) 0x1000)
+        command_again (codes "region" ∷ region_name i ∷ codes "ram" ∷ number_text 0x1000 ∷ []) (commands.Region (region_name i) 0x1000 region_kinds.Ram)
             (ram_line (region_name i) (number_text 0x1000) (region_name i) 0x1000 (name_reads i h) (size_reads 0x1000 (omega arith))),
         refl,
       ),
       omega (arith, name, size),
     )
 
-container_fine : (i : ℕ) → i < 2000 → Fine 44 (commands.RegionContainer (region_name i) 0x4000)
+container_fine : (i : ℕ) → i < 2000 → Fine 44 (commands.Region (region_name i) 0x4000 region_kinds.Container)
 container_fine i h =
     let name = name_long i h in let size = number_long 0x4000 (omega arith) in (
       (
-        command_again (codes "region" ∷ region_name i ∷ codes "container" ∷ number_text 0x4000 ∷ []) (commands.RegionContainer (region_name i) 0x4000)
+        command_again (codes "region" ∷ region_name i ∷ codes "container" ∷ number_text 0x4000 ∷ []) (commands.Region (region_name i) 0x4000 region_kinds.Container)
             (container_line (region_name i) (number_text 0x4000) (region_name i) 0x4000 (name_reads i h) (size_reads 0x4000 (omega arith))),
         refl,
       ),
       omega (arith, name, size),
     )
 
-latch_fine : (i : ℕ) → i < 2000 → Fine 44 (commands.RegionIo (region_name i) 0x1000 latch)
+latch_fine : (i : ℕ) → i < 2000 → Fine 44 (commands.Region (region_name i) 0x1000 (region_kinds.Io latch))
 latch_fine i h =
     let name = name_long i h in let size = number_long 0x1000 (omega arith) in (
       (
-        command_again (codes "region" ∷ region_name i ∷ codes "io" ∷ number_text 0x1000 ∷ codes "latch" ∷ []) (commands.RegionIo (region_name i) 0x1000 latch)
+        command_again (codes "region" ∷ region_name i ∷ codes "io" ∷ number_text 0x1000 ∷ codes "latch" ∷ []) (commands.Region (region_name i) 0x1000 (region_kinds.Io latch))
             (latch_line (region_name i) (number_text 0x1000) (region_name i) 0x1000 (name_reads i h) (size_reads 0x1000 (omega arith))),
         refl,
       ),
@@ -242,12 +244,12 @@ latch_fine i h =
     )
 
 alias_fine : (i target offset : ℕ) → i < 2000 → target < 2000 → offset < 2 ^ 24
-    → Fine 44 (commands.RegionAlias (region_name i) 0x1000 (region_name target) offset)
+    → Fine 44 (commands.Region (region_name i) 0x1000 (region_kinds.Alias (region_name target) offset))
 alias_fine i target offset h k o =
     let name = name_long i h in let size = number_long 0x1000 (omega arith) in let other = name_long target k in let at = number_long offset o in (
       (
         command_again (codes "region" ∷ region_name i ∷ codes "alias" ∷ number_text 0x1000 ∷ region_name target ∷ number_text offset ∷ [])
-            (commands.RegionAlias (region_name i) 0x1000 (region_name target) offset)
+            (commands.Region (region_name i) 0x1000 (region_kinds.Alias (region_name target) offset))
             (alias_line (region_name i) (number_text 0x1000) (region_name target) (number_text offset) (region_name i) (region_name target) 0x1000 offset
             (name_reads i h) (size_reads 0x1000 (omega arith)) (name_reads target k) (address_reads offset o)),
         refl,
@@ -268,8 +270,8 @@ region_fine {G} next i k g h some = by (k == 0) (k == 1) (k == 2) some
         alias_fine i (draw next i g).0 (draw_page next 4 (draw next i g).1).0 h (omega (arith, target, h)) (page_drawn next 4 (draw next i g).1 (omega arith) (omega arith))
 
     by : (a b c : Bool) → (c ≡ true → 0 < i)
-        → Fine 44 (cond a (give (commands.RegionRam (region_name i) 0x1000)) (cond b (give (commands.RegionIo (region_name i) 0x1000 latch))
-        (cond c (draw_alias next i) (give (commands.RegionContainer (region_name i) 0x4000)))) g).0
+        → Fine 44 (cond a (give (commands.Region (region_name i) 0x1000 region_kinds.Ram)) (cond b (give (commands.Region (region_name i) 0x1000 (region_kinds.Io latch)))
+        (cond c (draw_alias next i) (give (commands.Region (region_name i) 0x4000 region_kinds.Container)))) g).0
     by true b c some = ram_fine i h
     by false true c some = latch_fine i h
     by false false true some = other (some refl)
@@ -362,12 +364,12 @@ bytes_drawn next (suc n) g =
     let rest = bytes_drawn next n (draw next 256 g).1 in
     ((byte, rest.0), omega (arith, rest.1))
 
-read_fine : (pass addr len : ℕ) → pass < 16 → addr < 2 ^ 24 → len < 8 → Fine 39 (commands.PassRead (record { 0 = pass }) space addr (1 + len))
+read_fine : (pass addr len : ℕ) → pass < 16 → addr < 2 ^ 24 → len < 8 → Fine 39 (commands.Pass (record { 0 = pass }) (pass_commands.Read space addr (1 + len)))
 read_fine pass addr len p a l =
     let who = decimal_long pass p in let at = number_long addr a in let many = digit_long (1 + len) (omega (arith, l)) in (
       (
         command_again (pass_text (record { 0 = pass }) ∷ codes "read" ∷ space ∷ number_text addr ∷ decimal (1 + len) ∷ [])
-            (commands.PassRead (record { 0 = pass }) space addr (1 + len))
+            (commands.Pass (record { 0 = pass }) (pass_commands.Read space addr (1 + len)))
             (read_line pass space (number_text addr) (decimal (1 + len)) space addr (1 + len) (pass_reads pass p) refl (address_reads addr a) (length_reads len l)),
         refl,
       ),
@@ -375,12 +377,12 @@ read_fine pass addr len p a l =
     )
 
 write_fine : (pass addr : ℕ) (bytes : List ℕ) → pass < 16 → addr < 2 ^ 24 → AllBytes bytes → 1 ≤ length bytes → length bytes ≤ 8
-    → Fine 39 (commands.PassWrite (record { 0 = pass }) space addr bytes)
+    → Fine 39 (commands.Pass (record { 0 = pass }) (pass_commands.Write space addr bytes))
 write_fine pass addr bytes p a all some few =
     let who = decimal_long pass p in let at = number_long addr a in let many = bytes_long bytes in (
       (
         command_again (pass_text (record { 0 = pass }) ∷ codes "write" ∷ space ∷ number_text addr ∷ bytes_text bytes ∷ [])
-            (commands.PassWrite (record { 0 = pass }) space addr bytes)
+            (commands.Pass (record { 0 = pass }) (pass_commands.Write space addr bytes))
             (write_line pass space (number_text addr) (bytes_text bytes) space addr bytes (pass_reads pass p) refl (address_reads addr a)
             (write_reads bytes all some few)),
         refl,
@@ -392,7 +394,7 @@ way_fine : {G : Type 0} (next : Generator G) (way pass addr len : ℕ) (g : G) �
     → Fine 39 (draw_way next way (record { 0 = pass }) addr (1 + len) g).0
 way_fine {G} next way pass addr len g p a l = by (way == 0)
   where
-    by : (b : Bool) → Fine 39 (cond b (give (commands.PassRead (record { 0 = pass }) space addr (1 + len))) (draw_write next (record { 0 = pass }) addr (1 + len)) g).0
+    by : (b : Bool) → Fine 39 (cond b (give (commands.Pass (record { 0 = pass }) (pass_commands.Read space addr (1 + len)))) (draw_write next (record { 0 = pass }) addr (1 + len)) g).0
     by true = read_fine pass addr len p a l
     by false =
         let bytes = bytes_drawn next (1 + len) g in
@@ -469,8 +471,8 @@ machine_reads : ReadsAsItself (commands.Machine 0x1000000)
 machine_reads =
     command_again (codes "machine" ∷ codes "0x1000000" ∷ []) (commands.Machine 0x1000000) refl
 
-root_reads : ReadsAsItself (commands.RegionContainer root 0x40000000)
-root_reads = command_again (codes "region" ∷ root ∷ codes "container" ∷ codes "0x40000000" ∷ []) (commands.RegionContainer root 0x40000000) refl
+root_reads : ReadsAsItself (commands.Region root 0x40000000 region_kinds.Container)
+root_reads = command_again (codes "region" ∷ root ∷ codes "container" ∷ codes "0x40000000" ∷ []) (commands.Region root 0x40000000 region_kinds.Container) refl
 
 last_sound : (m : ℕ) → Sound Setup (numbered_commands m (commands.Show space ∷ []))
 last_sound m = (command_again (codes "show" ∷ space ∷ []) (commands.Show space) refl, (Setup, refl, refl))
@@ -504,7 +506,7 @@ whole_long regions accesses a b =
     let last = commands.Show space ∷ [] in
     let long = printed_long 1 (made_of regions accesses) in
     let whole : costs (made_of regions accesses)
-    ≡ cost (commands.Machine 0x1000000) + (cost (commands.RegionContainer root 0x40000000) + (7 + (13 + costs (middle ++ last)))) = refl in
+    ≡ cost (commands.Machine 0x1000000) + (cost (commands.Region root 0x40000000 region_kinds.Container) + (7 + (13 + costs (middle ++ last)))) = refl in
     let all : costs (middle ++ last) ≡ costs middle + 8 = costs_append middle last in
     let front : costs middle ≡ costs regions + (8 + costs accesses) = costs_append regions (commands.Commit ∷ accesses) in
     let machine = size_long 0x1000000 (omega arith) in

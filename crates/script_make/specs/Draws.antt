@@ -3,6 +3,7 @@ use Rattle.std.specs.Prelude.{◌≡◌, ◌+◌, ◌++◌, suc, [], ◌∷◌, 
 use Rattle.mem_base.specs.declared.map.ids.PassId.{PassId}
 use Rattle.mem_base.specs.declared.script.commands.Command.{Command}
 use Rattle.mem_base.specs.declared.script.commands.Command.TheVariants as commands
+use Rattle.mem_base.specs.declared.script.commands.PassCommand.TheVariants as pass_commands
 use Rattle.mem_base.specs.script.Make.{Drawn, Generator, draw, draw_access, draw_accesses, draw_regions, draw_write, give, space}
 
 -- a priority from -2 to 2
@@ -15,7 +16,7 @@ draw_len next g = let x = draw next 8 g in (1 + x.0, x.1)
 
 -- a read, or else a write of bytes that are drawn
 abbrev pub draw_either : {G : Type 0} → Generator G → Bool → PassId → ℕ → ℕ → Drawn G Command
-draw_either next reads pass addr len = if reads then give (commands.PassRead pass space addr len) else draw_write next pass addr len
+draw_either next reads pass addr len = if reads then give (commands.Pass pass (pass_commands.Read space addr len)) else draw_write next pass addr len
 
 -- what was made so far, and then what a list of draws gives
 abbrev pub onto : {X G : Type 0} → List X → List X × G → List X × G

@@ -5,7 +5,7 @@ ghost use Rattle.script_make.specs.Draws.{AccessPushed, Appended, AccessDrawn, d
 ghost use Rattle.rand_pcg.specs.Pcg.{pcg32};
 
 use crate::draws::{draw, draw_page, name_of, region_name};
-use mem_base::{Bytes, Command, MapChange, PassId};
+use mem_base::{Bytes, Command, MapChange, PassCommand, PassId};
 use rand_pcg::Lcg64Xsh32;
 use std::alloc::{AllocError, Global};
 
@@ -78,20 +78,20 @@ fn draw_way(
     ensures { IfOk result (λ command. (command, rng.new) ≡ draw_either pcg32 reads pass addr len rng.old) }
 {
     if reads {
-        return Ok(Command::PassRead {
-            pass,
+        let command = PassCommand::Read {
             space: name_of(alloc, b"s")?,
             addr,
             len,
-        });
+        };
+        return Ok(Command::Pass { pass, command });
     }
     let bytes = draw_bytes(alloc, rng, len)?;
-    Ok(Command::PassWrite {
-        pass,
+    let command = PassCommand::Write {
         space: name_of(alloc, b"s")?,
         addr,
         bytes: Bytes::new(bytes),
-    })
+    };
+    Ok(Command::Pass { pass, command })
 }
 
 // A length of 1 to 8 bytes.

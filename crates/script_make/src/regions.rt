@@ -6,7 +6,7 @@ ghost use Rattle.rand_pcg.specs.Pcg.{pcg32};
 ghost use Rattle.script_make.specs.Draws.{Pushed, RegionPushed, draw_priority, first_regions};
 
 use crate::draws::{draw, draw_page, name_of, region_name};
-use mem_base::{Command, Device, DeviceKind, MapChange, Ops, Size};
+use mem_base::{Command, Device, DeviceKind, MapChange, Ops, RegionKind, Size};
 use rand_pcg::Lcg64Xsh32;
 use std::alloc::{AllocError, Global};
 
@@ -55,11 +55,13 @@ fn draw_alias(alloc: Global, rng: &mut Lcg64Xsh32, i: u32) -> Result<Command, Al
 {
     let target = draw(rng, i);
     let offset = draw_page(rng, 4);
-    Ok(Command::RegionAlias {
+    Ok(Command::Region {
         name: region_name(alloc, i)?,
         size: size_of(0x1000),
-        target: region_name(alloc, target)?,
-        offset,
+        kind: RegionKind::Alias {
+            target: region_name(alloc, target)?,
+            offset,
+        },
     })
 }
 
@@ -73,25 +75,27 @@ fn draw_region(
     ensures { IfOk result (λ command. (command, rng.new) ≡ draw_region pcg32 i kind rng.old) }
 {
     if kind == 0 {
-        return Ok(Command::RegionRam {
+        return Ok(Command::Region {
             name: region_name(alloc, i)?,
             size: size_of(0x1000),
+            kind: RegionKind::Ram,
         });
     }
     if kind == 1 {
-        return Ok(Command::RegionIo {
+        return Ok(Command::Region {
             name: region_name(alloc, i)?,
             size: size_of(0x1000),
-            device: latch(),
+            kind: RegionKind::Io(latch()),
         });
     }
     if kind == 2 {
         let alias = draw_alias(alloc, rng, i)?;
         return Ok(alias);
     }
-    Ok(Command::RegionContainer {
+    Ok(Command::Region {
         name: region_name(alloc, i)?,
         size: size_of(0x4000),
+        kind: RegionKind::Container,
     })
 }
 

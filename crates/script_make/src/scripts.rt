@@ -6,7 +6,7 @@ ghost use Rattle.script_make.specs.Texts.{commands_of_seed};
 use crate::accesses::draw_accesses;
 use crate::draws::name_of;
 use crate::regions::{draw_regions, size_of};
-use mem_base::Command;
+use mem_base::{Command, RegionKind};
 use rand_pcg::Lcg64Xsh32;
 use std::alloc::{AllocError, Global};
 
@@ -22,9 +22,10 @@ fn made_of(
     commands.push(Command::Machine {
         size: size_of(0x1000000),
     })?;
-    commands.push(Command::RegionContainer {
+    commands.push(Command::Region {
         name: name_of(alloc, b"sys")?,
         size: size_of(0x40000000),
+        kind: RegionKind::Container,
     })?;
     commands.push(Command::Begin)?;
     commands.push(Command::Space {

@@ -13,6 +13,8 @@ use Rattle.mem_base.specs.declared.script.faults.Cause.TheVariants as causes
 use Rattle.mem_base.specs.declared.script.changes.MapChange.TheVariants as changes
 use Rattle.mem_base.specs.declared.script.commands.Command.{Command}
 use Rattle.mem_base.specs.declared.script.commands.Command.TheVariants as commands
+use Rattle.mem_base.specs.declared.script.commands.RegionKind.TheVariants as region_kinds
+use Rattle.mem_base.specs.declared.script.commands.PassCommand.TheVariants as pass_commands
 use Rattle.mem_base.specs.lists.Every.{Every}
 use Rattle.mem_base.specs.script.Spelling.{Text, bytes_of, digits, length_of, machine_size, most_address, most_size, name_of, number_of, pass_of, priority_of, range_of}
 use Rattle.mem_base.specs.script.Operands.{◌>>=◌, Form, Operand, address, bytes, client, clients, decimal_number, ends, ends_after_options, flag, give, keyword, last_data, last_priority}
@@ -235,18 +237,18 @@ with_device make = size_then _ (λ n. device_ends (make n))
 
 kinds_good : (name : Text) → Every (λ e. Good e.1) (region.region_forms name)
 kinds_good n = (
-  sized (commands.RegionContainer n),
+  sized (λ a. commands.Region n a region_kinds.Container),
   (
-    sized (commands.RegionRam n),
+    sized (λ a. commands.Region n a region_kinds.Ram),
     (
-      sized (commands.RegionRom n),
+      sized (λ a. commands.Region n a region_kinds.Rom),
       (
-        with_device (commands.RegionRomDevice n),
+        with_device (λ a d. commands.Region n a (region_kinds.RomDevice d)),
         (
-          with_device (commands.RegionIo n),
+          with_device (λ a d. commands.Region n a (region_kinds.Io d)),
           (
-            sized (commands.RegionIommu n),
-            (size_then _ (λ a. name_then _ (λ b. one_address (commands.RegionAlias n a b))), (sized (commands.RegionReserve n), tt)),
+            sized (λ a. commands.Region n a region_kinds.Iommu),
+            (size_then _ (λ a. name_then _ (λ b. one_address (λ c. commands.Region n a (region_kinds.Alias b c)))), (sized (λ a. commands.Region n a region_kinds.Reserve), tt)),
           ),
         ),
       ),
@@ -266,16 +268,16 @@ bytes_at make = name_then _ (λ a. address_then _ (λ b. bytes_then _ (λ c. goo
 
 deeds_good : (p : PassId) → Every (λ e. Good e.1) (pass.pass_forms p)
 deeds_good p = (
-  good_ends (commands.PassEnter p),
+  good_ends (commands.Pass p pass_commands.Enter),
   (
-    good_ends (commands.PassLeave p),
+    good_ends (commands.Pass p pass_commands.Leave),
     (
-      name_then _ (λ a. address_then _ (λ b. len_then _ (λ c. good_ends (commands.PassRead p a b c)))),
+      name_then _ (λ a. address_then _ (λ b. len_then _ (λ c. good_ends (commands.Pass p (pass_commands.Read a b c))))),
       (
-        bytes_at (commands.PassWrite p),
+        bytes_at (λ a b c. commands.Pass p (pass_commands.Write a b c)),
         (
-          good_made (commands.PassDo p) form.change change_good,
-          (name_then _ (λ a. address_then _ (λ b. len_then _ (λ c. to_then _ (λ w. name_address (commands.PassDma p a b c))))), tt),
+          good_made (λ c. commands.Pass p (pass_commands.Do c)) form.change change_good,
+          (name_then _ (λ a. address_then _ (λ b. len_then _ (λ c. to_then _ (λ w. name_address (λ d e. commands.Pass p (pass_commands.Dma a b c d e)))))), tt),
         ),
       ),
     ),
@@ -284,7 +286,7 @@ deeds_good p = (
 
 pass_good : (n : ℕ) → Good (pass.pass_line n)
 pass_good n =
-    good_choice (value_in (pass.pass_forms (record { 0 = n }))) (codes "enter") (ends (commands.PassEnter (record { 0 = n }))) refl refl
+    good_choice (value_in (pass.pass_forms (record { 0 = n }))) (codes "enter") (ends (commands.Pass (record { 0 = n }) pass_commands.Enter)) refl refl
     (λ t. good_in (pass.pass_forms (record { 0 = n })) t (deeds_good (record { 0 = n })))
 
 passes_good : (o : Option ℕ) → IfGood (option_map pass.pass_line o)

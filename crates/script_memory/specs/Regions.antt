@@ -3,8 +3,8 @@ use Rattle.std.specs.Prelude.{ℕ, ◌+◌, ◌==◌, ◌&&◌, not, Bool, true,
 use Rattle.std.specs.List.{list_any}
 use Rattle.mem_base.specs.declared.map.ids.RegionId.{RegionId}
 use Rattle.mem_base.specs.declared.script.commands.Command.{Command}
-use Rattle.mem_base.specs.declared.script.commands.Command.TheVariants.{RegionContainer, RegionRam, RegionRom, RegionRomDevice}
-use Rattle.mem_base.specs.declared.script.commands.Command.TheVariants.{RegionIo, RegionIommu, RegionAlias, RegionReserve}
+use Rattle.mem_base.specs.declared.script.commands.Command.TheVariants.{Region}
+use Rattle.mem_base.specs.declared.script.commands.RegionKind.TheVariants as region_kinds
 use Rattle.mem_base.specs.script.Scripts.{Line}
 use Rattle.mem_base.specs.script.Spelling.{Text}
 use Rattle.script_map.specs.Refusals.{Refused}
@@ -12,19 +12,12 @@ use Rattle.script_memory.specs.Comments.{is_commented_at, lines_commented}
 
 -- the command asks for a region
 abbrev pub asks_region : Command → Bool
-asks_region (RegionContainer name size) = true
-asks_region (RegionRam name size) = true
-asks_region (RegionRom name size) = true
-asks_region (RegionRomDevice name size device) = true
-asks_region (RegionIo name size device) = true
-asks_region (RegionIommu name size) = true
-asks_region (RegionAlias name size target offset) = true
-asks_region (RegionReserve name size) = true
+asks_region (Region name size kind) = true
 asks_region _ = false
 
 -- for a device
 abbrev pub asks_device : Command → Bool
-asks_device (RegionIo name size device) = true
+asks_device (Region name size (region_kinds.Io device)) = true
 asks_device _ = false
 
 -- the command of this line was refused

@@ -4,7 +4,7 @@ ghost use Rattle.mem_base.specs.script.Scripts.{Line};
 ghost use Rattle.script_memory.specs.Regions.{asks_device, asks_region, device_by, is_refused_at, makes_region, memory_from, memory_of};
 
 use crate::comments::{is_commented_at, lines_commented};
-use mem_base::{Command, RegionId};
+use mem_base::{Command, RegionId, RegionKind};
 use script_map::RefusedLine;
 use std::alloc::{AllocError, Global};
 
@@ -12,24 +12,20 @@ use std::alloc::{AllocError, Global};
 fn asks_region(command: &Command) -> bool
     ensures { result ≡ asks_region command.now }
 {
-    matches!(
-        command,
-        Command::RegionContainer { .. }
-            | Command::RegionRam { .. }
-            | Command::RegionRom { .. }
-            | Command::RegionRomDevice { .. }
-            | Command::RegionIo { .. }
-            | Command::RegionIommu { .. }
-            | Command::RegionAlias { .. }
-            | Command::RegionReserve { .. }
-    )
+    matches!(command, Command::Region { .. })
 }
 
 // Whether a command asks for a device.
 fn asks_device(command: &Command) -> bool
     ensures { result ≡ asks_device command.now }
 {
-    matches!(command, Command::RegionIo { .. })
+    matches!(
+        command,
+        Command::Region {
+            kind: RegionKind::Io(_),
+            ..
+        }
+    )
 }
 
 // Whether the command of a line was refused.

@@ -4,8 +4,9 @@ use Rattle.mem_base.specs.declared.map.calls.Call.{Call}
 use Rattle.mem_base.specs.declared.machine.records.DeskOrder.TheVariants as orders
 use Rattle.mem_base.specs.declared.script.commands.Command.{Command}
 use Rattle.mem_base.specs.declared.script.commands.Command.TheVariants as commands
+use Rattle.mem_base.specs.declared.script.commands.PassCommand.TheVariants as pass_commands
 use Rattle.mem_base.specs.script.Spelling.{Text}
-use Rattle.mem_base.specs.script.Tasks.{Known, Resolved, Task, change_of, known, listener_named, plain, region, space, task_of, then_resolved, unless_taken}
+use Rattle.mem_base.specs.script.Tasks.{Known, kind_of, Resolved, Task, change_of, known, listener_named, plain, region, space, task_of, then_resolved, unless_taken}
 use Rattle.mem_base.specs.script.Tasks.{watcher_named}
 use Rattle.run_laws.specs.Fitting.{FitsCommand}
 use Rattle.script_run.specs.Asking.{FitsTask}
@@ -23,14 +24,7 @@ called (Ok call) = tt
 called (Err why) = tt
 
 pub task_fits : (k : Known) (c : Command) → FitsCommand c → FitsTask (task_of k c)
-task_fits k (commands.RegionContainer name size) h = free name _ _ tt
-task_fits k (commands.RegionRam name size) h = free name _ _ tt
-task_fits k (commands.RegionRom name size) h = free name _ _ tt
-task_fits k (commands.RegionRomDevice name size device) h = free name _ _ tt
-task_fits k (commands.RegionIo name size device) h = free name _ _ tt
-task_fits k (commands.RegionIommu name size) h = free name _ _ tt
-task_fits k (commands.RegionAlias name size target offset) h = task_then (region k target) _ (λ t. free name _ _ tt)
-task_fits k (commands.RegionReserve name size) h = free name _ _ tt
+task_fits k (commands.Region name size kind) h = task_then (kind_of k kind) _ (λ it. free name _ _ tt)
 task_fits k (commands.Space name root) h = task_then (region k root) _ (λ r. free name _ _ tt)
 task_fits k (commands.Change change) h = called (change_of k change)
 task_fits k (commands.Load name offset bytes) h = task_then (region k name) _ (λ r. tt)
@@ -43,8 +37,8 @@ task_fits k (commands.Show name) h = task_then (space k name) _ (λ s. tt)
 task_fits k (commands.At name addr) h = task_then (space k name) _ (λ s. tt)
 task_fits k (commands.Notified number) h = h
 task_fits k (commands.Dirty name client) h = task_then (region k name) _ (λ r. tt)
-task_fits k (commands.PassRead pass name addr len) h = task_then (space k name) _ (λ s. h.1)
-task_fits k (commands.PassWrite pass name addr bytes) h = task_then (space k name) _ (λ s. tt)
-task_fits k (commands.PassDo pass change) h = called (change_of k change)
-task_fits k (commands.PassDma pass name addr len to_name to_addr) h = task_then (space k name) _ (λ s. task_then (space k to_name) _ (λ t. h.1))
+task_fits k (commands.Pass pass (pass_commands.Read name addr len)) h = task_then (space k name) _ (λ s. h.1)
+task_fits k (commands.Pass pass (pass_commands.Write name addr bytes)) h = task_then (space k name) _ (λ s. tt)
+task_fits k (commands.Pass pass (pass_commands.Do change)) h = called (change_of k change)
+task_fits k (commands.Pass pass (pass_commands.Dma name addr len to_name to_addr)) h = task_then (space k name) _ (λ s. task_then (space k to_name) _ (λ t. h.1))
 task_fits k _ h = tt

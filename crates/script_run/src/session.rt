@@ -52,12 +52,7 @@ fn pass_of(command: &Command) -> Option<PassId>
     ensures desk { result ≡ None → actor_number command.now ≡ desk_number }
 {
     match command {
-        Command::PassEnter { pass }
-        | Command::PassLeave { pass }
-        | Command::PassRead { pass, .. }
-        | Command::PassWrite { pass, .. }
-        | Command::PassDo { pass, .. }
-        | Command::PassDma { pass, .. } => Some(*pass),
+        Command::Pass { pass, .. } => Some(*pass),
         _ => None,
     }
 }

@@ -17,7 +17,7 @@ show S\n";
 // Whether the lines of the block are noted as those of v4, the desk, v1 and v4.
 fn is_noted(whose: &Result<Vec<u8>, AllocError>) -> bool {
     match whose {
-        Ok(whose) => whose.as_slice() == [4, 16, 1, 4],
+        Ok(whose) => whose.as_slice() == [4, 16, 1, 4].as_slice(),
         Err(_) => false,
     }
 }

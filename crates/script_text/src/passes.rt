@@ -8,7 +8,7 @@ use crate::changes::change;
 use crate::desk::bare;
 use crate::stops::LineStop;
 use crate::tokens::{Tokens, new_name};
-use mem_base::{Cause, Command, PassId};
+use mem_base::{Cause, Command, PassCommand, PassId};
 use std::alloc::Global;
 
 // vN read SPACE ADDR LEN
@@ -19,12 +19,12 @@ fn read(alloc: Global, pass: PassId, tokens: &mut Tokens) -> Result<Command, Lin
     let addr = tokens.address()?;
     let len = tokens.len()?;
     tokens.ends()?;
-    Ok(Command::PassRead {
-        pass,
+    let command = PassCommand::Read {
         space: new_name(alloc, space)?,
         addr,
         len,
-    })
+    };
+    Ok(Command::Pass { pass, command })
 }
 
 // vN write SPACE ADDR BYTES
@@ -35,20 +35,20 @@ fn write(alloc: Global, pass: PassId, tokens: &mut Tokens) -> Result<Command, Li
     let addr = tokens.address()?;
     let bytes = tokens.bytes(alloc)?;
     tokens.ends()?;
-    Ok(Command::PassWrite {
-        pass,
+    let command = PassCommand::Write {
         space: new_name(alloc, space)?,
         addr,
         bytes,
-    })
+    };
+    Ok(Command::Pass { pass, command })
 }
 
 // vN do COMMAND
 fn do_change(alloc: Global, pass: PassId, tokens: &mut Tokens) -> Result<Command, LineStop>
     ensures { Reads result (pass_do pass tokens.old) }
 {
-    let change = change(alloc, tokens)?;
-    Ok(Command::PassDo { pass, change })
+    let command = PassCommand::Do(change(alloc, tokens)?);
+    Ok(Command::Pass { pass, command })
 }
 
 // vN dma SPACE ADDR LEN to SPACE ADDR
@@ -62,14 +62,14 @@ fn dma(alloc: Global, pass: PassId, tokens: &mut Tokens) -> Result<Command, Line
     let to_space = tokens.name()?;
     let to_addr = tokens.address()?;
     tokens.ends()?;
-    Ok(Command::PassDma {
-        pass,
+    let command = PassCommand::Dma {
         space: new_name(alloc, space)?,
         addr,
         len,
         to_space: new_name(alloc, to_space)?,
         to_addr,
-    })
+    };
+    Ok(Command::Pass { pass, command })
 }
 
 // What a word and the tokens after it say that the pass does.
@@ -82,9 +82,11 @@ fn pass_named(
     ensures { Reads result (chosen (value_in (pass_forms pass) word.now) tokens.old) }
 {
     if word == b"enter".as_slice() {
-        bare(tokens, Command::PassEnter { pass })
+        let command = PassCommand::Enter;
+        bare(tokens, Command::Pass { pass, command })
     } else if word == b"leave".as_slice() {
-        bare(tokens, Command::PassLeave { pass })
+        let command = PassCommand::Leave;
+        bare(tokens, Command::Pass { pass, command })
     } else if word == b"read".as_slice() {
         read(alloc, pass, tokens)
     } else if word == b"write".as_slice() {

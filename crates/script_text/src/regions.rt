@@ -6,7 +6,7 @@ ghost use Rattle.script_text.specs.Reads.{Reads, chosen};
 
 use crate::stops::LineStop;
 use crate::tokens::{Tokens, new_name};
-use mem_base::{Cause, Command, Device, Ops};
+use mem_base::{Cause, Command, Device, Ops, RegionKind};
 use std::alloc::Global;
 
 // DEVICE: latch|count|bell|fault [regs REGS] [valid A-B] [impl A-B] [vunaligned] [iunaligned] [big]
@@ -41,9 +41,10 @@ fn container(alloc: Global, name: &[u8], tokens: &mut Tokens) -> Result<Command,
 {
     let size = tokens.size()?;
     tokens.ends()?;
-    Ok(Command::RegionContainer {
+    Ok(Command::Region {
         name: new_name(alloc, name)?,
         size,
+        kind: RegionKind::Container,
     })
 }
 
@@ -53,9 +54,10 @@ fn ram(alloc: Global, name: &[u8], tokens: &mut Tokens) -> Result<Command, LineS
 {
     let size = tokens.size()?;
     tokens.ends()?;
-    Ok(Command::RegionRam {
+    Ok(Command::Region {
         name: new_name(alloc, name)?,
         size,
+        kind: RegionKind::Ram,
     })
 }
 
@@ -65,9 +67,10 @@ fn rom(alloc: Global, name: &[u8], tokens: &mut Tokens) -> Result<Command, LineS
 {
     let size = tokens.size()?;
     tokens.ends()?;
-    Ok(Command::RegionRom {
+    Ok(Command::Region {
         name: new_name(alloc, name)?,
         size,
+        kind: RegionKind::Rom,
     })
 }
 
@@ -78,10 +81,10 @@ fn romdev(alloc: Global, name: &[u8], tokens: &mut Tokens) -> Result<Command, Li
     let size = tokens.size()?;
     let device = device(tokens)?;
     tokens.ends_after_options(device.ops.big)?;
-    Ok(Command::RegionRomDevice {
+    Ok(Command::Region {
         name: new_name(alloc, name)?,
         size,
-        device,
+        kind: RegionKind::RomDevice(device),
     })
 }
 
@@ -92,10 +95,10 @@ fn io(alloc: Global, name: &[u8], tokens: &mut Tokens) -> Result<Command, LineSt
     let size = tokens.size()?;
     let device = device(tokens)?;
     tokens.ends_after_options(device.ops.big)?;
-    Ok(Command::RegionIo {
+    Ok(Command::Region {
         name: new_name(alloc, name)?,
         size,
-        device,
+        kind: RegionKind::Io(device),
     })
 }
 
@@ -105,9 +108,10 @@ fn iommu(alloc: Global, name: &[u8], tokens: &mut Tokens) -> Result<Command, Lin
 {
     let size = tokens.size()?;
     tokens.ends()?;
-    Ok(Command::RegionIommu {
+    Ok(Command::Region {
         name: new_name(alloc, name)?,
         size,
+        kind: RegionKind::Iommu,
     })
 }
 
@@ -119,11 +123,13 @@ fn alias(alloc: Global, name: &[u8], tokens: &mut Tokens) -> Result<Command, Lin
     let target = tokens.name()?;
     let offset = tokens.address()?;
     tokens.ends()?;
-    Ok(Command::RegionAlias {
+    Ok(Command::Region {
         name: new_name(alloc, name)?,
         size,
-        target: new_name(alloc, target)?,
-        offset,
+        kind: RegionKind::Alias {
+            target: new_name(alloc, target)?,
+            offset,
+        },
     })
 }
 
@@ -133,9 +139,10 @@ fn reserve(alloc: Global, name: &[u8], tokens: &mut Tokens) -> Result<Command, L
 {
     let size = tokens.size()?;
     tokens.ends()?;
-    Ok(Command::RegionReserve {
+    Ok(Command::Region {
         name: new_name(alloc, name)?,
         size,
+        kind: RegionKind::Reserve,
     })
 }
 

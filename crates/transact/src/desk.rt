@@ -4,7 +4,7 @@ ghost use Rattle.std.specs.Arc.{arc_value};
 ghost use Rattle.mem_base.specs.declared.map.calls.Config.TheVariants as configs;
 ghost use Rattle.mem_base.specs.declared.map.forests.Forest.{Forest};
 ghost use Rattle.mem_base.specs.map.Limits.{most_nested};
-ghost use Rattle.mem_base.specs.map.Forest.{FitsTypes, IsMade};
+ghost use Rattle.mem_base.specs.map.Forest.{IsMade};
 ghost use Rattle.mem_base.specs.map.Calls.{after, answer_of, is_quiet};
 ghost use Rattle.mem_base.specs.machine.Committed.{transaction_after};
 ghost use Rattle.transact.specs.Desks.{first_state, with_state};
@@ -55,27 +55,6 @@ impl Model for Desk {
     ghost view = { λ d. desk_state (transaction d.tree d.depth d.pending) (arc_value d.current) };
 
     ghost invariant = { λ d. IsDesk (desk_state (transaction d.tree d.depth d.pending) (arc_value d.current)) d.reached.items d.noted d.spare };
-}
-
-// That an address of a call is below 2^64.
-fn fits_address(address: u64)
-    ensures { address < 2 ^ 64 }
-{}
-
-/// A law: the sizes of a call, and the address of a page, are such as their types hold. It does nothing.
-pub fn fits_types(call: &Call)
-    ensures { FitsTypes call.now }
-{
-    match *call {
-        Call::Region { size, .. } | Call::Resize { size, .. } => {
-            size.knows_most();
-        }
-        Call::Map { iova, size, .. } => {
-            fits_address(iova);
-            size.knows_most();
-        }
-        _ => {}
-    }
 }
 
 impl Desk {
@@ -188,7 +167,7 @@ impl Desk {
         ensures refused { IfErr result (λ why. why ≢ Refusal.Memory → after self.old.state.forest call.now ≡ Err why) }
         ensures unchanged { OnErr result (self.new ≡ self.old) }
     {
-        fits_types(call);
+        call.knows_fits();
         let applied = self.tree.apply(call)?;
         self.spare = lacking(self.spare.take(), call);
         self.noted = noting(self.noted.take(), call, applied);
@@ -223,7 +202,7 @@ impl Desk {
         ensures carves { (f : Forest) → after self.old.state.forest call.now ≡ Ok f → steps.new ≤ steps.old + most_carves self.old.current.forest f }
         ensures spared { IfErr result (λ why. why ≢ Refusal.Memory → steps.new ≡ steps.old) }
     {
-        fits_types(call);
+        call.knows_fits();
         let (mut tree, mut missing) = second(self.alloc, &self.tree, self.spare.take())?;
         let applied = match tree.apply(call) {
             Ok(applied) => applied,

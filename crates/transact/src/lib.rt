@@ -24,5 +24,5 @@ mod spare;
 mod touched;
 
 pub use backed::BackedDesk;
-pub use desk::{Desk, fits_types};
+pub use desk::Desk;
 pub use prepared::{Prepared, Step};

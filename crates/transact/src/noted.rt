@@ -126,20 +126,8 @@ fn changed_by(call: &Call, applied: Applied) -> Option<RegionId>
             Applied::Done => None,
         },
         Call::Add { child, .. } | Call::Del { child, .. } | Call::Move { child, .. } => Some(child),
-        Call::Retarget { alias, .. } => Some(alias),
-        Call::Resize { region, .. }
-        | Call::Enable { region, .. }
-        | Call::Readonly { region, .. }
-        | Call::Nonvolatile { region, .. }
-        | Call::Unmergeable { region, .. }
-        | Call::Romd { region, .. }
-        | Call::Log { region, .. }
-        | Call::Map { region, .. }
-        | Call::Unmap { region, .. }
-        | Call::Event { region, .. }
-        | Call::Unevent { region, .. }
-        | Call::Drop { region } => Some(region),
-        Call::Space { .. } | Call::Global { .. } => None,
+        Call::Drop { region } => Some(region),
+        _ => call.edits(),
     }
 }
 

@@ -8,6 +8,8 @@ use Rattle.mem_base.specs.declared.map.kinds.DeviceKind.TheVariants.{Latch}
 use Rattle.mem_base.specs.declared.script.changes.MapChange.TheVariants as changes
 use Rattle.mem_base.specs.declared.script.commands.Command.{Command}
 use Rattle.mem_base.specs.declared.script.commands.Command.TheVariants as commands
+use Rattle.mem_base.specs.declared.script.commands.PassCommand.TheVariants as pass_commands
+use Rattle.mem_base.specs.declared.script.commands.RegionKind.TheVariants as region_kinds
 use Rattle.mem_base.specs.script.Spelling.{Text}
 use Rattle.mem_base.specs.script.RegionForms.{device_with}
 
@@ -68,15 +70,15 @@ abbrev pub draw_alias : {G : Type 0} → Generator G → ℕ → Drawn G Command
 draw_alias next i = do
   target ← draw next i
   offset ← draw_page next 4
-  give (commands.RegionAlias (region_name i) 0x1000 (region_name target) offset)
+  give (commands.Region (region_name i) 0x1000 (region_kinds.Alias (region_name target) offset))
 
 -- the line that makes region i of a kind
 abbrev pub draw_region : {G : Type 0} → Generator G → ℕ → ℕ → Drawn G Command
 draw_region next i k =
-    if k == 0 then give (commands.RegionRam (region_name i) 0x1000)
-    else if k == 1 then give (commands.RegionIo (region_name i) 0x1000 latch)
+    if k == 0 then give (commands.Region (region_name i) 0x1000 region_kinds.Ram)
+    else if k == 1 then give (commands.Region (region_name i) 0x1000 (region_kinds.Io latch))
     else if k == 2 then draw_alias next i
-    else give (commands.RegionContainer (region_name i) 0x4000)
+    else give (commands.Region (region_name i) 0x4000 region_kinds.Container)
 
 -- a line that puts region i into a container
 abbrev pub add_line : Text → ℕ → ℕ → ℤ → Command
@@ -134,12 +136,12 @@ draw_bytes next (suc n) = do
 abbrev pub draw_write : {G : Type 0} → Generator G → PassId → ℕ → ℕ → Drawn G Command
 draw_write next pass addr len = do
   bytes ← draw_bytes next len
-  give (commands.PassWrite pass space addr bytes)
+  give (commands.Pass pass (pass_commands.Write space addr bytes))
 
 -- a read where the way is 0, else a write
 abbrev pub draw_way : {G : Type 0} → Generator G → ℕ → PassId → ℕ → ℕ → Drawn G Command
 draw_way next way pass addr len =
-    if way == 0 then give (commands.PassRead pass space addr len) else draw_write next pass addr len
+    if way == 0 then give (commands.Pass pass (pass_commands.Read space addr len)) else draw_write next pass addr len
 
 -- a read or a write of 1 to 8 bytes by one of 16 passes
 abbrev pub draw_access : {G : Type 0} → Generator G → Drawn G Command
@@ -165,7 +167,7 @@ draw_accesses next (suc count) t = do
 -- the whole script, with the lines of regions and the lines of accesses
 abbrev pub made_of : List Command → List Command → List Command
 made_of regions accesses =
-    commands.Machine 0x1000000 ∷ commands.RegionContainer root 0x40000000 ∷ commands.Begin ∷ commands.Space space root
+    commands.Machine 0x1000000 ∷ commands.Region root 0x40000000 region_kinds.Container ∷ commands.Begin ∷ commands.Space space root
     ∷ regions ++ commands.Commit ∷ accesses ++ commands.Show space ∷ []
 
 -- the commands of the script that a generator gives

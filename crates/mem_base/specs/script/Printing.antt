@@ -14,6 +14,10 @@ use Rattle.mem_base.specs.declared.script.changes.MapChange.{MapChange}
 use Rattle.mem_base.specs.declared.script.changes.MapChange.TheVariants as changes
 use Rattle.mem_base.specs.declared.script.commands.Command.{Command}
 use Rattle.mem_base.specs.declared.script.commands.Command.TheVariants as commands
+use Rattle.mem_base.specs.declared.script.commands.PassCommand.{PassCommand}
+use Rattle.mem_base.specs.declared.script.commands.PassCommand.TheVariants as pass_commands
+use Rattle.mem_base.specs.declared.script.commands.RegionKind.{RegionKind}
+use Rattle.mem_base.specs.declared.script.commands.RegionKind.TheVariants as region_kinds
 use Rattle.mem_base.specs.script.Spelling.{Text}
 use Rattle.mem_base.specs.script.Scripts.{Line}
 
@@ -117,22 +121,38 @@ change_tokens (changes.Event region offset size number value) =
 change_tokens (changes.Unevent region offset size value) =
     codes "unevent" ∷ region ∷ number_text offset ∷ decimal size ∷ data_tokens value
 
--- the tokens of a line that makes a region
-abbrev pub region_tokens : Text → Text → ℕ → List Text → List Text
-region_tokens name kind size tokens = codes "region" ∷ name ∷ kind ∷ number_text size ∷ tokens
+-- container|ram|rom|romdev|io|iommu|alias|reserve
+abbrev pub kind_text : RegionKind → Text
+kind_text region_kinds.Container = codes "container"
+kind_text region_kinds.Ram = codes "ram"
+kind_text region_kinds.Rom = codes "rom"
+kind_text (region_kinds.RomDevice device) = codes "romdev"
+kind_text (region_kinds.Io device) = codes "io"
+kind_text region_kinds.Iommu = codes "iommu"
+kind_text (region_kinds.Alias target offset) = codes "alias"
+kind_text region_kinds.Reserve = codes "reserve"
+
+-- what a kind takes after the size
+abbrev pub kind_tokens : RegionKind → List Text
+kind_tokens (region_kinds.RomDevice device) = device_tokens device
+kind_tokens (region_kinds.Io device) = device_tokens device
+kind_tokens (region_kinds.Alias target offset) = target ∷ number_text offset ∷ []
+kind_tokens _ = []
+
+-- the tokens of what a pass does
+abbrev pub pass_tokens : PassCommand → List Text
+pass_tokens pass_commands.Enter = codes "enter" ∷ []
+pass_tokens pass_commands.Leave = codes "leave" ∷ []
+pass_tokens (pass_commands.Read space addr len) = codes "read" ∷ space ∷ number_text addr ∷ decimal len ∷ []
+pass_tokens (pass_commands.Write space addr bytes) = codes "write" ∷ space ∷ number_text addr ∷ bytes_text bytes ∷ []
+pass_tokens (pass_commands.Do change) = codes "do" ∷ change_tokens change
+pass_tokens (pass_commands.Dma space addr len to_space to_addr) =
+    codes "dma" ∷ space ∷ number_text addr ∷ decimal len ∷ codes "to" ∷ to_space ∷ number_text to_addr ∷ []
 
 -- the tokens of a command
 abbrev pub command_tokens : Command → List Text
 command_tokens (commands.Machine size) = codes "machine" ∷ number_text size ∷ []
-command_tokens (commands.RegionContainer name size) = region_tokens name (codes "container") size []
-command_tokens (commands.RegionRam name size) = region_tokens name (codes "ram") size []
-command_tokens (commands.RegionRom name size) = region_tokens name (codes "rom") size []
-command_tokens (commands.RegionRomDevice name size device) = region_tokens name (codes "romdev") size (device_tokens device)
-command_tokens (commands.RegionIo name size device) = region_tokens name (codes "io") size (device_tokens device)
-command_tokens (commands.RegionIommu name size) = region_tokens name (codes "iommu") size []
-command_tokens (commands.RegionAlias name size target offset) =
-    region_tokens name (codes "alias") size (target ∷ number_text offset ∷ [])
-command_tokens (commands.RegionReserve name size) = region_tokens name (codes "reserve") size []
+command_tokens (commands.Region name size kind) = codes "region" ∷ name ∷ kind_text kind ∷ number_text size ∷ kind_tokens kind
 command_tokens (commands.Space name root) = codes "space" ∷ name ∷ root ∷ []
 command_tokens (commands.Change change) = change_tokens change
 command_tokens (commands.Load region offset bytes) = codes "load" ∷ region ∷ number_text offset ∷ bytes_text bytes ∷ []
@@ -149,15 +169,7 @@ command_tokens (commands.Show space) = codes "show" ∷ space ∷ []
 command_tokens (commands.At space addr) = codes "at" ∷ space ∷ number_text addr ∷ []
 command_tokens (commands.Notified number) = codes "notified" ∷ decimal number ∷ []
 command_tokens (commands.Dirty region client) = codes "dirty" ∷ region ∷ client_text client ∷ []
-command_tokens (commands.PassEnter pass) = pass_text pass ∷ codes "enter" ∷ []
-command_tokens (commands.PassLeave pass) = pass_text pass ∷ codes "leave" ∷ []
-command_tokens (commands.PassRead pass space addr len) =
-    pass_text pass ∷ codes "read" ∷ space ∷ number_text addr ∷ decimal len ∷ []
-command_tokens (commands.PassWrite pass space addr bytes) =
-    pass_text pass ∷ codes "write" ∷ space ∷ number_text addr ∷ bytes_text bytes ∷ []
-command_tokens (commands.PassDo pass change) = pass_text pass ∷ codes "do" ∷ change_tokens change
-command_tokens (commands.PassDma pass space addr len to_space to_addr) =
-    pass_text pass ∷ codes "dma" ∷ space ∷ number_text addr ∷ decimal len ∷ codes "to" ∷ to_space ∷ number_text to_addr ∷ []
+command_tokens (commands.Pass pass command) = pass_text pass ∷ pass_tokens command
 command_tokens commands.Par = codes "par" ∷ []
 command_tokens commands.End = codes "end" ∷ []
 

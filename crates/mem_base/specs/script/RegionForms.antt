@@ -5,6 +5,7 @@ use Rattle.mem_base.specs.declared.map.kinds.DeviceKind.{DeviceKind}
 use Rattle.mem_base.specs.declared.map.kinds.DeviceKind.TheVariants.{Latch, Count, Bell, Fault}
 use Rattle.mem_base.specs.declared.script.commands.Command.{Command}
 use Rattle.mem_base.specs.declared.script.commands.Command.TheVariants as commands
+use Rattle.mem_base.specs.declared.script.commands.RegionKind.TheVariants as region_kinds
 use Rattle.mem_base.specs.script.Spelling.{Text}
 use Rattle.mem_base.specs.script.Operands.{◌>>=◌, Form, Operand, address, decimal_number, ends, ends_after_options, flag, give, name}
 use Rattle.mem_base.specs.script.Operands.{one_of, optional, range, size}
@@ -53,35 +54,39 @@ with_device make = do
 
 -- container SIZE
 abbrev pub container : Text → Form Command
-container name = do ends (commands.RegionContainer name (← size))
+container name = do ends (commands.Region name (← size) region_kinds.Container)
 
 -- ram SIZE
 abbrev pub ram : Text → Form Command
-ram name = do ends (commands.RegionRam name (← size))
+ram name = do ends (commands.Region name (← size) region_kinds.Ram)
 
 -- rom SIZE
 abbrev pub rom : Text → Form Command
-rom name = do ends (commands.RegionRom name (← size))
+rom name = do ends (commands.Region name (← size) region_kinds.Rom)
 
 -- romdev SIZE DEVICE
 abbrev pub romdev : Text → Form Command
-romdev name = do with_device (commands.RegionRomDevice name (← size))
+romdev name = do
+  n ← size
+  with_device (λ d. commands.Region name n (region_kinds.RomDevice d))
 
 -- io SIZE DEVICE
 abbrev pub io : Text → Form Command
-io name = do with_device (commands.RegionIo name (← size))
+io name = do
+  n ← size
+  with_device (λ d. commands.Region name n (region_kinds.Io d))
 
 -- iommu SIZE
 abbrev pub iommu : Text → Form Command
-iommu name = do ends (commands.RegionIommu name (← size))
+iommu name = do ends (commands.Region name (← size) region_kinds.Iommu)
 
 -- alias SIZE REGION OFFSET
 abbrev pub alias : Text → Form Command
-alias region = do ends (commands.RegionAlias region (← size) (← name) (← address))
+alias region = do ends (commands.Region region (← size) (region_kinds.Alias (← name) (← address)))
 
 -- reserve SIZE
 abbrev pub reserve : Text → Form Command
-reserve name = do ends (commands.RegionReserve name (← size))
+reserve name = do ends (commands.Region name (← size) region_kinds.Reserve)
 
 -- each kind of region, with the form of what it takes
 abbrev pub region_forms : Text → List (Text × Form Command)

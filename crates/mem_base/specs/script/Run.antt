@@ -1,12 +1,18 @@
 -- What a script means: the lines that it writes. Each command is its composite in the machine that the commands before it
 -- left, a call of the writer or the steps of a pass. A command that names something which is not there writes a refusal.
 use Rattle.std.specs.Prelude.{if◌then◌else◌, ℕ, ◌+◌, ◌/◌, Bool, true, false, List, [], ◌∷◌, ◌++◌}
+use Rattle.mem_base.specs.declared.map.ids.PassId.{PassId}
+use Rattle.mem_base.specs.declared.map.kinds.Kind.{Kind}
 use Rattle.mem_base.specs.declared.map.kinds.Kind.TheVariants as kinds
 use Rattle.mem_base.specs.declared.map.calls.Call.{Call}
 use Rattle.mem_base.specs.declared.map.calls.Call.TheVariants as calls
 use Rattle.mem_base.specs.declared.map.calls.Config.TheVariants as configs
 use Rattle.mem_base.specs.declared.script.commands.Command.{Command}
 use Rattle.mem_base.specs.declared.script.commands.Command.TheVariants as commands
+use Rattle.mem_base.specs.declared.script.commands.PassCommand.{PassCommand}
+use Rattle.mem_base.specs.declared.script.commands.PassCommand.TheVariants as pass_commands
+use Rattle.mem_base.specs.declared.script.commands.RegionKind.{RegionKind}
+use Rattle.mem_base.specs.declared.script.commands.RegionKind.TheVariants as region_kinds
 use Rattle.mem_base.specs.map.Limits.{most_passes, word_size}
 use Rattle.mem_base.specs.machine.World.{opening}
 use Rattle.mem_base.specs.machine.Orders.{configure, reap, load, harvest, notified}
@@ -21,18 +27,32 @@ use Rattle.mem_base.specs.script.PassSteps.{enter, leave, read, write, copy}
 
 -- Commands
 
+-- the rest of a command that makes a region, with its kind: the target of an alias has a name
+abbrev pub with_kind : State → ℕ → RegionKind → (Kind → Outcome) → Outcome
+with_kind state line region_kinds.Container rest = rest kinds.Container
+with_kind state line region_kinds.Ram rest = rest kinds.Ram
+with_kind state line region_kinds.Rom rest = rest kinds.Rom
+with_kind state line (region_kinds.RomDevice device) rest = rest (kinds.RomDevice device)
+with_kind state line (region_kinds.Io device) rest = rest (kinds.Io device)
+with_kind state line region_kinds.Iommu rest = rest kinds.Iommu
+with_kind state line (region_kinds.Alias target offset) rest = with_region state line target (λ t. rest (kinds.Alias t offset))
+with_kind state line region_kinds.Reserve rest = rest kinds.Reserve
+
+-- what a pass does and writes
+abbrev pub pass_step : State → ℕ → PassId → PassCommand → Outcome
+pass_step state line pass pass_commands.Enter = enter state pass
+pass_step state line pass pass_commands.Leave = leave state pass
+pass_step state line pass (pass_commands.Read space addr len) = with_space state line space (λ s. read state pass s addr len)
+pass_step state line pass (pass_commands.Write space addr bytes) = with_space state line space (λ s. write state pass s addr bytes)
+pass_step state line pass (pass_commands.Do change) = with_call state line change
+    (λ call. ordered state line state.names (configure (configs.Call call)) (published_in pass))
+pass_step state line pass (pass_commands.Dma space addr len to_space to_addr) =
+    with_space state line space (λ s. with_space state line to_space (λ t. copy state pass s addr len t to_addr))
+
 -- what a command does and writes itself: names are resolved from left to right, and then a new name is tried
 abbrev pub own_step : State → ℕ → Command → Outcome
 own_step state line (commands.Machine size) = writes state []
-own_step state line (commands.RegionContainer name size) = make_region state line name kinds.Container size
-own_step state line (commands.RegionRam name size) = make_region state line name kinds.Ram size
-own_step state line (commands.RegionRom name size) = make_region state line name kinds.Rom size
-own_step state line (commands.RegionRomDevice name size device) = make_region state line name (kinds.RomDevice device) size
-own_step state line (commands.RegionIo name size device) = make_region state line name (kinds.Io device) size
-own_step state line (commands.RegionIommu name size) = make_region state line name kinds.Iommu size
-own_step state line (commands.RegionAlias name size target offset) =
-    with_region state line target (λ t. make_region state line name (kinds.Alias t offset) size)
-own_step state line (commands.RegionReserve name size) = make_region state line name kinds.Reserve size
+own_step state line (commands.Region name size kind) = with_kind state line kind (λ k. make_region state line name k size)
 own_step state line (commands.Space name root) = with_region state line root (λ r. make_space state line name r)
 own_step state line (commands.Change change) = with_call state line change (λ call. calls_map state line call)
 own_step state line (commands.Load region offset bytes) = with_region state line region (λ r. does state line (load r offset bytes))
@@ -50,25 +70,13 @@ own_step state line (commands.At space addr) = with_space state line space (λ s
 own_step state line (commands.Notified number) = ordered state line state.names (notified number) (value_in number)
 own_step state line (commands.Dirty region client) =
     with_region state line region (λ r. ordered state line state.names (harvest r client) (pages_in region client))
-own_step state line (commands.PassEnter pass) = enter state pass
-own_step state line (commands.PassLeave pass) = leave state pass
-own_step state line (commands.PassRead pass space addr len) = with_space state line space (λ s. read state pass s addr len)
-own_step state line (commands.PassWrite pass space addr bytes) = with_space state line space (λ s. write state pass s addr bytes)
-own_step state line (commands.PassDo pass change) = with_call state line change
-    (λ call. ordered state line state.names (configure (configs.Call call)) (published_in pass))
-own_step state line (commands.PassDma pass space addr len to_space to_addr) =
-    with_space state line space (λ s. with_space state line to_space (λ t. copy state pass s addr len t to_addr))
+own_step state line (commands.Pass pass command) = pass_step state line pass command
 own_step state line commands.Par = writes state []
 own_step state line commands.End = writes state []
 
 -- a command of the desk, and not of a pass; `par` and `end` are neither, and do nothing in a run
 abbrev pub is_desk_line : Command → Bool
-is_desk_line (commands.PassEnter pass) = false
-is_desk_line (commands.PassLeave pass) = false
-is_desk_line (commands.PassRead pass space addr len) = false
-is_desk_line (commands.PassWrite pass space addr bytes) = false
-is_desk_line (commands.PassDo pass change) = false
-is_desk_line (commands.PassDma pass space addr len to_space to_addr) = false
+is_desk_line (commands.Pass pass command) = false
 is_desk_line commands.Par = false
 is_desk_line commands.End = false
 is_desk_line _ = true

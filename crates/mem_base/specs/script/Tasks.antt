@@ -22,6 +22,10 @@ use Rattle.mem_base.specs.declared.script.changes.MapChange.{MapChange}
 use Rattle.mem_base.specs.declared.script.changes.MapChange.TheVariants as changes
 use Rattle.mem_base.specs.declared.script.commands.Command.{Command}
 use Rattle.mem_base.specs.declared.script.commands.Command.TheVariants as commands
+use Rattle.mem_base.specs.declared.script.commands.PassCommand.{PassCommand}
+use Rattle.mem_base.specs.declared.script.commands.PassCommand.TheVariants as pass_commands
+use Rattle.mem_base.specs.declared.script.commands.RegionKind.{RegionKind}
+use Rattle.mem_base.specs.declared.script.commands.RegionKind.TheVariants as region_kinds
 use Rattle.mem_base.specs.access.AccessSteps.{Transfer, reading, writing}
 use Rattle.mem_base.specs.machine.Reaps.{is_among}
 use Rattle.mem_base.specs.script.Spelling.{Text}
@@ -132,6 +136,17 @@ change_of k (changes.Unevent name offset size value) =
 abbrev pub region_made : Known → Text → Kind → ℕ → Resolved Task
 region_made k name kind size = unless_taken name (region_named k name) (ordered (orders.Call (calls.Region kind size)) name)
 
+-- the kind of a region: the target of an alias has a name
+abbrev pub kind_of : Known → RegionKind → Resolved Kind
+kind_of k region_kinds.Container = Ok kinds.Container
+kind_of k region_kinds.Ram = Ok kinds.Ram
+kind_of k region_kinds.Rom = Ok kinds.Rom
+kind_of k (region_kinds.RomDevice device) = Ok (kinds.RomDevice device)
+kind_of k (region_kinds.Io device) = Ok (kinds.Io device)
+kind_of k region_kinds.Iommu = Ok kinds.Iommu
+kind_of k (region_kinds.Alias target offset) = do Ok (kinds.Alias (← region k target) offset)
+kind_of k region_kinds.Reserve = Ok kinds.Reserve
+
 -- spaces and listeners are numbered in order of making
 
 abbrev pub space_made : Known → Text → RegionId → Resolved Task
@@ -142,17 +157,19 @@ abbrev pub listened : Known → Text → SpaceId → ℤ → Resolved Task
 listened k name to priority =
     unless_taken name (listener_named k name) (ordered (orders.Listen (record { 0 = length k.names.listeners }) to priority) name)
 
+-- what a line of a pass asks for
+abbrev pub pass_task : Known → PassCommand → Resolved Task
+pass_task k pass_commands.Enter = Ok entered
+pass_task k pass_commands.Leave = Ok left
+pass_task k (pass_commands.Read name addr len) = do Ok (accessed (← space k name) addr (reading len))
+pass_task k (pass_commands.Write name addr bytes) = do Ok (accessed (← space k name) addr (writing bytes))
+pass_task k (pass_commands.Do change) = do Ok (plain (orders.Call (← change_of k change)))
+pass_task k (pass_commands.Dma name addr len to_name to_addr) = do Ok (copied (← space k name) addr len (← space k to_name) to_addr)
+
 -- what a line asks for
 abbrev pub task_of : Known → Command → Resolved Task
 task_of k (commands.Machine size) = Ok idle
-task_of k (commands.RegionContainer name size) = region_made k name kinds.Container size
-task_of k (commands.RegionRam name size) = region_made k name kinds.Ram size
-task_of k (commands.RegionRom name size) = region_made k name kinds.Rom size
-task_of k (commands.RegionRomDevice name size device) = region_made k name (kinds.RomDevice device) size
-task_of k (commands.RegionIo name size device) = region_made k name (kinds.Io device) size
-task_of k (commands.RegionIommu name size) = region_made k name kinds.Iommu size
-task_of k (commands.RegionAlias name size target offset) = do region_made k name (kinds.Alias (← region k target) offset) size
-task_of k (commands.RegionReserve name size) = region_made k name kinds.Reserve size
+task_of k (commands.Region name size kind) = do region_made k name (← kind_of k kind) size
 task_of k (commands.Space name root) = do space_made k name (← region k root)
 task_of k (commands.Change change) = do Ok (plain (orders.Call (← change_of k change)))
 task_of k (commands.Load name offset bytes) = do Ok (plain (orders.Load (← region k name) offset bytes))
@@ -170,12 +187,7 @@ task_of k (commands.Show name) = do Ok (shown (← space k name))
 task_of k (commands.At name addr) = do Ok (found (← space k name) addr)
 task_of k (commands.Notified number) = Ok (plain (orders.Notified number))
 task_of k (commands.Dirty name client) = do Ok (plain (orders.Harvest (← region k name) client))
-task_of k (commands.PassEnter pass) = Ok entered
-task_of k (commands.PassLeave pass) = Ok left
-task_of k (commands.PassRead pass name addr len) = do Ok (accessed (← space k name) addr (reading len))
-task_of k (commands.PassWrite pass name addr bytes) = do Ok (accessed (← space k name) addr (writing bytes))
-task_of k (commands.PassDo pass change) = do Ok (plain (orders.Call (← change_of k change)))
-task_of k (commands.PassDma pass name addr len to_name to_addr) = do Ok (copied (← space k name) addr len (← space k to_name) to_addr)
+task_of k (commands.Pass pass command) = pass_task k command
 task_of k commands.Par = Ok idle
 task_of k commands.End = Ok idle
 

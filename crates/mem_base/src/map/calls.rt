@@ -1,7 +1,9 @@
 // What a machine's writer may ask of the map.
 
-ghost use Rattle.std.specs.Prelude.{◌≡◌};
+ghost use Rattle.std.specs.Prelude.{◌≡◌, ◌^◌, ◌<◌};
 ghost use Rattle.mem_base.specs.map.Calls.{is_quiet};
+ghost use Rattle.mem_base.specs.map.Edits.{edits};
+ghost use Rattle.mem_base.specs.map.Forest.{FitsTypes};
 
 use crate::{Client, Ioevent, Kind, ListenerId, Perm, RegionId, Size, SpaceId};
 
@@ -120,7 +122,50 @@ impl Call {
     {
         matches!(self, Call::Region { .. } | Call::Drop { .. })
     }
+
+    /// The region whose own fields the call changes, if it is a call that changes no more: its size, its window, a switch or a flag,
+    /// what is logged of it, its translations, or its ioeventfds.
+    pub fn edits(&self) -> Option<RegionId>
+        ensures { result ≡ edits self.now }
+    {
+        match *self {
+            Call::Retarget { alias, .. } => Some(alias),
+            Call::Resize { region, .. }
+            | Call::Enable { region, .. }
+            | Call::Readonly { region, .. }
+            | Call::Nonvolatile { region, .. }
+            | Call::Unmergeable { region, .. }
+            | Call::Romd { region, .. }
+            | Call::Log { region, .. }
+            | Call::Map { region, .. }
+            | Call::Unmap { region, .. }
+            | Call::Event { region, .. }
+            | Call::Unevent { region, .. } => Some(region),
+            _ => None,
+        }
+    }
+
+    /// A law: the size in a call, and the address of a page that it maps, are such as their types hold. It does nothing.
+    pub fn knows_fits(&self)
+        ensures { FitsTypes self.now }
+    {
+        match *self {
+            Call::Region { size, .. } | Call::Resize { size, .. } => {
+                size.knows_most();
+            }
+            Call::Map { iova, size, .. } => {
+                knows_address(iova);
+                size.knows_most();
+            }
+            _ => {}
+        }
+    }
 }
+
+// A law: an address is below 2^64. It does nothing.
+fn knows_address(address: u64)
+    ensures { address < 2 ^ 64 }
+{}
 
 /// What an accepted call answers.
 #[derive(Clone, Copy, Debug, PartialEq, Eq)]

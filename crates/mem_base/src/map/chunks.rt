@@ -12,9 +12,6 @@ use std::alloc::Global;
 use std::marker::Model;
 use std::sync::Arc;
 
-/// The most regions of a chunk.
-pub const MOST_CHUNK: usize = 64;
-
 /// Regions of a forest, one after another: 1 to 64. A forest that is made of an older one shares with it the chunks in which nothing
 /// changed.
 #[derive(Debug, Drop)]
@@ -39,6 +36,9 @@ impl Model for Chunk {
 }
 
 impl Chunk {
+    /// The most regions of a chunk.
+    pub const MOST: usize = 64;
+
     /// A chunk of these regions. It takes no memory.
     pub fn new(items: Vec<Node>) -> Chunk
         requires some { 0 < length items.items }
@@ -138,12 +138,12 @@ pub(crate) fn node_near(chunks: &[Arc<Chunk, Global>], region: RegionId) -> Opti
     ensures { IfSome result (λ node. node_of (flat_map arc_value chunks.now) region ≡ Some node.now) }
 {
     let number = region.0 as usize;
-    let at = number / MOST_CHUNK;
+    let at = number / Chunk::MOST;
     if at >= chunks.len() {
         return None;
     }
     let nodes = chunks[at].as_slice();
-    let place = number % MOST_CHUNK;
+    let place = number % Chunk::MOST;
     if place >= nodes.len() {
         return None;
     }

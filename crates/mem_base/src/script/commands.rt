@@ -2,6 +2,58 @@
 
 use crate::{Bytes, Client, Device, MapChange, Name, PassId, Size};
 
+/// The kind of a region, with what its line gives for it: a `Kind` in which the target of an alias has a name.
+#[derive(Debug, Drop)]
+pub enum RegionKind {
+    /// `container`
+    Container,
+    /// `ram`
+    Ram,
+    /// `rom`
+    Rom,
+    /// `romdev SIZE DEVICE`
+    RomDevice(Device),
+    /// `io SIZE DEVICE`
+    Io(Device),
+    /// `iommu`
+    Iommu,
+    /// `alias SIZE REGION OFFSET`
+    Alias { target: Name, offset: u64 },
+    /// `reserve`
+    Reserve,
+}
+
+/// What a virtual CPU's pass does by a line `vN COMMAND`.
+#[derive(Debug, Drop)]
+pub enum PassCommand {
+    /// `enter`
+    Enter,
+    /// `leave`
+    Leave,
+    /// `read SPACE ADDR LEN`
+    Read {
+        space: Name,
+        addr: u64,
+        len: u8,
+    },
+    /// `write SPACE ADDR BYTES`
+    Write {
+        space: Name,
+        addr: u64,
+        bytes: Bytes,
+    },
+    /// `do COMMAND`: a change of the map.
+    Do(MapChange),
+    /// `dma SPACE ADDR LEN to SPACE ADDR`
+    Dma {
+        space: Name,
+        addr: u64,
+        len: u8,
+        to_space: Name,
+        to_addr: u64,
+    },
+}
+
 /// A command of a script: a variant for each form of line, with the operands in written order and the defaults of
 /// those that were left out.
 #[derive(Debug, Drop)]
@@ -10,49 +62,11 @@ pub enum Command {
     Machine {
         size: Size,
     },
-    /// `region NAME container SIZE`
-    RegionContainer {
+    /// `region NAME KIND SIZE`, and what the kind takes
+    Region {
         name: Name,
         size: Size,
-    },
-    /// `region NAME ram SIZE`
-    RegionRam {
-        name: Name,
-        size: Size,
-    },
-    /// `region NAME rom SIZE`
-    RegionRom {
-        name: Name,
-        size: Size,
-    },
-    /// `region NAME romdev SIZE DEVICE`
-    RegionRomDevice {
-        name: Name,
-        size: Size,
-        device: Device,
-    },
-    /// `region NAME io SIZE DEVICE`
-    RegionIo {
-        name: Name,
-        size: Size,
-        device: Device,
-    },
-    /// `region NAME iommu SIZE`
-    RegionIommu {
-        name: Name,
-        size: Size,
-    },
-    /// `region NAME alias SIZE REGION OFFSET`
-    RegionAlias {
-        name: Name,
-        size: Size,
-        target: Name,
-        offset: u64,
-    },
-    /// `region NAME reserve SIZE`
-    RegionReserve {
-        name: Name,
-        size: Size,
+        kind: RegionKind,
     },
     /// `space NAME REGION`
     Space {
@@ -116,41 +130,10 @@ pub enum Command {
         region: Name,
         client: Client,
     },
-    /// `vN enter`
-    PassEnter {
+    /// `vN COMMAND`
+    Pass {
         pass: PassId,
-    },
-    /// `vN leave`
-    PassLeave {
-        pass: PassId,
-    },
-    /// `vN read SPACE ADDR LEN`
-    PassRead {
-        pass: PassId,
-        space: Name,
-        addr: u64,
-        len: u8,
-    },
-    /// `vN write SPACE ADDR BYTES`
-    PassWrite {
-        pass: PassId,
-        space: Name,
-        addr: u64,
-        bytes: Bytes,
-    },
-    /// `vN do COMMAND`
-    PassDo {
-        pass: PassId,
-        change: MapChange,
-    },
-    /// `vN dma SPACE ADDR LEN to SPACE ADDR`
-    PassDma {
-        pass: PassId,
-        space: Name,
-        addr: u64,
-        len: u8,
-        to_space: Name,
-        to_addr: u64,
+        command: PassCommand,
     },
     /// `par`
     Par,

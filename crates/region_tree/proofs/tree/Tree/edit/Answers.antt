@@ -17,7 +17,7 @@ invariant_of-self-2 c =
     let call = c.args.call.now in
     let none = subst (λ (g : Forest). refusal_of g call ≡ None) (sym c.self.view_is) c.requires.free in
     let e : edits call ≡ Some c.in-Some.region = sym c.in-Some.ensures in
-    let whole = whole_accepted f call c.self.invariant.whole c.fits.ensures none in
+    let whole = whole_accepted f call c.self.invariant.whole c.knows_fits.ensures none in
     record {
       whole = subst (λ (ns : List Node). IsWhole (record f { nodes = ns; calls = f.calls + 1 })) (sym c.in_ok-edit.ensures.ok)
           (subst (λ (g : Forest). IsWhole (counted g)) (changed_edits f call c.in-Some.region e) whole);

@@ -16,7 +16,7 @@ invariant_of-self-then-not-is_quiet c =
     let noted = c.noting.ensures.after (arc_value c.self.inside.current).forest f g c.in_ok-applied.ensures.applied.1 done old in
     called f g c.args.call.now c.self.inside.depth c.self.inside.pending true
     (arc_value c.self.inside.current) c.self.inside.reached.items c.self.inside.noted
-    c.noting.result c.self.inside.spare c.lacking.result c.self.invariant c.fits_types.ensures done (λ outside. search rules)
+    c.noting.result c.self.inside.spare c.lacking.result c.self.invariant c.knows_fits.ensures done (λ outside. search rules)
     (one_more true c.self.inside.pending)
     noted (c.lacking.ensures f g spare done)
 
@@ -29,5 +29,5 @@ invariant_of-self-else-not-is_quiet c =
     let old : AreNoted (arc_value c.self.inside.current).forest f c.take-2.result = search rules in
     let noted = c.noting.ensures.after (arc_value c.self.inside.current).forest f g c.in_ok-applied.ensures.applied.1 done old in
     called f g c.args.call.now c.self.inside.depth c.self.inside.pending c.self.inside.pending (arc_value c.self.inside.current) c.self.inside.reached.items
-    c.self.inside.noted c.noting.result c.self.inside.spare c.lacking.result c.self.invariant c.fits_types.ensures done c.self.invariant.idle
+    c.self.inside.noted c.noting.result c.self.inside.spare c.lacking.result c.self.invariant c.knows_fits.ensures done c.self.invariant.idle
     (one_more c.self.inside.pending c.self.inside.pending) noted (c.lacking.ensures f g spare done)

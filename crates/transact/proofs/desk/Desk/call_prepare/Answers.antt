@@ -10,7 +10,7 @@ prepare-requires-clause-made g c =
     let f = c.args.self.now.state.forest in
     let made : IsMade f = search rules in
     let done : after f c.args.call.now ≡ Ok c.apply.new.self = search rules in
-    made_after f c.apply.new.self c.args.call.now made c.fits_types.ensures done
+    made_after f c.apply.new.self c.args.call.now made c.knows_fits.ensures done
 
 pub prepare-requires-clause-places : goal.prepare-requires-clause-places
 prepare-requires-clause-places g c =
