@@ -54,8 +54,8 @@ pub enum PassCommand {
     },
 }
 
-/// A command of a script: a variant for each form of line, with the operands in written order and the defaults of
-/// those that were left out.
+/// A command of a script, with the operands of its line and the defaults of those that were left out. All kinds of region
+/// share one variant, and so do all lines of passes and all changes of the map; every other form of line has its own.
 #[derive(Debug, Drop)]
 pub enum Command {
     /// `machine SIZE`
