@@ -1,14 +1,15 @@
 -- The lines of the actors, dealt one after another, and the tasks of the passes'.
-use Rattle.std.proofs.Common.{◌≡◌, ◌≢◌, ℕ, ◌+◌, ◌<◌, ◌≤◌, ◌==◌, Bool, true, false, List, [], ◌∷◌, ◌++◌, All, length, drop, get_or, map, append_assoc, append-nil}
+use Rattle.std.proofs.Common.{◌≡◌, ◌≢◌, ℕ, ◌+◌, ◌<◌, ◌≤◌, ◌==◌, suc, Bool, true, false, List, [], ◌∷◌, ◌++◌, All, length, take, drop, get_or, map, append_assoc, append-nil}
 use Rattle.std.proofs.Common.{refl, sym, ap, subst, ◌∙◌, arith}
 use Rattle.std.proofs.Common.{if◌then◌else◌}
-use Rattle.std.specs.Prelude.{nat_le, slice_index_or, slice_set}
+use Rattle.std.specs.Prelude.{nat_le, slice_set}
 use Rattle.std.proofs.lemmas.Bool.Decides.{nat_tests}
-use Rattle.std.proofs.lemmas.List.{at_drop_more, get_or_append_left, get_or_push, get_or-map, get_or-set_same, get_or-set_other, get_or_default}
-use Rattle.std.proofs.lemmas.List.{length-map, length-set, length_push, map_push}
+use Rattle.std.specs.List.{prefix_len}
+use Rattle.std.proofs.lemmas.List.{drop-map, get_or_append_left, get_or_push, get_or-set_same, get_or-set_other, get_or_default}
+use Rattle.std.proofs.lemmas.List.{length-map, length-set, length_push}
 use borrow.Author.Count.{below_more}
 use Rattle.mem_base.specs.lists.Every.{Every}
-use Rattle.mem_base.proofs.EveryLaws.{every_at, every_filter}
+use Rattle.mem_base.proofs.EveryLaws.{every_at, every_drop, every_filter}
 use Rattle.mem_base.specs.declared.script.commands.Command.{Command}
 use Rattle.mem_base.specs.map.Limits.{most_passes}
 use Rattle.run_laws.specs.Fitting.{AreFitting, FitsCommand}
@@ -24,12 +25,7 @@ use Rattle.race_block.specs.Lines as passes
 use Rattle.race_block.specs.Resolving.{AreTasksOf, IsPassLine, copy_room}
 use Rattle.race_inside.specs.declared.rooms.Work.{Work}
 use Rattle.race_inside.specs.Rooms.{AreAll, AreIdle, AreOwn, ArePrepared, AreWorksOf, HasDesksWork, HasOwn}
-use Rattle.race_inside.specs.Rooms.{HasTasks, IsPrepared, IsWorkOf, TakesLine, most_actors}
-
--- what is left of a list, with its first one
-pub next_left : (lines : List Line) (i : ℕ) (line : Line) → i < length lines → slice_index_or lines i line ≡ line
-    → drop i lines ≡ line ∷ drop (i + 1) lines
-next_left lines i line room is = at_drop_more (λ (xs : List Line). xs) lines i line room ∙ ap (λ (x : Line). x ∷ drop (i + 1) lines) is
+use Rattle.race_inside.specs.Rooms.{IsPrepared, TakesLines, most_actors}
 
 -- numbers of actors
 
@@ -57,24 +53,21 @@ near_actor c fits = go (actor_number c == desk_number) refl
 abbrev pub AreLinesSoFar : ℕ → List Line → List Line → List OwnLine → Type 0
 AreLinesSoFar who whole left own = lines_meant own ++ lines_by who (block left) ≡ lines_by who (block whole)
 
-one_more : (who : ℕ) (whole left rest : List Line) (line : Line) (own after : List OwnLine) (x : OwnLine) → left ≡ line ∷ rest
-    → (actor_number line.1 == who) ≡ true → line_meant x ≡ line → after ≡ own ++ x ∷ [] → AreLinesSoFar who whole left own
-    → AreLinesSoFar who whole rest after
-one_more who whole left rest line own after x is mine meant put so_far =
-    let others : List Line = lines_by who (block rest) in
-    let lines : lines_by who (block left) ≡ line ∷ others =
-    ap (λ (ls : List Line). lines_by who (block ls)) is ∙ ap (λ (b : Bool). if b then line ∷ others else others) mine in
-    ap (λ (xs : List OwnLine). lines_meant xs ++ others) put ∙ ap (λ (ls : List Line). ls ++ others) (map_push line_meant own x)
-    ∙ append_assoc (lines_meant own) (line_meant x ∷ []) others ∙ ap (λ (l : Line). lines_meant own ++ l ∷ others) meant
-    ∙ ap (λ (ls : List Line). lines_meant own ++ ls) (sym lines) ∙ so_far
+-- lines of one actor that stand together, and others after them
+mine : (who : ℕ) (run rest : List Line) → Every (λ line. actor_number line.1 ≡ who) run
+    → lines_by who (block (run ++ rest)) ≡ run ++ lines_by who (block rest)
+mine who [] rest h = refl
+mine who (line ∷ run) rest h =
+    let others : List Line = lines_by who (block (run ++ rest)) in
+    ap (λ (b : Bool). if b then line ∷ others else others) (ap (λ (n : ℕ). n == who) h.0 ∙ same_self who)
+    ∙ ap (λ (ls : List Line). line ∷ ls) (mine who run rest h.1)
 
-not_mine : (who : ℕ) (whole left rest : List Line) (line : Line) (own : List OwnLine) → left ≡ line ∷ rest
-    → (actor_number line.1 == who) ≡ false → AreLinesSoFar who whole left own → AreLinesSoFar who whole rest own
-not_mine who whole left rest line own is others so_far =
-    let lines : lines_by who (block left) ≡ lines_by who (block rest) =
-    ap (λ (ls : List Line). lines_by who (block ls)) is
-    ∙ ap (λ (b : Bool). if b then line ∷ lines_by who (block rest) else lines_by who (block rest)) others in
-    ap (λ (ls : List Line). lines_meant own ++ ls) (sym lines) ∙ so_far
+not_mine : (who p : ℕ) (run rest : List Line) → (who == p) ≡ false → Every (λ line. actor_number line.1 ≡ who) run
+    → lines_by p (block (run ++ rest)) ≡ lines_by p (block rest)
+not_mine who p [] rest other h = refl
+not_mine who p (line ∷ run) rest other h =
+    let others : List Line = lines_by p (block (run ++ rest)) in
+    ap (λ (b : Bool). if b then line ∷ others else others) (ap (λ (n : ℕ). n == p) h.0 ∙ other) ∙ not_mine who p run rest other h.1
 
 abbrev pub IsDealt : List Line → List Line → ℕ → Work → Type 0
 IsDealt whole left p work = AreLinesSoFar p whole left work.own.items × (work.bounce ≡ copy_room)
@@ -93,50 +86,85 @@ none_dealt whole left works same idle = record {
   );
 }
 
--- the actor that took the line
-took : (whole left rest : List Line) (line : Line) (who : ℕ) (works after : List Work) → left ≡ line ∷ rest
-    → (actor_number line.1 == who) ≡ true → (t : TakesLine line who works after) → IsDealt whole left who (get_or works who t.later)
+-- the actor that took the lines
+took : (whole left run rest : List Line) (who : ℕ) (works after : List Work) → left ≡ run ++ rest
+    → Every (λ line. actor_number line.1 ≡ who) run → (t : TakesLines run who works after) → IsDealt whole left who (get_or works who t.later)
     → IsDealt whole rest who t.later
-took whole left rest line who works after is mine t h = (
-  one_more who whole left rest line (get_or works who t.later).own.items t.later.own.items t.added is mine t.meant t.put h.0,
-  t.bounce ∙ h.1,
-)
+took whole left run rest who works after is all t h =
+    let before : List Line = lines_meant (get_or works who t.later).own.items in
+    let more : List Line = lines_by who (block rest) in (
+      ap (λ (ls : List Line). ls ++ more) t.put ∙ append_assoc before run more
+          ∙ ap (λ (ls : List Line). before ++ ls) (sym (mine who run rest all) ∙ ap (λ (ls : List Line). lines_by who (block ls)) (sym is)) ∙ h.0,
+      t.bounce ∙ h.1,
+    )
 
-each_dealt : (whole left rest : List Line) (line : Line) (who : ℕ) (works after : List Work) (p : ℕ) (d : Work) (b : Bool)
-    → left ≡ line ∷ rest → actor_number line.1 ≡ who → TakesLine line who works after → who < length works → (who == p) ≡ b
+each_dealt : (whole left run rest : List Line) (who : ℕ) (works after : List Work) (p : ℕ) (d : Work) (b : Bool) → left ≡ run ++ rest
+    → Every (λ line. actor_number line.1 ≡ who) run → TakesLines run who works after → who < length works → (who == p) ≡ b
     → IsDealt whole left p (get_or works p d)
     → ((later : Work) → IsDealt whole left who (get_or works who later)) → IsDealt whole rest p (get_or after p d)
-each_dealt whole left rest line who works after p d true is number t near same h mine =
+each_dealt whole left run rest who works after p d true is all t near same h own =
     let at : who ≡ p = same_number who p same in
-    let own : (actor_number line.1 == who) ≡ true = ap (λ (n : ℕ). n == who) number ∙ same_self who in
     let there : t.later ≡ get_or after p d = sym (get_or-set_same works who t.later d near) ∙ (λ i. get_or (sym t.set_at i) (at i) d) in
     subst (λ (z : ℕ × Work). IsDealt whole rest z.0 z.1) (λ i. (at i, there i))
-    (took whole left rest line who works after is own t (mine t.later))
-each_dealt whole left rest line who works after p d false is number t near other h mine =
+    (took whole left run rest who works after is all t (own t.later))
+each_dealt whole left run rest who works after p d false is all t near other h own =
     let apart : who ≢ p = other_number who p other in
     let there : get_or works p d ≡ get_or after p d =
     sym (get_or-set_other works who p t.later d (λ e. apart (sym e))) ∙ ap (λ (ws : List Work). get_or ws p d) (sym t.set_at) in
-    subst (IsDealt whole rest p) there
-    (not_mine p whole left rest line (get_or works p d).own.items is (ap (λ (n : ℕ). n == p) number ∙ other) h.0, h.1)
+    subst (IsDealt whole rest p) there (
+      ap (λ (ls : List Line). lines_meant (get_or works p d).own.items ++ ls)
+          (sym (not_mine who p run rest other all) ∙ ap (λ (ls : List Line). lines_by p (block ls)) (sym is)) ∙ h.0,
+      h.1,
+    )
 
--- one line more is dealt
-pub one_dealt : (whole left rest : List Line) (line : Line) (works after : List Work) → left ≡ line ∷ rest → FitsCommand line.1
-    → TakesLine line (actor_number line.1) works after → AreDealt whole left works → AreDealt whole rest after
-one_dealt whole left rest line works after is fits t h =
-    let who : ℕ = actor_number line.1 in
-    let few : who < most_actors = near_actor line.1 fits in
-    let near : who < length works = let all = h.all in omega (arith, few, all) in
+-- lines that stand together are dealt
+pub run_dealt : (whole left run rest : List Line) (who : ℕ) (works after : List Work) → left ≡ run ++ rest
+    → Every (λ line. actor_number line.1 ≡ who) run → who < most_actors → TakesLines run who works after → AreDealt whole left works
+    → AreDealt whole rest after
+run_dealt whole left run rest who works after is all few t h =
+    let near : who < length works = let long = h.all in omega (arith, few, long) in
     let long : length after ≡ length works = ap length t.set_at ∙ length-set works who t.later in record {
       all = long ∙ h.all;
-      each = λ p d within. each_dealt whole left rest line who works after p d (who == p) is refl t near refl
+      each = λ p d within. each_dealt whole left run rest who works after p d (who == p) is all t near refl
           (h.each p d (omega (arith, within, long))) (λ later. h.each who later near);
     }
 
--- what was noted of a line is whose it is
-pub noted_at : (lines : List Line) (whose : List ℕ) (i d : ℕ) (line : Line) → whose ≡ map whose_line lines → i < length lines
-    → get_or lines i line ≡ line → get_or whose i d ≡ actor_number line.1
-noted_at lines whose i d line all room is =
-    (λ j. get_or (all j) i d) ∙ get_or-map whose_line lines i line d room ∙ ap whose_line is
+-- the first lines are those of the actor, by what was noted of each
+pub run_noted : (who : ℕ) (lines : List Line) (whose : List ℕ) (n : ℕ) → whose ≡ map whose_line lines → n ≡ prefix_len (λ m. m == who) whose
+    → Every (λ line. actor_number line.1 ≡ who) (take n lines)
+run_noted who lines whose n all count =
+    subst (λ (k : ℕ). Every (λ line. actor_number line.1 ≡ who) (take k lines)) (sym (count ∙ ap (prefix_len (λ m. m == who)) all)) (first lines)
+  where
+    first : (ls : List Line) → Every (λ line. actor_number line.1 ≡ who) (take (prefix_len (λ m. m == who) (map whose_line ls)) ls)
+    first [] = tt
+    first (line ∷ ls) = go (actor_number line.1 == who) refl (first ls)
+      where
+        count_left : ℕ
+        count_left = prefix_len (λ m. m == who) (map whose_line ls)
+
+        go : (b : Bool) → (actor_number line.1 == who) ≡ b → Every (λ l. actor_number l.1 ≡ who) (take count_left ls)
+            → Every (λ l. actor_number l.1 ≡ who) (take (if b then 1 + count_left else 0) (line ∷ ls))
+        go true e h = let longer : suc count_left ≡ 1 + count_left = omega arith in
+            subst (λ (k : ℕ). Every (λ l. actor_number l.1 ≡ who) (take k (line ∷ ls))) longer (same_number (actor_number line.1) who e, h)
+        go false e h = tt
+
+-- what is left of them was noted too, and the numbers of its commands fit
+pub rest_noted : (lines : List Line) (whose : List ℕ) (n : ℕ) → whose ≡ map whose_line lines → drop n whose ≡ map whose_line (drop n lines)
+rest_noted lines whose n all = ap (drop n) all ∙ drop-map whose_line n lines
+
+pub rest_fits : (lines : List Line) (n : ℕ) → AreFitting lines → AreFitting (drop n lines)
+rest_fits lines n fits = every_drop (λ line. FitsCommand line.1) lines n fits
+
+-- the actor of the first of them is one of those that there are
+pub near_first : (who : ℕ) (others : List ℕ) (lines : List Line) (whose : List ℕ) → whose ≡ who ∷ others → whose ≡ map whose_line lines → AreFitting lines
+    → who < most_actors
+near_first who others lines whose is all fits = go lines (sym all ∙ is) fits
+  where
+    go : (ls : List Line) → map whose_line ls ≡ who ∷ others → AreFitting ls → who < most_actors
+    go [] e h = absurd (let m : [] ≡ who ∷ others = e in cc)
+    go (line ∷ ls) e h =
+        let same : actor_number line.1 ≡ who = ap (λ (ns : List ℕ). get_or ns 0 who) e in
+        subst (λ (n : ℕ). n < most_actors) same (near_actor line.1 h.0)
 
 -- all lines are dealt
 pub all_dealt : (whole left : List Line) (works : List Work) → left ≡ [] → AreDealt whole left works → AreAll whole works

@@ -8,7 +8,7 @@ use Rattle.mem_base.specs.script.Race.{block, desk_number, lines_by}
 use Rattle.race_phases.specs.Plain.{has_lines}
 use Rattle.race_block.specs.declared.tasks.OwnLine.{OwnLine}
 use Rattle.race_block.specs.Desks as desks
-use Rattle.race_block.specs.Desks.{line_meant, lines_meant}
+use Rattle.race_block.specs.Desks.{lines_meant}
 use Rattle.race_block.specs.Lines as passes
 use Rattle.race_block.specs.Resolving.{AreTasksOf, IsPassLine, copy_room}
 use Rattle.race_inside.specs.declared.rooms.Work.{Work}
@@ -31,13 +31,11 @@ pub record AreIdle (works : List Work) : Type 0 where
   pub all : length works ≡ most_actors
   pub each : (p : ℕ) (d : Work) → p < length works → IsIdle (slice_index_or works p d)
 
--- the actor of a number takes the line, and no other does
-pub record TakesLine (line : Line) (who : ℕ) (works after : List Work) : Type 0 where
+-- the actor of a number takes these lines, and no other does
+pub record TakesLines (lines : List Line) (who : ℕ) (works after : List Work) : Type 0 where
   pub later : Work
-  pub added : OwnLine
   pub set_at : after ≡ slice_set works who later
-  pub meant : line_meant added ≡ line
-  pub put : later.own.items ≡ (slice_index_or works who later).own.items ++ added ∷ []
+  pub put : lines_meant later.own.items ≡ lines_meant (slice_index_or works who later).own.items ++ lines
   pub bounce : later.bounce ≡ (slice_index_or works who later).bounce
 
 -- the actor of a number has its lines of the block, and a bounce in which there is room for what they copy

@@ -125,9 +125,9 @@ fn run_in<'c, J: Naming + Send + Sync, G: Gate, R: Threads + Wait + Sync>(
 /// the desk; then all have seen the same history, and what the block writes is added to the text.
 ///
 /// It takes the record of the desk, the virtual CPUs and what is known of names, and gives back all of them. `whose` has whose each line is,
-/// or tells that there was no memory for that; it is made as the script is taken apart. The numbers of the commands fit, as those of every script that was read do, and the actors reach the gate before each of their lines. Out of memory nothing was
-/// done, or each actor has done the first of its lines, or the block is whole and its text is lost: the text may then end within the
-/// block's.
+/// as it was noted when the script was read. The numbers of the commands fit, as those of every script that was read do, and the actors reach
+/// the gate before each of their lines. Out of memory nothing was done, or each actor has done the first of its lines, or the block is whole
+/// and its text is lost: the text may then end within the block's.
 pub fn block<'c, G: Gate, R: Threads + Wait + Sync>(
     rt: &R,
     alloc: Global,
@@ -136,11 +136,11 @@ pub fn block<'c, G: Gate, R: Threads + Wait + Sync>(
     cpus: Vec<Vcpu<'c>>,
     known: KnownNames,
     lines: &'c [(u32, Command)],
-    whose: Result<Vec<u8>, AllocError>,
+    whose: &[u32],
     text: &mut Line,
 ) -> (Record, Vec<Vcpu<'c>>, KnownNames, Result<(), AllocError>)
     requires fits { AreFitting lines.now }
-    requires whose { IfOk whose (λ whose. whose.items ≡ map whose_line lines.now) }
+    requires whose { whose.now ≡ map whose_line lines.now }
     requires ready { AreReady desk cpus.items }
     ensures ready { AreReady result.0 result.1.items }
     ensures later { IsLater desk result.0 }

@@ -130,15 +130,14 @@ pub(crate) fn room_for<'a, 'k>(
     alloc: Global,
     known: &KnownNames,
     lines: &'a [(u32, Command)],
-    whose: Result<Vec<u8>, AllocError>,
+    whose: &[u32],
 ) -> Result<Room<'a, 'k>, AllocError>
     requires fits { AreFitting lines.now }
-    requires whose { IfOk whose (λ whose. whose.items ≡ map whose_line lines.now) }
+    requires whose { whose.now ≡ map whose_line lines.now }
     ensures { IfOk result (IsRoomFor known.now lines.now) }
 {
-    let whose = whose?;
     let mut works = no_works(alloc, lines.len() / MOST_PASSES as usize)?;
-    deal(lines, whose.as_slice(), &mut works)?;
+    deal(lines, whose, &mut works)?;
     let desk_lines = take_desk(&mut works);
     prepare_for(alloc, known, lines, desk_lines.as_slice(), &mut works)?;
     let busy = busy_of(alloc, works.as_slice())?;

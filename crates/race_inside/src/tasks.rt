@@ -1,10 +1,11 @@
 // The lines of a block by whose they are, and their tasks, where these are made before the block.
-ghost use Rattle.std.specs.Prelude.{◌≡◌, ◌<◌, [], ◌∷◌, ◌++◌, All, OnOk, ℕ, length, map, slice_index_or};
+ghost use Rattle.std.specs.Prelude.{◌≡◌, ◌<◌, ◌≤◌, ◌==◌, ◌++◌, All, OnOk, ℕ, length, map, slice_index_or};
+ghost use Rattle.std.specs.List.{prefix_len};
 ghost use Rattle.run_laws.specs.Fitting.{AreFitting};
 ghost use Rattle.race_phases.specs.Plain.{whose_line};
-ghost use Rattle.race_block.specs.Desks.{line_meant};
+ghost use Rattle.race_block.specs.Desks.{line_meant, lines_meant};
 ghost use Rattle.race_block.specs.Resolving.{IsPassLine};
-ghost use Rattle.race_inside.specs.Rooms.{AreAll, AreIdle, ArePrepared, IsPrepared, TakesLine, most_actors};
+ghost use Rattle.race_inside.specs.Rooms.{AreAll, AreIdle, ArePrepared, IsPrepared};
 
 use crate::rooms::Work;
 use mem_base::Command;
@@ -19,35 +20,39 @@ fn own_line(line: &(u32, Command)) -> OwnLine<'_>
     OwnLine { line }
 }
 
-// Puts a line to those that an actor has to do.
-fn put_line<'a>(work: &mut Work<'a>, line: OwnLine<'a>) -> Result<(), AllocError>
-    ensures line { OnOk result (work.new.own.items ≡ work.old.own.items ++ line.entry ∷ []) }
+// Puts lines to those that an actor has to do.
+fn put_lines<'a>(lines: &'a [(u32, Command)], work: &mut Work<'a>) -> Result<(), AllocError>
+    ensures lines { OnOk result (lines_meant work.new.own.items ≡ lines_meant work.old.own.items ++ lines.now) }
     ensures bounce { work.new.bounce ≡ work.old.bounce }
 {
-    work.own.push(line)?;
+    work.own.reserve(lines.len())?;
+    for line in lines {
+        work.own.push_reserved(own_line(line));
+    }
     Ok(())
 }
 
-// Deals a line to an actor.
-fn deal_to<'a>(
-    who: u32,
-    line: &'a (u32, Command),
-    works: &mut Vec<Work<'a>>,
-) -> Result<(), AllocError>
-    requires who { who < most_actors }
-    requires all { length works.old.items ≡ most_actors }
-    ensures { OnOk result (TakesLine line.now who works.old.items works.new.items) }
+// How many of the first lines are those of an actor, by whose each is.
+fn count_first(who: u32, whose: &[u32]) -> usize
+    ensures bound { result ≤ length whose.now }
+    ensures value { result ≡ prefix_len (λ n. n == who) whose.now }
 {
-    put_line(&mut works[who as usize], own_line(line))?;
-    Ok(())
+    let mut count = 0;
+    for number in whose {
+        if *number != who {
+            return count;
+        }
+        count += 1;
+    }
+    count
 }
 
-/// Deals the lines of a block to their actors, by whose each is. It fails only where memory runs out.
+/// Deals the lines of a block to their actors, by whose each is: as many at once as stand together. It fails only where memory runs out.
 ///
 /// The lines themselves are not looked at: each would have to be fetched from memory that is far.
 pub(crate) fn deal<'a>(
     lines: &'a [(u32, Command)],
-    whose: &[u8],
+    whose: &[u32],
     works: &mut Vec<Work<'a>>,
 ) -> Result<(), AllocError>
     requires fits { AreFitting lines.now }
@@ -55,10 +60,14 @@ pub(crate) fn deal<'a>(
     requires idle { AreIdle works.old.items }
     ensures { OnOk result (AreAll lines.now works.new.items) }
 {
-    let mut at = 0;
-    for line in lines {
-        deal_to(whose[at] as u32, line, works)?;
-        at += 1;
+    let mut rest = lines;
+    let mut left = whose;
+    while let Some((who, _)) = left.split_first() {
+        let count = count_first(*who, left);
+        let (own, others) = rest.split_at(count);
+        put_lines(own, &mut works[*who as usize])?;
+        rest = others;
+        left = left.split_at(count).1;
     }
     Ok(())
 }

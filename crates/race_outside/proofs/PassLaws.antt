@@ -1,5 +1,5 @@
 -- A line of a pass outside the block, from what its virtual CPU or the record did to the race that goes on.
-use Rattle.std.proofs.Common.{◌≡◌, ℕ, ◌+◌, ◌<◌, List, [], ◌∷◌, ◌++◌, length, map, Result, Ok, Err, IfOk, OnErr, OnOk, append-nil, refl, sym}
+use Rattle.std.proofs.Common.{◌≡◌, ◌≢◌, ℕ, ◌+◌, ◌<◌, List, [], ◌∷◌, ◌++◌, length, map, Result, Ok, Err, IfOk, OnErr, OnOk, append-nil, refl, sym}
 use Rattle.std.proofs.Common.{ap, subst, ◌∙◌}
 use Rattle.std.specs.Prelude.{All, flat_map, slice_index_or}
 use mathlib.Core.List.{IsPrefix}
@@ -325,6 +325,15 @@ module _ (v m : RecordState) (p : ℕ) (olds between : List (PassValue Published
       subst (λ (y : PassValue Published). y.cabinet ≡ v.seat.cabinet) (x.changed.was x.a) (ready.own p x.a within) in
       all_between (IsOfCabinet r.seat.cabinet) p x.a x.b olds between x.changed (x.same.cabinet ∙ was ∙ sym cabinet)
       (λ i d l. ready.own i d l ∙ sym cabinet)
+
+  -- what the others have seen the record had heard before
+  pub others_heard : AreBetween p olds between → IsPrefix v.seat.seen m.seat.seen
+      → (i : ℕ) (d : PassValue Published) → i < length between → i ≢ p → IsHeard m.seat.seen (pass_at between i d)
+  others_heard x begins i d l other =
+      let few : i < most_passes = subst (λ (n : ℕ). i < n) (x.changed.count ∙ ready.all) l in
+      let seen : v.seat.seen ≡ (pass_at between i d).seen =
+      sym (ap (λ (y : PassValue Published). y.seen) (x.changed.others i d other) ∙ (ready.level i d few).1) in
+      subst (λ (s : List HistoryEntry). IsPrefix s m.seat.seen) seen begins
 
   numbers : AreBetween p olds between → (i : ℕ) (d : PassValue Published) → i < most_passes → (pass_at between i d).number ≡ i
   numbers x i d l = dite (ℕ_discrete i p)

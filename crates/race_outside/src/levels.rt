@@ -1,5 +1,5 @@
 // The record hears the virtual CPUs, and they meet it.
-ghost use Rattle.std.specs.Prelude.{◌≡◌, ℕ, ◌<◌, [], All, length, slice_index_or};
+ghost use Rattle.std.specs.Prelude.{◌≡◌, ◌≢◌, ℕ, ◌<◌, [], All, length, slice_index_or};
 ghost use mathlib.Core.List.{IsPrefix};
 ghost use Rattle.generation.specs.Published.{Published};
 ghost use Rattle.epoch_rule.specs.Rule.{IsLegal};
@@ -23,18 +23,17 @@ fn hear_one(desk: &mut Record, cpu: &mut Vcpu<'_>)
     desk.hear(note);
 }
 
-/// The record hears what all virtual CPUs have seen. No order is given by that.
-pub fn hear_all(desk: &mut Record, cpus: &mut [Vcpu<'_>])
+// The record hears what the virtual CPU at a place has seen.
+fn hear_at(desk: &mut Record, cpus: &mut [Vcpu<'_>], at: usize)
+    requires near { at < length cpus.old }
     requires own { All (IsOfCabinet desk.old.seat.cabinet) cpus.old }
     ensures same { cpus.new ≡ cpus.old }
-    ensures heard { All (IsHeard desk.new.seat.seen) cpus.old }
+    ensures heard { (d : PassValue Published) → IsHeard desk.new.seat.seen (slice_index_or cpus.old at d) }
     ensures later { IsLater desk.old desk.new }
     ensures entries { desk.new.entries ≡ desk.old.entries }
     ensures part { desk.new.part ≡ desk.old.part }
 {
-    for i in 0..cpus.len() {
-        hear_one(desk, &mut cpus[i]);
-    }
+    hear_one(desk, &mut cpus[at]);
 }
 
 // A virtual CPU meets what the record has seen.
@@ -63,10 +62,13 @@ pub fn meet_all(desk: &mut Record, cpus: &mut [Vcpu<'_>])
     }
 }
 
-/// The record and all virtual CPUs are brought to one level: what the record has seen then, which is what each of them has
-/// seen. No order is given, and nobody makes an entry by that.
-pub fn level(desk: &mut Record, cpus: &mut [Vcpu<'_>])
-    requires { All (IsOfCabinet desk.old.seat.cabinet) cpus.old }
+/// The record and all virtual CPUs are brought to one level after one of them did something: the record hears what that one has seen, as it
+/// has heard the others before, and all meet what it has seen then. No order is given, and nobody makes an entry by that.
+pub fn level(desk: &mut Record, cpus: &mut [Vcpu<'_>], at: usize)
+    requires near { at < length cpus.old }
+    requires own { All (IsOfCabinet desk.old.seat.cabinet) cpus.old }
+    requires others { (i : ℕ) (d : PassValue Published) → i < length cpus.old → i ≢ at
+        → IsHeard desk.old.seat.seen (slice_index_or cpus.old i d) }
     ensures later { IsLater desk.old desk.new }
     ensures entries { desk.new.entries ≡ desk.old.entries }
     ensures part { desk.new.part ≡ desk.old.part }
@@ -77,7 +79,7 @@ pub fn level(desk: &mut Record, cpus: &mut [Vcpu<'_>])
     ensures met { (i : ℕ) (d : PassValue Published) → i < length cpus.old
         → HasMet desk.new.seat.seen (slice_index_or cpus.old i d) (slice_index_or cpus.new i d) }
 {
-    hear_all(desk, cpus);
+    hear_at(desk, cpus, at);
     desk.has_seen_legal();
     meet_all(desk, cpus);
 }

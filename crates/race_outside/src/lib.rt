@@ -18,7 +18,7 @@ mod step_laws;
 
 pub use desks::desk_line;
 pub use level_laws::{desk_settles, pass_settles};
-pub use levels::{hear_all, level, meet_all};
+pub use levels::{level, meet_all};
 pub use lines::outside_line;
 pub use passes::pass_line;
 pub use step_laws::{actors_are_level, desk_lines_step, orders_are_written, pass_lines_step};

@@ -1,5 +1,5 @@
 // A line of a pass.
-ghost use Rattle.std.specs.Prelude.{◌≡◌, ◌<◌, ◌≤◌, All, IfOk, OnErr, OnOk, length};
+ghost use Rattle.std.specs.Prelude.{◌≡◌, ◌≢◌, ℕ, ◌<◌, ◌≤◌, All, IfOk, OnErr, OnOk, length, slice_index_or};
 ghost use Rattle.mem_base.specs.map.Limits.{most_passes};
 ghost use Rattle.mem_base.specs.script.Race.{actor_number, alone};
 ghost use Rattle.run_laws.specs.Fitting.{FitsCommand};
@@ -8,7 +8,7 @@ ghost use Rattle.epoch_rule.specs.Values.{PassValue};
 ghost use Rattle.pass_lines.specs.Doing.{IsInItsGeneration};
 ghost use Rattle.desk_lock.specs.Receipts.{HasNotifier};
 ghost use Rattle.desk_lock.specs.Records.{IsLater};
-ghost use Rattle.race_outside.specs.Levels.{IsOfCabinet};
+ghost use Rattle.race_outside.specs.Levels.{IsHeard, IsOfCabinet};
 ghost use Rattle.race_outside.specs.Ready.{AreReady};
 ghost use Rattle.race_outside.specs.Outside.{StopsIn, WritesOn};
 ghost use Rattle.race_outside.specs.Passes.{DoesPassLine, FitsTask, HasDoneLine, HasDoneNothing, HasOrdered, HasSettled, IsWritten, said_by};
@@ -154,12 +154,15 @@ fn do_line<'a, 'c, R: Wait>(
     (bounce, said)
 }
 
-// The record hears all virtual CPUs, and they meet it.
-fn settle(desk: &mut Record, cpus: &mut Vec<Vcpu<'_>>)
+// The record hears the virtual CPU that did a line, and all meet it. What the others have seen it heard before.
+fn settle(desk: &mut Record, cpus: &mut Vec<Vcpu<'_>>, pass: PassId)
+    requires near { pass.0 < length cpus.old.items }
     requires own { All (IsOfCabinet desk.old.seat.cabinet) cpus.old.items }
+    requires others { (i : ℕ) (d : PassValue Published) → i < length cpus.old.items → i ≢ pass.0
+        → IsHeard desk.old.seat.seen (slice_index_or cpus.old.items i d) }
     ensures settled { HasSettled desk.old cpus.old.items desk.new cpus.new.items }
 {
-    level(desk, cpus.as_mut_slice());
+    level(desk, cpus.as_mut_slice(), pass.0 as usize);
 }
 
 // Adds what a line writes to the text, where it was done.
@@ -213,7 +216,7 @@ pub fn pass_line<'c, R: Wait>(
         return (bounce, Err(AllocError));
     };
     let (bounce, said) = do_line(rt, alloc, desk, cpus, bounce, pass, &task);
-    settle(desk, cpus);
+    settle(desk, cpus, pass);
     let done = write_line(text, known, desk, number, pass, said);
     (bounce, done)
 }

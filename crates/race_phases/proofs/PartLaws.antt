@@ -1,8 +1,8 @@
 -- What a script that was read looks like: lines, and a block with lines after it, or no block.
-use Rattle.std.proofs.Common.{◌≡◌, ℕ, ◌+◌, suc, ◌≤◌, Bool, true, false, ◌||◌, cond, List, [], ◌∷◌, ◌++◌, length, take, drop, Some, refl, sym, ap, subst, ◌∙◌, arith, inl, inr, append-nil}
+use Rattle.std.proofs.Common.{◌≡◌, ℕ, ◌+◌, suc, ◌≤◌, Bool, true, false, ◌||◌, cond, List, [], ◌∷◌, ◌++◌, length, take, drop, map, Some, refl, sym, ap, subst, ◌∙◌, arith, inl, inr, append-nil}
 use Rattle.std.specs.Prelude.{not, ◌⊎◌}
 use Rattle.std.specs.List.{prefix_len}
-use Rattle.std.proofs.lemmas.List.{take-append-drop}
+use Rattle.std.proofs.lemmas.List.{drop-drop, drop-map, take-append-drop, take-map}
 use Rattle.mem_base.specs.declared.script.commands.Command.{Command}
 use Rattle.mem_base.specs.declared.script.commands.Command.TheVariants as commands
 use Rattle.mem_base.specs.declared.script.places.PlaceRule.{PlaceRule}
@@ -13,13 +13,10 @@ use Rattle.mem_base.specs.lists.Every.{Every}
 use Rattle.mem_base.specs.script.Scripts.{Line, placed, rule_of}
 use Rattle.mem_base.specs.script.Race.{is_end, is_par, phases_of}
 use Rattle.mem_base.specs.script.Sound.{Sound}
-use Rattle.mem_base.proofs.EveryLaws.{every_drop}
-use Rattle.run_laws.specs.Fitting.{AreFitting, FitsCommand}
-use Rattle.run_laws.proofs.FittingLaws.{sound_fits}
 use Rattle.view_laws.proofs.Tests.{none_is_not_some}
 use Rattle.race_laws.specs.Outside.{IsPlain, block_of, phases_alone}
 use Rattle.race_laws.proofs.OutsideLaws.{has_phases}
-use Rattle.race_phases.specs.Plain.{AreParts, is_plain}
+use Rattle.race_phases.specs.Plain.{AreParts, is_plain, whose_line}
 use Rattle.std.proofs.lemmas.Option.{same_Some}
 use Rattle.mem_base.proofs.BoolLaws.{true_is_not_false}
 
@@ -267,8 +264,15 @@ around_lines lines front back rest inside more after line k j is f b first is' i
     parts_around lines front inside more after line (subst are_plain (sym before) (cut test lines).passes) (subst (AtFirst test) behind (cut test lines).fails)
     (subst are_plain (sym within) (cut test rest).passes) whole a h
 
--- the numbers of the commands after `par` fit
-pub fits_behind : (lines back rest : List Line) (line : Line) (k : ℕ) → back ≡ drop k lines → back ≡ line ∷ rest → Sound Start lines
-    → AreFitting rest
-fits_behind lines back rest line k b first h =
-    (subst AreFitting (sym b ∙ first) (every_drop (λ line. FitsCommand line.1) lines k (sound_fits Start lines h))).1
+-- Whose each line is, beside the lines
+
+-- of the lines behind the first ones
+pub noted_behind : (lines back rest : List Line) (line : Line) (whose behind : List ℕ) (k : ℕ) → whose ≡ map whose_line lines → behind ≡ drop (k + 1) whose
+    → back ≡ drop k lines → back ≡ line ∷ rest → behind ≡ map whose_line rest
+noted_behind lines back rest line whose behind k all b is first =
+    b ∙ ap (drop (k + 1)) all ∙ drop-map whose_line (k + 1) lines ∙ ap (map whose_line) (sym (drop-drop 1 k lines) ∙ ap (drop 1) (sym is ∙ first))
+
+-- and of the first lines
+pub noted_first : (lines front : List Line) (whose first : List ℕ) (k : ℕ) → whose ≡ map whose_line lines → first ≡ take k whose → front ≡ take k lines
+    → first ≡ map whose_line front
+noted_first lines front whose first k all f is = f ∙ ap (take k) all ∙ take-map whose_line k lines ∙ ap (map whose_line) (sym is)

@@ -1,24 +1,12 @@
 // Whose line it is.
 ghost use Rattle.std.specs.Prelude.{◌≡◌, ◌++◌, ◌∷◌, [], IfOk, OnOk, filter, map};
 ghost use Rattle.std.specs.List.{range_with_len};
-ghost use Rattle.mem_base.specs.script.Race.{actor_number, actors_in, block, lines_by};
+ghost use Rattle.mem_base.specs.script.Race.{actors_in, block, lines_by};
 ghost use Rattle.race_phases.specs.Plain.{has_lines};
 
 use mem_base::{Command, MOST_PASSES};
+use script_text::{DESK_NUMBER, actor_number};
 use std::alloc::{AllocError, Global};
-
-/// The number of the desk among the actors, after those of the sixteen passes.
-pub const DESK_NUMBER: u32 = 16;
-
-/// The number of the actor whose line a command is: that of its pass, or the desk's.
-pub fn actor_number(command: &Command) -> u32
-    ensures { result ≡ actor_number command.now }
-{
-    match command {
-        Command::Pass { pass, command: _ } => pass.0,
-        _ => DESK_NUMBER,
-    }
-}
 
 /// The lines of an actor among those of a block, in order.
 pub fn lines_by<'a>(

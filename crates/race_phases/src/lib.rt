@@ -8,5 +8,6 @@
 mod actors;
 mod parts;
 
-pub use actors::{DESK_NUMBER, actor_number, actors_in, has_line, lines_by};
+pub use actors::{actors_in, has_line, lines_by};
 pub use parts::{Parts, parts_of};
+pub use script_text::{DESK_NUMBER, actor_number};

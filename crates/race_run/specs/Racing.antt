@@ -17,9 +17,8 @@ use Rattle.race_run.specs.declared.racers.Racer.{Racer}
 use Rattle.race_run.specs.Ends.{AreLeaves}
 
 -- what the lines of a race need
-pub record IsReady (a : Racer) : Type 0 where
-  pub cpus : AreReady a.desk a.cpus.items
-  pub room : 64 ≤ a.bounce
+abbrev pub IsReady : Racer → Type 0
+IsReady a = AreReady a.desk a.cpus.items
 
 -- the race so far takes these phases, and this is their text
 abbrev pub GoesThrough : List Phase → Racer → Racer → Text → Type 0

@@ -1,5 +1,5 @@
 // The phases of a race, one after another.
-ghost use Rattle.std.specs.Prelude.{◌≡◌, ◌<◌, [], ◌∷◌, Err, IfOk, IfSome, OnErr, OnOk, length, map};
+ghost use Rattle.std.specs.Prelude.{◌≡◌, ◌<◌, ◌≤◌, [], ◌∷◌, Err, IfSome, OnErr, OnOk, length, map};
 ghost use Rattle.outside.specs.Causes.{failed};
 ghost use Rattle.outside.specs.Sink.{Writes};
 ghost use Rattle.mem_base.specs.script.Race.{alone, phases_of};
@@ -9,6 +9,7 @@ ghost use Rattle.race_phases.specs.Plain.{whose_line};
 ghost use Rattle.race_run.specs.Racing.{Goes, IsReady};
 
 use crate::racers::Racer;
+use io_window::Bounce;
 use mem_base::Command;
 use outside::{Failed, Gate, Sink, write_all};
 use race_inside::{block, outside_line};
@@ -55,62 +56,65 @@ fn say<S: Sink>(done: Result<(), AllocError>, text: &Line, sink: &mut S) -> Resu
     }
 }
 
-// A line outside the block.
+// A line outside the block. `text` is the caller's room, and comes with anything in it.
 fn go_line<'c, R: Wait, S: Sink>(
     rt: &R,
     alloc: Global,
-    racer: Racer<'c>,
+    racer: &mut Racer<'c>,
+    bounce: Bounce,
+    text: &mut Line,
     number: u32,
     command: &Command,
     sink: &mut S,
-) -> (Racer<'c>, Result<(), RunFault>)
+) -> (Bounce, Result<(), RunFault>)
     requires fits { FitsCommand command.now }
-    requires ready { IsReady racer }
-    ensures ready { IsReady result.0 }
-    ensures goes { Goes S.written S.holds S.faults sink.old sink.new (alone (number, command.now) ∷ []) racer.entry result.0 result.1 }
+    requires ready { IsReady racer.old }
+    requires room { 64 ≤ bounce }
+    ensures ready { IsReady racer.new }
+    ensures room { result.0 ≡ bounce }
+    ensures goes { Goes S.written S.holds S.faults sink.old sink.new (alone (number, command.now) ∷ []) racer.old racer.new result.1 }
 {
-    let Racer {
-        mut desk,
-        mut cpus,
-        mut known,
-        bounce,
-    } = racer;
-    let mut text = Line::new(alloc);
+    text.clear();
     let (bounce, done) = outside_line(
-        rt, alloc, &mut desk, &mut cpus, &mut known, bounce, &mut text, number, command,
-    );
-    let said = say(done, &text, sink);
-    let racer = Racer {
-        desk,
-        cpus,
-        known,
+        rt,
+        alloc,
+        &mut racer.desk,
+        &mut racer.cpus,
+        &mut racer.known,
         bounce,
-    };
-    (racer, said)
+        text,
+        number,
+        command,
+    );
+    (bounce, say(done, text, sink))
 }
 
 // Lines outside the block, one after another.
 fn go_lines<'c, R: Wait, S: Sink>(
     rt: &R,
     alloc: Global,
-    racer: Racer<'c>,
+    racer: &mut Racer<'c>,
+    bounce: Bounce,
     lines: &'c [(u32, Command)],
     sink: &mut S,
-) -> (Racer<'c>, Result<(), RunFault>)
+) -> (Bounce, Result<(), RunFault>)
     requires fits { AreFitting lines.now }
-    requires ready { IsReady racer }
-    ensures ready { IsReady result.0 }
-    ensures goes { Goes S.written S.holds S.faults sink.old sink.new (phases_alone lines.now) racer.entry result.0 result.1 }
+    requires ready { IsReady racer.old }
+    requires room { 64 ≤ bounce }
+    ensures ready { IsReady racer.new }
+    ensures room { result.0 ≡ bounce }
+    ensures goes { Goes S.written S.holds S.faults sink.old sink.new (phases_alone lines.now) racer.old racer.new result.1 }
 {
-    let mut at = racer;
+    let mut bounce = bounce;
+    let mut text = Line::new(alloc);
     for (number, command) in lines {
-        let (next, done) = go_line(rt, alloc, at, *number, command, sink);
-        at = next;
+        let (back, done) = go_line(rt, alloc, racer, bounce, &mut text, *number, command, sink);
+        bounce = back;
         if let Err(fault) = done {
-            return (at, Err(fault));
+            return (bounce, Err(fault));
         }
     }
-    (at, Ok(()))
+    (bounce, Ok(()))
 }
 
 // The lines of the block, if it has any, each actor's beside the others'.
@@ -119,12 +123,12 @@ fn go_block<'c, R: Threads + Wait + Sync, S: Sink, G: Gate>(
     alloc: Global,
     racer: Racer<'c>,
     lines: &'c [(u32, Command)],
-    whose: Result<Vec<u8>, AllocError>,
+    whose: &[u32],
     sink: &mut S,
     gate: &G,
 ) -> (Racer<'c>, Result<(), RunFault>)
     requires fits { AreFitting lines.now }
-    requires whose { IfOk whose (λ whose. whose.items ≡ map whose_line lines.now) }
+    requires whose { whose.now ≡ map whose_line lines.now }
     requires ready { IsReady racer }
     ensures ready { IsReady result.0 }
     ensures goes { Goes S.written S.holds S.faults sink.old sink.new (block_of lines.now) racer.entry result.0 result.1 }
@@ -132,23 +136,13 @@ fn go_block<'c, R: Threads + Wait + Sync, S: Sink, G: Gate>(
     if lines.is_empty() {
         return (racer, Ok(()));
     }
-    let Racer {
-        desk,
-        cpus,
-        known,
-        bounce,
-    } = racer;
+    let Racer { desk, cpus, known } = racer;
     let mut text = Line::new(alloc);
     let (desk, cpus, known, done) = block(
         rt, alloc, gate, desk, cpus, known, lines, whose, &mut text,
     );
     let said = say(done, &text, sink);
-    let racer = Racer {
-        desk,
-        cpus,
-        known,
-        bounce,
-    };
+    let racer = Racer { desk, cpus, known };
     (racer, said)
 }
 
@@ -157,23 +151,27 @@ pub(crate) fn go_through<'c, R: Threads + Wait + Sync, S: Sink, G: Gate>(
     rt: &R,
     alloc: Global,
     racer: Racer<'c>,
+    bounce: Bounce,
     script: &'c Script,
     sink: &mut S,
     gate: &G,
 ) -> (Racer<'c>, Result<(), RunFault>)
     requires ready { IsReady racer }
+    requires room { 64 ≤ bounce }
     ensures fits { AreFitting script.now }
     ensures ready { IsReady result.0 }
     ensures goes { Goes S.written S.holds S.faults sink.old sink.new (phases_of script.now) racer.entry result.0 result.1 }
 {
-    let (parts, whose) = parts_of(alloc, script.lines());
-    let (racer, done) = go_lines(rt, alloc, racer, parts.before, sink);
+    let mut racer = racer;
+    let parts = parts_of(script.lines(), script.actors());
+    let (bounce, done) = go_lines(rt, alloc, &mut racer, bounce, parts.before, sink);
     if let Err(fault) = done {
         return (racer, Err(fault));
     }
-    let (racer, done) = go_block(rt, alloc, racer, parts.block, whose, sink, gate);
+    let (mut racer, done) = go_block(rt, alloc, racer, parts.block, parts.whose, sink, gate);
     if let Err(fault) = done {
         return (racer, Err(fault));
     }
-    go_lines(rt, alloc, racer, parts.after, sink)
+    let (_bounce, done) = go_lines(rt, alloc, &mut racer, bounce, parts.after, sink);
+    (racer, done)
 }

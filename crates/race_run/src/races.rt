@@ -49,7 +49,6 @@ fn begin<'c>(
     cabinet: &'c Cabinet<Generation>,
     config: Config,
     cpus: Vec<Vcpu<'c>>,
-    bounce: Bounce,
 ) -> Racer<'c>
     requires own { config.seat.cabinet ≡ cabinet.now.id }
     requires unused { IsUnused config }
@@ -57,7 +56,6 @@ fn begin<'c>(
     requires out { config.seat.out ≡ replicate most_passes false }
     requires empty { cpus.items ≡ [] }
     requires room { most_passes ≤ vec_capacity cpus }
-    requires bounce { 64 ≤ bounce }
     ensures ready { IsReady result }
     ensures known { result.known ≡ known_at_first }
     ensures seen { result.desk.seat.seen ≡ [] }
@@ -72,7 +70,6 @@ fn begin<'c>(
         desk,
         cpus: all,
         known: KnownNames::new(alloc),
-        bounce,
     }
 }
 
@@ -112,13 +109,12 @@ pub fn race<'c, R: Threads + Wait + Sync, S: Sink, G: Gate>(
         Ok(room) => room,
         Err(AllocError) => return (config, Err(RunFault::Memory)),
     };
-    let racer = begin(alloc, cabinet, config, cpus, bounce);
-    let (racer, done) = go_through(rt, alloc, racer, script, sink, gate);
+    let racer = begin(alloc, cabinet, config, cpus);
+    let (racer, done) = go_through(rt, alloc, racer, bounce, script, sink, gate);
     let Racer {
         desk,
         cpus,
         known: _known,
-        bounce: _bounce,
     } = racer;
     (close(desk, cpus), done)
 }

@@ -1,6 +1,5 @@
 -- What reading a whole text gives, beside what the definition says of it.
 use Rattle.std.specs.Prelude.{◌≡◌, ℕ, List, ◌++◌, Option, Result, Ok, Err}
-use Rattle.std.specs.Global.{Vec}
 use Rattle.mem_base.specs.declared.script.faults.Cause.{Cause}
 use Rattle.mem_base.specs.declared.script.commands.Command.{Command}
 use Rattle.mem_base.specs.declared.script.places.Section.{Section}
@@ -14,11 +13,6 @@ FailsBy Memory defined = Unit {0}
 FailsBy (Bad fault) defined = defined ≡ Err fault
 
 -- what was read is what the definition gives
--- and where the lines are a plain list
-abbrev pub ReadsLines : Result (Vec (ℕ × Command)) ParseFault → Meaning → Type 0
-ReadsLines (Ok lines) defined = defined ≡ Ok lines.items
-ReadsLines (Err fault) defined = FailsBy fault defined
-
 abbrev pub Parses : Result (List Line) ParseFault → Meaning → Type 0
 Parses (Ok lines) defined = defined ≡ Ok lines
 Parses (Err fault) defined = FailsBy fault defined

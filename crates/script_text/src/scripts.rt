@@ -1,14 +1,16 @@
 // A script's text, line by line.
-ghost use Rattle.std.specs.Prelude.{◌≡◌, ◌<◌, ◌^◌, ◌==◌, ◌≤◌, Ok, Err, Some, IfOk, OnOk, MatchResult, length, position, option_map, []};
+ghost use Rattle.std.specs.Prelude.{◌≡◌, ◌<◌, ◌^◌, ◌==◌, ◌≤◌, Ok, Err, Some, IfOk, OnOk, MatchResult, length, map, position, option_map, []};
 ghost use Rattle.std.specs.List.{slice_split};
 ghost use Rattle.mem_base.specs.declared.script.places.Section.TheVariants.{Start};
 ghost use Rattle.mem_base.specs.script.Lines.{line_of};
+ghost use Rattle.mem_base.specs.script.Race.{actor_number};
 ghost use Rattle.mem_base.specs.script.Scripts.{ends_at, most_text, placed, script_from, script_of, rule_of};
 ghost use Rattle.mem_base.specs.script.Sound.{Sound};
-ghost use Rattle.script_text.specs.Parses.{FailsBy, Parses, ReadsLines, Steps};
+ghost use Rattle.script_text.specs.Parses.{FailsBy, Parses, Steps};
 
 use crate::faults::ParseFault;
 use crate::lines::{line_of, without_return};
+use crate::read_lines::ReadLines;
 use crate::stops::LineStop;
 use mem_base::{BadScript, Cause, Command, PlaceRule, Section};
 use std::alloc::Global;
@@ -22,7 +24,7 @@ pub const MOST_TEXT: usize = 1_048_576;
 /// Each reads as itself when it is printed, and may stand where it stands.
 #[derive(Debug, Drop)]
 pub struct Script {
-    lines: Vec<(u32, Command)>,
+    lines: ReadLines,
 }
 
 impl Model for Script {
@@ -33,9 +35,9 @@ impl Model for Script {
 
     ghost Value = { List Line };
 
-    ghost view = { λ s. s.lines.items };
+    ghost view = { λ s. s.lines };
 
-    ghost invariant = { λ s. Sound Start s.lines.items };
+    ghost invariant = { λ s. Sound Start s.lines };
 }
 
 impl Script {
@@ -44,7 +46,14 @@ impl Script {
         ensures value { result.now ≡ self.now }
         ensures sound { Sound Start self.now }
     {
-        &self.lines
+        self.lines.as_slice()
+    }
+
+    /// Whose each line is: the number of its pass, or the desk's.
+    pub fn actors(&self) -> &[u32]
+        ensures { result.now ≡ map (λ line. actor_number line.1) self.now }
+    {
+        self.lines.actors()
     }
 
     /// A law: each line reads as itself when it is printed, and may stand where it stands. It does nothing.
@@ -112,13 +121,13 @@ fn put(
     section: Section,
     line: u32,
     command: Command,
-    lines: &mut Vec<(u32, Command)>,
+    lines: &mut ReadLines,
 ) -> Result<Section, ParseFault>
-    ensures { Steps result section line (Ok (Some command)) lines.old.items lines.new.items }
+    ensures { Steps result section line (Ok (Some command)) lines.old lines.new }
 {
     match placed(line, section, rule_of(&command)) {
         Some(next) => {
-            lines.push((line, command))?;
+            lines.push(line, command)?;
             Ok(next)
         }
         None => Err(ParseFault::Bad(BadScript {
@@ -134,9 +143,9 @@ fn step(
     section: Section,
     line: u32,
     text: &[u8],
-    lines: &mut Vec<(u32, Command)>,
+    lines: &mut ReadLines,
 ) -> Result<Section, ParseFault>
-    ensures { Steps result section line (line_of text.now) lines.old.items lines.new.items }
+    ensures { Steps result section line (line_of text.now) lines.old lines.new }
 {
     match line_of(alloc, text) {
         Ok(None) => Ok(section),
@@ -147,11 +156,11 @@ fn step(
 }
 
 // The commands of a text, each with its line.
-fn lines_of(alloc: Global, text: &[u8]) -> Result<Vec<(u32, Command)>, ParseFault>
+fn lines_of(alloc: Global, text: &[u8]) -> Result<ReadLines, ParseFault>
     requires { length text.now < 2 ^ 31 }
-    ensures { ReadsLines result (script_from Start 1 (slice_split (λ b. b == 10) text.now)) }
+    ensures { Parses result (script_from Start 1 (slice_split (λ b. b == 10) text.now)) }
 {
-    let mut lines = Vec::new(alloc);
+    let mut lines = ReadLines::new(alloc);
     let mut line = 1u32;
     let mut section = Section::Start;
     let mut rest = text;

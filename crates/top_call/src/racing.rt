@@ -1,5 +1,5 @@
 // `race`: the bytes of a source are read as a script, which runs on a machine of its own, its actors beside one another.
-ghost use Rattle.std.specs.Prelude.{◌≡◌, ◌≢◌, ◌≤◌, ◌⊎◌, None, Ok};
+ghost use Rattle.std.specs.Prelude.{◌≡◌, ◌≢◌, ◌≤◌, ◌⊎◌, ◌^◌, None, Ok};
 ghost use Rattle.outside.specs.Causes.{Rose};
 ghost use Rattle.mem_base.specs.script.Scripts.{script_of};
 ghost use Rattle.top_call.specs.RacedText.{WritesRaceOf};
@@ -14,6 +14,19 @@ use script_text::{MOST_TEXT, ParseFault, Script, parse, pool_words};
 use std::alloc::{AllocError, Global};
 use std::sync::Wait;
 use std::thread::Threads;
+
+// How many words a machine has besides those of its pool, at most.
+const OTHER_WORDS: usize = 4096;
+
+// Asks for as much memory as the words of a machine take, and gives it back.
+//
+// The words are made of zeros, which are let go at once. Where the system's allocator was given back memory of that size before, it keeps what
+// it is given back then, and what follows takes the place of the zeros; else that would be put on pages that nobody touched yet.
+fn ask_once(alloc: Global, pool: usize)
+    requires { pool ≤ 2 ^ 26 }
+{
+    drop(Vec::<u64>::with_capacity(alloc, pool + OTHER_WORDS));
+}
 
 // Races a script on a machine of its own, and hands it out once all was done.
 fn race_script<R: Threads + Wait + Sync, K: Sink, G: Gate>(
@@ -30,7 +43,9 @@ fn race_script<R: Threads + Wait + Sync, K: Sink, G: Gate>(
 {
     // The pool of such a script is no larger than the largest one.
     script.knows_sound();
-    let (cabinet, config) = match Config::new(alloc, pool_words(script), MOST_PASSES) {
+    let pool = pool_words(script);
+    ask_once(alloc, pool);
+    let (cabinet, config) = match Config::new(alloc, pool, MOST_PASSES) {
         Ok(machine) => machine,
         Err(AllocError) => return (Ending::Memory, None),
     };

@@ -6,7 +6,7 @@ use Rattle.race_inside.proofs.rooms.room_for.Goals as goal
 
 pub prepare_for-requires-clause-desk : goal.prepare_for-requires-clause-desk
 prepare_for-requires-clause-desk c =
-    ap lines_meant c.as_slice-2.ensures.value
+    ap lines_meant c.as_slice.ensures.value
     ∙ desks_own c.args.lines.now c.deal.new.works.items c.take_desk-desk_lines.new.works.items c.take_desk-desk_lines.result.items c.in_ok-deal.ensures
     c.take_desk-desk_lines.ensures
 
@@ -34,7 +34,7 @@ returns c =
       passes = record {
         all_works = c.in_ok-prepare_for.ensures.all ∙ many;
         works = c.in_ok-prepare_for.ensures.works;
-        busy = c.in_ok-busy.ensures ∙ ap (map acts) c.as_slice-3.ensures.value;
+        busy = c.in_ok-busy.ensures ∙ ap (map acts) c.as_slice-2.ensures.value;
         no_waiting = search rules;
         waiting_fit = search rules;
         no_cpus = search rules;

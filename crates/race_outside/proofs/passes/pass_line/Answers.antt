@@ -1,11 +1,11 @@
-use Rattle.std.proofs.Common.{[], refl}
+use Rattle.std.proofs.Common.{ℕ, ◌<◌, [], refl, subst, sym, ◌∙◌}
 use Rattle.mem_base.specs.script.Race.{alone}
 use Rattle.mem_base.specs.script.RaceLines.{said_text}
 use Rattle.mem_base.specs.script.Scripts.{Line}
 use Rattle.desk_lock.specs.Records.{RecordState}
 use Rattle.desk_lock.proofs.RecordLaws.{later_joins}
 use Rattle.race_lines.specs.PassLines.{said_of}
-use Rattle.race_outside.proofs.PassLaws.{between_ready, done_between, done_steps, either_way, nothing_between, nothing_steps, steps_written, still_own}
+use Rattle.race_outside.proofs.PassLaws.{between_ready, done_between, done_steps, either_way, nothing_between, nothing_steps, others_heard, steps_written, still_own}
 use Rattle.race_outside.proofs.StoppingLaws.{lost_stops, nothing_stops}
 use Rattle.race_outside.proofs.passes.pass_line.Goals as goal
 use Rattle.mem_base.proofs.OptionLaws.{on_failure}
@@ -24,7 +24,11 @@ settle-requires g c =
     let x = either_way c.do_line-bounce.result.1 did.done did.err
     (λ said h. done_between v m c.args.pass.0 olds between c.requires.near c.requires.ready c.in-Ok.task said h)
     (nothing_between v m c.args.pass.0 olds between c.requires.near c.requires.ready) in
-    record { own = still_own v m c.args.pass.0 olds between c.requires.near c.requires.ready m x did.later.grew.cabinet }
+    let ready = c.requires.ready in record {
+      near = subst (λ (n : ℕ). c.args.pass.0 < n) (sym (x.changed.count ∙ ready.all)) c.requires.near;
+      own = still_own v m c.args.pass.0 olds between c.requires.near ready m x did.later.grew.cabinet;
+      others = others_heard v m c.args.pass.0 olds between c.requires.near ready x did.later.grew.seen;
+    }
 
 pub returns-clause-ready : goal.returns-clause-ready
 returns-clause-ready g c =

@@ -18,8 +18,8 @@ returns-clause-goes g c =
     let e = c.block-desk.ensures in
     let r = c.block-desk.result in
     subst (λ (xs : List Phase). Goes g.S.Sink.written g.S.Sink.holds g.S.Sink.faults c.args.sink.now c.say-said.new.sink xs c.args.racer
-    (record { desk = r.0; cpus = r.1; known = r.2; bounce = c.args.racer.bounce }) c.say-said.result)
+    (record { desk = r.0; cpus = r.1; known = r.2 }) c.say-said.result)
     (sym (some_by c.args.lines.now c.is_empty.result c.is_empty.ensures c.if-is_empty.false))
     (goes_done g.S.Sink.written g.S.Sink.holds g.S.Sink.faults c.args.sink.now c.say-said.new.sink (block c.args.lines.now) c.args.racer
-    (record { desk = r.0; cpus = r.1; known = r.2; bounce = c.args.racer.bounce }) c.new-text.result c.block-desk.new.text r.3 c.say-said.result e.later
+    (record { desk = r.0; cpus = r.1; known = r.2 }) c.new-text.result c.block-desk.new.text r.3 c.say-said.result e.later
     c.new-text.ensures e.step (on_failure r.3 (StopsIn c.args.racer.desk c.args.racer.known (block c.args.lines.now) r.0) e.stopped) c.say-said.ensures.wrote c.say-said.ensures.memory)

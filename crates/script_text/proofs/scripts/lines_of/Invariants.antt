@@ -7,7 +7,7 @@ use Rattle.script_text.proofs.scripts.lines_of.Given as goal
 
 abbrev pub invariant-loop-end : goal.invariant-loop-end
 invariant-loop-end l = (l.line + length l.rest ≤ 1 + length l.text)
-    × (prepend l.lines.items (script_from l.section l.line (slice_split (λ b. b == 10) l.rest)) ≡ script_from Start 1 (slice_split (λ b. b == 10) l.text))
+    × (prepend l.lines (script_from l.section l.line (slice_split (λ b. b == 10) l.rest)) ≡ script_from Start 1 (slice_split (λ b. b == 10) l.text))
 
 abbrev pub decreases-loop-end : goal.decreases-loop-end
 decreases-loop-end l = length l.rest

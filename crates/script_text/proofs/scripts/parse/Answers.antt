@@ -6,4 +6,4 @@ use Rattle.script_text.proofs.scripts.parse.Goals as goal
 
 -- what was read is sound
 pub invariant_of-result : goal.invariant_of-result
-invariant_of-result c = from_sound (slice_split (λ b. b == 10) c.args.text.now) Start 1 c.in-Ok.lines.items c.in-Ok.ensures
+invariant_of-result c = from_sound (slice_split (λ b. b == 10) c.args.text.now) Start 1 c.in-Ok.lines c.in-Ok.ensures

@@ -5,9 +5,13 @@ use Rattle.top_call.specs.declared.endings.Ending.TheVariants as endings
 use Rattle.top_call.proofs.RaceLaws.{fits_meant, nothing_raced, race_stopped, raced}
 use Rattle.top_call.proofs.racing.race_script.Goals as goal
 
+pub ask_once-requires : goal.ask_once-requires
+ask_once-requires g c =
+    subst (λ n. n ≤ 2 ^ 26) (sym c.pool_words-pool.ensures) (pool_fits c.args.script.now (sound_fits Start c.args.script.now c.knows_sound.ensures))
+
 pub new-requires-clause-words : goal.new-requires-clause-words
 new-requires-clause-words g c =
-    subst (λ n. n ≤ 2 ^ 26) (sym c.pool_words.ensures) (pool_fits c.args.script.now (sound_fits Start c.args.script.now c.knows_sound.ensures))
+    subst (λ n. n ≤ 2 ^ 26) (sym c.pool_words-pool.ensures) (pool_fits c.args.script.now (sound_fits Start c.args.script.now c.knows_sound.ensures))
 
 pub returns-in-Err-clause-writes : goal.returns-in-Err-clause-writes
 returns-in-Err-clause-writes g c =
