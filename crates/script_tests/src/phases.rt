@@ -2,7 +2,7 @@
 
 use race_phases::{has_line, parts_of};
 use script_text::{Script, parse};
-use std::alloc::{AllocError, Global};
+use std::alloc::Global;
 
 const BLOCK: &str = "region A container 0x1000\n\
 space S A\n\
@@ -14,28 +14,20 @@ v4 leave\n\
 end\n\
 show S\n";
 
-// Whether the lines of the block are noted as those of v4, the desk, v1 and v4.
-fn is_noted(whose: &Result<Vec<u8>, AllocError>) -> bool {
-    match whose {
-        Ok(whose) => whose.as_slice() == [4, 16, 1, 4].as_slice(),
-        Err(_) => false,
-    }
-}
-
-// Whether the script has two lines before its block, four in it, one after it, and just these actors.
-fn is_cut(alloc: Global, script: &Script) -> bool {
-    let (parts, whose) = parts_of(alloc, script.lines());
+// Whether the script has two lines before its block, four in it, one after it, and just these actors: v4, the desk, v1 and v4.
+fn is_cut(script: &Script) -> bool {
+    let parts = parts_of(script.lines(), script.actors());
     parts.before.len() == 2
         && parts.block.len() == 4
         && parts.after.len() == 1
-        && is_noted(&whose)
+        && parts.whose == [4, 16, 1, 4].as_slice()
         && has_line(4, parts.block)
         && !has_line(0, parts.block)
 }
 
 fn holds(alloc: Global) -> bool {
     match parse(alloc, BLOCK.as_bytes()) {
-        Ok(script) => is_cut(alloc, &script),
+        Ok(script) => is_cut(&script),
         Err(_) => false,
     }
 }
