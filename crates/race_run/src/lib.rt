@@ -11,6 +11,8 @@ mod phases;
 mod racers;
 mod races;
 
+pub use epoch_rule::Cabinet;
+pub use generation::Generation;
 pub use race_inside::Config;
 pub use races::race;
 pub use script_run::{RunFault, run};

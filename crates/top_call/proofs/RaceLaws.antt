@@ -45,10 +45,6 @@ lines_in_it (Err bad) others = others
 same_lines : (lines others : List Line) → meant lines ≡ meant others → lines ≡ others
 same_lines lines others e = ap (λ (m : Meaning). lines_in_it m lines) e
 
--- the commands that are meant fit
-pub fits_meant : (script : List Line) → AreFitting script → (lines : List Line) → meant script ≡ Ok lines → AreFitting lines
-fits_meant script fits lines e = subst AreFitting (same_lines script lines e) fits
-
 -- each script has a text as a race
 pub some_text : (script : Meaning) → ((lines : List Line) → script ≡ Ok lines → AreFitting lines) → (text : List ℕ) × IsRacedText script text
 some_text (Ok lines) fits = let race = races_exist lines (fits lines refl) in (race.1, (race.0, race.2))

@@ -8,6 +8,7 @@
 
 mod endings;
 mod kept;
+mod machines;
 mod racing;
 mod running;
 mod seeds;

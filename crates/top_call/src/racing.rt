@@ -1,54 +1,40 @@
 // `race`: the bytes of a source are read as a script, which runs on a machine of its own, its actors beside one another.
-ghost use Rattle.std.specs.Prelude.{◌≡◌, ◌≢◌, ◌≤◌, ◌⊎◌, ◌^◌, None, Ok};
+ghost use Rattle.std.specs.Prelude.{◌≡◌, ◌≢◌, ◌≤◌, ◌⊎◌, None, Ok};
+ghost use Rattle.std.specs.Arc.{arc_value};
 ghost use Rattle.outside.specs.Causes.{Rose};
 ghost use Rattle.mem_base.specs.script.Scripts.{script_of};
+ghost use Rattle.mem_base.specs.script.Run.{pool_words};
+ghost use Rattle.race_run.specs.Ends.{IsFresh};
 ghost use Rattle.top_call.specs.RacedText.{WritesRaceOf};
 ghost use Rattle.top_call.specs.Runs.{Races, ending_of};
 
 use crate::endings::Ending;
+use crate::machines::{Machine, parse_and_make, pool_ahead, pool_of_script, with_pool};
 use crate::running::{refuse, too_long};
-use mem_base::MOST_PASSES;
 use outside::{Gate, ReadStop, Sink, Source, read_all};
 use race_run::{Config, RunFault, race};
-use script_text::{MOST_TEXT, ParseFault, Script, parse, pool_words};
+use script_text::{MOST_TEXT, ParseFault, Script};
 use std::alloc::{AllocError, Global};
 use std::sync::Wait;
 use std::thread::Threads;
-
-// How many words a machine has besides those of its pool, at most.
-const OTHER_WORDS: usize = 4096;
-
-// Asks for as much memory as the words of a machine take, and gives it back.
-//
-// The words are made of zeros, which are let go at once. Where the system's allocator was given back memory of that size before, it keeps what
-// it is given back then, and what follows takes the place of the zeros; else that would be put on pages that nobody touched yet.
-fn ask_once(alloc: Global, pool: usize)
-    requires { pool ≤ 2 ^ 26 }
-{
-    drop(Vec::<u64>::with_capacity(alloc, pool + OTHER_WORDS));
-}
 
 // Races a script on a machine of its own, and hands it out once all was done.
 fn race_script<R: Threads + Wait + Sync, K: Sink, G: Gate>(
     rt: &R,
     alloc: Global,
     script: &Script,
+    machine: Machine,
     sink: &mut K,
     gate: &G,
 ) -> (Ending, Option<Config>)
+    requires own { machine.1.seat.cabinet ≡ (arc_value machine.0).id }
+    requires fresh { IsFresh (pool_words script.now) machine.1 }
     ensures writes { WritesRaceOf K.written K.holds (Ok script.now) sink.old sink.new result.1 result.0 }
     ensures write { result.0 ≡ Ending.WriteFault → Rose (K.faults sink.old) (K.faults sink.new) }
     ensures only { (result.0 ≡ Ending.Done) ⊎ (result.0 ≡ Ending.WriteFault) ⊎ (result.0 ≡ Ending.Memory) }
     ensures later { K.faults sink.old ≤ K.faults sink.new }
 {
-    // The pool of such a script is no larger than the largest one.
-    script.knows_sound();
-    let pool = pool_words(script);
-    ask_once(alloc, pool);
-    let (cabinet, config) = match Config::new(alloc, pool, MOST_PASSES) {
-        Ok(machine) => machine,
-        Err(AllocError) => return (Ending::Memory, None),
-    };
+    let (cabinet, config) = machine;
     let (config, done) = race(rt, alloc, script, &cabinet, config, sink, gate);
     match done {
         Ok(()) => (Ending::Done, Some(config)),
@@ -72,10 +58,20 @@ pub(crate) fn race_text<R: Threads + Wait + Sync, K: Sink, G: Gate>(
         → (result.0 ≡ ending_of (script_of text.now)) ⊎ (result.0 ≡ Ending.Memory) }
     ensures later { K.faults sink.old ≤ K.faults sink.new }
 {
-    match parse(alloc, text) {
-        Ok(script) => race_script(rt, alloc, &script, sink, gate),
-        Err(ParseFault::Bad(bad)) => (refuse(alloc, bad, sink), None),
-        Err(ParseFault::Memory) => (Ending::Memory, None),
+    let pool = pool_ahead(alloc, text);
+    let (parsed, made) = parse_and_make(rt, alloc, text, pool);
+    match parsed {
+        Ok(script) => match with_pool(alloc, made, pool, pool_of_script(&script)) {
+            Ok(machine) => race_script(rt, alloc, &script, machine, sink, gate),
+            Err(AllocError) => (Ending::Memory, None),
+        },
+        Err(fault) => {
+            drop(made);
+            match fault {
+                ParseFault::Bad(bad) => (refuse(alloc, bad, sink), None),
+                ParseFault::Memory => (Ending::Memory, None),
+            }
+        }
     }
 }
 

@@ -1,4 +1,4 @@
-use Rattle.std.proofs.Common.{◌≡◌, ap, ◌∙◌}
+use Rattle.std.proofs.Common.{ap, ◌∙◌}
 use Rattle.mem_base.specs.script.Scripts.{script_of}
 use Rattle.top_call.specs.WrittenText.{text_of_script}
 use Rattle.top_call.proofs.seeds.run_seed.Goals as goal
