@@ -61,8 +61,8 @@ fn pool_of_line(alloc: Global, line: &[u8]) -> Option<usize>
     if is_blank { None } else { Some(words) }
 }
 
-/// The words of the pool that a text names, as its first line with a command says. That is told before the text is read, so
-/// a text that is no script, or one that begins with `par`, may have others.
+/// The words of the pool that a text names, as the first of its lines that is a script by itself says, before the text is read. A text
+/// that is no script may have others, and so may one with no command but `par` and `end`, of which 0 is answered.
 pub(crate) fn pool_ahead(alloc: Global, text: &[u8]) -> usize
     ensures { result ≤ 2 ^ 26 }
 {
