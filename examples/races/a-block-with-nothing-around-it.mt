@@ -1,0 +1,3 @@
+# A script may have no command but those of a block without lines. It writes nothing.
+par
+end
