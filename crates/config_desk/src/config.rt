@@ -58,6 +58,64 @@ fn fits(event: &Event)
     }
 }
 
+// A cabinet for two owners.
+fn share(
+    alloc: Global,
+    cabinet: Cabinet<Generation>,
+) -> Result<
+    (
+        Arc<Cabinet<Generation>, Global>,
+        Arc<Cabinet<Generation>, Global>,
+    ),
+    AllocError,
+>
+    ensures first { IfOk result (λ r. arc_value r.0 ≡ cabinet) }
+    ensures second { IfOk result (λ r. arc_value r.1 ≡ cabinet) }
+{
+    let cabinet = Arc::new(alloc, cabinet)?;
+    match Arc::try_clone(&cabinet) {
+        Ok(shared) => Ok((cabinet, shared)),
+        Err(error) => {
+            drop(cabinet);
+            Err(error)
+        }
+    }
+}
+
+// The cabinet of a desk on which nothing was done, for two owners, and its writer's seat.
+fn open(
+    alloc: Global,
+    desk: &IdleDesk,
+    words: usize,
+    passes: u32,
+) -> Result<
+    (
+        Arc<Cabinet<Generation>, Global>,
+        Arc<Cabinet<Generation>, Global>,
+        WriterSeat<Generation>,
+    ),
+    AllocError,
+>
+    requires desk { resting desk.now.listened ≡ first_state words }
+    requires words { words ≤ 2 ^ 26 }
+    requires some { 0 < passes }
+    requires few { passes ≤ most_passes }
+    ensures own { IfOk result (λ r. (r.2.cabinet ≡ (arc_value r.0).id) × (r.2.cabinet ≡ (arc_value r.1).id)) }
+    ensures sizes { IfOk result (λ r. (r.2.sizes.passes ≡ passes) × (r.2.sizes.words ≡ words + notifier_count)) }
+    ensures same { IfOk result (λ r. (arc_value r.0).sizes ≡ r.2.sizes) }
+    ensures fresh { IfOk result (λ r. (r.2.seen ≡ []) × (r.2.out ≡ replicate passes false)) }
+{
+    let first = Arc::try_clone(desk.listened.backed().desk().current())?;
+    let (cabinet, seat) = Cabinet::new(alloc, passes, words + NOTIFIER_COUNT, first)?;
+    match share(alloc, cabinet) {
+        Ok((cabinet, shared)) => Ok((cabinet, shared, seat)),
+        Err(error) => {
+            drop(seat);
+            Err(error)
+        }
+    }
+}
+
 impl Config {
     /// A machine with an empty map over a pool of this many words, at most 2^26, and 1 to 16 passes: the cabinet that its virtual
     /// CPUs share, and the writer's desk of it.
@@ -78,12 +136,20 @@ impl Config {
         ensures part { IfOk result (λ r. r.1.part ≡ first_writer words passes) }
     {
         let desk = IdleDesk::new(alloc, words)?;
-        let first = Arc::try_clone(desk.listened.backed().desk().current())?;
-        let (cabinet, seat) = Cabinet::new(alloc, passes, words + NOTIFIER_COUNT, first)?;
-        let cabinet = Arc::new(alloc, cabinet)?;
-        let shared = Arc::try_clone(&cabinet)?;
-        let config = Config::with_seat(alloc, shared, seat, desk, words, passes)?;
-        Ok((cabinet, config))
+        let (cabinet, shared, seat) = match open(alloc, &desk, words, passes) {
+            Ok(opened) => opened,
+            Err(error) => {
+                drop(desk);
+                return Err(error);
+            }
+        };
+        match Config::with_seat(alloc, shared, seat, desk, words, passes) {
+            Ok(config) => Ok((cabinet, config)),
+            Err(error) => {
+                drop(cabinet);
+                Err(error)
+            }
+        }
     }
 
     // The desk by the seat of a new cabinet.

@@ -34,10 +34,12 @@ fn act<J: Naming, G: Gate, R: Wait>(
     let mut desk = Shared { lock };
     match mem::replace(actor, BlockActor::Gone) {
         BlockActor::Desk(lines) => {
-            *actor = BlockActor::Desk(lines.run(rt, alloc, gate, &mut desk));
+            let done = BlockActor::Desk(lines.run(rt, alloc, gate, &mut desk));
+            drop(mem::replace(actor, done));
         }
         BlockActor::Pass(pass) => {
-            *actor = BlockActor::Pass(pass.run(rt, alloc, gate, &mut desk));
+            let done = BlockActor::Pass(pass.run(rt, alloc, gate, &mut desk));
+            drop(mem::replace(actor, done));
         }
         BlockActor::Gone => {}
     }

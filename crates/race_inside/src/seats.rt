@@ -183,13 +183,37 @@ pub(crate) fn seat<'a, 'k>(
     }
 }
 
+// The virtual CPU of a pass, of which all else is let go.
+fn into_cpu<'a>(pass: PassActor<'a, '_>) -> Vcpu<'a>
+    ensures { result ≡ pass.entry.vcpu }
+{
+    let PassActor {
+        vcpu,
+        bounce,
+        clerk,
+        lines,
+        got,
+        out_of_memory: _,
+        text,
+    } = pass;
+    drop(bounce);
+    drop(clerk);
+    drop(lines);
+    drop(got);
+    drop(text);
+    vcpu
+}
+
 // The virtual CPU of an actor.
 fn cpu_of<'a>(actor: Option<BlockActor<'a, '_>>) -> Option<Vcpu<'a>>
     ensures { (a : PassActor) → actor.entry ≡ Some (Pass a) → result ≡ Some a.vcpu }
 {
     match actor {
-        Some(BlockActor::Pass(pass)) => Some(pass.vcpu),
-        _ => None,
+        Some(BlockActor::Pass(pass)) => Some(into_cpu(pass)),
+        other => {
+            drop(other);
+            None
+        }
     }
 }
 
@@ -245,7 +269,10 @@ pub(crate) fn known_after(desks: Option<KnownNames>, kept: Option<KnownNames>) -
     ensures { (k : Known) → result ≡ names_then k kept desks }
 {
     match kept {
-        Some(known) => known,
+        Some(known) => {
+            drop(desks);
+            known
+        }
         None => match desks {
             Some(known) => known,
             None => unreachable!(),

@@ -53,5 +53,7 @@ pub fn run_on<M: Machine + Drop, K: Sink>(
     let mut session = Session::new(alloc, machine);
     let mut text = Line::new(alloc);
     let done = run_lines(&mut session, &mut text, script.lines(), sink);
+    drop(text);
+    drop(session);
     done
 }

@@ -14,8 +14,13 @@ use std::alloc::Global;
 pub fn bare(tokens: &mut Tokens, command: Command) -> Result<Command, LineStop>
     ensures { Reads result (ends command tokens.old) }
 {
-    tokens.ends()?;
-    Ok(command)
+    match tokens.ends() {
+        Ok(()) => Ok(command),
+        Err(cause) => {
+            drop(command);
+            Err(LineStop::Bad(cause))
+        }
+    }
 }
 
 // machine SIZE

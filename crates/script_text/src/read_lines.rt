@@ -50,12 +50,14 @@ impl ReadLines {
         }
     }
 
-    /// Puts a line behind the others, or there is no memory for it, and they stay as they are.
+    /// Puts a line after the others, or there is no memory for it, and they stay as they are.
     pub(crate) fn push(&mut self, number: u32, command: Command) -> Result<(), AllocError>
         ensures { OnOk result (self.new ≡ self.old ++ (number, command) ∷ []) }
     {
-        self.lines.reserve(1)?;
-        self.actors.reserve(1)?;
+        if self.lines.reserve(1).is_err() || self.actors.reserve(1).is_err() {
+            drop(command);
+            return Err(AllocError);
+        }
         self.actors.push_reserved(actor_number(&command));
         self.lines.push_reserved((number, command));
         Ok(())

@@ -130,10 +130,13 @@ fn put(
             lines.push(line, command)?;
             Ok(next)
         }
-        None => Err(ParseFault::Bad(BadScript {
-            line,
-            cause: Cause::Place,
-        })),
+        None => {
+            drop(command);
+            Err(ParseFault::Bad(BadScript {
+                line,
+                cause: Cause::Place,
+            }))
+        }
     }
 }
 

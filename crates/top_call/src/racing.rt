@@ -18,6 +18,18 @@ use std::alloc::{AllocError, Global};
 use std::sync::Wait;
 use std::thread::Threads;
 
+// How a race ends that stopped by this fault.
+fn ending_after(fault: RunFault) -> Ending
+    ensures write { fault ≡ RunFault.Write → result ≡ Ending.WriteFault }
+    ensures memory { fault ≡ RunFault.Memory → result ≡ Ending.Memory }
+    ensures only { (result ≡ Ending.WriteFault) ⊎ (result ≡ Ending.Memory) }
+{
+    match fault {
+        RunFault::Write => Ending::WriteFault,
+        RunFault::Memory => Ending::Memory,
+    }
+}
+
 // Races a script on a machine of its own, and hands it out once all was done.
 fn race_script<R: Threads + Wait + Sync, K: Sink, G: Gate>(
     rt: &R,
@@ -36,10 +48,13 @@ fn race_script<R: Threads + Wait + Sync, K: Sink, G: Gate>(
 {
     let (cabinet, config) = machine;
     let (config, done) = race(rt, alloc, script, &cabinet, config, sink, gate);
+    drop(cabinet);
     match done {
         Ok(()) => (Ending::Done, Some(config)),
-        Err(RunFault::Write) => (Ending::WriteFault, None),
-        Err(RunFault::Memory) => (Ending::Memory, None),
+        Err(fault) => {
+            drop(config);
+            (ending_after(fault), None)
+        }
     }
 }
 

@@ -18,6 +18,7 @@ use outside::{Failed, Gate, OpenGate, Sink, Source, write_all};
 use race_run::Config;
 use script_words::{WordsStop, task_of};
 use std::alloc::Global;
+use std::mem;
 use std::process::ExitCode;
 use std::sync::Wait;
 use std::thread::Threads;
@@ -106,10 +107,10 @@ pub fn mtree<R: Threads + Wait + Sync, S: Source, K: Sink, G: Gate>(
 {
     if asks_race(words) {
         let (ending, machine) = race_source(rt, alloc, source, sink, gate);
-        *kept = machine;
+        drop(mem::replace(kept, machine));
         return ending;
     }
-    *kept = None;
+    drop(kept.take());
     alone(alloc, words, source, sink)
 }
 
@@ -135,5 +136,6 @@ pub fn exit_code<R: Threads + Wait + Sync, S: Source, K: Sink>(
 {
     let mut kept = None;
     let ending = mtree(rt, alloc, words, source, sink, &OpenGate, &mut kept);
+    drop(kept);
     ExitCode::from(ending.status())
 }

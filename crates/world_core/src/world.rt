@@ -1,10 +1,15 @@
 // The world: its parts, what it is seen as, and what it shows of itself: the journal of its listeners, and its current generation.
-ghost use Rattle.std.specs.Prelude.{◌≡◌, ◌≤◌, ◌<◌, ◌^◌, [], drop, Some, IfOk};
+ghost use Rattle.std.specs.Prelude.{◌≡◌, ◌+◌, ◌≤◌, ◌<◌, ◌^◌, [], drop, replicate, Some, IfOk};
 ghost use Rattle.std.specs.Arc.{arc_value};
-ghost use Rattle.mem_base.specs.map.Limits.{most_passes};
+ghost use Rattle.mem_base.specs.map.Calls.{empty};
+ghost use Rattle.mem_base.specs.map.Limits.{most_passes, notifier_count};
 ghost use Rattle.mem_base.specs.machine.World.{opening};
 ghost use Rattle.mem_base.specs.machine.Passes.{pass_of};
 ghost use Rattle.mem_base.specs.machine.Generations.{generation, generation_of};
+ghost use Rattle.generation.specs.Published.{published};
+ghost use Rattle.kept_generations.specs.KeptState.{first_kept};
+ghost use Rattle.writer_desk.specs.Listened.{resting};
+ghost use Rattle.writer_desk.specs.Writers.{first_state};
 ghost use Rattle.world_core.specs.Hands.{IsInside, shown_to};
 ghost use Rattle.world_hand.specs.Reached.{IsReached};
 ghost use Rattle.world_hand.specs.Taken.{with_calls};
@@ -43,6 +48,31 @@ impl Model for World {
     ghost invariant = { λ w. IsWorld (state_of w.desk w.due) w.hand.kept w.hand.words (aside w.desk.dropped.items w.unfilled.cells) };
 }
 
+// The generations and words of a world whose desk nobody has used yet.
+fn hand_of(
+    alloc: Global,
+    desk: &IdleDesk,
+    words: usize,
+    passes: u32,
+) -> Result<PureHand, AllocError>
+    requires desk { resting desk.now.listened ≡ first_state words }
+    requires words { words ≤ 2 ^ 26 }
+    requires some { 0 < passes }
+    requires few { passes ≤ most_passes }
+    ensures kept { IfOk result (λ hand. hand.kept ≡ first_kept passes (published 0 empty [])) }
+    ensures words { IfOk result (λ hand. hand.words ≡ replicate (words + notifier_count) 0) }
+{
+    let first = Arc::clone(desk.listened.backed().desk().current())?;
+    let kept = Kept::new(alloc, passes, first)?;
+    match Words::new(alloc, words + NOTIFIER_COUNT) {
+        Ok(words) => Ok(PureHand { kept, words }),
+        Err(error) => {
+            drop(kept);
+            Err(error)
+        }
+    }
+}
+
 impl World {
     /// The world at first: an empty map over a pool of this many words, at most 2^26, and 1 to 16 passes. It fails only where memory
     /// runs out.
@@ -53,17 +83,18 @@ impl World {
         ensures { IfOk result (λ world. world ≡ opening words passes) }
     {
         let desk = IdleDesk::new(alloc, words)?;
-        let first = Arc::clone(desk.listened.backed().desk().current())?;
-        let hand = PureHand {
-            kept: Kept::new(alloc, passes, first)?,
-            words: Words::new(alloc, words + NOTIFIER_COUNT)?,
-        };
-        Ok(World {
-            desk,
-            due: None,
-            hand,
-            unfilled: Unfilled::none(alloc),
-        })
+        match hand_of(alloc, &desk, words, passes) {
+            Ok(hand) => Ok(World {
+                desk,
+                due: None,
+                hand,
+                unfilled: Unfilled::none(alloc),
+            }),
+            Err(error) => {
+                drop(desk);
+                Err(error)
+            }
+        }
     }
 
     /// A legal history leads to the world, but for what was taken out of its journal: what is proved of legal histories holds of it, of
