@@ -1,6 +1,6 @@
 -- What a hand has done of an access.
 use Rattle.std.specs.Prelude.{◌≡◌, ℕ, ◌++◌, List, length}
-use Rattle.mem_base.specs.declared.map.ids.PassId.{PassId}
+use Rattle.mem_base.specs.map.PassIds.{PassId}
 use Rattle.mem_base.specs.declared.access.accesses.TxResult.{TxResult}
 use Rattle.mem_base.specs.declared.access.cells.WordStep.{WordStep}
 use Rattle.mem_base.specs.declared.machine.events.Event.{Event}

@@ -1,6 +1,6 @@
 // Who makes the steps of an access.
 ghost use Rattle.std.specs.Prelude.{◌≡◌, ℕ, ◌<◌, ◌++◌, List, [], ◌∷◌, length, true};
-ghost use Rattle.mem_base.specs.declared.map.ids.PassId.{PassId};
+ghost use Rattle.mem_base.specs.map.PassIds.{PassId};
 ghost use Rattle.mem_base.specs.declared.access.cells.WordStep.{WordStep};
 ghost use Rattle.mem_base.specs.declared.machine.events.Event.{Event};
 ghost use Rattle.mem_base.specs.declared.machine.events.Event.TheVariants as events;

@@ -21,11 +21,11 @@ trait Reader {
 
 impl Reader for PureMachine {
     fn read(&mut self, addr: u64, out: &mut [u8]) -> u64 {
-        PureMachine::read(self, PassId(0), SpaceId(0), addr, out).number
+        PureMachine::read(self, PassId::FIRST, SpaceId(0), addr, out).number
     }
 
     fn write(&mut self, addr: u64, bytes: &[u8]) -> u64 {
-        PureMachine::write(self, PassId(0), SpaceId(0), addr, bytes).number
+        PureMachine::write(self, PassId::FIRST, SpaceId(0), addr, bytes).number
     }
 }
 

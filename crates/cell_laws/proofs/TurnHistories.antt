@@ -4,7 +4,7 @@ use Rattle.std.proofs.Common.{refl, sym, ap, subst, ◌∙◌, arith, Option, So
 use Rattle.std.specs.Prelude.{flat_map, nat_lt, ◌/◌, is_some}
 use Rattle.std.proofs.lemmas.Bool.{eqb-true, lt-ltb, and_parts}
 use Rattle.mem_base.specs.declared.map.ids.RegionId.{RegionId}
-use Rattle.mem_base.specs.declared.map.ids.PassId.{PassId}
+use Rattle.mem_base.specs.map.PassIds.{PassId}
 use Rattle.mem_base.specs.declared.map.kinds.Client.{Client}
 use Rattle.mem_base.specs.declared.map.forests.Node.{Node}
 use Rattle.mem_base.specs.declared.access.cells.Place.{Place}

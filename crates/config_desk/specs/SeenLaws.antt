@@ -1,7 +1,7 @@
 -- What the laws of turns say of the history that the writer's seat has seen, with the private events of the turns put in.
 use Rattle.std.specs.Prelude.{◌≡◌, ℕ, List, ◌∷◌, ◌++◌, Some}
 use Rattle.mem_base.specs.declared.map.ids.ListenerId.{ListenerId}
-use Rattle.mem_base.specs.declared.map.ids.PassId.{PassId}
+use Rattle.mem_base.specs.map.PassIds.{PassId}
 use Rattle.mem_base.specs.declared.map.ids.RegionId.{RegionId}
 use Rattle.mem_base.specs.declared.map.kinds.Client.{Client}
 use Rattle.mem_base.specs.declared.access.cells.Place.{Place}

@@ -17,7 +17,7 @@ ghost use Rattle.config_desk.specs.Configs.{IsTurnOf, with_calls};
 use epoch_rule::{Cabinet, WriterSeat};
 use generation::Generation;
 use mem_base::{
-    Applied, Call, Client, Config as Event, ListenerEvent, ListenerId, NOTIFIER_COUNT, Place,
+    Applied, Call, Client, Config as Event, ListenerEvent, ListenerId, NOTIFIER_COUNT, NotifierId, Place,
     Refusal, RegionId, SpaceId,
 };
 use seat_run::{Recent, SeatHand};
@@ -303,8 +303,7 @@ impl Config {
 
     /// Takes a notifier: answers what stood in its word and leaves 0 there. It is 0 where no write has set the notifier since it was
     /// last taken. It takes no memory.
-    pub fn notified(&mut self, number: u32) -> u64
-        requires number { number < notifier_count }
+    pub fn notified(&mut self, number: NotifierId) -> u64
         ensures turn { IsTurnOf self.old (notified number) (notifier_answer result) self.new }
     {
         notified(&self.desk, &mut self.hand, number)

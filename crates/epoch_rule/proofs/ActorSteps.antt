@@ -13,7 +13,7 @@ use mathlib.Core.Option as maybe
 use Rattle.mem_base.specs.declared.machine.events.Event.TheVariants as events
 use Rattle.epoch_rule.proofs.EntrySteps.{grown, knows_generations, inside, shows_moved, slots_moved, slots_known, makes, loaded, seats_set, knows_still}
 use Rattle.epoch_rule.proofs.EntrySteps as of_slots
-use Rattle.mem_base.specs.declared.map.ids.PassId.{PassId}
+use Rattle.mem_base.specs.map.PassIds.{PassId}
 use Rattle.epoch_rule.proofs.PassLaws.{pass_known}
 use Rattle.mem_base.proofs.PassTurnLaws.{raises}
 

@@ -1,7 +1,8 @@
 -- What a caller sees of a cabinet, and of those who act on it.
-use Rattle.std.specs.Prelude.{◌≡◌, ℕ, suc, ◌<◌, ◌^◌, List, [], ◌∷◌, Bool, true, false, Option}
+use Rattle.std.specs.Prelude.{◌≡◌, ℕ, suc, ◌<◌, ◌≤◌, ◌^◌, List, [], ◌∷◌, Bool, true, false, Option}
 use Rattle.atomic_table.specs.Seated.{TableId}
 use Rattle.mem_base.specs.declared.machine.events.HistoryEntry.{HistoryEntry}
+use Rattle.mem_base.specs.map.Limits.{most_passes}
 use Rattle.epoch_rule.specs.declared.views.Sizes.{Sizes}
 use Rattle.epoch_rule.specs.Copies.{Suits}
 
@@ -10,11 +11,11 @@ pub record CabinetValue : Type 0 where
   pub id : TableId
   pub sizes : Sizes
 
--- a cabinet's table has the words and slots for its passes and words, and its numbers fit
+-- a cabinet's table has the words and slots for its passes and words: 1 to 16 passes, and its number of words fits
 pub record IsCabinet (id : TableId) (z : Sizes) (passes : ℕ) : Type 0 where
   pub suits : Suits id z
   pub some : 0 < z.passes
-  pub few : z.passes < 2 ^ 32
+  pub few : z.passes ≤ most_passes
   pub small : z.words < 2 ^ 32
   pub counts : passes ≡ z.passes
 

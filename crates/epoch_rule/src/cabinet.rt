@@ -25,7 +25,7 @@ use crate::passes::{Note, Pass};
 use crate::touches::Touch;
 use crate::views::{Sizes, View};
 use atomic_table::Table;
-use mem_base::{Edition, MOST_GENERATIONS, PassId, Place};
+use mem_base::{Edition, MOST_GENERATIONS, Place};
 use std::alloc::Global;
 use std::marker::Model;
 
@@ -59,14 +59,15 @@ impl<E: Edition + Drop> Cabinet<E> {
             × (shown_by E.forest E.places e ≡ generation_published pass.new.seen result) }
     {
         let shared = &self.table.shared;
+        let who = pass.id.number() as usize;
         let looked = shared.load::<Looks>(&mut pass.seat, NUMBER_WORD);
         shared.store::<Announces>(
             &mut pass.seat,
-            LINE_WORDS * (pass.number as usize + 1),
+            LINE_WORDS * (who + 1),
             looked + 1,
         );
         let number = shared.load::<Enters>(&mut pass.seat, NUMBER_WORD);
-        let slot = PASS_SLOTS * pass.number as usize + (number % MOST_GENERATIONS) as usize;
+        let slot = PASS_SLOTS * who + (number % MOST_GENERATIONS) as usize;
         pass.edition = shared.exchange(&mut pass.seat, slot, None);
         number
     }
@@ -79,11 +80,11 @@ impl<E: Edition + Drop> Cabinet<E> {
         ensures out { pass.new.edition ≡ None }
     {
         let shared = &self.table.shared;
+        let who = pass.id.number() as usize;
         if let Some(edition) = pass.edition.take() {
-            let slot = PASS_SLOTS * pass.number as usize
-                + (edition.number() % MOST_GENERATIONS) as usize;
+            let slot = PASS_SLOTS * who + (edition.number() % MOST_GENERATIONS) as usize;
             shared.exchange(&mut pass.seat, slot, Some(edition));
-            shared.store::<Leaves>(&mut pass.seat, LINE_WORDS * (pass.number as usize + 1), 0);
+            shared.store::<Leaves>(&mut pass.seat, LINE_WORDS * (who + 1), 0);
         }
     }
 
@@ -166,12 +167,12 @@ impl<E: Edition + Drop> Cabinet<E> {
         // Its contract tells that its places are those of its forest.
         edition.number();
         let shared = &self.table.shared;
-        let number = PassId(pass.number);
+        let id = pass.id;
         load_each(
             shared,
             &mut pass.seat,
             self.passes,
-            number,
+            id,
             place,
             first,
             out,

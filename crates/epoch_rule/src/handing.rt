@@ -10,7 +10,7 @@ use crate::board::{HandsOut, NUMBER_WORD, Settles, TakesIn};
 use crate::cabinet::Cabinet;
 use crate::passes::Pass;
 use crate::writers::WriterSeat;
-use mem_base::Edition;
+use mem_base::{Edition, PassId};
 
 /// The least pass that is not out; where all are, the number of passes.
 fn first_free(out: &[bool]) -> usize
@@ -37,13 +37,16 @@ impl<E: Edition + Drop> Cabinet<E> {
         if free >= writer.out.len() {
             return None;
         }
+        let Some(id) = PassId::new(free as u32) else {
+            unreachable!()
+        };
         let shared = &self.table.shared;
         let mut seat = shared.split_seat::<HandsOut>(&mut writer.seat);
         shared.load::<Settles>(&mut seat, NUMBER_WORD);
         writer.out[free] = true;
         Some(Pass {
             seat,
-            number: free as u32,
+            id,
             edition: None,
         })
     }
@@ -65,11 +68,11 @@ impl<E: Edition + Drop> Cabinet<E> {
         let shared = &self.table.shared;
         let Pass {
             seat,
-            number,
+            id,
             edition: _,
         } = pass;
         shared.join_seat::<TakesIn>(&mut writer.seat, seat);
         shared.load::<Settles>(&mut writer.seat, NUMBER_WORD);
-        writer.out[number as usize] = false;
+        writer.out[id.number() as usize] = false;
     }
 }

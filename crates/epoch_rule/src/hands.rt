@@ -18,7 +18,7 @@ use crate::cabinet::Cabinet;
 use crate::passes::Pass;
 use crate::touches::{Touch, touch_word};
 use crate::writers::WriterSeat;
-use mem_base::{Edition, Hand as Actor, PassId, Place};
+use mem_base::{Edition, Hand as Actor, Place};
 
 /// What `Hand::touch_in` is given, so that no other crate can implement `Hand` or call that: none can name this type.
 #[derive(Clone, Copy, Drop)]
@@ -103,7 +103,7 @@ impl<E: Edition + Drop> Hand<E> for Pass<E> {
         };
         // Its contract tells that its places are those of its forest.
         edition.number();
-        let actor = Actor::Pass(PassId(self.number));
+        let actor = Actor::Pass(self.id);
         touch_word(
             &cabinet.table.shared,
             &mut self.seat,

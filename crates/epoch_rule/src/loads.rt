@@ -47,13 +47,12 @@ pub(crate) fn load_each<E: Edition + Drop>(
     ensures loaded { HasLoaded seat.old.me.0.sizes pass.0 place.now first seat.old.me.0.seen out.new seat.new.me.0.seen }
 {
     let start = LINE_WORDS * (passes as usize + 1) + (place.start + first);
-    let hand = Hand::Pass(pass);
     for i in 0..out.len() / 8 {
         let word = step_word(
             shared,
             seat,
             start + i,
-            hand,
+            Hand::Pass(pass),
             place,
             first + i,
             WordStep::Load,

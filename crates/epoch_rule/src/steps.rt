@@ -3,7 +3,7 @@ ghost use Rattle.std.specs.Prelude.{◌≡◌, ℕ, ◌+◌, ◌-◌, ◌*◌, �
 ghost use Rattle.std.specs.Arc.{arc_value};
 ghost use Rattle.mem_base.specs.declared.machine.events.Event.TheVariants.{Sweep, Place, Publish};
 ghost use Rattle.mem_base.specs.declared.machine.events.Carried.TheVariants.{Nothing};
-ghost use Rattle.mem_base.specs.map.Limits.{most_generations};
+ghost use Rattle.mem_base.specs.map.Limits.{most_generations, most_passes};
 ghost use Rattle.mem_base.specs.machine.Generations.{PassTrack, all_placed, known_after_sweep, known_of};
 ghost use Rattle.mem_base.specs.machine.Passes.{pass_id};
 ghost use Rattle.epoch_rule.specs.Rule.{ComesNext, KeepsSlot, PlacesFit, IsLegal, carried_pick, generation_of_pick, generations_seen};
@@ -123,7 +123,7 @@ pub(crate) fn sweep_all<E: Edition + Drop>(
 
 /// The least pass that holds a publish up.
 pub(crate) fn held(known: &[Found], current: u64) -> Option<Held>
-    requires { length known.now < 2 ^ 32 }
+    requires { length known.now ≤ most_passes }
     ensures { result ≡ held_in current 0 known.now }
 {
     for i in 0..known.len() {
@@ -132,8 +132,11 @@ pub(crate) fn held(known: &[Found], current: u64) -> Option<Held>
             && found.word - 1 <= u64::MAX - KEPT_BEFORE
             && found.word - 1 + KEPT_BEFORE <= current
         {
+            let Some(pass) = PassId::new(i as u32) else {
+                unreachable!()
+            };
             return Some(Held {
-                pass: PassId(i as u32),
+                pass,
                 number: found.word - 1,
             });
         }

@@ -67,7 +67,9 @@ impl<E: Edition + Drop> Cabinet<E> {
         );
         let known = writer.known.as_slice();
         let lowest = least(known, current);
-        let pass = PassId(first_at(known, lowest) as u32);
+        let Some(pass) = PassId::new(first_at(known, lowest) as u32) else {
+            unreachable!()
+        };
         Swept { lowest, pass }
     }
 

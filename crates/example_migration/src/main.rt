@@ -9,7 +9,7 @@ use vobrekan::{Applied, Call, Client, Kind, PassId, PureMachine, RegionId, Size,
 
 const MEMORY: SpaceId = SpaceId(0);
 
-const CPU: PassId = PassId(0);
+const CPU: PassId = PassId::FIRST;
 
 const PAGE: u64 = 4096;
 

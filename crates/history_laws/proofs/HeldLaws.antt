@@ -4,7 +4,7 @@ use Rattle.std.proofs.Common.{refl, subst, arith, length-take, if◌then◌else�
 use Rattle.std.specs.Prelude.{slice_get, nat_le, ◌==◌, IsSome}
 use Rattle.std.specs.List.{list_any}
 use Rattle.std.proofs.lemmas.Bool.{leb-true, le-leb, eqb-true, and_parts}
-use Rattle.mem_base.specs.declared.map.ids.PassId.{PassId}
+use Rattle.mem_base.specs.map.PassIds.{PassId}
 use Rattle.mem_base.specs.map.Limits.{most_generations}
 use Rattle.mem_base.specs.machine.Generations.{Generations, PassTrack, nothing_known, is_held, generation_of, least_lowest}
 use Rattle.mem_base.specs.machine.World.{World}

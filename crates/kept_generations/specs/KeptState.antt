@@ -3,7 +3,7 @@
 use Rattle.std.specs.Prelude.{◌≡◌, ℕ, ◌+◌, ◌-◌, ◌^◌, ◌<◌, ◌≤◌, Bool, false, nat_le, if◌then◌else◌, List, [], ◌∷◌, length, map, replicate, take}
 use Rattle.std.specs.Prelude.{Option, Some, None}
 use Rattle.std.specs.List.{slice_get}
-use Rattle.mem_base.specs.declared.map.ids.PassId.{PassId}
+use Rattle.mem_base.specs.map.PassIds.{PassId}
 use Rattle.mem_base.specs.map.Limits.{most_generations, most_passes}
 use Rattle.mem_base.specs.machine.Passes.{PassState, idle, is_pass, pass_of}
 use Rattle.mem_base.specs.machine.Generations.{Generation, generation, Generations, PassTrack, nothing_known, with_placed}

@@ -100,28 +100,28 @@ impl Kept {
     pub fn is_pass(&self, pass: PassId) -> bool
         ensures { result ≡ is_pass self.now.states pass }
     {
-        (pass.0 as usize) < self.states.len()
+        (pass.number() as usize) < self.states.len()
     }
 
     /// The number that the pass announced; `None` of a pass that is not one of these, too.
     pub fn announced(&self, pass: PassId) -> Option<u64>
         ensures { result ≡ (pass_of self.now.states pass).announced }
     {
-        self.states.get(pass.0 as usize)?.announced()
+        self.states.get(pass.number() as usize)?.announced()
     }
 
     /// The number of the generation in which the pass is entered; `None` of a pass that is not one of these, too.
     pub fn entered(&self, pass: PassId) -> Option<u64>
         ensures { result ≡ (pass_of self.now.states pass).entered }
     {
-        self.states.get(pass.0 as usize)?.entered()
+        self.states.get(pass.number() as usize)?.entered()
     }
 
     // Whether the pass looked at a number.
     fn has_looked(&self, pass: PassId) -> bool
         ensures { result ≡ is_some (pass_of self.now.states pass).looked }
     {
-        match self.states.get(pass.0 as usize) {
+        match self.states.get(pass.number() as usize) {
             Some(numbers) => numbers.has_looked(),
             None => false,
         }
@@ -131,7 +131,7 @@ impl Kept {
     fn is_placed(&self, pass: PassId) -> bool
         ensures { result ≡ (known_of (generations_of self.now) pass).placed }
     {
-        match self.tracks.get(pass.0 as usize) {
+        match self.tracks.get(pass.number() as usize) {
             Some(track) => track.is_placed(),
             None => false,
         }
@@ -170,7 +170,7 @@ impl Kept {
         ensures number { result ≡ number_told (generations_of self.old) self.old.states (Look pass) }
         ensures state { self.new ≡ with_states self.old (passes_after self.old.states (Look pass) result) }
     {
-        self.states[pass.0 as usize].look(self.current);
+        self.states[pass.number() as usize].look(self.current);
         self.current
     }
 
@@ -179,7 +179,7 @@ impl Kept {
         requires may { may (generations_of self.old) self.old.states (Announce pass) ≡ true }
         ensures state { self.new ≡ with_states self.old (passes_after self.old.states (Announce pass) 0) }
     {
-        self.states[pass.0 as usize].announce();
+        self.states[pass.number() as usize].announce();
     }
 
     /// The pass enters the current generation, whose number is answered.
@@ -188,7 +188,7 @@ impl Kept {
         ensures number { result ≡ number_told (generations_of self.old) self.old.states (Enter pass) }
         ensures state { self.new ≡ with_states self.old (passes_after self.old.states (Enter pass) result) }
     {
-        self.states[pass.0 as usize].enter(self.current);
+        self.states[pass.number() as usize].enter(self.current);
         self.current
     }
 
@@ -197,7 +197,7 @@ impl Kept {
         requires may { may (generations_of self.old) self.old.states (Leave pass) ≡ true }
         ensures state { self.new ≡ with_states self.old (passes_after self.old.states (Leave pass) 0) }
     {
-        self.states[pass.0 as usize] = Numbers::idle();
+        self.states[pass.number() as usize] = Numbers::idle();
     }
 
     /// Looks at what the pass announced: the number plus one, or 0, which is answered.
@@ -207,7 +207,7 @@ impl Kept {
         ensures generations { generations_of self.new ≡ generations_after (generations_of self.old) (Sweep pass) Nothing result }
         ensures state { self.new ≡ after_sweep self.old pass }
     {
-        let at = pass.0 as usize;
+        let at = pass.number() as usize;
         let word = self.states[at].pin_word();
         self.tracks[at].sweep(self.current, word);
         self.swept[at] = true;
@@ -220,7 +220,7 @@ impl Kept {
         ensures generations { generations_of self.new ≡ generations_after (generations_of self.old) (Place pass) Nothing 0 }
         ensures state { self.new ≡ with_tracks self.old (generations_of self.new).passes }
     {
-        self.tracks[pass.0 as usize].set_placed(true);
+        self.tracks[pass.number() as usize].set_placed(true);
     }
 
     /// The next generation is current; of eight that were kept, the oldest is kept no more.

@@ -78,7 +78,10 @@ fn held_at(at: usize, found: Option<u64>) -> Option<Refusal>
     ensures { result ≡ held_at (pass_id at) found }
 {
     let number = found?;
-    Some(Refusal::Held(PassId(at as u32), number))
+    let Some(pass) = PassId::new(at as u32) else {
+        unreachable!()
+    };
+    Some(Refusal::Held(pass, number))
 }
 
 /// What holds a publish up: the least pass that was found at so old a number.

@@ -1,7 +1,7 @@
 -- What the numbers that C hands over stand for; a number that stands for nothing is refused.
 use Rattle.std.specs.Prelude.{ℕ, ◌==◌, ◌-◌, ◌^◌, if◌then◌else◌, Option, Some, None, option_map}
 use Rattle.mem_base.specs.declared.map.ids.ListenerId.{ListenerId}
-use Rattle.mem_base.specs.declared.map.ids.PassId.{PassId}
+use Rattle.mem_base.specs.map.PassIds.{PassId}
 use Rattle.mem_base.specs.declared.map.ids.RegionId.{RegionId}
 use Rattle.mem_base.specs.declared.map.ids.SpaceId.{SpaceId}
 use Rattle.mem_base.specs.declared.map.ioevents.Ioevent.{Ioevent}

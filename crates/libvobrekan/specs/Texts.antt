@@ -2,6 +2,8 @@
 use Rattle.std.specs.Prelude.{ℕ, ◌==◌, ◌^◌, nat_lt, if◌then◌else◌, List, codes, Option, Some, None, option_map}
 use Rattle.mem_base.specs.declared.map.ids.RegionId.{RegionId}
 use Rattle.mem_base.specs.declared.map.ids.WatcherId.{WatcherId}
+use Rattle.mem_base.specs.map.PassIds.{PassId}
+use Rattle.mem_base.specs.map.Limits.{most_passes}
 use Rattle.mem_base.specs.declared.map.refusals.What.{What}
 use Rattle.mem_base.specs.declared.map.refusals.What.TheVariants as what
 use Rattle.mem_base.specs.declared.map.refusals.User.{User}
@@ -20,6 +22,10 @@ watcher_at number = record { 0 = number }
 -- a number of 32 bits
 abbrev pub id_in : ℕ → Option ℕ
 id_in value = if nat_lt value (2 ^ 32) then Some value else None
+
+-- the pass of a number
+abbrev pub pass_in : ℕ → Option PassId
+pass_in value = if nat_lt value most_passes then Some (pass_at value) else None
 
 -- a refusal that names the region of a number
 abbrev pub region_in : (RegionId → Refusal) → ℕ → Option Refusal
@@ -81,7 +87,7 @@ refusal_in answer =
     (if answer.code == 2 then option_map refusal.NameTaken (what_in answer.what answer.value) else
     (if answer.code == 14 then option_map refusal.InUse (user_in answer.what answer.value) else
     (if answer.code == 17 then option_map (λ w. refusal.LimitReached w answer.value) (limit_in answer.what) else
-    (if answer.code == 19 then option_map (λ n. refusal.Held (pass_at n) answer.other) (id_in answer.value) else
+    (if answer.code == 19 then option_map (λ pass. refusal.Held pass answer.other) (pass_in answer.value) else
     one_in answer.code answer.value))))
 
 -- what an answer says that tells of no refusal of the machine

@@ -8,7 +8,7 @@ ghost use Rattle.libvobrekan.specs.Asked.{IsRefused};
 
 use crate::answers::{Answer, bad_argument, no_machine};
 use crate::handle::Handle;
-use mem_base::{Access, MOST_PASSES, PassId, SpaceId};
+use mem_base::{Access, PassId, SpaceId};
 use std::alloc::Global;
 
 /// How an access ended, as a number.
@@ -50,13 +50,13 @@ pub extern "C" fn vb_read(
     ensures read { pass < 16 → HasRead handle.old.machine (pass_at pass) (space_at space) addr out.old result out.new handle.new.machine }
     ensures argument { 16 ≤ pass → IsRefused handle.old.machine (bad_argument pass) result handle.new.machine × (out.new ≡ out.old) }
 {
-    if pass >= MOST_PASSES {
+    let Some(known) = PassId::new(pass) else {
         return bad_argument(u64::from(pass));
-    }
+    };
     let Some(mut machine) = handle.take(alloc) else {
         return no_machine();
     };
-    let access = machine.read(PassId(pass), SpaceId(space), addr, out);
+    let access = machine.read(known, SpaceId(space), addr, out);
     handle.put(alloc, machine);
     ended(access)
 }
@@ -74,13 +74,13 @@ pub extern "C" fn vb_write(
     ensures written { pass < 16 → HasAccessed handle.old.machine (pass_at pass) (space_at space) addr (writing bytes.now) result handle.new.machine }
     ensures argument { 16 ≤ pass → IsRefused handle.old.machine (bad_argument pass) result handle.new.machine }
 {
-    if pass >= MOST_PASSES {
+    let Some(known) = PassId::new(pass) else {
         return bad_argument(u64::from(pass));
-    }
+    };
     let Some(mut machine) = handle.take(alloc) else {
         return no_machine();
     };
-    let access = machine.write(PassId(pass), SpaceId(space), addr, bytes);
+    let access = machine.write(known, SpaceId(space), addr, bytes);
     handle.put(alloc, machine);
     ended(access)
 }

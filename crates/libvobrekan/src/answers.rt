@@ -163,7 +163,7 @@ pub(crate) fn of_refusal(why: Refusal) -> Answer
         Refusal::BadPage => told(16, 0, 0, 0),
         Refusal::LimitReached(which, limit) => told(17, sort_of_limit(which), limit, 0),
         Refusal::NoBacking(words) => told(18, 0, words, 0),
-        Refusal::Held(pass, generation) => told(19, 0, u64::from(pass.0), generation),
+        Refusal::Held(pass, generation) => told(19, 0, u64::from(pass.number()), generation),
         Refusal::EventTaken => told(20, 0, 0, 0),
         Refusal::Memory => told(CODE_MEMORY, 0, 0, 0),
     }

@@ -22,7 +22,7 @@ use crate::marks::{mark_words, told as marks_told};
 use crate::orders::{OrderNumbers, order_in};
 use crate::shown::{FoundNumbers, RangeNumbers, found_in, range_in};
 use crate::writer::{MOST_WORDS, released_told};
-use mem_base::{Applied, Client, Config, Edition, NOTIFIER_COUNT, Refusal, RegionId, SpaceId};
+use mem_base::{Applied, Client, Config, Edition, NotifierId, Refusal, RegionId, SpaceId};
 use shared_machine::Desk;
 use std::alloc::{AllocError, Global};
 
@@ -142,13 +142,13 @@ pub extern "C" fn vb_desk_notified(alloc: Global, handle: &mut DeskHandle, numbe
     ensures taken { number < 64 → IsTurned handle.old.desk (notified number) result handle.new.desk }
     ensures argument { 64 ≤ number → (result ≡ bad_argument number) × (handle.new.desk ≡ handle.old.desk) }
 {
-    if number >= NOTIFIER_COUNT as u32 {
+    let Some(known) = NotifierId::new(number) else {
         return bad_argument(u64::from(number));
-    }
+    };
     let Some(mut desk) = handle.take(alloc) else {
         return no_machine();
     };
-    let value = desk.notified(number);
+    let value = desk.notified(known);
     handle.put(alloc, desk);
     done(value, 0)
 }

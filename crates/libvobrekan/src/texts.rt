@@ -1,10 +1,10 @@
 // What an answer says to a person.
 ghost use Rattle.std.specs.Prelude.{◌≡◌, ◌++◌, IfOk, drop, length, string_bytes, take};
-ghost use Rattle.libvobrekan.specs.Texts.{id_in, limit_in, one_in, plain_in, refusal_in, text_of_answer, text_of_code, user_in, what_in};
+ghost use Rattle.libvobrekan.specs.Texts.{id_in, limit_in, one_in, pass_in, plain_in, refusal_in, text_of_answer, text_of_code, user_in, what_in};
 
 use crate::answers::{Answer, CODE_MEMORY};
 use crate::buffers::copy_first;
-use mem_base::{ListenerId, PassId, Refusal, RegionId, SpaceId, User, WatcherId, What, Which};
+use mem_base::{ListenerId, MOST_PASSES, PassId, Refusal, RegionId, SpaceId, User, WatcherId, What, Which};
 use std::alloc::{AllocError, Global};
 
 // A number of 32 bits.
@@ -13,6 +13,17 @@ fn id_in(value: u64) -> Option<u32>
 {
     if value < 0x1_0000_0000 {
         Some(value as u32)
+    } else {
+        None
+    }
+}
+
+// The pass of a number.
+fn pass_in(value: u64) -> Option<PassId>
+    ensures { result ≡ pass_in value }
+{
+    if value < u64::from(MOST_PASSES) {
+        PassId::new(value as u32)
     } else {
         None
     }
@@ -104,7 +115,7 @@ fn refusal_in(answer: &Answer) -> Option<Refusal>
         2 => what_in(answer.what, answer.value).map(Refusal::NameTaken),
         14 => user_in(answer.what, answer.value).map(Refusal::InUse),
         17 => limit_in(answer.what).map(|which| Refusal::LimitReached(which, answer.value)),
-        19 => id_in(answer.value).map(|n| Refusal::Held(PassId(n), answer.other)),
+        19 => pass_in(answer.value).map(|pass| Refusal::Held(pass, answer.other)),
         _ => one_in(answer.code, answer.value),
     }
 }

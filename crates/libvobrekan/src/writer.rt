@@ -15,7 +15,7 @@ use crate::answers::{
 };
 use crate::buffers::put_regions;
 use crate::handle::Handle;
-use mem_base::{ListenerId, NOTIFIER_COUNT, Refusal, RegionId, SpaceId};
+use mem_base::{ListenerId, NotifierId, Refusal, RegionId, SpaceId};
 use pure_machine::PureMachine;
 use std::alloc::{AllocError, Global};
 
@@ -151,13 +151,13 @@ pub extern "C" fn vb_notified(alloc: Global, handle: &mut Handle, number: u32) -
     ensures taken { number < 64 → IsDone handle.old.machine (notified number) result handle.new.machine }
     ensures argument { 64 ≤ number → IsRefused handle.old.machine (bad_argument number) result handle.new.machine }
 {
-    if number >= NOTIFIER_COUNT as u32 {
+    let Some(known) = NotifierId::new(number) else {
         return bad_argument(u64::from(number));
-    }
+    };
     let Some(mut machine) = handle.take(alloc) else {
         return no_machine();
     };
-    let value = machine.notified(number);
+    let value = machine.notified(known);
     handle.put(alloc, machine);
     done(value, 0)
 }

@@ -6,7 +6,7 @@ use Rattle.mem_base.specs.declared.map.ids.RegionId.{RegionId}
 use Rattle.mem_base.specs.declared.map.ids.SpaceId.{SpaceId}
 use Rattle.mem_base.specs.declared.map.ids.ListenerId.{ListenerId}
 use Rattle.mem_base.specs.declared.map.ids.WatcherId.{WatcherId}
-use Rattle.mem_base.specs.declared.map.ids.PassId.{PassId}
+use Rattle.mem_base.specs.map.PassIds.{PassId}
 use Rattle.mem_base.specs.declared.map.kinds.Client.{Client}
 use Rattle.mem_base.specs.declared.map.kinds.Client.TheVariants.{Vga, Code, Migration}
 use Rattle.mem_base.specs.declared.map.kinds.DeviceKind.{DeviceKind}
@@ -50,6 +50,9 @@ text_of_watcher watcher = codes "watcher " ++ decimal watcher.0
 
 abbrev pub text_of_pass : PassId → List ℕ
 text_of_pass pass = codes "pass " ++ decimal pass.0
+
+abbrev pub text_of_notifier : ℕ → List ℕ
+text_of_notifier notifier = codes "notifier " ++ decimal notifier
 
 -- What regions are
 

@@ -1,5 +1,6 @@
 -- The memory map: regions, the search of QEMU's manual, and the forest after each call.
 pub mod Limits
+pub mod PassIds
 pub mod Kinds
 pub mod Devices
 pub mod Clients

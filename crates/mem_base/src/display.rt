@@ -1,12 +1,13 @@
 // What `{}` writes of ids, kinds, answers and refusals, for a program's log.
 ghost use Rattle.std.specs.Prelude.{◌≡◌, Some};
 ghost use Rattle.mem_base.specs.Texts.{text_of_applied, text_of_attrs, text_of_client, text_of_device_kind, text_of_kind, text_of_listener};
-ghost use Rattle.mem_base.specs.Texts.{text_of_pass, text_of_perm, text_of_refusal, text_of_region, text_of_result, text_of_space};
+ghost use Rattle.mem_base.specs.Texts.{text_of_notifier, text_of_pass, text_of_perm, text_of_refusal, text_of_region, text_of_result, text_of_space};
 ghost use Rattle.mem_base.specs.Texts.{text_of_spot, text_of_user, text_of_watcher, text_of_what, text_of_which, text_where};
 
 use crate::{
     Applied, Attrs, Client, DeviceKind, Kind, ListenerId, MOST_DEPTH, MOST_NESTED, MOST_WEIGHT,
-    PassId, Perm, Refusal, RegionId, SpaceId, Spot, TxResult, User, WatcherId, What, Which,
+    NotifierId, PassId, Perm, Refusal, RegionId, SpaceId, Spot, TxResult, User, WatcherId, What,
+    Which,
 };
 use std::error::Error;
 use std::fmt;
@@ -47,7 +48,15 @@ impl fmt::Display for PassId {
     ghost output = { λ pass. Some (text_of_pass pass) };
 
     fn fmt<W: fmt::Write>(&self, f: &mut fmt::Formatter<W>) -> fmt::Result {
-        write!(f, "pass {}", self.0)
+        write!(f, "pass {}", self.number())
+    }
+}
+
+impl fmt::Display for NotifierId {
+    ghost output = { λ notifier. Some (text_of_notifier notifier) };
+
+    fn fmt<W: fmt::Write>(&self, f: &mut fmt::Formatter<W>) -> fmt::Result {
+        write!(f, "notifier {}", self.number())
     }
 }
 

@@ -22,7 +22,7 @@ pub use machine::records::{DeskAnswer, DeskEntry, DeskOrder, Differs, Ids, Pages
 pub use map::calls::{Applied, Call, Config};
 pub use map::chunks::Chunk;
 pub use map::forests::{Forest, Node, Nodes, Spaces};
-pub use map::ids::{ListenerId, PassId, RegionId, SpaceId, WatcherId};
+pub use map::ids::{ListenerId, NotifierId, PassId, RegionId, SpaceId, WatcherId};
 pub use map::ioevents::{Events, Ioevent, Live, Lives};
 pub use map::kinds::{Client, Device, DeviceKind, Kind, Ops};
 pub use map::limits::{
@@ -41,7 +41,7 @@ pub use script::faults::{BadScript, Cause};
 pub use script::places::{PlaceRule, Section};
 pub use script::tasks::Task;
 pub use script::words::{Bytes, Name};
-pub use views::flat::{FlatRange, Pieces, Slice, View};
+pub use views::flat::{FlatRange, Pieces, View};
 pub use views::listening::{Change, Changes, Differ, Listener, ListenerEvent, RangeEvent, Walk};
 pub use views::notes::{Note, Paths};
 pub use views::paths::Path;

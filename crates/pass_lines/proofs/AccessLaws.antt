@@ -1,6 +1,6 @@
 -- A line that makes an access.
 use Rattle.std.proofs.Common.{◌≡◌, ℕ, Bool, List, ◌++◌, refl, sym, ap, subst, ◌∙◌, Option, Some, is_some, unwrap_or}
-use Rattle.mem_base.specs.declared.map.ids.PassId.{PassId}
+use Rattle.mem_base.specs.map.PassIds.{PassId}
 use Rattle.mem_base.specs.declared.map.ids.SpaceId.{SpaceId}
 use Rattle.mem_base.specs.declared.access.accesses.Access.{Access}
 use Rattle.mem_base.specs.declared.machine.events.Event.{Event}

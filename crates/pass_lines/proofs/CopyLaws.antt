@@ -1,7 +1,7 @@
 -- A line that copies.
 use Rattle.std.proofs.Common.{◌≡◌, ℕ, ◌+◌, Bool, true, false, List, [], ◌++◌, length, refl, sym, ap, subst, ◌∙◌, Option, Some, is_some, unwrap_or}
 use Rattle.std.proofs.Common.{append_assoc, length-append}
-use Rattle.mem_base.specs.declared.map.ids.PassId.{PassId}
+use Rattle.mem_base.specs.map.PassIds.{PassId}
 use Rattle.mem_base.specs.declared.map.ids.SpaceId.{SpaceId}
 use Rattle.mem_base.specs.declared.map.forests.Forest.{Forest}
 use Rattle.mem_base.specs.declared.access.cells.Place.{Place}

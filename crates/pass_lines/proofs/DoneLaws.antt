@@ -1,7 +1,7 @@
 -- A line that was done is the line that the script's definition has, and comes after those that the pass did before it.
 use Rattle.std.proofs.Common.{◌≡◌, ℕ, Bool, List, [], ◌∷◌, ◌++◌, length, refl, sym, ap, subst, ◌∙◌, None, Ok, is_some}
 use mathlib.Core.List.{IsPrefix}
-use Rattle.mem_base.specs.declared.map.ids.PassId.{PassId}
+use Rattle.mem_base.specs.map.PassIds.{PassId}
 use Rattle.mem_base.specs.declared.map.ids.SpaceId.{SpaceId}
 use Rattle.mem_base.specs.declared.access.accesses.Access.{Access}
 use Rattle.mem_base.specs.declared.machine.events.HistoryEntry.{HistoryEntry}

@@ -1,7 +1,7 @@
 -- What a line of a pass does to the pass's own entries in the shared history, and what it answers.
 use Rattle.std.specs.Prelude.{◌≡◌, ℕ, ◌+◌, Bool, is_some, if◌then◌else◌, unwrap_or, option_map, List, [], ◌++◌}
 use mathlib.Core.List.{IsPrefix}
-use Rattle.mem_base.specs.declared.map.ids.PassId.{PassId}
+use Rattle.mem_base.specs.map.PassIds.{PassId}
 use Rattle.mem_base.specs.declared.map.ids.SpaceId.{SpaceId}
 use Rattle.mem_base.specs.declared.map.forests.Forest.{Forest}
 use Rattle.mem_base.specs.declared.access.accesses.Access.{Access}

@@ -1,5 +1,5 @@
 -- What the answers of a pass's lines write.
-use Rattle.mem_base.specs.declared.map.ids.PassId.{PassId}
+use Rattle.mem_base.specs.map.PassIds.{PassId}
 use Rattle.mem_base.specs.script.Spelling.{Text}
 use Rattle.mem_base.specs.script.Output.{dma_line, enter_line, leave_line, read_line, write_line}
 use Rattle.pass_lines.specs.declared.answers.LineAnswer.{LineAnswer}

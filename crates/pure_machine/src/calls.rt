@@ -1,7 +1,6 @@
 // The calls of the writer.
-ghost use Rattle.std.specs.Prelude.{◌≡◌, ◌≢◌, ◌<◌, true, Some, Err, IfErr, IfOk};
+ghost use Rattle.std.specs.Prelude.{◌≡◌, ◌≢◌, true, Some, Err, IfErr, IfOk};
 ghost use Rattle.mem_base.specs.declared.map.calls.Config.TheVariants as configs;
-ghost use Rattle.mem_base.specs.map.Limits.{notifier_count};
 ghost use Rattle.mem_base.specs.machine.Answers.{answer_with, call_answer, commit_answer, harvest_answer, notifier_answer, plain_answer, reap_answer};
 ghost use Rattle.mem_base.specs.machine.Completions.{IsCompleted};
 ghost use Rattle.mem_base.specs.machine.Composites.{completed};
@@ -13,7 +12,7 @@ ghost use Rattle.writer_desk.specs.Writers.{is_held};
 ghost use Rattle.writer_run.specs.Turns.{number_told};
 
 use crate::machine::PureMachine;
-use mem_base::{Applied, Call, Client, ListenerId, Refusal, RegionId, SpaceId};
+use mem_base::{Applied, Call, Client, ListenerId, NotifierId, Refusal, RegionId, SpaceId};
 
 impl PureMachine {
     /// A change of the map, or a region that is made or dropped. A change outside all transactions is published: the listeners are
@@ -127,8 +126,7 @@ impl PureMachine {
     /// last taken.
     ///
     /// It takes no memory.
-    pub fn notified(&mut self, number: u32) -> u64
-        requires number { number < notifier_count }
+    pub fn notified(&mut self, number: NotifierId) -> u64
         ensures completed { IsCompleted self.old (notified number) (notifier_answer result) self.new }
         ensures legal { IsLegalFrom self.old (completed self.old (notified number)).entries }
     {

@@ -3,7 +3,7 @@ use Rattle.std.proofs.Common.{◌≡◌, ℕ, ◌≤◌, true, false, List, [], 
 use Rattle.std.specs.Prelude.{flat_map}
 use Rattle.std.specs.List.{list_any}
 use Rattle.std.proofs.lemmas.List.{drop_all}
-use Rattle.mem_base.specs.declared.map.ids.PassId.{PassId}
+use Rattle.mem_base.specs.map.PassIds.{PassId}
 use Rattle.mem_base.specs.declared.machine.records.DeskEntry.{DeskEntry}
 use Rattle.mem_base.specs.views.Listening.{Delivery}
 use Rattle.mem_base.specs.script.Named.{Names}

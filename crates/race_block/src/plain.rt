@@ -1,7 +1,7 @@
 // A pass whose lines give no order: each is resolved, done and told before the next one.
 ghost use Rattle.std.specs.Prelude.{◌≡◌, ◌≤◌, true, false, All, IfSome, None, [], length};
 ghost use Rattle.std.specs.List.{list_any};
-ghost use Rattle.mem_base.specs.declared.map.ids.PassId.{PassId};
+ghost use Rattle.mem_base.specs.map.PassIds.{PassId};
 ghost use Rattle.mem_base.specs.declared.script.commands.Command.TheVariants.{Pass};
 ghost use Rattle.mem_base.specs.declared.script.commands.PassCommand.TheVariants as pass_commands;
 ghost use Rattle.pass_lines.specs.Doing.{IsInItsGeneration};

@@ -1,7 +1,7 @@
 -- A phase that is one line of the desk is what the run does by it.
 use Rattle.std.proofs.Common.{◌≡◌, ◌<◌, ◌≤◌, ◌+◌, ℕ, suc, List, [], ◌∷◌, ◌++◌, length, map, append-nil, drop, refl, sym, ap, subst, ◌∙◌, arith, Option, Ok}
 use Rattle.std.specs.Prelude.{flat_map, slice_index_or}
-use Rattle.mem_base.specs.declared.map.ids.PassId.{PassId}
+use Rattle.mem_base.specs.map.PassIds.{PassId}
 use Rattle.mem_base.specs.declared.machine.events.HistoryEntry.{HistoryEntry}
 use Rattle.mem_base.specs.declared.machine.records.DeskOrder.{DeskOrder}
 use Rattle.mem_base.specs.declared.machine.records.DeskOrder.TheVariants as orders

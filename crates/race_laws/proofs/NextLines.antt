@@ -4,7 +4,7 @@ use Rattle.std.proofs.Common.{Option, Some, None, Result, Ok, append-nil, append
 use Rattle.std.proofs.lemmas.List.{map-append, drop_at, length-map}
 use Rattle.std.proofs.lemmas.Grind.{flat_map-append}
 use lib.ListN.{get_or-append}
-use Rattle.mem_base.specs.declared.map.ids.PassId.{PassId}
+use Rattle.mem_base.specs.map.PassIds.{PassId}
 use Rattle.mem_base.specs.declared.map.forests.Forest.{Forest}
 use Rattle.mem_base.specs.declared.map.refusals.Refusal.{Refusal}
 use Rattle.mem_base.specs.declared.machine.events.HistoryEntry.{HistoryEntry}

@@ -1,7 +1,7 @@
 -- What a pass does, stage by stage: it enters, makes the steps of an access, and leaves, where the replies are those of its entries.
 use Rattle.std.proofs.Common.{◌≡◌, ℕ, zero, suc, Bool, List, [], ◌∷◌, ◌++◌, length, drop, refl, sym, ap, ◌∙◌, arith, append-nil, unwrap_or}
 use Rattle.std.proofs.lemmas.List.{map-append, drop_at, length-map}
-use Rattle.mem_base.specs.declared.map.ids.PassId.{PassId}
+use Rattle.mem_base.specs.map.PassIds.{PassId}
 use Rattle.mem_base.specs.declared.map.ids.SpaceId.{SpaceId}
 use Rattle.mem_base.specs.declared.access.cells.Place.{Place}
 use Rattle.mem_base.specs.declared.machine.events.Event.{Event}

@@ -1,7 +1,7 @@
 -- What an actor keeps from line to line, in a block or outside: the first lines of the desk or of a pass, whatever follows. What one more line
 -- does to it, and what a pass's entries have to be for that.
 use Rattle.std.specs.Prelude.{◌≡◌, ℕ, ◌+◌, ◌<◌, Bool, if◌then◌else◌, List, [], ◌∷◌, ◌++◌, length, map, drop, flat_map, is_some, unwrap_or, Option, None, Ok}
-use Rattle.mem_base.specs.declared.map.ids.PassId.{PassId}
+use Rattle.mem_base.specs.map.PassIds.{PassId}
 use Rattle.mem_base.specs.declared.map.ids.SpaceId.{SpaceId}
 use Rattle.mem_base.specs.declared.access.cells.Place.{Place}
 use Rattle.mem_base.specs.declared.machine.events.Event.{Event}

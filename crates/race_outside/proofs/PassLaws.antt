@@ -5,7 +5,7 @@ use Rattle.std.specs.Prelude.{All, flat_map, slice_index_or}
 use mathlib.Core.List.{IsPrefix}
 use mathlib.Core.Logic.{dite}
 use native.Mathlib.Decide.{ℕ_discrete}
-use Rattle.mem_base.specs.declared.map.ids.PassId.{PassId}
+use Rattle.mem_base.specs.map.PassIds.{PassId}
 use Rattle.mem_base.specs.declared.machine.events.HistoryEntry.{HistoryEntry}
 use Rattle.mem_base.specs.declared.machine.records.DeskEntry.{DeskEntry}
 use Rattle.mem_base.specs.declared.machine.records.DeskOrder.{DeskOrder}

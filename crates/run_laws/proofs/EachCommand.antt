@@ -4,7 +4,7 @@ use Rattle.std.proofs.Common.{refl, sym, ap, subst, ◌∙◌, arith, get_or, re
 use Rattle.std.specs.Prelude.{◌||◌, ◌&&◌, is_some, is_none, nat_lt, Ok}
 use Rattle.std.proofs.lemmas.List.{get_or-replicate}
 use Rattle.std.proofs.lemmas.Bool.Decides.{nat_tests}
-use Rattle.mem_base.specs.declared.map.ids.PassId.{PassId}
+use Rattle.mem_base.specs.map.PassIds.{PassId}
 use Rattle.mem_base.specs.map.Limits.{most_passes}
 use Rattle.mem_base.specs.machine.Passes.{idle}
 use Rattle.mem_base.specs.machine.World.{World, opening}

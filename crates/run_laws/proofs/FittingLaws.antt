@@ -5,7 +5,7 @@ use Rattle.std.specs.Prelude.{◌-◌, ◌&&◌, ◌%◌, ◌^◌, drop, nat_le,
 use Rattle.std.specs.Option.{option_or, option_and_then}
 use Rattle.std.specs.Str.{bytes_eq}
 use Rattle.mem_base.specs.declared.script.faults.Cause.TheVariants as causes
-use Rattle.mem_base.specs.declared.map.ids.PassId.{PassId}
+use Rattle.mem_base.specs.map.PassIds.{PassId}
 use Rattle.mem_base.specs.declared.script.changes.MapChange.{MapChange}
 use Rattle.mem_base.specs.declared.script.changes.MapChange.TheVariants as changes
 use Rattle.mem_base.specs.declared.script.commands.Command.{Command}

@@ -5,7 +5,7 @@ use Rattle.std.specs.Prelude.{min, slice_get, Contains, ◌↔◌}
 use Rattle.std.proofs.lemmas.Bool.{le-leb, and_parts, not-true}
 use Rattle.mem_base.specs.declared.map.ids.RegionId.{RegionId}
 use Rattle.mem_base.specs.declared.map.ids.SpaceId.{SpaceId}
-use Rattle.mem_base.specs.declared.map.ids.PassId.{PassId}
+use Rattle.mem_base.specs.map.PassIds.{PassId}
 use Rattle.mem_base.specs.declared.map.forests.Forest.{Forest}
 use Rattle.mem_base.specs.declared.views.listening.Listener.{Listener}
 use Rattle.mem_base.specs.declared.script.commands.Command.TheVariants as commands

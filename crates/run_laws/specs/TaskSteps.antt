@@ -1,7 +1,7 @@
 -- What a command of a script does by its task, which is what it asks for once its names are resolved. The machine is there in
 -- what is known of names and watchers, and in a world.
 use Rattle.std.specs.Prelude.{ℕ, ◌++◌, [], Ok, Err}
-use Rattle.mem_base.specs.declared.map.ids.PassId.{PassId}
+use Rattle.mem_base.specs.map.PassIds.{PassId}
 use Rattle.mem_base.specs.declared.machine.records.DeskOrder.{DeskOrder}
 use Rattle.mem_base.specs.map.Search.{look}
 use Rattle.mem_base.specs.access.AccessSteps.{reading, writing}

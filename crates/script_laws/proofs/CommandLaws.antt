@@ -2,7 +2,7 @@
 use Rattle.std.proofs.Common.{◌≡◌, List, [], ◌∷◌, ℕ, Ok, Err, Some, None, Option, refl, ap, subst, ◌∙◌, codes, option_map}
 use Rattle.std.specs.Option.{option_or}
 use Rattle.mem_base.specs.declared.script.faults.Cause.TheVariants as causes
-use Rattle.mem_base.specs.declared.map.ids.PassId.{PassId}
+use Rattle.mem_base.specs.map.PassIds.{PassId}
 use Rattle.mem_base.specs.declared.script.changes.MapChange.{MapChange}
 use Rattle.mem_base.specs.declared.script.commands.Command.{Command}
 use Rattle.mem_base.specs.declared.script.commands.Command.TheVariants as commands

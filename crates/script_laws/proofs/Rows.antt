@@ -1,7 +1,7 @@
 -- Worked texts, by computing.
 use Rattle.std.specs.Prelude.{◌≡◌, ℕ, true, false, [], ◌∷◌, Some, Ok, Err, negsuc, codes, refl}
 use Rattle.mem_base.specs.declared.script.faults.Cause.TheVariants as causes
-use Rattle.mem_base.specs.declared.map.ids.PassId.{PassId}
+use Rattle.mem_base.specs.map.PassIds.{PassId}
 use Rattle.mem_base.specs.declared.map.kinds.DeviceKind.TheVariants.{Bell, Latch}
 use Rattle.mem_base.specs.declared.script.changes.MapChange.TheVariants as changes
 use Rattle.mem_base.specs.declared.script.commands.Command.TheVariants as commands

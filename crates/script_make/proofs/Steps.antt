@@ -1,7 +1,7 @@
 -- One turn of each list of draws.
 use Rattle.std.proofs.Common.{◌≡◌, ◌+◌, ◌-◌, ◌%◌, ◌==◌, Bool, true, false, if◌then◌else◌, ◌<◌, ◌≤◌, ◌++◌, ℕ, zero, suc, List, [], ◌∷◌}
 use Rattle.std.proofs.Common.{Option, None, append_assoc, refl, sym, ap, ◌∙◌, arith, ℤ}
-use Rattle.mem_base.specs.declared.map.ids.PassId.{PassId}
+use Rattle.mem_base.specs.map.PassIds.{PassId}
 use Rattle.mem_base.specs.declared.script.commands.Command.{Command}
 use Rattle.mem_base.specs.script.Make.{Generator, added, draw, draw_access, draw_accesses, draw_bytes, draw_kind, draw_move, draw_move_at}
 use Rattle.mem_base.specs.script.Make.{give, draw_page, draw_place, draw_region, draw_regions, draw_way, latest_after, made, made_of}

@@ -1,6 +1,6 @@
 -- Draws of one turn, beside the definitions of whole lists.
 use Rattle.std.specs.Prelude.{◌≡◌, ◌+◌, ◌++◌, suc, [], ◌∷◌, ℕ, Bool, if◌then◌else◌, List, Option, None, ℤ, pos, ◌-ℤ◌}
-use Rattle.mem_base.specs.declared.map.ids.PassId.{PassId}
+use Rattle.mem_base.specs.map.PassIds.{PassId}
 use Rattle.mem_base.specs.declared.script.commands.Command.{Command}
 use Rattle.mem_base.specs.declared.script.commands.Command.TheVariants as commands
 use Rattle.mem_base.specs.declared.script.commands.PassCommand.TheVariants as pass_commands

@@ -1,7 +1,7 @@
 -- Each form of the language is good.
 use Rattle.std.proofs.Common.{◌≡◌, ℕ, Bool, true, false, List, [], ◌∷◌, Option, Some, None, refl, codes, is_ok, option_map, pos, ℤ}
 use Rattle.std.specs.Option.{option_or}
-use Rattle.mem_base.specs.declared.map.ids.PassId.{PassId}
+use Rattle.mem_base.specs.map.PassIds.{PassId}
 use Rattle.mem_base.specs.declared.map.kinds.Device.{Device}
 use Rattle.mem_base.specs.declared.map.kinds.Client.{Client}
 use Rattle.mem_base.specs.declared.map.kinds.Client.TheVariants.{Vga}

@@ -4,7 +4,7 @@ use Rattle.std.proofs.Common.{refl, sym, ap, subst, ◌∙◌, arith}
 use Rattle.std.proofs.Math.Seq.{drop-cons}
 use Rattle.std.proofs.lemmas.List.{append-nil}
 use Rattle.outside.specs.Sink.{Takes, TakesPrefix}
-use Rattle.mem_base.specs.declared.map.ids.PassId.{PassId}
+use Rattle.mem_base.specs.map.PassIds.{PassId}
 use Rattle.mem_base.specs.declared.script.commands.Command.{Command}
 use Rattle.mem_base.specs.declared.script.commands.Command.TheVariants as commands
 use Rattle.mem_base.specs.lists.Every.{Every}

@@ -1,7 +1,7 @@
 // The writer's desk with its share of the cabinet.
-ghost use Rattle.std.specs.Prelude.{◌≡◌, ◌≢◌, ◌<◌, ◌≤◌, ◌^◌, Err, IfOk, None, [], drop};
+ghost use Rattle.std.specs.Prelude.{◌≡◌, ◌≢◌, ◌≤◌, ◌^◌, Err, IfOk, None, [], drop};
 ghost use Rattle.std.specs.Arc.{arc_value};
-ghost use Rattle.mem_base.specs.map.Limits.{most_passes, notifier_count};
+ghost use Rattle.mem_base.specs.map.Limits.{most_passes};
 ghost use Rattle.mem_base.specs.machine.Answers.{answer_with, harvest_answer, notifier_answer, reap_answer};
 ghost use Rattle.mem_base.specs.machine.Orders.{configure, harvest, notified, reap};
 ghost use Rattle.mem_base.specs.machine.Publishing.{current_forest};
@@ -15,7 +15,7 @@ use config_desk::Config;
 use epoch_rule::Cabinet;
 use generation::Generation;
 use mem_base::{
-    Applied, Client, Config as Event, ListenerEvent, ListenerId, MOST_PASSES, Refusal, RegionId,
+    Applied, Client, Config as Event, ListenerEvent, ListenerId, MOST_PASSES, NotifierId, Refusal, RegionId,
 };
 use std::alloc::{AllocError, Global};
 use std::marker::Model;
@@ -91,8 +91,7 @@ impl Desk {
     }
 
     /// Takes a notifier: answers what stood in its word and leaves 0 there.
-    pub fn notified(&mut self, number: u32) -> u64
-        requires number { number < notifier_count }
+    pub fn notified(&mut self, number: NotifierId) -> u64
         ensures turn { IsTurnOf self.old (notified number) (notifier_answer result) self.new }
     {
         self.config.notified(number)

@@ -6,7 +6,7 @@ use Rattle.std.proofs.lemmas.Slice.{take-put_mid}
 use lib.Seq.{take_all, take_at}
 use borrow.Rule.Slice.PartMut.{put_mid, same_len_mid}
 use Rattle.mem_base.specs.declared.map.ids.RegionId.{RegionId}
-use Rattle.mem_base.specs.declared.map.ids.PassId.{PassId}
+use Rattle.mem_base.specs.map.PassIds.{PassId}
 use Rattle.mem_base.specs.declared.access.cells.Place.{Place}
 use Rattle.mem_base.specs.declared.access.cells.WordStep.TheVariants.{Load}
 use Rattle.mem_base.specs.declared.machine.events.Event.{Event}

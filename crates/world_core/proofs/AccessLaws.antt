@@ -1,7 +1,7 @@
 -- What an access needs.
 use Rattle.std.proofs.Common.{◌≡◌, ℕ, true, false, Option, Some, None, refl, ap, subst}
 use Rattle.std.specs.Prelude.{is_some}
-use Rattle.mem_base.specs.declared.map.ids.PassId.{PassId}
+use Rattle.mem_base.specs.map.PassIds.{PassId}
 use Rattle.mem_base.specs.machine.Passes.{pass_of}
 use Rattle.mem_base.specs.machine.World.{World}
 use Rattle.world_laws.specs.Entered.{EntersHeld}

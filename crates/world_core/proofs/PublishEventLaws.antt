@@ -9,7 +9,7 @@ use Rattle.mem_base.specs.declared.map.forests.Forest.{Forest}
 use Rattle.mem_base.specs.machine.Desk.{shown_places}
 use Rattle.mem_base.specs.machine.Generations.{generation, with_placed, generations_after}
 use Rattle.mem_base.specs.declared.machine.events.Carried.TheVariants.{Nothing}
-use Rattle.mem_base.specs.declared.map.ids.PassId.{PassId}
+use Rattle.mem_base.specs.map.PassIds.{PassId}
 use Rattle.mem_base.specs.machine.Reaps.{writer}
 use Rattle.mem_base.specs.machine.World.{World, world, possible, world_after}
 use Rattle.generation.specs.Published.{Published}

@@ -1,6 +1,6 @@
 -- What a pass of the world does in an access.
 use Rattle.std.specs.Prelude.{◌≡◌, ℕ, true, List, [], Option, Some, None, is_some, unwrap_or}
-use Rattle.mem_base.specs.declared.map.ids.PassId.{PassId}
+use Rattle.mem_base.specs.map.PassIds.{PassId}
 use Rattle.mem_base.specs.declared.machine.events.Event.{Event}
 use Rattle.mem_base.specs.map.Calls.{empty}
 use Rattle.mem_base.specs.machine.Passes.{pass_of}

@@ -1,6 +1,6 @@
 -- Laws of what a pass does. They stand here because the laws of the hand, in `src`, cite them.
 use Rattle.std.proofs.Common.{◌≡◌, ℕ, List, [], ◌∷◌, ◌++◌, refl, sym, ap, subst, ◌∙◌}
-use Rattle.mem_base.specs.declared.map.ids.PassId.{PassId}
+use Rattle.mem_base.specs.map.PassIds.{PassId}
 use Rattle.mem_base.specs.declared.machine.events.Event.{Event}
 use Rattle.mem_base.specs.machine.World.{World, world_after, reply, number_in}
 use Rattle.mem_base.specs.machine.History.{run_events}

@@ -1,8 +1,7 @@
 // The calls of the writer: those that change the map, listeners that join and leave, what it does to words, and a reap.
-ghost use Rattle.std.specs.Prelude.{◌≡◌, ◌≢◌, ◌⊎◌, ◌<◌, true, Some, Err, IfErr, IfOk};
+ghost use Rattle.std.specs.Prelude.{◌≡◌, ◌≢◌, ◌⊎◌, true, Some, Err, IfErr, IfOk};
 ghost use Rattle.mem_base.specs.declared.map.calls.Config.TheVariants as configs;
 ghost use Rattle.mem_base.specs.declared.machine.events.Event.TheVariants as events;
-ghost use Rattle.mem_base.specs.map.Limits.{notifier_count};
 ghost use Rattle.mem_base.specs.machine.Answers.{answer_with, call_answer, commit_answer, harvest_answer, notifier_answer, plain_answer, reap_answer};
 ghost use Rattle.mem_base.specs.machine.Completions.{IsCompleted};
 ghost use Rattle.mem_base.specs.machine.Composites.{completed};
@@ -19,7 +18,7 @@ ghost use Rattle.world_core.specs.Worlds.{unswept as unswept_kept};
 
 use crate::world::World;
 use kept_generations::Kept;
-use mem_base::{Applied, Call, Client, Config, ListenerId, Refusal, RegionId, SpaceId};
+use mem_base::{Applied, Call, Client, Config, ListenerId, NotifierId, Refusal, RegionId, SpaceId};
 use writer_run::{
     begin, configure, harvest, keep_named, load_bytes, notified, reap, release_unnamed,
 };
@@ -197,12 +196,12 @@ impl World {
     /// last taken.
     ///
     /// Nothing is due or unfilled. It takes no memory.
-    pub fn notified(&mut self, number: u32) -> u64
-        requires number { number < notifier_count }
+    pub fn notified(&mut self, number: NotifierId) -> u64
         requires rest { is_at_rest self.old.writer.desk ≡ true }
         ensures completed { IsCompleted self.old (notified number) (notifier_answer result) self.new }
         ensures legal { IsLegalFrom self.old (completed self.old (notified number)).entries }
     {
+        number.knows_bound();
         notified(&self.desk, &mut self.hand, number)
     }
 

@@ -4,7 +4,7 @@ use Rattle.std.proofs.Common.{Option, Some, None, Ok, Err}
 use Rattle.std.specs.Prelude.{◌==◌, ◌&&◌, not, Result}
 use Rattle.std.specs.List.{range_with_len}
 use Rattle.mem_base.specs.declared.map.ids.ListenerId.{ListenerId}
-use Rattle.mem_base.specs.declared.map.ids.PassId.{PassId}
+use Rattle.mem_base.specs.map.PassIds.{PassId}
 use Rattle.mem_base.specs.declared.map.ids.RegionId.{RegionId}
 use Rattle.mem_base.specs.declared.map.forests.Forest.{Forest}
 use Rattle.mem_base.specs.declared.map.calls.Applied.{Applied}

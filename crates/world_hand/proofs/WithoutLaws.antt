@@ -1,6 +1,6 @@
 -- What holds of a world holds of it without some calls in its journal too.
 use Rattle.std.proofs.Common.{ℕ, List}
-use Rattle.mem_base.specs.declared.map.ids.PassId.{PassId}
+use Rattle.mem_base.specs.map.PassIds.{PassId}
 use Rattle.mem_base.specs.views.Listening.{Delivery}
 use Rattle.mem_base.specs.machine.World.{World}
 use Rattle.history_laws.specs.BackedForests.{ShowsOwnPlaces}

@@ -1,6 +1,6 @@
 -- That accesses are legal, in every history of the pure machine.
 use Rattle.std.specs.Prelude.{◌≡◌, ℕ, List}
-use Rattle.mem_base.specs.declared.map.ids.PassId.{PassId}
+use Rattle.mem_base.specs.map.PassIds.{PassId}
 use Rattle.mem_base.specs.declared.map.ids.SpaceId.{SpaceId}
 use Rattle.mem_base.specs.map.Forest.{IsMade}
 use Rattle.mem_base.specs.access.AccessSteps.{Transfer, AccessStep, events_of_steps}

@@ -7,7 +7,7 @@ use crate::machines::Machine;
 use config_desk::Config;
 use epoch_rule::Cabinet;
 use generation::Generation;
-use mem_base::{Applied, Call, MOST_PASSES, NOTIFIER_COUNT, Refusal};
+use mem_base::{Applied, Call, MOST_PASSES, Refusal};
 use std::alloc::{AllocError, Global};
 use std::sync::Wait;
 use vcpu_pass::Vcpu;
@@ -61,13 +61,10 @@ fn desk_both(machine: &mut Machine, config: &mut Config, composite: &Composite) 
             machine.harvest(region, client),
             config.harvest(region, client),
         ),
-        Composite::Notified(number) => {
-            let number = number % NOTIFIER_COUNT as u32;
-            (
-                Outcome::Done,
-                machine.notified(number) == config.notified(number),
-            )
-        }
+        Composite::Notified(number) => (
+            Outcome::Done,
+            machine.notified(number) == config.notified(number),
+        ),
         _ => (Outcome::Not, true),
     }
 }

@@ -1,6 +1,6 @@
 // Everything that the users of a machine may ask it to do.
 use crate::machines::Machine;
-use mem_base::{Applied, Call, Client, ListenerId, Refusal, RegionId, SpaceId, TxResult};
+use mem_base::{Applied, Call, Client, ListenerId, NotifierId, Refusal, RegionId, SpaceId, TxResult};
 use std::alloc::AllocError;
 
 /// The most bytes of an access or a load.
@@ -18,7 +18,7 @@ pub(crate) enum Composite {
     /// So many bytes of one value, at an offset of a region.
     Load(RegionId, u64, usize, u8),
     Harvest(RegionId, Client),
-    Notified(u32),
+    Notified(NotifierId),
     Enter(u32),
     Leave(u32),
     /// So many bytes of a space.

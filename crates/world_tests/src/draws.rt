@@ -3,8 +3,8 @@ ghost use Rattle.std.specs.Prelude.{◌<◌};
 
 use crate::composites::{Composite, Outcome};
 use mem_base::{
-    Call, Client, Device, DeviceKind, Forest, Ioevent, Kind, ListenerId, Perm, RegionId, Size,
-    SpaceId,
+    Call, Client, Device, DeviceKind, Forest, Ioevent, Kind, ListenerId, NotifierId, Perm, RegionId,
+    Size, SpaceId,
 };
 use rand_core::utils::NextWord;
 use rand_pcg::Lcg64Xsh32;
@@ -79,6 +79,13 @@ fn space(rng: &mut Lcg64Xsh32) -> SpaceId {
 
 fn listener(rng: &mut Lcg64Xsh32) -> ListenerId {
     ListenerId(draw(rng, 6))
+}
+
+fn notifier(rng: &mut Lcg64Xsh32) -> NotifierId {
+    match NotifierId::new(draw(rng, 8)) {
+        Some(notifier) => notifier,
+        None => unreachable!(),
+    }
 }
 
 /// A priority of -1, 0 or 1.
@@ -383,7 +390,7 @@ impl Draws {
         match draw(&mut self.rng, 3) {
             0 => Composite::Load(region, self.address() % 0x2000, self.count(), 7),
             1 => Composite::Harvest(region, client(&mut self.rng)),
-            _ => Composite::Notified(draw(&mut self.rng, 8)),
+            _ => Composite::Notified(notifier(&mut self.rng)),
         }
     }
 

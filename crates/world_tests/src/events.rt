@@ -7,9 +7,7 @@ use std::alloc::{AllocError, Global};
 use std::test::Fail;
 use world_core::World;
 
-const FIRST: PassId = PassId(0);
-
-const SECOND: PassId = PassId(1);
+const FIRST: PassId = PassId::FIRST;
 
 const BELL: RegionId = RegionId(0);
 
@@ -60,6 +58,14 @@ const fn fill(word: usize) -> Event {
 
 const fn call(call: Call) -> Event {
     Event::Config(Config::Call(call))
+}
+
+// The pass after the first.
+fn second() -> PassId {
+    let Some(pass) = PassId::new(1) else {
+        unreachable!();
+    };
+    pass
 }
 
 // An event with its answer; `None` is that it is not possible.
@@ -137,7 +143,7 @@ fn swept(world: &mut World) -> bool {
         (SHOWN, None),
         (Event::Sweep(FIRST), Some(Ok(Reply::Number(0)))),
         (SHOWN, None),
-        (Event::Sweep(SECOND), Some(Ok(Reply::Number(0)))),
+        (Event::Sweep(second()), Some(Ok(Reply::Number(0)))),
         (SHOWN, Some(Ok(Reply::Applied(Applied::Done)))),
     ];
     all_go(world, &rows)
@@ -151,7 +157,7 @@ fn published(world: &mut World) -> bool {
         (Event::Place(FIRST), DONE),
         (Event::Place(FIRST), None),
         (Event::Publish, None),
-        (Event::Place(SECOND), DONE),
+        (Event::Place(second()), DONE),
         (Event::Publish, Some(Ok(Reply::Number(1)))),
         (Event::Publish, None),
     ];

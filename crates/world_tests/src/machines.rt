@@ -6,7 +6,7 @@ ghost use Rattle.world_tests.specs.Ready.{IsReady};
 
 use generation::Generation;
 use mem_base::{
-    Access, Applied, Call, Client, ListenerEvent, ListenerId, MOST_PASSES, NOTIFIER_COUNT, PassId,
+    Access, Applied, Call, Client, ListenerEvent, ListenerId, MOST_PASSES, NotifierId, PassId,
     Refusal, RegionId, SpaceId,
 };
 use std::alloc::{AllocError, Global};
@@ -35,16 +35,20 @@ impl Model for Machine {
 fn pass_of(vcpu: u32) -> PassId
     ensures { result.0 < 16 }
 {
-    PassId(vcpu % MOST_PASSES)
+    let Some(pass) = PassId::new(vcpu % MOST_PASSES) else {
+        unreachable!();
+    };
+    pass.knows_bound();
+    pass
 }
 
 // Leaves where the pass is entered; it may enter then.
 fn leave_first(world: &mut World, pass: PassId)
     requires ready { IsReady world.old }
-    requires pass { pass.0 < 16 }
     ensures ready { IsReady world.new }
     ensures outside { possible world.new (events.Look pass) ≡ true }
 {
+    pass.knows_bound();
     if world.entered(pass).is_some() {
         world.leave(pass);
     }
@@ -105,9 +109,9 @@ impl Machine {
         self.world.harvest(region, client)
     }
 
-    /// What a notifier was set to since it was last taken; the notifier is 0 to 63.
-    pub(crate) fn notified(&mut self, number: u32) -> u64 {
-        self.world.notified(number % NOTIFIER_COUNT as u32)
+    /// What a notifier was set to since it was last taken.
+    pub(crate) fn notified(&mut self, number: NotifierId) -> u64 {
+        self.world.notified(number)
     }
 
     /// The number of the generation in which a virtual CPU is, where it is in one.

@@ -2,7 +2,6 @@
 ghost use Rattle.std.specs.Prelude.{◌≡◌, ℕ, ◌+◌, ◌/◌, ◌<◌, ◌≤◌, ◌^◌, ◌++◌, List, [], ◌∷◌, length, IfNone};
 ghost use Rattle.mem_base.specs.declared.access.cells.Place.{Place};
 ghost use Rattle.mem_base.specs.access.Places.{past};
-ghost use Rattle.mem_base.specs.map.Limits.{notifier_count};
 ghost use Rattle.mem_base.specs.machine.Orders.{load, load_refusal, loads, notified};
 ghost use Rattle.mem_base.specs.machine.Answers.{notifier_answer, plain_answer};
 ghost use Rattle.writer_run.specs.Entries.{entries_with, at};
@@ -10,7 +9,7 @@ ghost use Rattle.writer_run.specs.Parts.{AreParts, part_of};
 ghost use Rattle.writer_run.specs.Turns.{IsTurn};
 
 use crate::hands::{Loads, WriterHand};
-use mem_base::{Place, Refusal, RegionId, WORD_SIZE, What};
+use mem_base::{NotifierId, Place, Refusal, RegionId, WORD_SIZE, What};
 use region_tree::Tree;
 use writer_desk::IdleDesk;
 
@@ -23,8 +22,7 @@ fn last_of(places: &[Place]) -> Place
 }
 
 /// Takes a notifier: the turn of that. It takes no memory.
-pub fn notified<H: WriterHand>(desk: &IdleDesk, hand: &mut H, number: u32) -> u64
-    requires number { number < notifier_count }
+pub fn notified<H: WriterHand>(desk: &IdleDesk, hand: &mut H, number: NotifierId) -> u64
     requires parts { AreParts desk.now (H.Writing.generations hand.old) (H.Writing.words hand.old) }
     ensures turn { IsTurn (part_of desk.now (H.Writing.generations hand.old)) (notified number) (λ xs. H.Writing.makes hand.old xs hand.new)
         (notifier_answer result) (part_of desk.now (H.Writing.generations hand.new)) }
@@ -32,7 +30,7 @@ pub fn notified<H: WriterHand>(desk: &IdleDesk, hand: &mut H, number: u32) -> u6
 {
     // The last place is that of the notifiers.
     let place = last_of(desk.listened.backed().places());
-    hand.take(&place, number as usize)
+    hand.take(&place, number.number() as usize)
 }
 
 // Why this count of bytes is not loaded at an offset of a region; `None` where it is.

@@ -1,6 +1,6 @@
 -- A call of the writer and an access of a pass, as a contract states them: by the machine before and after, and the answer.
 use Rattle.std.specs.Prelude.{◌≡◌, ℕ, Bool, true, ◌||◌, List}
-use Rattle.mem_base.specs.declared.map.ids.PassId.{PassId}
+use Rattle.mem_base.specs.map.PassIds.{PassId}
 use Rattle.mem_base.specs.declared.map.ids.SpaceId.{SpaceId}
 use Rattle.mem_base.specs.declared.access.accesses.Access.{Access}
 use Rattle.mem_base.specs.declared.machine.events.Event.TheVariants.{Look}

@@ -5,7 +5,7 @@
 use Rattle.std.specs.Prelude.{ℕ, ◌+◌, ◌-◌, ◌==◌, ◌&&◌, ◌||◌, max, min, Bool, true, false, not, nat_le, if◌then◌else◌, List, [], ◌∷◌, take}
 use Rattle.std.specs.Prelude.{map, replicate, slice_set, slice_index_or, slice_get, Option, Some, None, is_some, is_none}
 use Rattle.std.specs.List.{list_any, list_all}
-use Rattle.mem_base.specs.declared.map.ids.PassId.{PassId}
+use Rattle.mem_base.specs.map.PassIds.{PassId}
 use Rattle.mem_base.specs.declared.map.forests.Forest.{Forest}
 use Rattle.mem_base.specs.declared.access.cells.Place.{Place}
 use Rattle.mem_base.specs.declared.machine.events.Event.{Event}

@@ -2,7 +2,7 @@
 -- This project's own rule, in place of the RCU read sections of QEMU's core: a virtual CPU announces a generation
 -- before it enters one, so that the writer keeps what it may still use.
 use Rattle.std.specs.Prelude.{ℕ, Bool, nat_lt, List, length, slice_set, slice_index_or, Option, Some, None}
-use Rattle.mem_base.specs.declared.map.ids.PassId.{PassId}
+use Rattle.mem_base.specs.map.PassIds.{PassId}
 use Rattle.mem_base.specs.declared.machine.events.Event.{Event}
 use Rattle.mem_base.specs.declared.machine.events.Event.TheVariants.{Look, Announce, Enter, Leave}
 

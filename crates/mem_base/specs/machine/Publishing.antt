@@ -2,7 +2,7 @@
 -- QEMU's core, `memory_region_transaction_commit`. That a publish is refused while a pass may use the generation eight
 -- before the one to be published is this project's own rule.
 use Rattle.std.specs.Prelude.{ℕ, ◌+◌, ◌-◌, Bool, true, false, ◌==◌, ◌&&◌, nat_le, if◌then◌else◌, List, [], ◌∷◌, Option, Some, None, Result, Ok, Err}
-use Rattle.mem_base.specs.declared.map.ids.PassId.{PassId}
+use Rattle.mem_base.specs.map.PassIds.{PassId}
 use Rattle.mem_base.specs.declared.map.forests.Forest.{Forest}
 use Rattle.mem_base.specs.declared.map.calls.Applied.{Applied}
 use Rattle.mem_base.specs.declared.map.calls.Config.{Config}

@@ -2,7 +2,7 @@
 -- It makes regions of four kinds in one transaction, and then reads and writes them, with a move between now and then.
 use Rattle.std.specs.Prelude.{ℕ, zero, suc, ◌+◌, ◌*◌, ◌%◌, ◌==◌, ◌&&◌, false, if◌then◌else◌, List, [], ◌∷◌, ◌++◌, Option, Some, None, codes}
 use Rattle.std.specs.Prelude.{decimal, ℤ, pos, ◌-ℤ◌}
-use Rattle.mem_base.specs.declared.map.ids.PassId.{PassId}
+use Rattle.mem_base.specs.map.PassIds.{PassId}
 use Rattle.mem_base.specs.declared.map.kinds.Device.{Device}
 use Rattle.mem_base.specs.declared.map.kinds.DeviceKind.TheVariants.{Latch}
 use Rattle.mem_base.specs.declared.script.changes.MapChange.TheVariants as changes

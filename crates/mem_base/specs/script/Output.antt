@@ -3,7 +3,7 @@
 -- masks are decimal; all other numbers are lower-case hexadecimal, without prefix or leading zeros.
 use Rattle.std.specs.Prelude.{if◌then◌else◌, ℕ, Bool, List, [], ◌∷◌, ◌++◌, Option, Some, None, codes, decimal, ℤ, pos, int_lt, nat_abs, flat_map}
 use Rattle.mem_base.specs.declared.map.ids.RegionId.{RegionId}
-use Rattle.mem_base.specs.declared.map.ids.PassId.{PassId}
+use Rattle.mem_base.specs.map.PassIds.{PassId}
 use Rattle.mem_base.specs.declared.map.kinds.Client.{Client}
 use Rattle.mem_base.specs.declared.map.ioevents.Live.{Live}
 use Rattle.mem_base.specs.declared.views.listening.RangeEvent.{RangeEvent}

@@ -2,7 +2,7 @@
 -- This project's own: an access of a pass that is not entered enters it before and leaves it afterwards.
 use Rattle.std.specs.Prelude.{if◌then◌else◌, ℕ, unwrap_or, List, []}
 use Rattle.mem_base.specs.declared.map.ids.SpaceId.{SpaceId}
-use Rattle.mem_base.specs.declared.map.ids.PassId.{PassId}
+use Rattle.mem_base.specs.map.PassIds.{PassId}
 use Rattle.mem_base.specs.declared.access.accesses.Access.{Access}
 use Rattle.mem_base.specs.access.AccessSteps.{reading, writing, either}
 use Rattle.mem_base.specs.machine.Passes.{pass_of}

@@ -2,7 +2,7 @@
 use Rattle.std.specs.Prelude.{ℕ, zero, ◌+◌, ◌/◌, ◌%◌, ◌==◌, ◌&&◌, Bool, true, false, if◌then◌else◌, List, [], ◌∷◌, ◌++◌, Option, Some, None}
 use Rattle.std.specs.Prelude.{codes, decimal, ℤ, pos}
 use Rattle.std.specs.Fmt.{digits, digit_glyph, signed_decimal}
-use Rattle.mem_base.specs.declared.map.ids.PassId.{PassId}
+use Rattle.mem_base.specs.map.PassIds.{PassId}
 use Rattle.mem_base.specs.declared.map.kinds.Client.{Client}
 use Rattle.mem_base.specs.declared.map.kinds.Client.TheVariants.{Vga, Code, Migration}
 use Rattle.mem_base.specs.declared.map.kinds.Device.{Device}

@@ -2,7 +2,7 @@
 -- Counts and numbers of lines are decimal; offsets are lower-case hexadecimal, without prefix or leading zeros.
 use Rattle.std.specs.Prelude.{ℕ, false, [], ◌∷◌, ◌++◌, codes, decimal}
 use Rattle.std.specs.Fmt.{digits}
-use Rattle.mem_base.specs.declared.map.ids.PassId.{PassId}
+use Rattle.mem_base.specs.map.PassIds.{PassId}
 use Rattle.mem_base.specs.declared.map.refusals.What.{What}
 use Rattle.mem_base.specs.declared.map.refusals.What.TheVariants as what
 use Rattle.mem_base.specs.declared.map.refusals.User.{User}

@@ -1,7 +1,7 @@
 -- What a script means: the lines that it writes. Each command is its composite in the machine that the commands before it
 -- left, a call of the writer or the steps of a pass. A command that names something which is not there writes a refusal.
 use Rattle.std.specs.Prelude.{if◌then◌else◌, ℕ, ◌+◌, ◌/◌, Bool, true, false, List, [], ◌∷◌, ◌++◌}
-use Rattle.mem_base.specs.declared.map.ids.PassId.{PassId}
+use Rattle.mem_base.specs.map.PassIds.{PassId}
 use Rattle.mem_base.specs.declared.map.kinds.Kind.{Kind}
 use Rattle.mem_base.specs.declared.map.kinds.Kind.TheVariants as kinds
 use Rattle.mem_base.specs.declared.map.calls.Call.{Call}

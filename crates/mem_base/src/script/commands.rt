@@ -1,6 +1,6 @@
 // The commands of a script.
 
-use crate::{Bytes, Client, Device, MapChange, Name, PassId, Size};
+use crate::{Bytes, Client, Device, MapChange, Name, NotifierId, PassId, Size};
 
 /// The kind of a region, with what its line gives for it: a `Kind` in which the target of an alias has a name.
 #[derive(Debug, Drop)]
@@ -123,7 +123,7 @@ pub enum Command {
     },
     /// `notified N`
     Notified {
-        number: u32,
+        number: NotifierId,
     },
     /// `dirty REGION vga|code|migration`
     Dirty {

@@ -27,6 +27,14 @@ fn publish_from(
     Ok(all)
 }
 
+/// The pass after the first.
+fn second() -> PassId {
+    let Some(pass) = PassId::new(1) else {
+        unreachable!();
+    };
+    pass
+}
+
 #[test]
 fn a_pass_that_stays_at_1_holds_up_the_publish_of_9(rt: HostRuntime) -> Result<(), Fail> {
     let alloc = rt.alloc();
@@ -43,7 +51,7 @@ fn a_pass_that_stays_at_1_holds_up_the_publish_of_9(rt: HostRuntime) -> Result<(
         Err(refused) => refused,
     };
     let wanted = Held {
-        pass: PassId(0),
+        pass: PassId::FIRST,
         number: 1,
     };
     assert_eq!(rt; held, wanted);
@@ -75,13 +83,13 @@ fn a_sweep_names_the_least_pass_that_may_use_the_oldest_generation(
     assert!(rt; publish_from(alloc, &cabinet, &mut writer, 4, 5)?);
     let wanted = Swept {
         lowest: 3,
-        pass: PassId(1),
+        pass: second(),
     };
     assert_eq!(rt; cabinet.sweep(&mut writer), wanted);
     cabinet.leave(&mut second);
     let wanted = Swept {
         lowest: 5,
-        pass: PassId(0),
+        pass: PassId::FIRST,
     };
     assert_eq!(rt; cabinet.sweep(&mut writer), wanted);
     Ok(())

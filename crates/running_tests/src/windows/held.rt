@@ -56,7 +56,7 @@ fn moves(config: &mut Config) -> bool {
 /// Whether the next move is held up by the first virtual CPU, in the generation in which it opened its window.
 fn is_held_up(config: &mut Config) -> bool {
     match config.call(&shift(1, 0x8000)) {
-        Err(why) => why == Refusal::Held(PassId(0), OPENED),
+        Err(why) => why == Refusal::Held(PassId::FIRST, OPENED),
         Ok(_) => false,
     }
 }

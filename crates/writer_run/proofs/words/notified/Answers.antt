@@ -1,4 +1,4 @@
-use Rattle.std.proofs.Common.{◌≡◌, ◌∙◌, ap, subst, [], ◌∷◌}
+use Rattle.std.proofs.Common.{◌≡◌, ℕ, ◌∙◌, ap, subst, [], ◌∷◌}
 use Rattle.mem_base.specs.declared.access.cells.Place.{Place}
 use Rattle.mem_base.specs.declared.access.cells.WordStep.TheVariants.{Take}
 use Rattle.mem_base.specs.access.Places.{notifiers_place}
@@ -15,7 +15,8 @@ returns-clause-turn g c =
     let is : c.last_of-place.result ≡ np = c.last_of-place.ensures c.args.desk.now.listened.backed.backing.places np
     (c.places.ensures.places ∙ ap (λ (b : BackedState). all_places b.backing) c.backed.ensures) in
     let made : g.H.Writing.makes c.args.hand.now (word_entry np c.args.number Take c.take.result ∷ []) c.take.new.self =
-    subst (λ (p : Place). g.H.Writing.makes c.args.hand.now (word_entry p c.args.number Take c.take.result ∷ []) c.take.new.self) is c.take.ensures in
+    subst (λ (x : Place × ℕ). g.H.Writing.makes c.args.hand.now (word_entry x.0 x.1 Take c.take.result ∷ []) c.take.new.self)
+    (λ i. (is i, c.number.ensures.value i)) c.take.ensures in
     let left = g.met.H.Writing.leaves c.args.hand.now c.take.new.self (word_entry np c.args.number Take c.take.result ∷ []) made in
     taken c.args.desk.now gens (g.H.Writing.words c.args.hand.now) c.requires.parts c.args.number c.take.result
     (g.H.Writing.generations c.take.new.self) (λ xs. g.H.Writing.makes c.args.hand.now xs c.take.new.self) made left.0

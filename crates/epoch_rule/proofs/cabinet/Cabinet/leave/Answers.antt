@@ -9,7 +9,7 @@ use Rattle.epoch_rule.proofs.TouchLaws.{wrote}
 pub store-requires : goal.store-requires
 store-requires g c =
     let inv = c.pass.invariant in
-    let p : ℕ = c.pass.inside.number in
+    let p : ℕ = c.pass.inside.id.0 in
     let a = c.in-Some.edition in
     let r : ℕ = c.number.result in
     let st = subst (HasItsEdition g.E.Edition.counted g.E.Edition.forest g.E.Edition.places p c.pass.inside.seat.me)
@@ -39,7 +39,7 @@ store-requires g c =
 pub invariant_of-pass : goal.invariant_of-pass
 invariant_of-pass g c =
     let inv = c.pass.invariant in
-    let p : ℕ = c.pass.inside.number in
+    let p : ℕ = c.pass.inside.id.0 in
     let x = c.exchange.ensures in
     let role = ap (λ m. m.0.role) x.3 ∙ inv.0 in
     let did = c.store.ensures.2.1 p role in
@@ -60,7 +60,7 @@ returns-in-Some-clause-events g c =
       cabinet = c.store.ensures.0 ∙ x.0;
       number = refl;
       sizes = did.sizes ∙ ap (λ m. m.0.sizes) x.3;
-      wrote = subst (λ (v : View). Wrote (Pass (pass_id c.pass.inside.number)) v.sizes v.seen
-          (history_entry (Leave (pass_id c.pass.inside.number)) Nothing 0 ∷ []) c.store.new.seat.me.0.seen) (ap (λ m. m.0) x.3)
-          (wrote (Pass (pass_id c.pass.inside.number)) _ _ _ _ _ refl did);
+      wrote = subst (λ (v : View). Wrote (Pass (pass_id c.pass.inside.id.0)) v.sizes v.seen
+          (history_entry (Leave (pass_id c.pass.inside.id.0)) Nothing 0 ∷ []) c.store.new.seat.me.0.seen) (ap (λ m. m.0) x.3)
+          (wrote (Pass (pass_id c.pass.inside.id.0)) _ _ _ _ _ refl did);
     }

@@ -12,7 +12,7 @@ load_each-requires-clause-room g c =
     let wide = (same_sizes _ _ _ _ t inv.2 c.self.invariant.suits).1 in
     let may = c.requires.carried in
     let there = ap (λ v. v.edition) c.pass.view_is ∙ may.1 in
-    let s = entered_at g.E.Edition.counted g.E.Edition.forest g.E.Edition.places c.pass.inside.number c.pass.inside.seat.me c.pass.inside.edition may.0
+    let s = entered_at g.E.Edition.counted g.E.Edition.forest g.E.Edition.places c.pass.inside.id.0 c.pass.inside.seat.me c.pass.inside.edition may.0
     there inv.3 in
     let fits : past place ≤ c.pass.inside.seat.me.0.sizes.words =
     one_of (λ q. past q ≤ c.pass.inside.seat.me.0.sizes.words) place (g.E.Edition.places may.0) s.roomy may.2 in
@@ -24,7 +24,7 @@ load_each-requires-clause-room g c =
 pub invariant_of-pass : goal.invariant_of-pass
 invariant_of-pass g c =
     let inv = c.pass.invariant in
-    let p : ℕ = c.pass.inside.number in
+    let p : ℕ = c.pass.inside.id.0 in
     let stays = c.load_each.ensures.stays in
     let adds = c.load_each.ensures.loaded.adds in
     let after = c.load_each.new.seat.me in (

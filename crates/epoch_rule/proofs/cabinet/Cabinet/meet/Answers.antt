@@ -25,10 +25,10 @@ load-requires g c =
     )
 
 -- the view that was met, after the look
-settled : (g : Over) (c : goal.After-load g) → IsSettled (c.pass.inside.number + 1) (met_view c.pass.inside.seat.me.0 c.note.inside.seat.me.0)
+settled : (g : Over) (c : goal.After-load g) → IsSettled (c.pass.inside.id.0 + 1) (met_view c.pass.inside.seat.me.0 c.note.inside.seat.me.0)
     c.load.new.seat.me.0
-settled g c = subst (λ m. IsSettled (c.pass.inside.number + 1) m.0 c.load.new.seat.me.0) c.join_seat.ensures.2
-    (c.load.ensures.2.1 (c.pass.inside.number + 1) (ap (λ m. m.0.role) c.join_seat.ensures.2 ∙ c.pass.invariant.0))
+settled g c = subst (λ m. IsSettled (c.pass.inside.id.0 + 1) m.0 c.load.new.seat.me.0) c.join_seat.ensures.2
+    (c.load.ensures.2.1 (c.pass.inside.id.0 + 1) (ap (λ m. m.0.role) c.join_seat.ensures.2 ∙ c.pass.invariant.0))
 
 seen : (g : Over) (c : goal.After-load g) → c.load.new.seat.me.0.seen ≡ (met_view c.pass.inside.seat.me.0 c.note.inside.seat.me.0).seen
 seen g c = ap (λ w. w.seen) (settled g c).same
@@ -41,11 +41,11 @@ invariant_of-pass g c =
     let inv = c.pass.invariant in
     let h = settled g c in (
       ap (λ w. w.role) h.same ∙ inv.0,
-      subst (λ (y : Sizes). c.pass.inside.number < y.passes) (sym (sizes g c)) inv.1,
+      subst (λ (y : Sizes). c.pass.inside.id.0 < y.passes) (sym (sizes g c)) inv.1,
       suits_on _ _ _ _ (sym (c.load.ensures.0 ∙ c.join_seat.ensures.0)) (sym (sizes g c)) inv.2,
-      stands_still g.E.Edition.counted g.E.Edition.forest g.E.Edition.places c.pass.inside.number c.pass.inside.seat.me c.load.new.seat.me
+      stands_still g.E.Edition.counted g.E.Edition.forest g.E.Edition.places c.pass.inside.id.0 c.pass.inside.seat.me c.load.new.seat.me
           c.pass.inside.edition (c.load.ensures.2.0 ∙ ap (λ m. m.1) c.join_seat.ensures.2) (sizes g c) (h.was.0, h.was.1 ∙ sym (seen g c))
-          (ap (pass_seen c.pass.inside.number) h.same ∙ ap (pass_after_all idle) (sym h.quiet)) inv.3,
+          (ap (pass_seen c.pass.inside.id.0) h.same ∙ ap (pass_after_all idle) (sym h.quiet)) inv.3,
       subst (λ (w : View). IsLegal w.sizes w.seen) (sym h.same) h.lawful,
     )
 
@@ -60,5 +60,5 @@ returns-clause-events g c = rw (sym c.pass.view_is) record {
   cabinet = c.load.ensures.0 ∙ c.join_seat.ensures.0;
   number = refl;
   sizes = sizes g c;
-  wrote = wrote_none (Pass (pass_id c.pass.inside.number)) c.pass.inside.seat.me.0 _ _ refl refl (settled g c);
+  wrote = wrote_none (Pass (pass_id c.pass.inside.id.0)) c.pass.inside.seat.me.0 _ _ refl refl (settled g c);
 }

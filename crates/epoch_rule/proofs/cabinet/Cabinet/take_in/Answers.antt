@@ -12,13 +12,13 @@ use Rattle.epoch_rule.proofs.TouchLaws.{wrote_none}
 pub join_seat-requires : goal.join_seat-requires
 join_seat-requires g c =
     let a = c.self.invariant.suits.0 in
-    let still = stands_out g.E.Edition.counted g.E.Edition.forest g.E.Edition.places c.pass.inside.number c.pass.inside.seat.me c.pass.inside.edition
+    let still = stands_out g.E.Edition.counted g.E.Edition.forest g.E.Edition.places c.pass.inside.id.0 c.pass.inside.seat.me c.pass.inside.edition
     (ap (λ v. v.edition) c.pass.view_is ∙ c.requires.out) c.pass.invariant.3 in (
       ap (λ v. v.cabinet) c.writer.view_is ∙ (c.requires.own.0 ∙ sym (ap (λ w. w.id) c.self.view_is)),
       ap (λ v. v.cabinet) c.pass.view_is ∙ (c.requires.own.1 ∙ sym (ap (λ w. w.id) c.self.view_is)),
       still.1,
       omega arith,
-      takes_in (IsCopy g.E.Edition.counted g.E.Edition.forest g.E.Edition.places) _ _ _ _ _ c.pass.inside.number c.writer.invariant.role
+      takes_in (IsCopy g.E.Edition.counted g.E.Edition.forest g.E.Edition.places) _ _ _ _ _ c.pass.inside.id.0 c.writer.invariant.role
           c.pass.invariant.0 still.0,
     )
 
@@ -39,8 +39,8 @@ seen : (g : Over) (c : After-load g) → c.load.new.seat.me.0.seen ≡ (taken_in
 seen g c = ap (λ w. w.seen) (settled g c).same
 
 -- the number of the pass, by its role
-number : (g : Over) (c : After-load g) → unwrap_or c.pass.inside.seat.me.0.role 0 - 1 ≡ c.pass.inside.number
-number g c = ap (λ r. unwrap_or r 0 - 1) c.pass.invariant.0 ∙ (let n : ℕ = c.pass.inside.number in let same : n + 1 - 1 ≡ n = omega arith in same)
+number : (g : Over) (c : After-load g) → unwrap_or c.pass.inside.seat.me.0.role 0 - 1 ≡ c.pass.inside.id.0
+number g c = ap (λ r. unwrap_or r 0 - 1) c.pass.invariant.0 ∙ (let n : ℕ = c.pass.inside.id.0 in let same : n + 1 - 1 ≡ n = omega arith in same)
 
 pub invariant_of-writer : goal.invariant_of-writer
 invariant_of-writer g c =
@@ -53,7 +53,7 @@ invariant_of-writer g c =
     (ap generations_seen h.same ∙ ap (generations_after_all (first_generations c.writer.inside.seat.me.0.sizes.passes)) (sym h.quiet))
     (subst (λ w. IsLegal w.sizes w.seen) (sym h.same) h.lawful)
     ((λ i. slice_set (inv.is_out i) (sym (number g at) i) false) ∙ sym (ap (λ w. w.out) h.same))
-    (length-set c.writer.inside.out.items c.pass.inside.number false) inv
+    (length-set c.writer.inside.out.items c.pass.inside.id.0 false) inv
 
 pub returns-clause-longer : goal.returns-clause-longer
 returns-clause-longer g c = rw (sym c.writer.view_is, sym c.pass.view_is) (seen g (goal.at.returns-clause-longer g c).After-load)
@@ -75,7 +75,7 @@ pub returns-clause-brought : goal.returns-clause-brought
 returns-clause-brought g c =
     let at = (goal.at.returns-clause-brought g c).After-load in
     let h = settled g at in
-    let p : ℕ = c.pass.inside.number in
+    let p : ℕ = c.pass.inside.id.0 in
     let v : View = c.writer.inside.seat.me.0 in
     let free : get_or (taken_in v c.pass.inside.seat.me.0).out p false ≡ false =
     subst (λ (i : ℕ). get_or (set v.out i false) p false ≡ false) (sym (number g at)) (set_false v.out p) in
@@ -87,8 +87,8 @@ returns-clause-others g c q ne out =
     let at = (goal.at.returns-clause-others g c).After-load in
     let h = settled g at in
     let v : View = c.writer.inside.seat.me.0 in
-    let came : (taken_in v c.pass.inside.seat.me.0).came ≡ c.pass.inside.number + 1 = ap (λ (r : Option ℕ). unwrap_or r 0) c.pass.invariant.0 in
-    let number : c.pass.inside.number ≡ c.args.pass.number = ap (λ w. w.number) c.pass.view_is in
+    let came : (taken_in v c.pass.inside.seat.me.0).came ≡ c.pass.inside.id.0 + 1 = ap (λ (r : Option ℕ). unwrap_or r 0) c.pass.invariant.0 in
+    let number : c.pass.inside.id.0 ≡ c.args.pass.number = ap (λ w. w.number) c.pass.view_is in
     let before : get_or v.out q false ≡ false =
     ap (λ l. get_or l q false) (sym c.writer.invariant.is_out) ∙ (ap (λ w. get_or w.out q false) c.writer.view_is ∙ out) in
     let free : get_or (taken_in v c.pass.inside.seat.me.0).out q false ≡ false =

@@ -21,7 +21,7 @@ leaves c =
     let f = rested s c.args.self.now c.self.invariant c.self.view_is c.requires.rest in
     leaves_all s c.args.self.now f (notified c.args.number) (notifier_answer c.notified.result) s.desk l.kept l.words
     (steady_leaves s.desk s.hand.kept s.hand.words f.world s.desk l.kept l.words (notified c.args.number) (notifier_answer c.notified.result)
-    c.requires.number c.notified.ensures.turn c.notified.ensures.parts refl (c.notified.ensures.turn.made.flags
+    c.knows_bound.ensures c.notified.ensures.turn c.notified.ensures.parts refl (c.notified.ensures.turn.made.flags
     (notified_sweeps_none (part_of s.desk (generations_of s.hand.kept)) c.notified.ensures.turn.replies c.args.number)))
 
 pub invariant_of-self : goal.invariant_of-self
@@ -32,4 +32,4 @@ returns-clause-completed c = (leaves c).is
 
 pub returns-clause-legal : goal.returns-clause-legal
 returns-clause-legal c =
-    (is_legal c.args.self.now (notified c.args.number) (subst IsReached c.self.view_is c.self.invariant.reached) c.requires.rest c.requires.number).legal
+    (is_legal c.args.self.now (notified c.args.number) (subst IsReached c.self.view_is c.self.invariant.reached) c.requires.rest c.knows_bound.ensures).legal
