@@ -61,11 +61,7 @@ impl<E: Edition + Drop> Cabinet<E> {
         let shared = &self.table.shared;
         let who = pass.id.number() as usize;
         let looked = shared.load::<Looks>(&mut pass.seat, NUMBER_WORD);
-        shared.store::<Announces>(
-            &mut pass.seat,
-            LINE_WORDS * (who + 1),
-            looked + 1,
-        );
+        shared.store::<Announces>(&mut pass.seat, LINE_WORDS * (who + 1), looked + 1);
         let number = shared.load::<Enters>(&mut pass.seat, NUMBER_WORD);
         let slot = PASS_SLOTS * who + (number % MOST_GENERATIONS) as usize;
         pass.edition = shared.exchange(&mut pass.seat, slot, None);
@@ -168,14 +164,6 @@ impl<E: Edition + Drop> Cabinet<E> {
         edition.number();
         let shared = &self.table.shared;
         let id = pass.id;
-        load_each(
-            shared,
-            &mut pass.seat,
-            self.passes,
-            id,
-            place,
-            first,
-            out,
-        );
+        load_each(shared, &mut pass.seat, self.passes, id, place, first, out);
     }
 }
