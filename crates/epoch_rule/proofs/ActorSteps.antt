@@ -96,7 +96,8 @@ module _ {S : Type 0} (Copy : ℕ → Generation → S → Type 0) (z : Sizes) w
       let copy = mine_slots.kept c low (omega arith) (λ e. none_is_no_number c e) in
       let i : ℕ = slot_of p r in
       let log' : List HistoryEntry = k.log ++ history_entry (events.Enter (pass_id p)) Nothing r ∷ [] in
-      let did = moves s k id me.0 at p near role events.Enter r (record (pass_of st.passes (pass_id p)) { entered = Some r }) (get_or s.words (word_of_pass p) 0)
+      let did = moves s k id me.0 at p near role events.Enter r (record (pass_of st.passes (pass_id p)) { entered = Some r })
+        (get_or s.words (word_of_pass p) 0)
       (set s.homes i none) refl may is refl refl (k.shown.pins p near) (length-set s.homes i none)
       (λ v j other l. set_else s.homes i (slots_before v + j) none (λ y. other (omega arith)))
       (subst (λ (n : ℕ). PassSlots Copy c gs (known_of st.generations (pass_id p)) (Some n) k.held (generation_of_pick k.next)
@@ -207,7 +208,8 @@ module _ {S : Type 0} (Copy : ℕ → Generation → S → Type 0) (z : Sizes) w
       let none_held : k.held ≡ 0 = sym (seat.counts role).1 ∙ idle_hand in
       let was : PassTrack = known_of st.generations (pass_id p) in
       let next : Generation = generation_of_pick k.next in
-      let close' : c ≤ was.lowest + (most_generations - 2) = subst (λ (d : Generations). d.current ≤ (known_of d (pass_id p)).lowest + (most_generations - 2)) (sym knows) close in
+      let close' : c ≤ was.lowest + (most_generations - 2) =
+        subst (λ (d : Generations). d.current ≤ (known_of d (pass_id p)).lowest + (most_generations - 2)) (sym knows) close in
       let free' : was.placed ≡ false = ap (λ (d : Generations). (known_of d (pass_id p)).placed) knows ∙ free in
       let ok = (sound z.words z.passes k.log k.lawful).each p near in
       let mine_slots : PassSlots Copy c gs was (pass_of st.passes (pass_id p)).entered 0 next s.homes p =
@@ -254,7 +256,8 @@ module _ {S : Type 0} (Copy : ℕ → Generation → S → Type 0) (z : Sizes) w
         )),
       )
 
-  pub place : (slots id : ℕ) (me : Me S View) (p : ℕ) (m : Picked) (y : S) → p < z.passes → slots ≡ slots_before z.passes → me.0.role ≡ Some 0 → me.0.held ≡ p + 1
+  pub place : (slots id : ℕ) (me : Me S View) (p : ℕ) (m : Picked) (y : S) → p < z.passes → slots ≡ slots_before z.passes
+      → me.0.role ≡ Some 0 → me.0.held ≡ p + 1
       → me.1 ≡ (slot_of p ((generations_seen me.0).current + 1), y) ∷ []
       → Copy ((generations_seen me.0).current + 1) (generation_of_pick m) y
       → ((v : ℕ) → (known_of (generations_seen me.0) (pass_id v)).placed ≡ true → me.0.next ≡ m)

@@ -29,7 +29,8 @@ module _ {S : Type 0} (Copy : ℕ → Generation → S → Type 0) where
       → (held' ≡ v + 1 → held ≡ v + 1) → (held ≡ v + 1 → held' ≡ v + 1) → (f.placed ≡ true → next' ≡ next) → PassSlots Copy c gs f e held next homes v
       → PassSlots Copy c gs f e held' next' homes' v
   stays c gs f e held held' next next' homes homes' v same back on told s = record {
-    kept = λ g a b d. has_else homes homes' (slot_of v g) (Copy g (slice_index_or gs g first_generation)) (same (g % most_generations) (omega arith)) (s.kept g a b d);
+    kept = λ g a b d. has_else homes homes' (slot_of v g) (Copy g (slice_index_or gs g first_generation))
+        (same (g % most_generations) (omega arith)) (s.kept g a b d);
     placed = λ a. has_else homes homes' (slot_of v (c + 1)) (Copy (c + 1) next') (same ((c + 1) % most_generations) (omega arith))
         (subst (λ (m : Generation). HasAt homes (slot_of v (c + 1)) (Copy (c + 1) m)) (sym (told a)) (s.placed a));
     home = λ k l a b. has_else homes homes' (slots_before v + k) (λ y. Unit {0}) (same k l) (s.home k l a (λ x. b (on x)));
@@ -50,13 +51,15 @@ module _ {S : Type 0} (Copy : ℕ → Generation → S → Type 0) where
 
   -- the pass gives its copy back
   pub left : (c : ℕ) (gs : List Generation) (f : PassTrack) (g held : ℕ) (next : Generation) (homes : List (maybe.Option S)) (v : ℕ) (y : S) → f.lowest ≤ g
-      → g ≤ c → c ≤ f.lowest + (most_generations - 1) → (f.placed ≡ true → c ≤ f.lowest + (most_generations - 2)) → slots_before v + most_generations ≤ length homes
+      → g ≤ c → c ≤ f.lowest + (most_generations - 1) → (f.placed ≡ true → c ≤ f.lowest + (most_generations - 2))
+      → slots_before v + most_generations ≤ length homes
       → Copy g (slice_index_or gs g first_generation) y → PassSlots Copy c gs f (Some g) held next homes v
       → PassSlots Copy c gs f None held next (set homes (slot_of v g) (some y)) v
   left c gs f g held next homes v y low high near ahead room copy s =
       let homes' : List (maybe.Option S) = set homes (slot_of v g) (some y) in
       let here : get_elem? homes' (slot_of v g) ≡ some (some y) = set_here homes (slot_of v g) (some y) (omega arith) in
-      let one : (x : ℕ) → f.lowest ≤ x → x ≤ c → x % most_generations ≡ g % most_generations → x ≡ g = λ x a b q. dite (dec_le x g) (λ l. one_turn x g most_generations l (omega arith) q)
+      let one : (x : ℕ) → f.lowest ≤ x → x ≤ c → x % most_generations ≡ g % most_generations → x ≡ g =
+      λ x a b q. dite (dec_le x g) (λ l. one_turn x g most_generations l (omega arith) q)
       (λ l. sym (one_turn g x most_generations (omega arith) (omega arith) (sym q))) in record {
         kept = λ x a b d. dite (ℕ_discrete x g) (λ e. subst (λ (z : ℕ). HasAt homes' (slot_of v z) (Copy z (slice_index_or gs z first_generation))) (sym e)
             (y, here, copy))
@@ -82,7 +85,8 @@ module _ {S : Type 0} (Copy : ℕ → Generation → S → Type 0) where
   }
 
   -- the writer takes the slot for the next edition
-  pub reached : (c : ℕ) (gs : List Generation) (f : PassTrack) (e : Option ℕ) (next : Generation) (homes : List (maybe.Option S)) (v : ℕ) → c ≤ f.lowest + (most_generations - 2)
+  pub reached : (c : ℕ) (gs : List Generation) (f : PassTrack) (e : Option ℕ) (next : Generation) (homes : List (maybe.Option S)) (v : ℕ)
+      → c ≤ f.lowest + (most_generations - 2)
       → f.placed ≡ false → PassSlots Copy c gs f e 0 next homes v
       → PassSlots Copy c gs f e (v + 1) next (set homes (slot_of v (c + 1)) none) v
   reached c gs f e next homes v near free s = record {
@@ -272,7 +276,8 @@ shows_touched z s words h t x wide near = record {
   small = h.small;
   pins = λ v l. get_or-set_other words (words_before_pool z.passes + t) (word_of_pass v) x 0 (λ q. omega arith) ∙ h.pins v l;
   pool = λ i l. dite (ℕ_discrete i t)
-      (λ same. subst (λ (k : ℕ). get_or (set words (words_before_pool z.passes + t) x) (words_before_pool z.passes + k) 0 ≡ get_or (set s.words t x) k 0) (sym same)
+      (λ same. subst (λ (k : ℕ). get_or (set words (words_before_pool z.passes + t) x) (words_before_pool z.passes + k) 0 ≡ get_or (set s.words t x) k 0)
+      (sym same)
       (get_or-set_same words (words_before_pool z.passes + t) x 0 (let w = h.wide in omega arith) ∙ sym (get_or-set_same s.words t x 0 (omega arith))))
       (λ other. get_or-set_other words (words_before_pool z.passes + t) (words_before_pool z.passes + i) x 0 (λ q. other (omega arith))
       ∙ (h.pool i l ∙ sym (get_or-set_other s.words t i x 0 other)));

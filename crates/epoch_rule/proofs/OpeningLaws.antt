@@ -27,7 +27,8 @@ module _ {S : Type 0} (Copy : ℕ → Generation → S → Type 0) (z : Sizes) w
   alone zero v other e = other refl
   alone (suc j) v other e = some-ne-none v (sym e)
 
-  pub opens : (words : List ℕ) (slots : List S) → length words ≡ words_before_pool z.passes + z.words → ((i : ℕ) → get_or words i 0 ≡ 0) → length slots ≡ slots_before z.passes
+  pub opens : (words : List ℕ) (slots : List S) → length words ≡ words_before_pool z.passes + z.words
+      → ((i : ℕ) → get_or words i 0 ≡ 0) → length slots ≡ slots_before z.passes
       → ((v : ℕ) → v < z.passes → (y : S) × (get_elem? slots (slots_before v) ≡ some y) × Copy 0 first_generation y)
       → IsRuled Copy z (opening words slots (first_view z))
   opens words slots wide blank deep copies = record {
@@ -82,7 +83,8 @@ module _ {E Z : Type 0} (e : E) where
         ∙ (let a = length-append old (Some h.0 ∷ []) in let b = s.long in let c = h.2.1 in omega arith));
     each = λ v l. dite (ℕ_discrete v n)
         (λ same. subst (λ (x : ℕ). (a : Arc E Z) × (get_elem? new (slots_before x) ≡ some (Some a)) × (arc_value a ≡ e)) (sym same)
-        (h.0, ap (λ l. get_elem? l (slots_before n)) h.2.2 ∙ at_longer (old ++ Some h.0 ∷ []) h.2.0 (slots_before n) (Some h.0) (at_last old (Some h.0) (slots_before n) s.long), h.1))
+        (h.0, ap (λ l. get_elem? l (slots_before n)) h.2.2 ∙ at_longer (old ++ Some h.0 ∷ []) h.2.0 (slots_before n) (Some h.0)
+            (at_last old (Some h.0) (slots_before n) s.long), h.1))
         (λ other. let t = s.each v (omega arith) in (
           t.0,
           ap (λ l. get_elem? l (slots_before v)) h.2.2

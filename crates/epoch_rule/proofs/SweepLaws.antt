@@ -137,7 +137,8 @@ near_of c k s free = go k.found refl free
 -- after a sweep of each pass that none holds up, each may have its copy
 pub all_near : (v w : View) (known : List Found) (c : ℕ) → HasSwept v w known (length (generations_seen v).passes) → c ≡ (generations_seen v).current
     → held_in c 0 known ≡ None
-    → (u : ℕ) → u < length (generations_seen v).passes → (generations_seen w).current ≤ (known_of (generations_seen w) (pass_id u)).lowest + (most_generations - 2)
+    → (u : ℕ) → u < length (generations_seen v).passes
+    → (generations_seen w).current ≤ (known_of (generations_seen w) (pass_id u)).lowest + (most_generations - 2)
 all_near v w known c s is none u l =
     let g : Generations = generations_seen v in
     let e = writes_generations v (sweeps_of 0 s.rs) w s.writes in
