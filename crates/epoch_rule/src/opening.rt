@@ -28,7 +28,7 @@ fn filled<T: Clone + std::marker::Copy + Drop>(
     Ok(items)
 }
 
-/// Appends the slots of one pass: a copy of edition 0, and fifteen empty ones.
+/// Appends the slots of one pass: a copy of edition 0 in the first one, and the others empty.
 fn add_slots<E: Edition + Drop>(
     slots: &mut Vec<Slot<E>>,
     first: &Arc<E, Global>,
