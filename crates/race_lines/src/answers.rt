@@ -39,7 +39,7 @@ fn add_value(
     ensures { OnOk result (line.new ≡ line.old ++ answer_text (printed_names names.now) number order.now (answers.Value value)) }
 {
     match order {
-        DeskOrder::Notified(notifier) => add_notified_line(line, *notifier, value),
+        DeskOrder::Notified(notifier) => add_notified_line(line, notifier.number(), value),
         _ => Ok(()),
     }
 }

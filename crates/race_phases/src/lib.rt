@@ -10,4 +10,4 @@ mod parts;
 
 pub use actors::{actors_in, has_line, lines_by};
 pub use parts::{Parts, parts_of};
-pub use script_text::{DESK_NUMBER, actor_number};
+pub use script_text::{DESK_NUMBER, actor_number, pass_of_line};

@@ -26,7 +26,7 @@ fn result_text(ended: TxResult) -> &'static str
 fn add_pass(line: &mut Line, pass: PassId) -> Result<(), AllocError>
     ensures { OnOk result (line.new ≡ line.old ++ pass_text pass) }
 {
-    line.counted("v", u64::from(pass.0))
+    line.counted("v", u64::from(pass.number()))
 }
 
 fn add_entered(line: &mut Line, pass: PassId, generation: u64) -> Result<(), AllocError>

@@ -418,7 +418,7 @@ fn push_pass(text: &mut Vec<u8>, pass: PassId) -> Result<(), AllocError>
     ensures { OnOk result (text.new.items ≡ text.old.items ++ (32 ∷ pass_text pass)) }
 {
     push_word(text, b"v")?;
-    push_decimal(text, u64::from(pass.0))?;
+    push_decimal(text, u64::from(pass.number()))?;
     Ok(())
 }
 
@@ -608,7 +608,7 @@ pub fn push_tokens(text: &mut Vec<u8>, command: &Command) -> Result<(), AllocErr
         Command::Unwatch { name } => push_named(text, b"unwatch", name),
         Command::Show { space } => push_named(text, b"show", space),
         Command::At { space, addr } => push_numbered(text, b"at", space, *addr),
-        Command::Notified { number } => push_notified(text, *number),
+        Command::Notified { number } => push_notified(text, number.number()),
         Command::Dirty { region, client } => push_dirty(text, region, *client),
         Command::Pass { pass, command } => push_pass_line(text, *pass, command),
         Command::Par => push_bare(text, b"par"),

@@ -57,7 +57,7 @@ fn add_limit(line: &mut Line, which: Which, limit: u64) -> Result<(), AllocError
 fn add_held(line: &mut Line, pass: PassId, generation: u64) -> Result<(), AllocError>
     ensures { OnOk result (line.new ≡ line.old ++ held_text pass generation) }
 {
-    line.counted("F19 held v", u64::from(pass.0))?;
+    line.counted("F19 held v", u64::from(pass.number()))?;
     line.counted(" ", generation)
 }
 

@@ -102,12 +102,21 @@ fn draw_len(rng: &mut Lcg64Xsh32) -> u8
     1 + draw(rng, 8) as u8
 }
 
-// A read or a write of 1 to 8 bytes by one of 16 passes.
+// One of 16 passes.
+fn draw_pass(rng: &mut Lcg64Xsh32) -> PassId
+    ensures { (result.0, rng.new) ≡ draw pcg32 16 rng.old }
+{
+    let Some(pass) = PassId::new(draw(rng, 16)) else {
+        unreachable!()
+    };
+    pass
+}
 
+// A read or a write of 1 to 8 bytes by one of 16 passes.
 fn draw_access(alloc: Global, rng: &mut Lcg64Xsh32) -> Result<Command, AllocError>
     ensures { IfOk result (λ command. (command, rng.new) ≡ one_access pcg32 rng.old) }
 {
-    let pass = PassId(draw(rng, 16));
+    let pass = draw_pass(rng);
     let way = draw(rng, 2);
     let page = draw_page(rng, 4096);
     let offset = draw(rng, 4096);

@@ -218,7 +218,7 @@ fn event(alloc: Global, tokens: &mut Tokens) -> Result<MapChange, LineStop>
     let region = tokens.name()?;
     let offset = tokens.address()?;
     let size = tokens.decimal_byte()?;
-    let number = tokens.notifier()?;
+    let number = tokens.notifier()?.number();
     let data = tokens.last_data()?;
     tokens.ends()?;
     Ok(MapChange::Event {

@@ -19,7 +19,7 @@ fn of_pass(alloc: Global, word: &[u8], tokens: &mut Tokens) -> Result<Command, L
     ensures { Reads result (chosen (option_map pass_line (pass_of word.now)) tokens.old) }
 {
     match pass_of(word) {
-        Some(number) => pass_line(alloc, number, tokens),
+        Some(pass) => pass_line(alloc, pass, tokens),
         None => Err(LineStop::Bad(Cause::Word)),
     }
 }

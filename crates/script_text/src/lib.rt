@@ -21,7 +21,7 @@ mod words;
 
 pub use faults::ParseFault;
 pub use printing::{pool_words, print};
-pub use read_lines::{DESK_NUMBER, actor_number};
+pub use read_lines::{DESK_NUMBER, actor_number, pass_of_line};
 pub use script_lines::{
     Line, add_at_line, add_bad_line, add_dirty_line, add_dma_line, add_do_line, add_enter_line,
     add_leave_line, add_notice_line, add_notified_line, add_range_line, add_read_line,

@@ -101,9 +101,9 @@ fn pass_named(
 }
 
 /// `vN`, and what the pass does.
-pub fn pass_line(alloc: Global, number: u32, tokens: &mut Tokens) -> Result<Command, LineStop>
-    ensures { Reads result (pass_line number tokens.old) }
+pub fn pass_line(alloc: Global, pass: PassId, tokens: &mut Tokens) -> Result<Command, LineStop>
+    ensures { Reads result (pass_line pass.0 tokens.old) }
 {
     let word = tokens.token()?;
-    pass_named(alloc, PassId(number), word, tokens)
+    pass_named(alloc, pass, word, tokens)
 }

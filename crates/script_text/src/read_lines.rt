@@ -1,8 +1,8 @@
 // The lines of a script as they are read, and whose each is.
-ghost use Rattle.std.specs.Prelude.{◌≡◌, [], ◌∷◌, ◌++◌, OnOk, map};
-ghost use Rattle.mem_base.specs.script.Race.{actor_number};
+ghost use Rattle.std.specs.Prelude.{◌≡◌, [], ◌∷◌, ◌++◌, MatchOption, OnOk, map};
+ghost use Rattle.mem_base.specs.script.Race.{actor_number, desk_number};
 
-use mem_base::Command;
+use mem_base::{Command, PassId};
 use std::alloc::{AllocError, Global};
 use std::marker::Model;
 
@@ -14,8 +14,18 @@ pub fn actor_number(command: &Command) -> u32
     ensures { result ≡ actor_number command.now }
 {
     match command {
-        Command::Pass { pass, command: _ } => pass.0,
+        Command::Pass { pass, command: _ } => pass.number(),
         _ => DESK_NUMBER,
+    }
+}
+
+/// The pass whose line a command is; `None` for a line of the desk.
+pub fn pass_of_line(command: &Command) -> Option<PassId>
+    ensures { MatchOption result (actor_number command.now ≡ desk_number) (λ pass. actor_number command.now ≡ pass.0) }
+{
+    match command {
+        Command::Pass { pass, command: _ } => Some(*pass),
+        _ => None,
     }
 }
 

@@ -5,6 +5,7 @@ ghost use Rattle.mem_base.specs.script.Spelling.{byte_of, bytes_of, digit_of, di
 ghost use Rattle.mem_base.specs.script.Spelling.{machine_size, may_follow, number_of, pair_of, pass_of, plain_number, priority_of};
 ghost use Rattle.mem_base.specs.script.Spelling.{range_of, scale_of};
 
+use mem_base::PassId;
 use std::alloc::{AllocError, Global};
 
 fn is_letter(byte: u8) -> bool
@@ -203,13 +204,13 @@ fn leads_with_no_zero(text: &[u8]) -> bool
     }
 }
 
-/// The number of a pass: `v` and a number from 0 to 15, in decimal, without leading zeros.
-pub fn pass_of(text: &[u8]) -> Option<u32>
-    ensures { result ≡ pass_of text.now }
+/// A pass: `v` and its number from 0 to 15, in decimal, without leading zeros.
+pub fn pass_of(text: &[u8]) -> Option<PassId>
+    ensures { option_map (λ pass. pass.0) result ≡ pass_of text.now }
 {
     match text {
         [b'v', rest @ ..] if leads_with_no_zero(rest) => match digits(10, 15, rest) {
-            Some(number) => Some(number as u32),
+            Some(number) => PassId::new(number as u32),
             None => None,
         },
         _ => None,

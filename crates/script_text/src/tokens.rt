@@ -13,7 +13,7 @@ use crate::spellings::{
 };
 use crate::stops::LineStop;
 use crate::words::{client_of, device_kind_of, perm_of, switch_of};
-use mem_base::{Bytes, Cause, Client, DeviceKind, Name, Perm, Size};
+use mem_base::{Bytes, Cause, Client, DeviceKind, Name, NotifierId, Perm, Size};
 use std::alloc::{AllocError, Global};
 use std::marker::Model;
 
@@ -143,13 +143,13 @@ impl<'a> Tokens<'a> {
         length_of(token).ok_or(Cause::Number)
     }
 
-    /// The number of a notifier.
-    pub fn notifier(&mut self) -> Result<u32, Cause>
+    /// A notifier, by its number from 0 to 63.
+    pub fn notifier(&mut self) -> Result<NotifierId, Cause>
         ensures { MatchResult result (λ n. notifier self.old ≡ Ok (n, self.new)) (λ e. notifier self.old ≡ Err e) }
     {
         let token = self.token()?;
         match number_of(63, token) {
-            Some(number) => Ok(number as u32),
+            Some(number) => NotifierId::new(number as u32).ok_or(Cause::Number),
             None => Err(Cause::Number),
         }
     }
