@@ -1,5 +1,5 @@
 -- What each kind of step does to the slots of a pass, what a step that makes an entry owes, and what a seat knows before it.
-use Rattle.epoch_rule.proofs.Common.{◌≡◌, ◌≢◌, ℕ, ◌+◌, ◌*◌, ◌<◌, Bool, true, false, List, [], ◌∷◌, ◌++◌, length, get_or, set, sym, refl, ap, ◌∙◌, subst}
+use Rattle.epoch_rule.proofs.Common.{◌≡◌, ◌≢◌, ℕ, ◌+◌, ◌-◌, ◌<◌, Bool, true, false, List, [], ◌∷◌, ◌++◌, length, get_or, set, sym, refl, ap, ◌∙◌, subst}
 use Rattle.epoch_rule.proofs.Common.{⊎_elim, arith, length-set, get_or-set_other, get_or-set_same, append-nil, Some, append_cancel_left, both_ways, dite, some}
 use Rattle.epoch_rule.proofs.Common.{ℕ_discrete, get_elem?, prefix_refl, prefix_trans, State, at_set, Event, Carried, HistoryEntry, Every, PassState, idle}
 use Rattle.epoch_rule.proofs.Common.{pass_of, pass_id, Generation, PassTrack, nothing_known, known_of, pin_word, first_generations, with_known, Shared, shared}
@@ -10,6 +10,8 @@ use Rattle.epoch_rule.proofs.Common.{ComesNext, same_number, published_append, o
 use Rattle.epoch_rule.proofs.Common.{legal_snoc, own_other, ◌%◌, ◌≤◌, Option, None, none, dec_le, set_else, one_turn}
 use Rattle.epoch_rule.proofs.Common.{with_placed, HasAt, none_is_no_number, get_or-append, set_here, slice_index_or, get_or_push}
 use mathlib.Core.Option as maybe
+use Rattle.epoch_rule.specs.Layout.{word_of_pass, words_before_pool, slots_before, slot_of}
+use Rattle.mem_base.specs.map.Limits.{most_generations}
 
 module _ {S : Type 0} (Copy : ℕ → Generation → S → Type 0) where
   -- a place that is kept
@@ -17,54 +19,57 @@ module _ {S : Type 0} (Copy : ℕ → Generation → S → Type 0) where
   has_else homes homes' i P e h = (h.0, e ∙ h.1, h.2)
 
   -- a place beside the one that changed
-  beside : (homes : List (maybe.Option S)) (v i : ℕ) (x : maybe.Option S) (k : ℕ) (P : S → Type 0) → k ≢ i → HasAt homes (16 * v + k) P
-      → HasAt (set homes (16 * v + i) x) (16 * v + k) P
-  beside homes v i x k P ne h = (h.0, set_else homes (16 * v + i) (16 * v + k) x (λ q. ne (omega arith)) ∙ h.1, h.2)
+  beside : (homes : List (maybe.Option S)) (v i : ℕ) (x : maybe.Option S) (k : ℕ) (P : S → Type 0) → k ≢ i → HasAt homes (slots_before v + k) P
+      → HasAt (set homes (slots_before v + i) x) (slots_before v + k) P
+  beside homes v i x k P ne h = (h.0, set_else homes (slots_before v + i) (slots_before v + k) x (λ q. ne (omega arith)) ∙ h.1, h.2)
 
   -- the slots of this pass stay, and so does what the writer does here
   pub stays : (c : ℕ) (gs : List Generation) (f : PassTrack) (e : Option ℕ) (held held' : ℕ) (next next' : Generation) (homes homes' : List (maybe.Option S))
-      (v : ℕ) → ((k : ℕ) → k < 8 → get_elem? homes' (16 * v + k) ≡ get_elem? homes (16 * v + k))
+      (v : ℕ) → ((k : ℕ) → k < most_generations → get_elem? homes' (slots_before v + k) ≡ get_elem? homes (slots_before v + k))
       → (held' ≡ v + 1 → held ≡ v + 1) → (held ≡ v + 1 → held' ≡ v + 1) → (f.placed ≡ true → next' ≡ next) → PassSlots Copy c gs f e held next homes v
       → PassSlots Copy c gs f e held' next' homes' v
   stays c gs f e held held' next next' homes homes' v same back on told s = record {
-    kept = λ g a b d. has_else homes homes' (16 * v + g % 8) (Copy g (slice_index_or gs g first_generation)) (same (g % 8) (omega arith)) (s.kept g a b d);
-    placed = λ a. has_else homes homes' (16 * v + (c + 1) % 8) (Copy (c + 1) next') (same ((c + 1) % 8) (omega arith))
-        (subst (λ (m : Generation). HasAt homes (16 * v + (c + 1) % 8) (Copy (c + 1) m)) (sym (told a)) (s.placed a));
-    home = λ k l a b. has_else homes homes' (16 * v + k) (λ y. Unit {0}) (same k l) (s.home k l a (λ x. b (on x)));
+    kept = λ g a b d. has_else homes homes' (slot_of v g) (Copy g (slice_index_or gs g first_generation))
+        (same (g % most_generations) (omega arith)) (s.kept g a b d);
+    placed = λ a. has_else homes homes' (slot_of v (c + 1)) (Copy (c + 1) next') (same ((c + 1) % most_generations) (omega arith))
+        (subst (λ (m : Generation). HasAt homes (slot_of v (c + 1)) (Copy (c + 1) m)) (sym (told a)) (s.placed a));
+    home = λ k l a b. has_else homes homes' (slots_before v + k) (λ y. Unit {0}) (same k l) (s.home k l a (λ x. b (on x)));
     clear = λ x. s.clear (back x);
   }
 
   -- the pass takes its copy of the current edition
   pub entered : (c : ℕ) (gs : List Generation) (f : PassTrack) (held : ℕ) (next : Generation) (homes : List (maybe.Option S)) (v : ℕ) → f.lowest ≤ c
-      → c ≤ f.lowest + 7 → PassSlots Copy c gs f None held next homes v
-      → PassSlots Copy c gs f (Some c) held next (set homes (16 * v + c % 8) none) v
+      → c ≤ f.lowest + (most_generations - 1) → PassSlots Copy c gs f None held next homes v
+      → PassSlots Copy c gs f (Some c) held next (set homes (slot_of v c) none) v
   entered c gs f held next homes v low near s = record {
-    kept = λ g a b d. beside homes v (c % 8) none (g % 8) (Copy g (slice_index_or gs g first_generation))
-        (λ q. d (ap (λ (z : ℕ). Some z) (sym (one_turn g c 8 b (omega arith) q)))) (s.kept g a b (λ q. none_is_no_number g q));
-    placed = λ a. beside homes v (c % 8) none ((c + 1) % 8) (Copy (c + 1) next) (λ q. omega arith) (s.placed a);
-    home = λ k l a b. beside homes v (c % 8) none k (λ y. Unit {0}) (a c refl) (s.home k l (λ g q. absurd (none_is_no_number g q)) b);
+    kept = λ g a b d. beside homes v (c % most_generations) none (g % most_generations) (Copy g (slice_index_or gs g first_generation))
+        (λ q. d (ap (λ (z : ℕ). Some z) (sym (one_turn g c most_generations b (omega arith) q)))) (s.kept g a b (λ q. none_is_no_number g q));
+    placed = λ a. beside homes v (c % most_generations) none ((c + 1) % most_generations) (Copy (c + 1) next) (λ q. omega arith) (s.placed a);
+    home = λ k l a b. beside homes v (c % most_generations) none k (λ y. Unit {0}) (a c refl) (s.home k l (λ g q. absurd (none_is_no_number g q)) b);
     clear = s.clear;
   }
 
   -- the pass gives its copy back
   pub left : (c : ℕ) (gs : List Generation) (f : PassTrack) (g held : ℕ) (next : Generation) (homes : List (maybe.Option S)) (v : ℕ) (y : S) → f.lowest ≤ g
-      → g ≤ c → c ≤ f.lowest + 7 → (f.placed ≡ true → c ≤ f.lowest + 6) → 16 * v + 8 ≤ length homes
+      → g ≤ c → c ≤ f.lowest + (most_generations - 1) → (f.placed ≡ true → c ≤ f.lowest + (most_generations - 2))
+      → slots_before v + most_generations ≤ length homes
       → Copy g (slice_index_or gs g first_generation) y → PassSlots Copy c gs f (Some g) held next homes v
-      → PassSlots Copy c gs f None held next (set homes (16 * v + g % 8) (some y)) v
+      → PassSlots Copy c gs f None held next (set homes (slot_of v g) (some y)) v
   left c gs f g held next homes v y low high near ahead room copy s =
-      let homes' : List (maybe.Option S) = set homes (16 * v + g % 8) (some y) in
-      let here : get_elem? homes' (16 * v + g % 8) ≡ some (some y) = set_here homes (16 * v + g % 8) (some y) (omega arith) in
-      let one : (x : ℕ) → f.lowest ≤ x → x ≤ c → x % 8 ≡ g % 8 → x ≡ g = λ x a b q. dite (dec_le x g) (λ l. one_turn x g 8 l (omega arith) q)
-      (λ l. sym (one_turn g x 8 (omega arith) (omega arith) (sym q))) in record {
-        kept = λ x a b d. dite (ℕ_discrete x g) (λ e. subst (λ (z : ℕ). HasAt homes' (16 * v + z % 8) (Copy z (slice_index_or gs z first_generation))) (sym e)
+      let homes' : List (maybe.Option S) = set homes (slot_of v g) (some y) in
+      let here : get_elem? homes' (slot_of v g) ≡ some (some y) = set_here homes (slot_of v g) (some y) (omega arith) in
+      let one : (x : ℕ) → f.lowest ≤ x → x ≤ c → x % most_generations ≡ g % most_generations → x ≡ g =
+      λ x a b q. dite (dec_le x g) (λ l. one_turn x g most_generations l (omega arith) q)
+      (λ l. sym (one_turn g x most_generations (omega arith) (omega arith) (sym q))) in record {
+        kept = λ x a b d. dite (ℕ_discrete x g) (λ e. subst (λ (z : ℕ). HasAt homes' (slot_of v z) (Copy z (slice_index_or gs z first_generation))) (sym e)
             (y, here, copy))
-            (λ ne. beside homes v (g % 8) (some y) (x % 8) (Copy x (slice_index_or gs x first_generation)) (λ q. ne (one x a b q))
+            (λ ne. beside homes v (g % most_generations) (some y) (x % most_generations) (Copy x (slice_index_or gs x first_generation)) (λ q. ne (one x a b q))
             (s.kept x a b (λ q. ne (sym (same_number g x q)))));
-        placed = λ a. let z = ahead a in beside homes v (g % 8) (some y) ((c + 1) % 8) (Copy (c + 1) next)
-            (λ q. let e = one_turn g (c + 1) 8 (omega arith) (omega arith) (sym q) in omega arith) (s.placed a);
-        home = λ k l a b. dite (ℕ_discrete k (g % 8)) (λ e. (y, ap (λ (z : ℕ). get_elem? homes' (16 * v + z)) e ∙ here, tt))
-            (λ ne. beside homes v (g % 8) (some y) k (λ y. Unit {0}) ne
-            (s.home k l (λ x q e. ne (e ∙ ap (λ (z : ℕ). z % 8) (sym (same_number g x q)))) b));
+        placed = λ a. let z = ahead a in beside homes v (g % most_generations) (some y) ((c + 1) % most_generations) (Copy (c + 1) next)
+            (λ q. let e = one_turn g (c + 1) most_generations (omega arith) (omega arith) (sym q) in omega arith) (s.placed a);
+        home = λ k l a b. dite (ℕ_discrete k (g % most_generations)) (λ e. (y, ap (λ (z : ℕ). get_elem? homes' (slots_before v + z)) e ∙ here, tt))
+            (λ ne. beside homes v (g % most_generations) (some y) k (λ y. Unit {0}) ne
+            (s.home k l (λ x q e. ne (e ∙ ap (λ (z : ℕ). z % most_generations) (sym (same_number g x q)))) b));
         clear = s.clear;
       }
 
@@ -80,30 +85,31 @@ module _ {S : Type 0} (Copy : ℕ → Generation → S → Type 0) where
   }
 
   -- the writer takes the slot for the next edition
-  pub reached : (c : ℕ) (gs : List Generation) (f : PassTrack) (e : Option ℕ) (next : Generation) (homes : List (maybe.Option S)) (v : ℕ) → c ≤ f.lowest + 6
+  pub reached : (c : ℕ) (gs : List Generation) (f : PassTrack) (e : Option ℕ) (next : Generation) (homes : List (maybe.Option S)) (v : ℕ)
+      → c ≤ f.lowest + (most_generations - 2)
       → f.placed ≡ false → PassSlots Copy c gs f e 0 next homes v
-      → PassSlots Copy c gs f e (v + 1) next (set homes (16 * v + (c + 1) % 8) none) v
+      → PassSlots Copy c gs f e (v + 1) next (set homes (slot_of v (c + 1)) none) v
   reached c gs f e next homes v near free s = record {
-    kept = λ g a b d. beside homes v ((c + 1) % 8) none (g % 8) (Copy g (slice_index_or gs g first_generation))
-        (λ q. let z = one_turn g (c + 1) 8 (omega arith) (omega arith) q in omega arith) (s.kept g a b d);
+    kept = λ g a b d. beside homes v ((c + 1) % most_generations) none (g % most_generations) (Copy g (slice_index_or gs g first_generation))
+        (λ q. let z = one_turn g (c + 1) most_generations (omega arith) (omega arith) q in omega arith) (s.kept g a b d);
     placed = λ a. absurd (both_ways _ free a);
-    home = λ k l a b. beside homes v ((c + 1) % 8) none k (λ y. Unit {0}) (b refl) (s.home k l a (λ x. absurd (omega arith)));
+    home = λ k l a b. beside homes v ((c + 1) % most_generations) none k (λ y. Unit {0}) (b refl) (s.home k l a (λ x. absurd (omega arith)));
     clear = λ x. (near, free);
   }
 
   -- and gives it back with a copy of that edition
   pub placed : (c : ℕ) (gs : List Generation) (f : PassTrack) (e : Option ℕ) (next m : Generation) (homes : List (maybe.Option S)) (v : ℕ) (y : S)
-      → 16 * v + 8 ≤ length homes → Copy (c + 1) m y → PassSlots Copy c gs f e (v + 1) next homes v
-      → PassSlots Copy c gs (with_placed true f) e 0 m (set homes (16 * v + (c + 1) % 8) (some y)) v
+      → slots_before v + most_generations ≤ length homes → Copy (c + 1) m y → PassSlots Copy c gs f e (v + 1) next homes v
+      → PassSlots Copy c gs (with_placed true f) e 0 m (set homes (slot_of v (c + 1)) (some y)) v
   placed c gs f e next m homes v y room copy s =
-      let i : ℕ = (c + 1) % 8 in
-      let homes' : List (maybe.Option S) = set homes (16 * v + i) (some y) in
-      let here : get_elem? homes' (16 * v + i) ≡ some (some y) = set_here homes (16 * v + i) (some y) (omega arith) in
+      let i : ℕ = (c + 1) % most_generations in
+      let homes' : List (maybe.Option S) = set homes (slots_before v + i) (some y) in
+      let here : get_elem? homes' (slots_before v + i) ≡ some (some y) = set_here homes (slots_before v + i) (some y) (omega arith) in
       let near = (s.clear refl).0 in record {
-        kept = λ g a b d. beside homes v i (some y) (g % 8) (Copy g (slice_index_or gs g first_generation))
-            (λ q. let z = one_turn g (c + 1) 8 (omega arith) (omega arith) q in omega arith) (s.kept g a b d);
+        kept = λ g a b d. beside homes v i (some y) (g % most_generations) (Copy g (slice_index_or gs g first_generation))
+            (λ q. let z = one_turn g (c + 1) most_generations (omega arith) (omega arith) q in omega arith) (s.kept g a b d);
         placed = λ a. (y, here, copy);
-        home = λ k l a b. dite (ℕ_discrete k i) (λ z. (y, ap (λ (x : ℕ). get_elem? homes' (16 * v + x)) z ∙ here, tt))
+        home = λ k l a b. dite (ℕ_discrete k i) (λ z. (y, ap (λ (x : ℕ). get_elem? homes' (slots_before v + x)) z ∙ here, tt))
             (λ ne. beside homes v i (some y) k (λ y. Unit {0}) ne (s.home k l a (λ _. ne)));
         clear = λ x. absurd (omega arith);
       }
@@ -114,9 +120,9 @@ module _ {S : Type 0} (Copy : ℕ → Generation → S → Type 0) where
       → PassSlots Copy (c + 1) (gs ++ m ∷ []) (with_placed false f) e held m homes v
   published c gs f e held m homes v long all s = record {
     kept = λ g a b d. dite (ℕ_discrete g (c + 1))
-        (λ z. subst (λ (x : ℕ). HasAt homes (16 * v + x % 8) (Copy x (slice_index_or (gs ++ m ∷ []) x first_generation))) (sym z)
-        (subst (λ (x : Generation). HasAt homes (16 * v + (c + 1) % 8) (Copy (c + 1) x)) (sym (get_or_push gs m first_generation (c + 1) long)) (s.placed all)))
-        (λ ne. subst (λ (x : Generation). HasAt homes (16 * v + g % 8) (Copy g x)) (sym (get_or-append gs (m ∷ []) first_generation g (omega arith)))
+        (λ z. subst (λ (x : ℕ). HasAt homes (slot_of v x) (Copy x (slice_index_or (gs ++ m ∷ []) x first_generation))) (sym z)
+        (subst (λ (x : Generation). HasAt homes (slot_of v (c + 1)) (Copy (c + 1) x)) (sym (get_or_push gs m first_generation (c + 1) long)) (s.placed all)))
+        (λ ne. subst (λ (x : Generation). HasAt homes (slot_of v g) (Copy g x)) (sym (get_or-append gs (m ∷ []) first_generation g (omega arith)))
         (s.kept g a (omega arith) d));
     placed = λ z. absurd (grind arith);
     home = λ k l a b. s.home k l a (λ x. absurd (both_ways _ (s.clear x).1 all));
@@ -247,32 +253,33 @@ module _ {S : Type 0} (Copy : ℕ → Generation → S → Type 0) (z : Sizes) (
 -- the words after a step of the pass u
 pub shows_moved : (z : Sizes) (s : Shared) (words : List ℕ) (h : WordsShow z s words) (u : ℕ) (p : PassState) (x : ℕ) → length s.passes ≡ z.passes
     → u < z.passes → x ≡ pin_word p.announced
-    → WordsShow z (shared s.generations (set s.passes u p) s.words) (set words (8 * (u + 1)) x)
+    → WordsShow z (shared s.generations (set s.passes u p) s.words) (set words (word_of_pass u) x)
 shows_moved z s words h u p x many near is = record {
-  wide = length-set words (8 * (u + 1)) x ∙ h.wide;
-  current = get_or-set_other words (8 * (u + 1)) 0 x 0 (λ q. omega arith) ∙ h.current;
+  wide = length-set words (word_of_pass u) x ∙ h.wide;
+  current = get_or-set_other words (word_of_pass u) 0 x 0 (λ q. omega arith) ∙ h.current;
   small = h.small;
   pins = λ v l. dite (ℕ_discrete v u)
-      (λ same. subst (λ (k : ℕ). get_or (set words (8 * (u + 1)) x) (8 * (k + 1)) 0 ≡ pin_word (get_or (set s.passes u p) k idle).announced) (sym same)
-      (get_or-set_same words (8 * (u + 1)) x 0 (let w = h.wide in omega arith)
+      (λ same. subst (λ (k : ℕ). get_or (set words (word_of_pass u) x) (word_of_pass k) 0 ≡ pin_word (get_or (set s.passes u p) k idle).announced) (sym same)
+      (get_or-set_same words (word_of_pass u) x 0 (let w = h.wide in omega arith)
       ∙ (is ∙ ap (λ (g : PassState). pin_word g.announced) (sym (get_or-set_same s.passes u p idle (omega arith))))))
-      (λ other. get_or-set_other words (8 * (u + 1)) (8 * (v + 1)) x 0 (λ q. other (omega arith))
+      (λ other. get_or-set_other words (word_of_pass u) (word_of_pass v) x 0 (λ q. other (omega arith))
       ∙ (h.pins v l ∙ ap (λ (g : PassState). pin_word g.announced) (sym (get_or-set_other s.passes u v p idle other))));
-  pool = λ i l. get_or-set_other words (8 * (u + 1)) (8 * (z.passes + 1) + i) x 0 (λ q. omega arith) ∙ h.pool i l;
+  pool = λ i l. get_or-set_other words (word_of_pass u) (words_before_pool z.passes + i) x 0 (λ q. omega arith) ∙ h.pool i l;
 }
 
 -- the words after a step on a word of the cabinet
 pub shows_touched : (z : Sizes) (s : Shared) (words : List ℕ) (h : WordsShow z s words) (t x : ℕ) → length s.words ≡ z.words → t < z.words
-    → WordsShow z (shared s.generations s.passes (set s.words t x)) (set words (8 * (z.passes + 1) + t) x)
+    → WordsShow z (shared s.generations s.passes (set s.words t x)) (set words (words_before_pool z.passes + t) x)
 shows_touched z s words h t x wide near = record {
-  wide = length-set words (8 * (z.passes + 1) + t) x ∙ h.wide;
-  current = get_or-set_other words (8 * (z.passes + 1) + t) 0 x 0 (λ q. omega arith) ∙ h.current;
+  wide = length-set words (words_before_pool z.passes + t) x ∙ h.wide;
+  current = get_or-set_other words (words_before_pool z.passes + t) 0 x 0 (λ q. omega arith) ∙ h.current;
   small = h.small;
-  pins = λ v l. get_or-set_other words (8 * (z.passes + 1) + t) (8 * (v + 1)) x 0 (λ q. omega arith) ∙ h.pins v l;
+  pins = λ v l. get_or-set_other words (words_before_pool z.passes + t) (word_of_pass v) x 0 (λ q. omega arith) ∙ h.pins v l;
   pool = λ i l. dite (ℕ_discrete i t)
-      (λ same. subst (λ (k : ℕ). get_or (set words (8 * (z.passes + 1) + t) x) (8 * (z.passes + 1) + k) 0 ≡ get_or (set s.words t x) k 0) (sym same)
-      (get_or-set_same words (8 * (z.passes + 1) + t) x 0 (let w = h.wide in omega arith) ∙ sym (get_or-set_same s.words t x 0 (omega arith))))
-      (λ other. get_or-set_other words (8 * (z.passes + 1) + t) (8 * (z.passes + 1) + i) x 0 (λ q. other (omega arith))
+      (λ same. subst (λ (k : ℕ). get_or (set words (words_before_pool z.passes + t) x) (words_before_pool z.passes + k) 0 ≡ get_or (set s.words t x) k 0)
+      (sym same)
+      (get_or-set_same words (words_before_pool z.passes + t) x 0 (let w = h.wide in omega arith) ∙ sym (get_or-set_same s.words t x 0 (omega arith))))
+      (λ other. get_or-set_other words (words_before_pool z.passes + t) (words_before_pool z.passes + i) x 0 (λ q. other (omega arith))
       ∙ (h.pool i l ∙ sym (get_or-set_other s.words t i x 0 other)));
 }
 
@@ -280,7 +287,7 @@ module _ {S : Type 0} (Copy : ℕ → Generation → S → Type 0) where
   -- the first_slots after a step of the pass u, which changes its own slots alone
   pub slots_moved : (n : ℕ) (s : Shared) (gs : List Generation) (held : ℕ) (next : Generation) (homes homes' : List (maybe.Option S)) (u : ℕ) (p : PassState)
       → u < length s.passes → AllSlots Copy n s gs held next homes → length homes' ≡ length homes
-      → ((v j : ℕ) → v ≢ u → j < 8 → get_elem? homes' (16 * v + j) ≡ get_elem? homes (16 * v + j))
+      → ((v j : ℕ) → v ≢ u → j < most_generations → get_elem? homes' (slots_before v + j) ≡ get_elem? homes (slots_before v + j))
       → PassSlots Copy s.generations.current gs (known_of s.generations (pass_id u)) p.entered held next homes' u
       → AllSlots Copy n (shared s.generations (set s.passes u p) s.words) gs held next homes'
   slots_moved n s gs held next homes homes' u p near k deep away here = record {
@@ -298,7 +305,7 @@ module _ {S : Type 0} (Copy : ℕ → Generation → S → Type 0) where
   -- the first_slots after a step of the writer about the pass u
   pub slots_known : (n : ℕ) (s : Shared) (gs : List Generation) (held held' : ℕ) (next next' : Generation) (homes homes' : List (maybe.Option S)) (u : ℕ)
       (f : PassTrack) → u < length s.generations.passes → AllSlots Copy n s gs held next homes → length homes' ≡ length homes
-      → ((v j : ℕ) → v ≢ u → j < 8 → get_elem? homes' (16 * v + j) ≡ get_elem? homes (16 * v + j))
+      → ((v j : ℕ) → v ≢ u → j < most_generations → get_elem? homes' (slots_before v + j) ≡ get_elem? homes (slots_before v + j))
       → ((v : ℕ) → v ≢ u → v < n → (held' ≡ v + 1 → held ≡ v + 1) × (held ≡ v + 1 → held' ≡ v + 1)
       × ((known_of s.generations (pass_id v)).placed ≡ true → next' ≡ next))
       → PassSlots Copy s.generations.current gs f (pass_of s.passes (pass_id u)).entered held' next' homes' u

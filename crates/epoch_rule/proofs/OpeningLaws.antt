@@ -1,5 +1,5 @@
 -- The rule holds of a new table.
-use Rattle.epoch_rule.proofs.Common.{◌≡◌, ◌≢◌, ℕ, zero, suc, ◌+◌, ◌*◌, ◌%◌, ◌<◌, false, List, [], ◌∷◌, length, map, replicate, get_or, sym, refl, ap, ◌∙◌}
+use Rattle.epoch_rule.proofs.Common.{◌≡◌, ◌≢◌, ℕ, zero, suc, ◌+◌, ◌<◌, false, List, [], ◌∷◌, length, map, replicate, get_or, sym, refl, ap, ◌∙◌}
 use Rattle.epoch_rule.proofs.Common.{subst, arith, Option, Some, None, some, none, some-ne-none, get_elem?, get_or-replicate, length-map, opening, arc_value}
 use Rattle.epoch_rule.proofs.Common.{Arc, ◌++◌, length-append, dite, ℕ_discrete, AreFirstSlots, PassState, idle, Generation, PassTrack, nothing_known}
 use Rattle.epoch_rule.proofs.Common.{pin_word, Sizes, View, first_generation, HasAt, PassSlots, SeatKnows, IsRuled, first_view, same_number, AddsSlots, at_map}
@@ -7,15 +7,17 @@ use Rattle.epoch_rule.proofs.Common.{at_last, at_longer, some_there}
 use mathlib.Core.Option as maybe
 use Rattle.mem_base.specs.map.Calls.{empty}
 use Rattle.epoch_rule.proofs.EntrySteps.{seats_set}
+use Rattle.epoch_rule.specs.Layout.{word_of_pass, words_before_pool, slots_before, slot_of}
+use Rattle.mem_base.specs.map.Limits.{most_generations}
 
 module _ {S : Type 0} (Copy : ℕ → Generation → S → Type 0) (z : Sizes) where
-  first_pass_slots : (homes : List (maybe.Option S)) (v : ℕ) → HasAt homes (16 * v) (Copy 0 first_generation)
-      → ((j : ℕ) → j < 8 → HasAt homes (16 * v + j) (λ y. Unit {0}))
+  first_pass_slots : (homes : List (maybe.Option S)) (v : ℕ) → HasAt homes (slots_before v) (Copy 0 first_generation)
+      → ((j : ℕ) → j < most_generations → HasAt homes (slots_before v + j) (λ y. Unit {0}))
       → PassSlots Copy 0 (first_generation ∷ []) nothing_known None 0 first_generation homes v
   first_pass_slots homes v copy all = record {
     kept = λ g low high out. let none : 0 ≡ g = omega arith in
-        subst (λ (x : ℕ). HasAt homes (16 * v + x % 8) (Copy x (get_or (first_generation ∷ []) x first_generation))) none
-        (subst (λ (i : ℕ). HasAt homes i (Copy 0 first_generation)) {x = 16 * v} {y = 16 * v + 0} (omega arith) copy);
+        subst (λ (x : ℕ). HasAt homes (slot_of v x) (Copy x (get_or (first_generation ∷ []) x first_generation))) none
+        (subst (λ (i : ℕ). HasAt homes i (Copy 0 first_generation)) {x = slots_before v} {y = slots_before v + 0} (omega arith) copy);
     placed = λ e. absurd (grind arith);
     home = λ j l a b. all j l;
     clear = λ e. absurd (omega arith);
@@ -25,8 +27,9 @@ module _ {S : Type 0} (Copy : ℕ → Generation → S → Type 0) (z : Sizes) w
   alone zero v other e = other refl
   alone (suc j) v other e = some-ne-none v (sym e)
 
-  pub opens : (words : List ℕ) (slots : List S) → length words ≡ 8 * (z.passes + 1) + z.words → ((i : ℕ) → get_or words i 0 ≡ 0) → length slots ≡ 16 * z.passes
-      → ((v : ℕ) → v < z.passes → (y : S) × (get_elem? slots (16 * v) ≡ some y) × Copy 0 first_generation y)
+  pub opens : (words : List ℕ) (slots : List S) → length words ≡ words_before_pool z.passes + z.words
+      → ((i : ℕ) → get_or words i 0 ≡ 0) → length slots ≡ slots_before z.passes
+      → ((v : ℕ) → v < z.passes → (y : S) × (get_elem? slots (slots_before v) ≡ some y) × Copy 0 first_generation y)
       → IsRuled Copy z (opening words slots (first_view z))
   opens words slots wide blank deep copies = record {
     log = [];
@@ -35,8 +38,8 @@ module _ {S : Type 0} (Copy : ℕ → Generation → S → Type 0) (z : Sizes) w
       wide = wide;
       current = blank 0;
       small = omega arith;
-      pins = λ v l. blank (8 * (v + 1)) ∙ ap (λ (h : PassState). pin_word h.announced) (sym (get_or-replicate z.passes v idle idle l));
-      pool = λ i l. blank (8 * (z.passes + 1) + i) ∙ sym (get_or-replicate z.words i 0 0 l);
+      pins = λ v l. blank (word_of_pass v) ∙ ap (λ (h : PassState). pin_word h.announced) (sym (get_or-replicate z.passes v idle idle l));
+      pool = λ i l. blank (words_before_pool z.passes + i) ∙ sym (get_or-replicate z.words i 0 0 l);
     };
     roomy = (tt, tt);
     owner = λ _. 0;
@@ -49,7 +52,7 @@ module _ {S : Type 0} (Copy : ℕ → Generation → S → Type 0) (z : Sizes) w
       each = λ v l. subst (λ (x : PassTrack × PassState). PassSlots Copy 0 (first_generation ∷ []) x.0 x.1.entered 0 first_generation (map some slots) v)
           (λ i. (sym (get_or-replicate z.passes v nothing_known nothing_known l) i, sym (get_or-replicate z.passes v idle idle l) i))
           (first_pass_slots (map some slots) v (let c = copies v l in
-          (c.0, at_map some slots (16 * v) c.0 c.1, c.2)) (λ j s. let h = some_there slots (16 * v + j) (omega arith) in (h.0, h.1, tt)));
+          (c.0, at_map some slots (slots_before v) c.0 c.1, c.2)) (λ j s. let h = some_there slots (slots_before v + j) (omega arith) in (h.0, h.1, tt)));
     };
     seats = seats_set (SeatKnows z [] (λ _. 0) (replicate z.passes false) 0 (record { forest = empty; places = [] })) (first_view z ∷ [])
         0 (first_view z) record {
@@ -79,12 +82,13 @@ module _ {E Z : Type 0} (e : E) where
     long = ap length h.2.2 ∙ (length-append (old ++ Some h.0 ∷ []) h.2.0
         ∙ (let a = length-append old (Some h.0 ∷ []) in let b = s.long in let c = h.2.1 in omega arith));
     each = λ v l. dite (ℕ_discrete v n)
-        (λ same. subst (λ (x : ℕ). (a : Arc E Z) × (get_elem? new (16 * x) ≡ some (Some a)) × (arc_value a ≡ e)) (sym same)
-        (h.0, ap (λ l. get_elem? l (16 * n)) h.2.2 ∙ at_longer (old ++ Some h.0 ∷ []) h.2.0 (16 * n) (Some h.0) (at_last old (Some h.0) (16 * n) s.long), h.1))
+        (λ same. subst (λ (x : ℕ). (a : Arc E Z) × (get_elem? new (slots_before x) ≡ some (Some a)) × (arc_value a ≡ e)) (sym same)
+        (h.0, ap (λ l. get_elem? l (slots_before n)) h.2.2 ∙ at_longer (old ++ Some h.0 ∷ []) h.2.0 (slots_before n) (Some h.0)
+            (at_last old (Some h.0) (slots_before n) s.long), h.1))
         (λ other. let t = s.each v (omega arith) in (
           t.0,
-          ap (λ l. get_elem? l (16 * v)) h.2.2
-              ∙ at_longer (old ++ Some h.0 ∷ []) h.2.0 (16 * v) (Some t.0) (at_longer old (Some h.0 ∷ []) (16 * v) (Some t.0) t.1),
+          ap (λ l. get_elem? l (slots_before v)) h.2.2
+              ∙ at_longer (old ++ Some h.0 ∷ []) h.2.0 (slots_before v) (Some t.0) (at_longer old (Some h.0 ∷ []) (slots_before v) (Some t.0) t.1),
           t.2,
         ));
   }

@@ -1,5 +1,5 @@
 -- What a seat's own entries make of its view.
-use Rattle.epoch_rule.proofs.Common.{◌≡◌, ℕ, ◌+◌, ◌*◌, ◌%◌, ◌<◌, Bool, List, [], ◌∷◌, ◌++◌, length, sym, ap, ◌∙◌, subst, if◌then◌else◌, append_assoc}
+use Rattle.epoch_rule.proofs.Common.{◌≡◌, ℕ, ◌+◌, ◌<◌, Bool, List, [], ◌∷◌, ◌++◌, length, sym, ap, ◌∙◌, subst, if◌then◌else◌, append_assoc}
 use Rattle.epoch_rule.proofs.Common.{append-nil, Option, Some, None, IsPrefix, prefix_trans, arc_value, Arc, Me, TableId, Forest, Place, Event, Carried}
 use Rattle.epoch_rule.proofs.Common.{Nothing, HistoryEntry, PassState, idle, pass_after, pass_id, first_generations, shared_opening, Sizes, View}
 use Rattle.epoch_rule.proofs.Common.{history_entry, actor_of, own_entries, pass_after_all, generations_after_all, generations_published, generation_published}
@@ -11,6 +11,7 @@ use Rattle.std.proofs.Common.{eq-eqb}
 use Rattle.mem_base.specs.declared.machine.events.Event.TheVariants as events
 use Rattle.epoch_rule.proofs.AddsLaws.{last_append}
 use Rattle.mem_base.specs.declared.machine.events.Hand.TheVariants as hands
+use Rattle.epoch_rule.specs.Layout.{words_before_pool, slots_before, slot_of}
 
 pub own_added : (a : ℕ) (v : View) (e : Event) (x : Carried) (r : ℕ) (w : View) → actor_of e ≡ a → ComesNext a v e x r w
     → own_entries a w.seen ≡ own_entries a v.seen ++ history_entry e x r ∷ []
@@ -82,7 +83,7 @@ module _ {E Z : Type 0} (number : E → ℕ) (forest : E → Forest) (places : E
   stands_out p me (Some a) e s = none_is_not_some _ (sym e)
 
   -- what entering leaves of the pass
-  pub stands_in : (p r : ℕ) (me : Me (Option (Arc E Z)) View) (o : Option (Arc E Z)) → (pass_seen p me.0).entered ≡ Some r → me.1 ≡ (16 * p + r % 8, None) ∷ []
+  pub stands_in : (p r : ℕ) (me : Me (Option (Arc E Z)) View) (o : Option (Arc E Z)) → (pass_seen p me.0).entered ≡ Some r → me.1 ≡ (slot_of p r, None) ∷ []
       → r < length (generations_published me.0.seen)
       → IsCopy number forest places r (generation_published me.0.seen r) o → PlacesFit me.0.sizes.words (generation_published me.0.seen r)
       → HasItsEdition number forest places p me o
@@ -98,7 +99,7 @@ module _ {E Z : Type 0} (number : E → ℕ) (forest : E → Forest) (places : E
           shows = shows ∙ ap (generation_published me.0.seen) (sym is);
           roomy = subst (PlacesFit me.0.sizes.words) (sym shows) roomy;
         },
-        carries ∙ ap (λ (z : ℕ). (16 * p + z % 8, None) ∷ []) (sym is),
+        carries ∙ ap (λ (z : ℕ). (slot_of p z, None) ∷ []) (sym is),
       )
 
   pub entered_at : (p : ℕ) (me : Me (Option (Arc E Z)) View) (o : Option (Arc E Z)) (e : E) → value_in o ≡ Some e → HasItsEdition number forest places p me o
@@ -114,10 +115,10 @@ pub same_sizes : (t u : TableId) (z y : Sizes) → t ≡ u → Suits t z → Sui
 same_sizes t u z y same h k =
     let words : t.words ≡ u.words = ap (λ (x : TableId). x.words) same in
     let slots : t.slots ≡ u.slots = ap (λ (x : TableId). x.slots) same in
-    let a : t.words ≡ 8 * (z.passes + 1) + z.words = h.0 in
-    let b : t.slots ≡ 16 * z.passes = h.1 in
-    let c : u.words ≡ 8 * (y.passes + 1) + y.words = k.0 in
-    let d : u.slots ≡ 16 * y.passes = k.1 in
+    let a : t.words ≡ words_before_pool z.passes + z.words = h.0 in
+    let b : t.slots ≡ slots_before z.passes = h.1 in
+    let c : u.words ≡ words_before_pool y.passes + y.words = k.0 in
+    let d : u.slots ≡ slots_before y.passes = k.1 in
     (omega arith, omega arith)
 
 -- a pass of the one is one of the other

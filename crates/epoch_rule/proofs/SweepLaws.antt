@@ -16,6 +16,7 @@ use Rattle.mem_base.specs.declared.map.refusals.Refusal.TheVariants as refusals
 use Rattle.mem_base.specs.declared.machine.events.Hand.TheVariants as hands
 use Rattle.epoch_rule.proofs.LeastLaws.{current_seen}
 use Rattle.mem_base.proofs.PassTurnLaws.{all_from, pinned}
+use Rattle.mem_base.specs.map.Limits.{most_generations}
 
 -- what is taken of each element stays where one changes that has the same
 map_kept : {A B : Type 0} (f : A → B) (xs : List A) (i : ℕ) (x d : A) → f x ≡ f (get_or xs i d) → map f (set xs i x) ≡ map f xs
@@ -126,17 +127,18 @@ held_none c first (k ∷ ks) h u l = go (holds_up c (number_pinned (pin_word k.f
     go false e r h zero l = ap (holds_up c) (sym (pinned k.found)) ∙ e
     go false e r h (suc u) l = r h u (omega arith)
 
-near_of : (c : ℕ) (k : PassTrack) → IsSwept c k → holds_up c k.found ≡ false → c ≤ k.lowest + 6
+near_of : (c : ℕ) (k : PassTrack) → IsSwept c k → holds_up c k.found ≡ false → c ≤ k.lowest + (most_generations - 2)
 near_of c k s free = go k.found refl free
   where
-    go : (o : Option ℕ) → k.found ≡ o → holds_up c o ≡ false → c ≤ k.lowest + 6
+    go : (o : Option ℕ) → k.found ≡ o → holds_up c o ≡ false → c ≤ k.lowest + (most_generations - 2)
     go None e h = let a = s.0 e in omega arith
-    go (Some q) e h = let a = s.1 q e in let b = leb-false (q + 7) c h in omega arith
+    go (Some q) e h = let a = s.1 q e in let b = leb-false (q + (most_generations - 1)) c h in omega arith
 
 -- after a sweep of each pass that none holds up, each may have its copy
 pub all_near : (v w : View) (known : List Found) (c : ℕ) → HasSwept v w known (length (generations_seen v).passes) → c ≡ (generations_seen v).current
     → held_in c 0 known ≡ None
-    → (u : ℕ) → u < length (generations_seen v).passes → (generations_seen w).current ≤ (known_of (generations_seen w) (pass_id u)).lowest + 6
+    → (u : ℕ) → u < length (generations_seen v).passes
+    → (generations_seen w).current ≤ (known_of (generations_seen w) (pass_id u)).lowest + (most_generations - 2)
 all_near v w known c s is none u l =
     let g : Generations = generations_seen v in
     let e = writes_generations v (sweeps_of 0 s.rs) w s.writes in
@@ -297,7 +299,7 @@ held_both c first (k ∷ ks) = one k.found (held_both c (first + 1) ks)
     one None h = h
     one (Some q) h = subst (λ (x : Option ℕ). (if holds_up c (Some q) then held_at (pass_id first) (Some q) else held_from c (first + 1) ks)
         ≡ option_map refusal_of (if holds_up c x then Some (record { pass = pass_id first; number = q + 1 - 1 }) else held_in c (first + 1) (map stored ks)))
-        (sym (pinned (Some q))) (go (nat_le (q + 7) c))
+        (sym (pinned (Some q))) (go (nat_le (q + (most_generations - 1)) c))
       where
         go : (b : Bool) → (if b then held_at (pass_id first) (Some q) else held_from c (first + 1) ks)
             ≡ option_map refusal_of (if b then Some (record { pass = pass_id first; number = q + 1 - 1 }) else held_in c (first + 1) (map stored ks))

@@ -1,5 +1,5 @@
 -- The steps on the cabinet's words.
-use Rattle.epoch_rule.proofs.Common.{◌≡◌, ℕ, ◌+◌, ◌*◌, ◌-◌, ◌<◌, ◌≤◌, eqb, Bool, true, false, List, length, get_or, set, sym, refl, ap, ◌∙◌, subst, arith}
+use Rattle.epoch_rule.proofs.Common.{◌≡◌, ℕ, ◌+◌, ◌-◌, ◌<◌, ◌≤◌, eqb, Bool, true, false, List, length, get_or, set, sym, refl, ap, ◌∙◌, subst, arith}
 use Rattle.epoch_rule.proofs.Common.{Some, MatchBool, lt-ltb, le-leb, eqb-true, some, get_elem?, State, Me, keeps, Allows, Place, Event, At, HistoryEntry}
 use Rattle.epoch_rule.proofs.Common.{word_after, pass_of, Generation, entered_generation, Shared, shared, shared_reply, after_shared_entry, Sizes, View}
 use Rattle.epoch_rule.proofs.Common.{pass_id, history_entry, generations_published, generation_published, first_generation, state_of, IsLegal, WordsShow}
@@ -9,6 +9,7 @@ use Rattle.epoch_rule.proofs.SeatSteps.{peek}
 use prog.Atomic.{either}
 use Rattle.epoch_rule.proofs.EntrySteps.{makes, shows_touched}
 use Rattle.std.proofs.lemmas.Option.{slice_get-get_or}
+use Rattle.epoch_rule.specs.Layout.{words_before_pool}
 
 -- a pass that is entered is in the generation that its Publish carried
 pub entered_is : (z : Sizes) (log : List HistoryEntry) → IsLegal z log → (v : ℕ) → v < z.passes → (g : ℕ)
@@ -31,25 +32,25 @@ entered_is z log l v near g is =
 module _ {S : Type 0} (Copy : ℕ → Generation → S → Type 0) (z : Sizes) where
   -- a word of the table is what the history leaves
   had_word : (s : State S View) (k : IsRuled Copy z s) (id : ℕ) (me : Me S View) → get_elem? s.views id ≡ some me.0 → (a : ℕ) → me.0.role ≡ Some a
-      → (word : ℕ) → word < z.words → HadWord me.0.sizes me.0.seen word (get_or s.words (8 * (z.passes + 1) + word) 0) k.log
+      → (word : ℕ) → word < z.words → HadWord me.0.sizes me.0.seen word (get_or s.words (words_before_pool z.passes + word) 0) k.log
   had_word s k id me at a role word inside = let seat = k.seats id me.0 at in record {
     begins = seat.begins;
     lawful = subst (λ (y : Sizes). IsLegal y k.log) (sym (seat.knows a role)) k.lawful;
-    value = subst (λ (y : Sizes). get_or (state_of y k.log).words word 0 ≡ get_or s.words (8 * (z.passes + 1) + word) 0) (sym (seat.knows a role))
+    value = subst (λ (y : Sizes). get_or (state_of y k.log).words word 0 ≡ get_or s.words (words_before_pool z.passes + word) 0) (sym (seat.knows a role))
         (sym (k.shown.pool word inside));
   }
 
   -- one atomic step on a word of the cabinet, whatever it is
   touch : (slots id : ℕ) (me : Me S View) (a : ℕ) (e : Event) (p : Place) (t : PoolTouch) (f : ℕ → ℕ) → IsStepReady z me.0 a e p t
       → ((n : ℕ) → n < 18446744073709551616 → f n ≡ word_after t.touch.step n)
-      → Allows (IsRuled Copy z) slots id me (8 * (z.passes + 1) + t.word) f (λ r. touched a e p t me r)
+      → Allows (IsRuled Copy z) slots id me (words_before_pool z.passes + t.word) f (λ r. touched a e p t me r)
   touch slots id me a e p t f ready does s k deep at small =
       let kind = ready.kind in
       let st : Shared = state_of z k.log in
       let gs : List Generation = generations_published k.log in
       let ok = sound z.words z.passes k.log k.lawful in
       let seat = k.seats id me.0 at in
-      let i : ℕ = 8 * (z.passes + 1) + t.word in
+      let i : ℕ = words_before_pool z.passes + t.word in
       let old : ℕ = get_or s.words i 0 in
       let r : ℕ = told_by t old in
       let same : old ≡ get_or st.words t.word 0 = k.shown.pool t.word ready.inside in
@@ -68,7 +69,7 @@ module _ {S : Type 0} (Copy : ℕ → Generation → S → Type 0) (z : Sizes) w
 
   -- the same for a step that is ready, at the word's own number
   pub ready_touch : (slots id : ℕ) (me : Me S View) (a : ℕ) (e : Event) (p : Place) (t : PoolTouch) (index : ℕ) (f : ℕ → ℕ) → IsStepReady z me.0 a e p t
-      → index ≡ 8 * (z.passes + 1) + t.word
+      → index ≡ words_before_pool z.passes + t.word
       → ((n : ℕ) → n < 18446744073709551616 → f n ≡ word_after t.touch.step n)
       → Allows (IsRuled Copy z) slots id me index f (λ r. touched a e p t me r)
   ready_touch slots id me a e p t index f r is does =
@@ -77,7 +78,7 @@ module _ {S : Type 0} (Copy : ℕ → Generation → S → Type 0) (z : Sizes) w
 
   -- a step that tells not what it found
   pub ready_store : (slots id : ℕ) (me : Me S View) (a : ℕ) (e : Event) (p : Place) (t : PoolTouch) (index value : ℕ) → IsStepReady z me.0 a e p t
-      → index ≡ 8 * (z.passes + 1) + t.word
+      → index ≡ words_before_pool z.passes + t.word
       → ((n : ℕ) → n < 18446744073709551616 → value ≡ word_after t.touch.step n)
       → Allows (IsRuled Copy z) slots id me index (λ _. value) (λ _ w. (old : ℕ) × touched a e p t me old w)
   ready_store slots id me a e p t index value r is does s k deep at small =
@@ -85,7 +86,7 @@ module _ {S : Type 0} (Copy : ℕ → Generation → S → Type 0) (z : Sizes) w
 
   -- a load that shows no event
   pub ready_look : (slots id : ℕ) (me : Me S View) (a : ℕ) (e : Event) (p : Place) (t : PoolTouch) (index : ℕ) → IsStepReady z me.0 a e p t
-      → index ≡ 8 * (z.passes + 1) + t.word
+      → index ≡ words_before_pool z.passes + t.word
       → Allows (IsRuled Copy z) slots id me index (λ n. n) (λ r w. (w ≡ me) × WordWas me.0.sizes me.0.seen t.word r)
   ready_look slots id me a e p t index r is s k deep at small =
       let did = peek Copy z slots id me index s k deep at small in
@@ -94,7 +95,7 @@ module _ {S : Type 0} (Copy : ℕ → Generation → S → Type 0) (z : Sizes) w
 
   -- a compare-exchange
   pub ready_try : (slots id : ℕ) (me : Me S View) (a : ℕ) (e : Event) (p : Place) (t : PoolTouch) (index old new : ℕ) → IsStepReady z me.0 a e p t
-      → index ≡ 8 * (z.passes + 1) + t.word
+      → index ≡ words_before_pool z.passes + t.word
       → new ≡ word_after t.touch.step old
       → Allows (IsRuled Copy z) slots id me index (λ n. either (eqb n old) new n) (λ r w. MatchBool (eqb r old) (touched a e p t me r w)
       ((w ≡ me) × WordWas me.0.sizes me.0.seen t.word r))

@@ -1,5 +1,5 @@
 -- Copies of an edition in the slots, and the one in which a pass is entered.
-use Rattle.std.specs.Prelude.{◌≡◌, ℕ, ◌+◌, ◌*◌, ◌%◌, ◌<◌, List, [], ◌∷◌, length, Option, Some, None}
+use Rattle.std.specs.Prelude.{◌≡◌, ℕ, ◌+◌, ◌<◌, List, [], ◌∷◌, length, Option, Some, None}
 use Rattle.std.specs.Arc.{arc_value}
 use Rattle.std.specs.declared.sync.Arc.{Arc}
 use Rattle.atomic_table.specs.Seated.{TableId}
@@ -17,11 +17,12 @@ use Rattle.epoch_rule.specs.declared.views.View.{View}
 use Rattle.mem_base.specs.machine.Passes.{pass_id}
 use Rattle.mem_base.specs.machine.Actors.{generations_published, generation_published}
 use Rattle.epoch_rule.specs.Rule.{pass_seen, PlacesFit, ComesNext}
+use Rattle.epoch_rule.specs.Layout.{word_of_pass, words_before_pool, slots_before, slot_of}
 
--- the table has words and slots for these numbers of passes and words: eight words from word 0 on, eight for each pass, and
--- the cabinet's words; sixteen slots for each pass
+-- the table has words and slots for these numbers of passes and words: the words before the cabinet's own and these, and the
+-- slots of all passes
 abbrev pub Suits : TableId → Sizes → Type 0
-Suits t z = (t.words ≡ 8 * (z.passes + 1) + z.words) × (t.slots ≡ 16 * z.passes)
+Suits t z = (t.words ≡ words_before_pool z.passes + z.words) × (t.slots ≡ slots_before z.passes)
 
 -- what an edition shows
 abbrev pub shown_by : {E : Type 0} → (E → Forest) → (E → List Place) → E → Generation
@@ -47,7 +48,7 @@ pub record IsEnteredIn {E : Type 0} (number : E → ℕ) (forest : E → Forest)
 abbrev pub HasItsEdition : {E Z : Type 0} → (E → ℕ) → (E → Forest) → (E → List Place) → ℕ → Me (Option (Arc E Z)) View → Option (Arc E Z) → Type 0
 HasItsEdition number forest places p me None = (pass_seen p me.0 ≡ idle) × (me.1 ≡ [])
 HasItsEdition number forest places p me (Some a) = IsEnteredIn number forest places p me.0 (arc_value a)
-    × (me.1 ≡ (16 * p + number (arc_value a) % 8, None) ∷ [])
+    × (me.1 ≡ (slot_of p (number (arc_value a)), None) ∷ [])
 
 -- what a publish shows of an edition
 abbrev pub picked : {E : Type 0} → (E → Forest) → (E → List Place) → E → Picked
@@ -63,4 +64,4 @@ abbrev pub placed_as : {E Z : Type 0} → (E → Forest) → (E → List Place) 
     → Me (Option (Arc E Z)) View → Type 0
 placed_as {E} {Z} forest places st m r w = (i : ℕ) (a : Arc E Z) → m.1 ≡ (i, Some a) ∷ [] → (w.1 ≡ []) × (w.0.held ≡ 0)
     × (w.0.next ≡ picked forest places (arc_value a))
-    × ((p : ℕ) → st.word ≡ 8 * (p + 1) → ComesNext 0 m.0 (events.Place (pass_id p)) Nothing 0 w.0)
+    × ((p : ℕ) → st.word ≡ word_of_pass p → ComesNext 0 m.0 (events.Place (pass_id p)) Nothing 0 w.0)

@@ -1,3 +1,4 @@
+pub mod Layout
 pub mod Rule
 pub mod Copies
 pub mod Values

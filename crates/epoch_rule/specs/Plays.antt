@@ -1,5 +1,5 @@
 -- What each step on the table tells the seat that makes it.
-use Rattle.std.specs.Prelude.{◌≡◌, ◌≢◌, slice_index_or, ℕ, ◌+◌, ◌-◌, ◌*◌, ◌%◌, ◌<◌, true, false, [], ◌∷◌, replicate, slice_set, Some, None}
+use Rattle.std.specs.Prelude.{◌≡◌, ◌≢◌, slice_index_or, ℕ, ◌+◌, ◌-◌, ◌<◌, true, false, [], ◌∷◌, replicate, slice_set, Some, None}
 use Rattle.std.specs.Option.{unwrap_or}
 use Rattle.mem_base.specs.map.Calls.{empty}
 use Rattle.epoch_rule.specs.declared.views.Sizes.{Sizes}
@@ -16,6 +16,7 @@ use Rattle.mem_base.specs.machine.Actors.{own_entries, generation_published}
 use Rattle.epoch_rule.specs.Values.{first_free}
 use Rattle.epoch_rule.specs.Wrote.{longer}
 use Rattle.epoch_rule.specs.Rule.{IsLegal, carried_pick, generations_seen, pass_seen, PlacesFit, ComesNext, KeepsSlot}
+use Rattle.epoch_rule.specs.Layout.{word_of_pass, slot_of}
 
 module _ {S : Type 0} (Copy : ℕ → Generation → S → Type 0) where
   -- the pass looked at the current number
@@ -30,7 +31,7 @@ module _ {S : Type 0} (Copy : ℕ → Generation → S → Type 0) where
   -- the pass entered in the number that was found, and has taken its copy of that generation
   abbrev pub enters : Step S → Me S View → ℕ → Me S View → Type 0
   enters st m r w = (p : ℕ) → m.0.role ≡ Some (p + 1) → ComesNext (p + 1) m.0 (events.Enter (pass_id p)) Nothing r w.0
-      × ((y : S) × (w.1 ≡ (16 * p + r % 8, y) ∷ m.1) × Copy r (generation_published w.0.seen r) y) × PlacesFit m.0.sizes.words (generation_published w.0.seen r)
+      × ((y : S) × (w.1 ≡ (slot_of p r, y) ∷ m.1) × Copy r (generation_published w.0.seen r) y) × PlacesFit m.0.sizes.words (generation_published w.0.seen r)
 
   -- the pass has left, and given back its slot
   abbrev pub leaves : Step S → Me S View → ℕ → Me S View → Type 0
@@ -38,17 +39,17 @@ module _ {S : Type 0} (Copy : ℕ → Generation → S → Type 0) where
 
   -- the writer found in a pass's word what the pass had announced
   abbrev pub sweeps : Step S → Me S View → ℕ → Me S View → Type 0
-  sweeps st m r w = (w.1 ≡ m.1) × KeepsSlot m.0 w.0 × ((p : ℕ) → st.word ≡ 8 * (p + 1) → ComesNext 0 m.0 (events.Sweep (pass_id p)) Nothing r w.0)
+  sweeps st m r w = (w.1 ≡ m.1) × KeepsSlot m.0 w.0 × ((p : ℕ) → st.word ≡ word_of_pass p → ComesNext 0 m.0 (events.Sweep (pass_id p)) Nothing r w.0)
 
   -- the writer has taken the slot for the next generation of the pass whose word it loaded; this shows no event
   abbrev pub reaches : Step S → Me S View → ℕ → Me S View → Type 0
-  reaches st m r w = (p : ℕ) → st.word ≡ 8 * (p + 1) → (w.0 ≡ record m.0 { held = p + 1 })
-      × ((y : S) × (w.1 ≡ (16 * p + ((generations_seen m.0).current + 1) % 8, y) ∷ []))
+  reaches st m r w = (p : ℕ) → st.word ≡ word_of_pass p → (w.0 ≡ record m.0 { held = p + 1 })
+      × ((y : S) × (w.1 ≡ (slot_of p ((generations_seen m.0).current + 1), y) ∷ []))
 
   -- the writer has given it back, with a copy of the next generation in it
   abbrev pub places : Picked → Step S → Me S View → ℕ → Me S View → Type 0
   places next st m r w = (w.1 ≡ []) × (w.0.held ≡ 0) × (w.0.next ≡ next)
-      × ((p : ℕ) → st.word ≡ 8 * (p + 1) → ComesNext 0 m.0 (events.Place (pass_id p)) Nothing 0 w.0)
+      × ((p : ℕ) → st.word ≡ word_of_pass p → ComesNext 0 m.0 (events.Place (pass_id p)) Nothing 0 w.0)
 
   -- the next generation is the current one
   abbrev pub publishes : Step S → Me S View → ℕ → Me S View → Type 0

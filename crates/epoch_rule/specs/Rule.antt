@@ -1,9 +1,8 @@
 -- The rule of the cabinet's table, which holds between any two steps of any threads, and what a step adds to it.
--- Word 0 is the current number, word 8 (v + 1) shows what pass v has announced, and from word 8 (n + 1) on come the cabinet's
--- words, where there are n passes. Slot 16 v + k is pass v's, for the generations g with g % 8 ≡ k, where k is below 8.
--- The words and slots between these are not used: so what two threads write is never within 64 bytes, a line of the caches.
+-- Word 0 is the current number, the word of a pass shows what it has announced, and after the words of all passes come the
+-- cabinet's own. A pass has a slot for each generation that is kept: `Layout` says which words and slots these are.
 -- This project's own rule, in place of the RCU of QEMU's core.
-use Rattle.std.specs.Prelude.{◌≡◌, ◌≢◌, ℕ, ◌+◌, ◌*◌, ◌%◌, ◌<◌, ◌≤◌, Bool, true, false, List, [], ◌∷◌, ◌++◌, length, slice_index, slice_index_or, Option, Some}
+use Rattle.std.specs.Prelude.{◌≡◌, ◌≢◌, ℕ, ◌+◌, ◌-◌, ◌%◌, ◌<◌, ◌≤◌, Bool, true, false, List, [], ◌∷◌, ◌++◌, length, slice_index, slice_index_or, Option, Some}
 use mathlib.Core.Option.{some}
 use mathlib.Core.Option as maybe
 use mathlib.Core.List.{IsPrefix}
@@ -24,6 +23,8 @@ use Rattle.epoch_rule.specs.declared.views.View.{View}
 use Rattle.mem_base.specs.machine.Passes.{pass_id}
 use Rattle.mem_base.specs.machine.Turns.{history_entry}
 use Rattle.mem_base.specs.machine.Actors.{own_entries, pass_after_all, generations_after_all, generations_published, first_generation}
+use Rattle.epoch_rule.specs.Layout.{word_of_pass, words_before_pool, slots_before, slot_of}
+use Rattle.mem_base.specs.map.Limits.{most_generations}
 
 -- the shared part of the machine after a history
 abbrev pub state_of : Sizes → List HistoryEntry → Shared
@@ -49,13 +50,13 @@ generations_seen w = generations_after_all (first_generations w.sizes.passes) (o
 
 -- the table's words show the state of the history
 pub record WordsShow (z : Sizes) (s : Shared) (words : List ℕ) : Type 0 where
-  pub wide : length words ≡ 8 * (z.passes + 1) + z.words
+  pub wide : length words ≡ words_before_pool z.passes + z.words
   pub current : slice_index words 0 ≡ s.generations.current
   pub small : s.generations.current + 1 < 18446744073709551616
   -- the word of a pass shows what it has announced
-  pub pins : (v : ℕ) → v < z.passes → slice_index words (8 * (v + 1)) ≡ pin_word (pass_of s.passes (pass_id v)).announced
+  pub pins : (v : ℕ) → v < z.passes → slice_index words (word_of_pass v) ≡ pin_word (pass_of s.passes (pass_id v)).announced
   -- each word of the cabinet has what the events that touched it leave
-  pub pool : (i : ℕ) → i < z.words → slice_index words (8 * (z.passes + 1) + i) ≡ slice_index s.words i
+  pub pool : (i : ℕ) → i < z.words → slice_index words (words_before_pool z.passes + i) ≡ slice_index s.words i
 
 -- the places of a generation end within the cabinet's words
 abbrev pub PlacesFit : ℕ → Generation → Type 0
@@ -71,13 +72,14 @@ module _ {S : Type 0} where
   pub record PassSlots (Copy : ℕ → Generation → S → Type 0) (c : ℕ) (gs : List Generation) (k : PassTrack) (inside : Option ℕ) (held : ℕ) (next : Generation)
       (homes : List (maybe.Option S)) (v : ℕ) : Type 0 where
     -- each generation that the pass may still use is in its slot, but for the one that it is entered in
-    pub kept : (g : ℕ) → k.lowest ≤ g → g ≤ c → inside ≢ Some g → HasAt homes (16 * v + g % 8) (Copy g (slice_index_or gs g first_generation))
+    pub kept : (g : ℕ) → k.lowest ≤ g → g ≤ c → inside ≢ Some g → HasAt homes (slot_of v g) (Copy g (slice_index_or gs g first_generation))
     -- the next generation is in its slot where the pass has its copy
-    pub placed : k.placed ≡ true → HasAt homes (16 * v + (c + 1) % 8) (Copy (c + 1) next)
+    pub placed : k.placed ≡ true → HasAt homes (slot_of v (c + 1)) (Copy (c + 1) next)
     -- each slot is at home that neither the pass nor the writer holds
-    pub home : (j : ℕ) → j < 8 → ((g : ℕ) → inside ≡ Some g → j ≢ g % 8) → (held ≡ v + 1 → j ≢ (c + 1) % 8) → HasAt homes (16 * v + j) (λ y. Unit {0})
+    pub home : (j : ℕ) → j < most_generations → ((g : ℕ) → inside ≡ Some g → j ≢ g % most_generations) → (held ≡ v + 1 → j ≢ (c + 1) % most_generations)
+      → HasAt homes (slots_before v + j) (λ y. Unit {0})
     -- the writer holds a slot of the pass only for the next generation, and where the pass has no copy of it yet
-    pub clear : held ≡ v + 1 → (c ≤ k.lowest + 6) × (k.placed ≡ false)
+    pub clear : held ≡ v + 1 → (c ≤ k.lowest + (most_generations - 2)) × (k.placed ≡ false)
 
   abbrev pub SlotsOfPass : (ℕ → Generation → S → Type 0) → Shared → List Generation → ℕ → Generation → List (maybe.Option S) → ℕ → Type 0
   SlotsOfPass Copy s gs held next homes v = PassSlots Copy s.generations.current gs (known_of s.generations (pass_id v))
@@ -85,7 +87,7 @@ module _ {S : Type 0} where
 
   pub record AllSlots (Copy : ℕ → Generation → S → Type 0) (n : ℕ) (s : Shared) (gs : List Generation) (held : ℕ) (next : Generation)
       (homes : List (maybe.Option S)) : Type 0 where
-    pub deep : length homes ≡ 16 * n
+    pub deep : length homes ≡ slots_before n
     pub each : (v : ℕ) → v < n → SlotsOfPass Copy s gs held next homes v
 
 -- what seat j knows, where each actor's seat is the one that `owner` gives, and these passes are out

@@ -1,9 +1,10 @@
 // Single steps on a word of the cabinet, each as the event that the caller plans.
-ghost use Rattle.std.specs.Prelude.{◌≡◌, ℕ, ◌+◌, ◌*◌, ◌%◌, ◌<◌, ◌^◌, ◌==◌, bit_or, MatchBool};
+ghost use Rattle.std.specs.Prelude.{◌≡◌, ℕ, ◌+◌, ◌%◌, ◌<◌, ◌^◌, ◌==◌, bit_or, MatchBool};
 ghost use Rattle.mem_base.specs.declared.access.cells.WordStep.TheVariants.{Load, AddOne, Or, Take};
 ghost use Rattle.mem_base.specs.access.Words.{word_after};
 ghost use Rattle.epoch_rule.specs.Rule.{ComesNext, KeepsSlot};
 ghost use Rattle.epoch_rule.specs.Copies.{Suits};
+ghost use Rattle.epoch_rule.specs.Layout.{words_before_pool};
 ghost use Rattle.epoch_rule.specs.Touches.{IsStepReady, touched};
 ghost use Rattle.epoch_rule.specs.Wrote.{WordWas};
 
@@ -101,7 +102,7 @@ pub(crate) fn look_as<E: Edition + Drop, J: Plan>(
 ) -> u64
     requires table { (seat.old.table_id ≡ shared.now.table_id) × Suits shared.now.table_id shared.now.key }
     requires ready { IsStepReady shared.now.key seat.old.me.0 J.actor J.event J.place J.touch }
-    requires index { index ≡ 8 * (shared.now.key.passes + 1) + J.touch.word }
+    requires index { index ≡ words_before_pool shared.now.key.passes + J.touch.word }
     ensures table { seat.new.table_id ≡ seat.old.table_id }
     ensures told { (seat.new.me ≡ seat.old.me) × WordWas seat.old.me.0.sizes seat.old.me.0.seen J.touch.word result }
 {
@@ -117,7 +118,7 @@ pub(crate) fn load_as<E: Edition + Drop, J: Plan>(
 ) -> u64
     requires table { (seat.old.table_id ≡ shared.now.table_id) × Suits shared.now.table_id shared.now.key }
     requires ready { IsStepReady shared.now.key seat.old.me.0 J.actor J.event J.place J.touch }
-    requires index { index ≡ 8 * (shared.now.key.passes + 1) + J.touch.word }
+    requires index { index ≡ words_before_pool shared.now.key.passes + J.touch.word }
     requires step { J.touch.touch.step ≡ Load }
     ensures table { seat.new.table_id ≡ seat.old.table_id }
     ensures told { touched J.actor J.event J.place J.touch seat.old.me result seat.new.me }
@@ -134,7 +135,7 @@ pub(crate) fn add_as<E: Edition + Drop, J: Plan>(
 ) -> u64
     requires table { (seat.old.table_id ≡ shared.now.table_id) × Suits shared.now.table_id shared.now.key }
     requires ready { IsStepReady shared.now.key seat.old.me.0 J.actor J.event J.place J.touch }
-    requires index { index ≡ 8 * (shared.now.key.passes + 1) + J.touch.word }
+    requires index { index ≡ words_before_pool shared.now.key.passes + J.touch.word }
     requires step { J.touch.touch.step ≡ AddOne }
     ensures table { seat.new.table_id ≡ seat.old.table_id }
     ensures told { touched J.actor J.event J.place J.touch seat.old.me result seat.new.me }
@@ -152,7 +153,7 @@ pub(crate) fn or_as<E: Edition + Drop, J: Plan>(
 ) -> u64
     requires table { (seat.old.table_id ≡ shared.now.table_id) × Suits shared.now.table_id shared.now.key }
     requires ready { IsStepReady shared.now.key seat.old.me.0 J.actor J.event J.place J.touch }
-    requires index { index ≡ 8 * (shared.now.key.passes + 1) + J.touch.word }
+    requires index { index ≡ words_before_pool shared.now.key.passes + J.touch.word }
     requires step { J.touch.touch.step ≡ Or bits }
     ensures table { seat.new.table_id ≡ seat.old.table_id }
     ensures told { touched J.actor J.event J.place J.touch seat.old.me result seat.new.me }
@@ -169,7 +170,7 @@ pub(crate) fn take_as<E: Edition + Drop, J: Plan>(
 ) -> u64
     requires table { (seat.old.table_id ≡ shared.now.table_id) × Suits shared.now.table_id shared.now.key }
     requires ready { IsStepReady shared.now.key seat.old.me.0 J.actor J.event J.place J.touch }
-    requires index { index ≡ 8 * (shared.now.key.passes + 1) + J.touch.word }
+    requires index { index ≡ words_before_pool shared.now.key.passes + J.touch.word }
     requires step { J.touch.touch.step ≡ Take }
     ensures table { seat.new.table_id ≡ seat.old.table_id }
     ensures told { touched J.actor J.event J.place J.touch seat.old.me result seat.new.me }
@@ -187,7 +188,7 @@ pub(crate) fn store_as<E: Edition + Drop, J: Plan>(
 )
     requires table { (seat.old.table_id ≡ shared.now.table_id) × Suits shared.now.table_id shared.now.key }
     requires ready { IsStepReady shared.now.key seat.old.me.0 J.actor J.event J.place J.touch }
-    requires index { index ≡ 8 * (shared.now.key.passes + 1) + J.touch.word }
+    requires index { index ≡ words_before_pool shared.now.key.passes + J.touch.word }
     requires step { (n : ℕ) → n < 2 ^ 64 → value % 2 ^ 64 ≡ word_after J.touch.touch.step n }
     ensures table { seat.new.table_id ≡ seat.old.table_id }
     ensures told { (old : ℕ) × touched J.actor J.event J.place J.touch seat.old.me old seat.new.me }
@@ -206,7 +207,7 @@ pub(crate) fn try_as<E: Edition + Drop, J: Plan>(
 ) -> u64
     requires table { (seat.old.table_id ≡ shared.now.table_id) × Suits shared.now.table_id shared.now.key }
     requires ready { IsStepReady shared.now.key seat.old.me.0 J.actor J.event J.place J.touch }
-    requires index { index ≡ 8 * (shared.now.key.passes + 1) + J.touch.word }
+    requires index { index ≡ words_before_pool shared.now.key.passes + J.touch.word }
     requires step { new ≡ word_after J.touch.touch.step old }
     ensures table { seat.new.table_id ≡ seat.old.table_id }
     ensures told { MatchBool (result == old) (touched J.actor J.event J.place J.touch seat.old.me result seat.new.me)

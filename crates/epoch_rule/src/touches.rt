@@ -1,11 +1,12 @@
 // The touches of the cabinet's words. What a pass does is inlined where it is called: the touch is known there, so that one step
 // is left of it, and the touch need not be written to memory and read back.
-ghost use Rattle.std.specs.Prelude.{◌≡◌, ℕ, ◌+◌, ◌*◌, ◌^◌, ◌≤◌, ◌<◌};
+ghost use Rattle.std.specs.Prelude.{◌≡◌, ℕ, ◌+◌, ◌^◌, ◌≤◌, ◌<◌};
 ghost use Rattle.mem_base.specs.declared.machine.events.Hand.TheVariants.{Pass, Writer};
 ghost use Rattle.mem_base.specs.access.Places.{mark_word, word_of_page};
 ghost use Rattle.epoch_rule.specs.declared.touches.Touch.TheVariants.{Look, Step, Try, Fill, Mark, Harvest};
 ghost use Rattle.epoch_rule.specs.Rule.{KeepsSlot};
 ghost use Rattle.epoch_rule.specs.Copies.{Suits};
+ghost use Rattle.epoch_rule.specs.Layout.{words_before_pool};
 ghost use Rattle.epoch_rule.specs.Touches.{IsReady, IsTouch, IsWholeStep, Told, ToldStep};
 
 use crate::board::{LINE_WORDS, SharedTable, TableSeat};
@@ -52,7 +53,7 @@ pub(crate) fn step_word<E: Edition + Drop>(
 ) -> u64
     requires table { (seat.old.table_id ≡ shared.now.table_id) × Suits shared.now.table_id shared.now.key }
     requires ready { IsReady shared.now.key seat.old.me.0 hand place.now word (Step step) }
-    requires index { index ≡ 8 * (shared.now.key.passes + 1) + (place.now.start + word) }
+    requires index { index ≡ words_before_pool shared.now.key.passes + (place.now.start + word) }
     requires whole { IsWholeStep step }
     ensures table { seat.new.table_id ≡ seat.old.table_id }
     ensures seat { (seat.new.me.1 ≡ seat.old.me.1) × KeepsSlot seat.old.me.0 seat.new.me.0 }
@@ -90,7 +91,7 @@ fn try_word<E: Edition + Drop>(
 ) -> u64
     requires table { (seat.old.table_id ≡ shared.now.table_id) × Suits shared.now.table_id shared.now.key }
     requires ready { IsReady shared.now.key seat.old.me.0 hand place.now word (Try old first bytes value) }
-    requires index { index ≡ 8 * (shared.now.key.passes + 1) + (place.now.start + word) }
+    requires index { index ≡ words_before_pool shared.now.key.passes + (place.now.start + word) }
     requires part { first + bytes ≤ 8 }
     ensures table { seat.new.table_id ≡ seat.old.table_id }
     ensures seat { (seat.new.me.1 ≡ seat.old.me.1) × KeepsSlot seat.old.me.0 seat.new.me.0 }
@@ -123,7 +124,7 @@ fn mark_page<E: Edition + Drop>(
 ) -> u64
     requires table { (seat.old.table_id ≡ shared.now.table_id) × Suits shared.now.table_id shared.now.key }
     requires ready { IsReady shared.now.key seat.old.me.0 (Pass pass) place.now word (Mark client page) }
-    requires index { index ≡ 8 * (shared.now.key.passes + 1) + (place.now.start + word) }
+    requires index { index ≡ words_before_pool shared.now.key.passes + (place.now.start + word) }
     requires word { word ≡ word_of_page place.now client page }
     ensures table { seat.new.table_id ≡ seat.old.table_id }
     ensures seat { (seat.new.me.1 ≡ seat.old.me.1) × KeepsSlot seat.old.me.0 seat.new.me.0 }
@@ -149,7 +150,7 @@ fn harvest_word<E: Edition + Drop>(
 ) -> u64
     requires table { (seat.old.table_id ≡ shared.now.table_id) × Suits shared.now.table_id shared.now.key }
     requires ready { IsReady shared.now.key seat.old.me.0 Writer place.now word (Harvest client index) }
-    requires index { at ≡ 8 * (shared.now.key.passes + 1) + (place.now.start + word) }
+    requires index { at ≡ words_before_pool shared.now.key.passes + (place.now.start + word) }
     requires word { word ≡ mark_word place.now client index }
     ensures table { seat.new.table_id ≡ seat.old.table_id }
     ensures seat { (seat.new.me.1 ≡ seat.old.me.1) × KeepsSlot seat.old.me.0 seat.new.me.0 }
@@ -172,7 +173,7 @@ fn fill_word<E: Edition + Drop>(
 ) -> u64
     requires table { (seat.old.table_id ≡ shared.now.table_id) × Suits shared.now.table_id shared.now.key }
     requires ready { IsReady shared.now.key seat.old.me.0 Writer place.now word Fill }
-    requires index { index ≡ 8 * (shared.now.key.passes + 1) + (place.now.start + word) }
+    requires index { index ≡ words_before_pool shared.now.key.passes + (place.now.start + word) }
     ensures table { seat.new.table_id ≡ seat.old.table_id }
     ensures seat { (seat.new.me.1 ≡ seat.old.me.1) × KeepsSlot seat.old.me.0 seat.new.me.0 }
     ensures told { Told Writer place.now word Fill seat.old.me.0 result seat.new.me.0 }
@@ -198,7 +199,7 @@ fn look<E: Edition + Drop>(
 ) -> u64
     requires table { (seat.old.table_id ≡ shared.now.table_id) × Suits shared.now.table_id shared.now.key }
     requires ready { IsReady shared.now.key seat.old.me.0 hand place.now word Look }
-    requires index { index ≡ 8 * (shared.now.key.passes + 1) + (place.now.start + word) }
+    requires index { index ≡ words_before_pool shared.now.key.passes + (place.now.start + word) }
     ensures table { seat.new.table_id ≡ seat.old.table_id }
     ensures seat { (seat.new.me.1 ≡ seat.old.me.1) × KeepsSlot seat.old.me.0 seat.new.me.0 }
     ensures told { Told hand place.now word Look seat.old.me.0 result seat.new.me.0 }

@@ -1,5 +1,5 @@
 -- What holds in every history of the pure machine.
-use Rattle.std.specs.Prelude.{◌≡◌, ℕ, ◌+◌, ◌≤◌, true, List, length, IsSome}
+use Rattle.std.specs.Prelude.{◌≡◌, ℕ, ◌+◌, ◌-◌, ◌≤◌, true, List, length, IsSome}
 use Rattle.mem_base.specs.declared.machine.events.Event.{Event}
 use Rattle.mem_base.specs.map.Limits.{most_generations}
 use Rattle.mem_base.specs.machine.Generations.{Generations, is_held, generation_of, held_generations}
@@ -17,7 +17,7 @@ LegalHistoriesAreInOrder = (pool_words passes : ℕ) (xs : List PureEntry) → I
 
 -- a generation that is held is one of the last eight, and is kept; the held ones are at most eight
 pub record KeepsHeld (g : Generations) : Type 0 where
-  pub near : (number : ℕ) → is_held g number ≡ true → (number ≤ g.current) × (g.current ≤ number + 7)
+  pub near : (number : ℕ) → is_held g number ≡ true → (number ≤ g.current) × (g.current ≤ number + (most_generations - 1))
   pub kept : (number : ℕ) → is_held g number ≡ true → IsSome (generation_of g number)
   pub few : length (held_generations g) ≤ most_generations
 

@@ -1,6 +1,7 @@
 -- What holds after every legal history of the running machine, by its shared part alone.
 use Rattle.std.specs.Prelude.{◌≡◌, ℕ, ◌+◌, ◌-◌, ◌<◌, ◌≤◌, true, List, length, slice_get, Some}
 use Rattle.mem_base.specs.declared.machine.events.HistoryEntry.{HistoryEntry}
+use Rattle.mem_base.specs.map.Limits.{most_generations}
 use Rattle.mem_base.specs.machine.Passes.{PassState, pass_id, pass_of}
 use Rattle.mem_base.specs.machine.Generations.{Generation, PassTrack, known_of}
 use Rattle.mem_base.specs.machine.SharedHistory.{Shared, shared_opening, after_shared_entries, IsSharedLegal}
@@ -9,10 +10,10 @@ use Rattle.mem_base.specs.machine.Turns.{writers_of}
 
 -- how the numbers of a pass stand to the current one
 pub record InNumbers (current : ℕ) (k : PassTrack) (p : PassState) : Type 0 where
-  -- its lowest number is at most seven below the current one, and at most six where it has its copy of the next
-  pub near : current ≤ k.lowest + 7
+  -- its lowest number is among the last `most_generations`, and not the first of these where it has its copy of the next
+  pub near : current ≤ k.lowest + (most_generations - 1)
   pub low : k.lowest ≤ current
-  pub placed : k.placed ≡ true → current ≤ k.lowest + 6
+  pub placed : k.placed ≡ true → current ≤ k.lowest + (most_generations - 2)
   -- it knows no number above the current one
   pub looked : (number : ℕ) → p.looked ≡ Some number → number ≤ current
   pub announced : (number : ℕ) → p.announced ≡ Some number → number ≤ current
@@ -27,9 +28,9 @@ pub record HasSoundNumbers (words passes : ℕ) (gs : List Generation) (s : Shar
   pub known : length s.generations.passes ≡ passes
   -- the current number is the number of Publishes
   pub counted : length gs ≡ s.generations.current + 1
-  -- the last eight are kept, each as its Publish carried it
-  pub kept : (number : ℕ) → number ≤ s.generations.current → s.generations.current ≤ number + 7 → slice_get s.generations.kept
-      (s.generations.current - number) ≡ slice_get gs number
+  -- the last `most_generations` are kept, each as its Publish carried it
+  pub kept : (number : ℕ) → number ≤ s.generations.current → s.generations.current ≤ number + (most_generations - 1)
+      → slice_get s.generations.kept (s.generations.current - number) ≡ slice_get gs number
   pub each : (v : ℕ) → v < passes → InNumbers s.generations.current (known_of s.generations (pass_id v)) (pass_of s.passes (pass_id v))
 
 -- so it is after every legal history, whoever made its events

@@ -1,8 +1,9 @@
-use Rattle.epoch_rule.proofs.Common.{◌≡◌, ℕ, ◌+◌, ◌%◌, ◌≤◌, arith, sound}
+use Rattle.epoch_rule.proofs.Common.{◌≡◌, ℕ, ◌+◌, ◌-◌, ◌%◌, ◌≤◌, arith, sound}
 use Rattle.epoch_rule.proofs.laws.taken_slots_are_free.Goals as goal
+use Rattle.mem_base.specs.map.Limits.{most_generations}
 
 -- two of eight numbers in a row have two slots
-apart : (c low g : ℕ) → c ≤ low + 6 → low ≤ g → g ≤ c → g % 8 ≡ (c + 1) % 8 → ⊥
+apart : (c low g : ℕ) → c ≤ low + (most_generations - 2) → low ≤ g → g ≤ c → g % most_generations ≡ (c + 1) % most_generations → ⊥
 apart c low g near above below same = omega arith
 
 pub returns : goal.returns

@@ -1,10 +1,11 @@
-use Rattle.epoch_rule.proofs.Common.{arith, ◌≡◌, ℕ, ◌+◌, ◌*◌, ◌%◌, [], ◌∷◌, Some, sym, refl, ap, ◌∙◌, subst, rest, Nothing, known_of, View, pass_id, ComesNext}
+use Rattle.epoch_rule.proofs.Common.{arith, ◌≡◌, ℕ, ◌+◌, [], ◌∷◌, Some, sym, refl, ap, ◌∙◌, subst, rest, Nothing, known_of, View, pass_id, ComesNext}
 use Rattle.epoch_rule.proofs.Common.{generations_seen, IsCopy}
 use Rattle.mem_base.specs.declared.machine.events.Event.TheVariants.{Place}
 use Rattle.epoch_rule.proofs.ActorSteps.{reach, place_as}
 use Rattle.epoch_rule.proofs.steps.place.Given.{Over}
 use Rattle.epoch_rule.proofs.steps.place.Goals.{After-exchange, After-load}
 use Rattle.epoch_rule.proofs.steps.place.Goals as goal
+use Rattle.epoch_rule.specs.Layout.{slot_of}
 
 pub load-requires : goal.load-requires
 load-requires g c =
@@ -19,14 +20,14 @@ load-requires g c =
     )
 
 -- the slot for the next generation, which the writer has taken
-hand : (g : Over) (c : After-load g) → c.load.new.seat.me.1 ≡ (16 * c.args.pass + c.args.next % 8, (c.load.ensures.2 c.args.pass refl).1.0) ∷ []
+hand : (g : Over) (c : After-load g) → c.load.new.seat.me.1 ≡ (slot_of c.args.pass c.args.next, (c.load.ensures.2 c.args.pass refl).1.0) ∷ []
 hand g c =
     let went = c.load.ensures.2 c.args.pass refl in
-    went.1.1 ∙ ap (λ (y : ℕ). (16 * c.args.pass + y % 8, went.1.0) ∷ []) (sym c.requires.next)
+    went.1.1 ∙ ap (λ (y : ℕ). (slot_of c.args.pass y, went.1.0) ∷ []) (sym c.requires.next)
 
 pub exchange-requires : goal.exchange-requires
 exchange-requires g c =
-    let i : ℕ = 16 * c.args.pass + c.args.next % 8 in
+    let i : ℕ = slot_of c.args.pass c.args.next in
     let took = (c.load.ensures.2 c.args.pass refl).1.0 in
     let is = hand g (goal.at.exchange-requires g c).After-load in
     (c.load.ensures.0 ∙ c.requires.table.0, (took, is ∙ ap (λ l. (i, took) ∷ rest l) (sym is)))
@@ -35,9 +36,9 @@ exchange-requires g c =
 view : (g : Over) (c : After-exchange g) → c.exchange.new.seat.me.0 ≡ record c.args.seat.now.me.0 { held = c.args.pass + 1 }
 view g c = ap (λ m. m.0) c.exchange.ensures.3 ∙ (c.load.ensures.2 c.args.pass refl).0
 
-holds : (g : Over) (c : After-exchange g) → c.load.new.seat.me.1 ≡ (16 * c.args.pass + c.args.next % 8, (c.load.ensures.2 c.args.pass refl).1.0) ∷ []
-    → c.exchange.new.seat.me.1 ≡ (16 * c.args.pass + c.args.next % 8, Some c.args.copy) ∷ []
-holds g c is = ap (λ m. m.1) c.exchange.ensures.3 ∙ ap (λ l. (16 * c.args.pass + c.args.next % 8, Some c.args.copy) ∷ l) (ap rest is)
+holds : (g : Over) (c : After-exchange g) → c.load.new.seat.me.1 ≡ (slot_of c.args.pass c.args.next, (c.load.ensures.2 c.args.pass refl).1.0) ∷ []
+    → c.exchange.new.seat.me.1 ≡ (slot_of c.args.pass c.args.next, Some c.args.copy) ∷ []
+holds g c is = ap (λ m. m.1) c.exchange.ensures.3 ∙ ap (λ l. (slot_of c.args.pass c.args.next, Some c.args.copy) ∷ l) (ap rest is)
 
 pub load-requires-2 : goal.load-requires-2
 load-requires-2 g c =
@@ -52,7 +53,7 @@ load-requires-2 g c =
       omega arith,
       place_as g.E.Edition.counted g.E.Edition.forest g.E.Edition.places _ _ _ _ c.args.pass c.args.copy t.2 t.1.1
           (ap (λ w. w.role) same ∙ c.requires.writer.0) (ap (λ w. w.held) same)
-          (holds g at.After-exchange (hand g at.After-load) ∙ ap (λ (y : ℕ). (16 * c.args.pass + y % 8, Some c.args.copy) ∷ []) next)
+          (holds g at.After-exchange (hand g at.After-load) ∙ ap (λ (y : ℕ). (slot_of c.args.pass y, Some c.args.copy) ∷ []) next)
           (c.requires.copy.0 ∙ next)
           (λ u placed. ap (λ w. w.next) same ∙ c.requires.copy.1 u (ap (λ (w : View). (known_of (generations_seen w) (pass_id u)).placed) (sym same) ∙ placed)),
     )

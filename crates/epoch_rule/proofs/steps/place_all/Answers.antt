@@ -1,9 +1,10 @@
-use Rattle.epoch_rule.proofs.Common.{arith, ◌≡◌, ℕ, ◌+◌, ◌≤◌, sym, ap, ◌∙◌, subst, Generations, PassTrack, known_of, View, pass_id, generations_seen}
+use Rattle.epoch_rule.proofs.Common.{arith, ◌≡◌, ℕ, ◌+◌, ◌-◌, ◌≤◌, sym, ap, ◌∙◌, subst, Generations, PassTrack, known_of, View, pass_id, generations_seen}
 use Rattle.epoch_rule.proofs.Common.{generations_after_all, HasPlaced, places_of, length, ◌++◌, length-append, suc, refl, HasWritten, option_to_list}
 use Rattle.epoch_rule.proofs.SweepLaws.{writes_generations, places_current, places_later, places_placed, last_copy, writes_more}
 use Rattle.epoch_rule.proofs.steps.place_all.Given.{Over}
 use Rattle.epoch_rule.proofs.steps.place_all.Goals.{After-pop}
 use Rattle.epoch_rule.proofs.steps.place_all.Goals as goal
+use Rattle.mem_base.specs.map.Limits.{most_generations}
 
 -- the copies that are placed by now
 abbrev began : (g : Over) → After-pop g → Generations
@@ -35,7 +36,7 @@ place-requires-clause-next g c =
 pub place-requires-clause-near : goal.place-requires-clause-near
 place-requires-clause-near g c =
     let at = (goal.at.place-requires-clause-near g c).After-pop in
-    subst (λ (x : ℕ × PassTrack). x.0 ≤ x.1.lowest + 6) (λ i. (sym (current g at) i, sym (known g at) i))
+    subst (λ (x : ℕ × PassTrack). x.0 ≤ x.1.lowest + (most_generations - 2)) (λ i. (sym (current g at) i, sym (known g at) i))
     (c.requires.near c.loop-pass.pass c.loop-pass-test.true)
 
 pub place-requires-clause-free : goal.place-requires-clause-free

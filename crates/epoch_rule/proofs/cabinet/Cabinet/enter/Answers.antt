@@ -1,4 +1,4 @@
-use Rattle.epoch_rule.proofs.Common.{arith, List, ◌≡◌, ℕ, ◌+◌, ◌*◌, ◌%◌, ◌<◌, [], ◌∷◌, length, None, sym, refl, ap, ◌∙◌, subst, rest, HistoryEntry, Nothing}
+use Rattle.epoch_rule.proofs.Common.{arith, List, ◌≡◌, ℕ, ◌+◌, ◌<◌, [], ◌∷◌, length, None, sym, refl, ap, ◌∙◌, subst, rest, HistoryEntry, Nothing}
 use Rattle.epoch_rule.proofs.Common.{PassState, idle, pass_after, pass_id, Sizes, generations_published, generation_published, ComesNext, IsLegal, pass_seen}
 use Rattle.epoch_rule.proofs.Common.{PlacesFit, IsCopy, Some, Look, Announce, Enter, entries_of_enter, published_longer, arc_value, value_in, get_or, Pass}
 use Rattle.epoch_rule.proofs.Common.{Wrote}
@@ -7,6 +7,7 @@ use Rattle.epoch_rule.proofs.PassLaws.{pass_added, entered_counts, stands_out, s
 use Rattle.epoch_rule.proofs.cabinet.Cabinet.enter.Given.{Over}
 use Rattle.epoch_rule.proofs.cabinet.Cabinet.enter.Goals.{After-load-looked, After-load-number, After-store, Joined-pass-exchange}
 use Rattle.epoch_rule.proofs.cabinet.Cabinet.enter.Goals as goal
+use Rattle.epoch_rule.specs.Layout.{slot_of}
 
 pub load-looked-requires : goal.load-looked-requires
 load-looked-requires g c =
@@ -83,7 +84,7 @@ exchange-requires g c =
     let p : ℕ = c.pass.inside.id.0 in
     let took = (c.load-number.ensures.2 p (role g at.After-load-number)).1 in (
       c.load-number.ensures.0 ∙ (c.store.ensures.0 ∙ (c.load-looked.ensures.0 ∙ table g at.After-load-looked)),
-      (took.0, took.1 ∙ ap (λ l. (16 * p + c.load-number.result % 8, took.0) ∷ rest l) (sym took.1)),
+      (took.0, took.1 ∙ ap (λ l. (slot_of p c.load-number.result, took.0) ∷ rest l) (sym took.1)),
     )
 
 came : (g : Over) (c : Joined-pass-exchange g) → ComesNext (c.pass.inside.id.0 + 1) c.store.new.seat.me.0 (Enter (pass_id c.pass.inside.id.0)) Nothing
@@ -136,7 +137,7 @@ invariant_of-pass g c =
       suits_on _ _ _ _ (sym (now.0 ∙ (c.load-number.ensures.0 ∙ (c.store.ensures.0 ∙ c.load-looked.ensures.0)))) (sym (whole g c)) inv.2,
       stands_in g.E.Edition.counted g.E.Edition.forest g.E.Edition.places p r c.exchange.new.seat.me c.exchange.result
           (ap (λ m. (pass_seen p m.0).entered) now.3 ∙ ap (λ (h : PassState). h.entered) (pass_added p _ _ _ _ _ refl both.0))
-          (ap (λ m. m.1) now.3 ∙ ap (λ l. (16 * p + r % 8, None) ∷ l) bare) (omega arith) (copy g c)
+          (ap (λ m. m.1) now.3 ∙ ap (λ l. (slot_of p r, None) ∷ l) bare) (omega arith) (copy g c)
           (subst (λ (y : Sizes × List HistoryEntry). PlacesFit y.0.words (generation_published y.1 r)) (λ i. (sym (sizes g c) i, sym (seen g c) i)) both.2),
       subst (λ (y : Sizes). IsLegal y c.exchange.new.seat.me.0.seen) (sym (whole g c)) (all g c).lawful,
     )

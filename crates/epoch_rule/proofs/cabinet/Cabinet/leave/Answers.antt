@@ -1,10 +1,11 @@
-use Rattle.epoch_rule.proofs.Common.{arith, ◌≡◌, ℕ, ◌+◌, ◌*◌, ◌%◌, ◌<◌, [], ◌∷◌, ◌++◌, length, Some, sym, refl, ap, ◌∙◌, subst, arc_value, rest, Nothing}
+use Rattle.epoch_rule.proofs.Common.{arith, ◌≡◌, ℕ, ◌+◌, ◌<◌, [], ◌∷◌, ◌++◌, length, Some, sym, refl, ap, ◌∙◌, subst, arc_value, rest, Nothing}
 use Rattle.epoch_rule.proofs.Common.{Sizes, pass_id, history_entry, generations_published, generation_published, IsLegal, pass_seen, IsCopy, HasItsEdition}
 use Rattle.epoch_rule.proofs.Common.{generation_stays, View, Pass, Wrote, Leave}
 use Rattle.epoch_rule.proofs.ActorSteps.{leave}
 use Rattle.epoch_rule.proofs.PassLaws.{pass_added, suits_on, near_in}
 use Rattle.epoch_rule.proofs.cabinet.Cabinet.leave.Goals as goal
 use Rattle.epoch_rule.proofs.TouchLaws.{wrote}
+use Rattle.epoch_rule.specs.Layout.{slot_of}
 
 pub store-requires : goal.store-requires
 store-requires g c =
@@ -25,7 +26,7 @@ store-requires g c =
       leave (IsCopy g.E.Edition.counted g.E.Edition.forest g.E.Edition.places) _ _ _ c.exchange.new.seat.me p r (Some a) near c.self.invariant.suits.1
           (ap (λ m. m.0.role) x.3 ∙ inv.0)
           (ap (λ m. (pass_seen p m.0).entered) x.3 ∙ (st.0.entered ∙ ap (λ (y : ℕ). Some y) (sym is)))
-          (ap (λ m. m.1) x.3 ∙ ap (λ l. (16 * p + r % 8, Some a) ∷ l) (ap rest st.1))
+          (ap (λ m. m.1) x.3 ∙ ap (λ l. (slot_of p r, Some a) ∷ l) (ap rest st.1))
           (λ log same lawful begins. (
             a,
             refl,

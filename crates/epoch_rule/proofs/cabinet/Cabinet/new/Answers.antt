@@ -1,12 +1,13 @@
-use Rattle.epoch_rule.proofs.Common.{ℕ, ◌+◌, ◌*◌, length, replicate, sym, refl, ap, ◌∙◌, subst, false, length-replicate, opening, generation, nothing_known}
+use Rattle.epoch_rule.proofs.Common.{ℕ, ◌+◌, length, replicate, sym, refl, ap, ◌∙◌, subst, false, length-replicate, opening, generation, nothing_known}
 use Rattle.epoch_rule.proofs.Common.{Sizes, IsRuled, first_view, IsCopy, shown_by, IsWriting, stored, Some}
 use Rattle.epoch_rule.proofs.OpeningLaws.{opens, replicate_at, map_replicate}
 use Rattle.epoch_rule.proofs.cabinet.Cabinet.new.Goals as goal
+use Rattle.epoch_rule.specs.Layout.{words_before_pool}
 
 pub new-requires : goal.new-requires
 new-requires g c =
     let z : Sizes = record { passes = c.args.passes; words = c.args.words } in
-    let n : ℕ = 8 * (c.args.passes + 1) + c.args.words in
+    let n : ℕ = words_before_pool c.args.passes + c.args.words in
     let s = c.in_ok-slots.ensures in
     let first = c.requires.first in
     subst (λ ws. IsRuled (IsCopy g.E.Edition.counted g.E.Edition.forest g.E.Edition.places) z (opening ws c.in_ok-slots.slots.items (first_view z)))
@@ -28,7 +29,7 @@ new-requires g c =
 pub invariant_of-writer : goal.invariant_of-writer
 invariant_of-writer g c =
     let k = c.in-Ok.ensures.ok in
-    let n : ℕ = 8 * (c.args.passes + 1) + c.args.words in
+    let n : ℕ = words_before_pool c.args.passes + c.args.words in
     let s = c.in_ok-slots.ensures in
     let words = ap (λ t. t.words) k.2 ∙ (k.0 ∙ (ap length (c.as_slice.ensures.value ∙ c.in_ok-blank.ensures) ∙ length-replicate n 0)) in
     let slots = ap (λ t. t.slots) k.2 ∙ (k.1 ∙ s.long) in
