@@ -275,12 +275,7 @@ fn run_tasks<'a, 'k, O: Orderly, G: Gate, R: Wait>(
 {
     let pass = vcpu.id();
     let mut actor = run_lines(rt, alloc, gate, desk, vcpu, bounce, clerk, tasks, got);
-    actor.text = text_of(
-        alloc,
-        pass,
-        tasks_in(&actor.lines),
-        actor.got.as_slice(),
-    );
+    actor.text = text_of(alloc, pass, tasks_in(&actor.lines), actor.got.as_slice());
     actor
 }
 

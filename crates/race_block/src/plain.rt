@@ -199,15 +199,11 @@ fn tell_line<'a, 'l, O: Orderly, R: Wait>(
     };
     match command {
         PassCommand::Read { space, addr, len } => {
-            let told = tell_read(
-                &mut vcpu, spaces, own.line.0, space, *addr, *len, text,
-            );
+            let told = tell_read(&mut vcpu, spaces, own.line.0, space, *addr, *len, text);
             (vcpu, bounce, told)
         }
         PassCommand::Write { space, addr, bytes } => {
-            let told = tell_write(
-                rt, &mut vcpu, spaces, own.line.0, space, *addr, bytes, text,
-            );
+            let told = tell_write(rt, &mut vcpu, spaces, own.line.0, space, *addr, bytes, text);
             (vcpu, bounce, told)
         }
         _ => tell_any(

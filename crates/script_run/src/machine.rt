@@ -16,8 +16,8 @@ ghost use Rattle.mem_base.specs.machine.Completions.{may_access, IsAccessed, IsC
 
 use generation::Generation;
 use mem_base::{
-    Access, Applied, Call, Client, ListenerEvent, ListenerId, NotifierId, PassId, Refusal, RegionId,
-    SpaceId,
+    Access, Applied, Call, Client, ListenerEvent, ListenerId, NotifierId, PassId, Refusal,
+    RegionId, SpaceId,
 };
 use std::alloc::Global;
 use std::sync::Arc;
