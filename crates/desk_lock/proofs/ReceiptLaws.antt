@@ -19,7 +19,7 @@ use Rattle.mem_base.specs.machine.Answers.{Answer, call_answer, commit_answer, p
 use Rattle.mem_base.specs.machine.Answers.{journal_answer, current_answer}
 use Rattle.mem_base.specs.machine.Publishing.{current_forest, would_publish}
 use Rattle.mem_base.specs.machine.Reaps.{Writer}
-use Rattle.mem_base.specs.machine.Records.{call_of, told, FitsDeskOrder}
+use Rattle.mem_base.specs.machine.Records.{call_of, told}
 use Rattle.generation.specs.Published.{Published}
 use Rattle.epoch_rule.specs.Copies.{value_in}
 use Rattle.epoch_rule.specs.Rule.{IsLegal}
@@ -29,7 +29,7 @@ use Rattle.config_desk.specs.Configs.{ConfigState, IsOfTurns, IsTurnOf}
 use Rattle.desk_lock.specs.declared.orders.Receipt.{Receipt}
 use Rattle.desk_lock.specs.declared.drafts.Draft.{Draft}
 use Rattle.desk_lock.specs.Copied.{HasRoom, IsDraft}
-use Rattle.desk_lock.specs.Receipts.{HandsOut, HasSeenPublished, HasSeenTold, IsAnswerTo, IsReceipt, ShowsOrder, number_told, HasNotifier}
+use Rattle.desk_lock.specs.Receipts.{HandsOut, HasSeenPublished, HasSeenTold, IsAnswerTo, IsReceipt, ShowsOrder, number_told}
 use Rattle.desk_lock.specs.Turned.{HandsCurrent, IsAsked, TellsNumber, turn_of}
 use Rattle.desk_lock.proofs.AnswerLaws.{answer_right, pages_bounded, regions_bound}
 use Rattle.desk_lock.proofs.PublishedLaws.{IsPublished, call_published, commit_published, is_loud}
@@ -191,7 +191,3 @@ module _ (v w : ConfigState) (legal : IsLegal w.seat.sizes w.seat.seen) (turns :
         shows = k.shows;
         current = k.current;
       }
-
-pub has_notifier : (order : DeskOrder) → FitsDeskOrder order → HasNotifier order
-has_notifier (orders.Notified number) h = h
-has_notifier _ h = tt

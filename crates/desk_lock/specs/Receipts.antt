@@ -13,17 +13,11 @@ use Rattle.mem_base.specs.declared.machine.records.DeskOrder.TheVariants as orde
 use Rattle.mem_base.specs.declared.machine.records.DeskAnswer.{DeskAnswer}
 use Rattle.mem_base.specs.declared.machine.records.DeskAnswer.TheVariants as answers
 use Rattle.mem_base.specs.map.CallsShown.{ShowsCall}
-use Rattle.mem_base.specs.map.Limits.{notifier_count}
 use Rattle.mem_base.specs.machine.Actors.{generations_published, generation_published}
 use Rattle.mem_base.specs.script.Race.{publishes_number}
 use Rattle.generation.specs.Published.{Published}
 use Rattle.epoch_rule.specs.Copies.{value_in}
 use Rattle.desk_lock.specs.declared.orders.Receipt.{Receipt}
-
--- a notifier that is to be taken is one of those that there are
-abbrev pub HasNotifier : DeskOrder → Type 0
-HasNotifier (orders.Notified number) = number < notifier_count
-HasNotifier order = Unit {0}
 
 -- a reap, a notifier that is taken and a look are never refused
 abbrev pub MayBeRefused : DeskOrder → Type 0

@@ -1,8 +1,7 @@
 // The desk is asked: each order is the call of the writer's desk that it names.
 ghost use Rattle.std.specs.Prelude.{◌≡◌, ◌≢◌, Err, Ok, IfOk, OnErr};
 ghost use Rattle.mem_base.specs.machine.Answers.{answer_with, call_answer, commit_answer, harvest_answer, plain_answer, reap_answer};
-ghost use Rattle.mem_base.specs.machine.Records.{FitsDeskOrder, told};
-ghost use Rattle.desk_lock.specs.Receipts.{HasNotifier};
+ghost use Rattle.mem_base.specs.machine.Records.{told};
 ghost use Rattle.desk_lock.specs.Turned.{IsAsked, TellsNumber};
 
 use config_desk::Config;
@@ -80,23 +79,12 @@ fn told_harvest(done: Result<Vec<u64>, Refusal>) -> Result<DeskAnswer, AllocErro
     }
 }
 
-/// A law: an order fits its types, where the notifier that it takes is one that there is. It does nothing.
-pub(crate) fn fits_order(order: &DeskOrder)
-    requires notifier { HasNotifier order.now }
-    ensures { FitsDeskOrder order.now }
-{
-    if let DeskOrder::Call(call) = order {
-        call.knows_fits();
-    }
-}
-
 /// Asks the desk for what an order says: the turn of that. Out of memory nothing has happened.
 pub(crate) fn ask<R: Wait>(
     rt: &R,
     config: &mut Config,
     order: &DeskOrder,
 ) -> Result<DeskAnswer, AllocError>
-    requires notifier { HasNotifier order.now }
     ensures asked { IfOk result (λ answer. IsAsked config.old order.now answer config.new) }
     ensures other { IfOk result (λ answer. answer ≢ DeskAnswer.Refused Refusal.Memory) }
     ensures number { IfOk result (λ answer. TellsNumber config.old.part order.now answer) }

@@ -2,7 +2,7 @@
 ghost use Rattle.std.specs.Prelude.{◌≡◌, ◌≤◌, IfOk, OnErr, MatchOption, MatchResult, None, Some, drop, length};
 ghost use Rattle.mem_base.specs.machine.Records.{Closes};
 ghost use Rattle.desk_lock.specs.Clerks.{wrote_down};
-ghost use Rattle.desk_lock.specs.Receipts.{HasNotifier, IsReceipt};
+ghost use Rattle.desk_lock.specs.Receipts.{IsReceipt};
 ghost use Rattle.desk_lock.specs.Records.{IsLater, later_entries};
 ghost use Rattle.desk_lock.specs.Turned.{entry_got};
 
@@ -64,7 +64,6 @@ impl<J: Naming> Locked<J> {
         who: u32,
         order: &DeskOrder,
     ) -> Result<(Receipt, DeskEntry), AllocError>
-        requires notifier { HasNotifier order.now }
         ensures receipt { IfOk result (λ r. IsReceipt J.start.seat.cabinet order.now r.0) }
         ensures entry { IfOk result (λ r. r.1 ≡ entry_got who order.now r.0) }
     {
@@ -111,7 +110,7 @@ impl<J: Naming> DeskLock<J> {
     }
 
     /// Gives an order, and appends it with what it got to the clerk's list. It waits for the lock. Out of memory the clerk's list is as
-    /// before. A notifier that is taken is one of those that there are.
+    /// before.
     ///
     /// The answer is one that the order can have, and the receipt's note has seen published what it tells. It does not say who comes
     /// first.
@@ -121,7 +120,6 @@ impl<J: Naming> DeskLock<J> {
         clerk: &mut Clerk,
         order: &DeskOrder,
     ) -> Result<Receipt, AllocError>
-        requires notifier { HasNotifier order.now }
         ensures receipt { IfOk result (IsReceipt J.start.seat.cabinet order.now) }
         ensures clerk { IfOk result (λ r. clerk.new ≡ wrote_down clerk.old order.now r) }
         ensures err { OnErr result (clerk.new ≡ clerk.old) }

@@ -1,7 +1,7 @@
 // One way to order, of a record by itself and of a lock that threads share.
 ghost use Rattle.std.specs.Prelude.{◌≡◌, IfOk, OnErr};
 ghost use Rattle.desk_lock.specs.Clerks.{wrote_down};
-ghost use Rattle.desk_lock.specs.Receipts.{HasNotifier, IsReceipt};
+ghost use Rattle.desk_lock.specs.Receipts.{IsReceipt};
 
 use crate::clerks::Clerk;
 use crate::locks::{DeskLock, Naming};
@@ -24,15 +24,13 @@ pub trait Orderly {
     /// What is known of it after an order of someone, by the receipt: of a record all, and of a lock nothing.
     ghost takes: { Self → ℕ → DeskOrder → Receipt → Self → Type 0 };
 
-    /// Gives an order, and appends it with what it got to the clerk's list. Out of memory nothing is other than before. A notifier that is
-    /// taken is one of those that there are.
+    /// Gives an order, and appends it with what it got to the clerk's list. Out of memory nothing is other than before.
     fn give<R: Wait>(
         &mut self,
         rt: &R,
         clerk: &mut Clerk,
         order: &DeskOrder,
     ) -> Result<Receipt, AllocError>
-        requires notifier { HasNotifier order.now }
         ensures receipt { IfOk result (IsReceipt (cabinet self.old) order.now) }
         ensures same { cabinet self.new ≡ cabinet self.old }
         ensures takes { IfOk result (λ r. takes self.old clerk.old.who order.now r self.new) }

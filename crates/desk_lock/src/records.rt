@@ -8,11 +8,10 @@ ghost use Rattle.mem_base.specs.machine.Publishing.{current_forest};
 ghost use Rattle.epoch_rule.specs.Rule.{IsLegal, KeepsHome};
 ghost use Rattle.epoch_rule.specs.Values.{first_free};
 ghost use Rattle.epoch_rule.specs.Wrote.{IsNewPass, Wrote, longer};
-ghost use Rattle.desk_lock.specs.Receipts.{HasNotifier, IsReceipt};
+ghost use Rattle.desk_lock.specs.Receipts.{IsReceipt};
 ghost use Rattle.desk_lock.specs.Records.{IsLater, IsRecord, IsUnused, record_state};
 ghost use Rattle.desk_lock.specs.Turned.{Takes, entry_got};
 
-use crate::asking::fits_order;
 use crate::drafts::{draft_of, written};
 use crate::orders::Receipt;
 use crate::turning::turned;
@@ -123,14 +122,13 @@ impl Record {
     /// memory nothing has changed.
     ///
     /// The answer is that of the desk for this order; a look answers the number of the current generation, and changes nothing. The
-    /// receipt's note is what the writer has seen afterwards. A notifier that is taken is one of those that there are.
+    /// receipt's note is what the writer has seen afterwards.
     pub fn order<R: Wait>(
         &mut self,
         rt: &R,
         who: u32,
         order: &DeskOrder,
     ) -> Result<Receipt, AllocError>
-        requires notifier { HasNotifier order.now }
         ensures receipt { IfOk result (IsReceipt self.old.seat.cabinet order.now) }
         ensures note { IfOk result (λ r. r.note.seen ≡ self.new.seat.seen) }
         ensures turn { IfOk result (λ r. Takes self.old who order.now r self.new) }
@@ -148,7 +146,6 @@ impl Record {
         who: u32,
         order: &DeskOrder,
     ) -> Result<(Receipt, DeskEntry), AllocError>
-        requires notifier { HasNotifier order.now }
         ensures receipt { IfOk result (λ r. IsReceipt self.old.seat.cabinet order.now r.0) }
         ensures note { IfOk result (λ r. r.0.note.seen ≡ self.new.seat.seen) }
         ensures turn { IfOk result (λ r. Takes self.old who order.now r.0 self.new) }
@@ -156,7 +153,7 @@ impl Record {
         ensures entry { IfOk result (λ r. r.1 ≡ entry_got who order.now r.0) }
         ensures err { OnErr result (self.new ≡ self.old) }
     {
-        fits_order(order);
+        order.knows_fits();
         let mine = draft_of(self.alloc, &self.config, order)?;
         let theirs = draft_of(self.alloc, &self.config, order)?;
         self.entries.reserve(1)?;

@@ -1,7 +1,7 @@
 // An order is done: its turn, and what who ordered is told.
 ghost use Rattle.std.specs.Prelude.{◌≡◌, IfOk, OnErr};
 ghost use Rattle.epoch_rule.specs.Copies.{value_in};
-ghost use Rattle.desk_lock.specs.Receipts.{HasNotifier, IsReceipt};
+ghost use Rattle.desk_lock.specs.Receipts.{IsReceipt};
 ghost use Rattle.desk_lock.specs.Turned.{HandsCurrent, IsTurned};
 
 use crate::asking::ask;
@@ -31,7 +31,6 @@ pub(crate) fn turned<R: Wait>(
     config: &mut Config,
     order: &DeskOrder,
 ) -> Result<Receipt, AllocError>
-    requires notifier { HasNotifier order.now }
     ensures receipt { IfOk result (IsReceipt config.old.seat.cabinet order.now) }
     ensures note { IfOk result (λ r. r.note.seen ≡ config.new.seat.seen) }
     ensures turn { IfOk result (λ r. IsTurned config.old order.now r config.new) }

@@ -6,7 +6,6 @@ use Rattle.std.specs.Arc.{arc_value}
 use mathlib.Core.List.{IsPrefix}
 use Rattle.atomic_table.specs.Seated.{TableId}
 use Rattle.mem_base.specs.declared.map.forests.Forest.{Forest}
-use Rattle.mem_base.specs.declared.script.commands.Command.{Command}
 use Rattle.mem_base.specs.declared.machine.events.HistoryEntry.{HistoryEntry}
 use Rattle.mem_base.specs.declared.machine.records.DeskEntry.{DeskEntry}
 use Rattle.mem_base.specs.declared.machine.records.DeskOrder.{DeskOrder}
@@ -26,12 +25,10 @@ use Rattle.history_laws.proofs.AppendLaws.{generation_stays, published_more}
 use Rattle.generation.specs.Published.{Published}
 use Rattle.epoch_rule.specs.Copies.{value_in}
 use Rattle.epoch_rule.specs.Values.{NoteValue}
-use Rattle.run_laws.specs.Fitting.{FitsCommand}
 use Rattle.race_laws.specs.SoFar.{IsTold}
 use Rattle.race_laws.specs.Stopped.{BeginsLine}
 use Rattle.race_laws.proofs.EnterLaws.{some_published}
 use Rattle.race_laws.proofs.NextLines.{orders_of, own_asks}
-use Rattle.race_laws.proofs.OutsideLaws.{orders_fit}
 use Rattle.desk_lock.specs.Receipts.{HandsOut, HasSeenTold, IsAnswerTo, number_told}
 use Rattle.desk_lock.specs.Turned.{entry_got}
 use Rattle.race_lines.specs.declared.tasks.LineTask.{LineTask}
@@ -42,24 +39,7 @@ use Rattle.race_lines.specs.LineTasks.{Resolves, name_made, resolved}
 use Rattle.race_lines.proofs.SaidLaws.{lines_go_by_answers}
 use Rattle.race_block.specs.declared.desks.Asked.{Asked}
 use Rattle.race_block.specs.declared.desks.Given.{Given}
-use Rattle.race_block.specs.Desks.{Gives, GivesOwn, HasHeard, IsAsked, OrderFits, StopsIn, clerk_with, entry_of, line_asked}
-use Rattle.desk_lock.proofs.ReceiptLaws.{has_notifier}
-
--- a notifier of an order that fits
-
-pub order_fits : (k : Known) (c : Command) (x : Result LineTask Refused) → FitsCommand c → Resolves k x (task_of k c) → OrderFits x
-order_fits k c (Err why) fits r = tt
-order_fits k c (Ok Idle) fits r = tt
-order_fits k c (Ok (Ordered order naming)) fits r = has_notifier order (orders_fit k c order (name_made naming) fits (sym r.is))
-order_fits k c (Ok (Shown space)) fits r = tt
-order_fits k c (Ok (Found space addr)) fits r = tt
-order_fits k c (Ok (Watched name region first last)) fits r = tt
-order_fits k c (Ok (Unwatched name watcher)) fits r = tt
-order_fits k c (Ok Entered) fits r = tt
-order_fits k c (Ok Left) fits r = tt
-order_fits k c (Ok (Read space addr len)) fits r = tt
-order_fits k c (Ok (Written space addr bytes)) fits r = tt
-order_fits k c (Ok (Copied space addr len to to_addr)) fits r = tt
+use Rattle.race_block.specs.Desks.{Gives, GivesOwn, HasHeard, IsAsked, StopsIn, clerk_with, entry_of, line_asked}
 
 -- what a receipt tells, in every history that begins with what its note had seen
 

@@ -33,7 +33,7 @@ use Rattle.race_block.specs.Lines.{HasDone, HasRunBy, HasStopped, HasTold, HaveR
 use Rattle.race_block.specs.Resolving.{AreTasksOf, IsTaskOf, StandsFor, gives_order}
 use Rattle.race_block.specs.Texts.{KeepsTold, gave_order, plain_text, plain_texts}
 use Rattle.race_block.proofs.ResolvingLaws.{take_all, take_more, tasks_push}
-use Rattle.race_block.proofs.StepLaws.{run_then, stays_inside}
+use Rattle.race_block.proofs.StepLaws.{keeps_number, run_then, stays_inside}
 use Rattle.race_block.proofs.TextLaws.{plain_lines}
 
 -- a task that is no order
@@ -120,6 +120,7 @@ module _ (k : Known) (lines : List OwnLine) (c : Clerk) (v : PassValue Published
     clerk = refl;
     inside = inside;
     cabinet = refl;
+    number = refl;
   }
 
   -- nothing more was done
@@ -153,7 +154,7 @@ module _ (k : Known) (lines : List OwnLine) (c : Clerk) (v : PassValue Published
 
     -- one line more was done and told
     pub told_then : (more : Text) → actor_number line.line.now.1 < most_passes → list_any (λ y. gives_order y.line.now.1) lines ≡ false
-        → more ≡ text ++ plain_text (pass_id c.who) own got → IsTold k lines c v (at + 1) e x more
+        → more ≡ text ++ plain_text (pass_id v.number) own got → IsTold k lines c v (at + 1) e x more
     told_then more near none put =
         let gives : gives_order line.line.now.1 ≡ false =
         ap (λ (y : OwnLine). gives_order y.line.now.1) (sym is) ∙ none_at (λ y. gives_order y.line.now.1) lines at line none room in
@@ -165,10 +166,11 @@ module _ (k : Known) (lines : List OwnLine) (c : Clerk) (v : PassValue Published
           count = count;
           ran = ran;
           none = none_push h.all got h.none plain.0;
-          told = put ∙ ap (λ (t : Text). t ++ plain_text (pass_id c.who) own got) h.told ∙ sym (texts_push (pass_id c.who) h.tasks own h.all got h.count);
+          told = put ∙ ap (λ (t : Text). t ++ plain_text (pass_id v.number) own got) h.told ∙ sym (texts_push (pass_id v.number) h.tasks own h.all got h.count);
           clerk = plain.1 ∙ h.clerk;
           inside = stays.0;
           cabinet = stays.1 ∙ h.cabinet;
+          number = keeps_number own.task d w got e x done ∙ h.number;
         }
 
   module _ (at : ℕ) (d e : Clerk) (w x : PassValue Published) (text more : Text) (lasted : Bool) (line : OwnLine) (h : IsTold k lines c v at d w text)
@@ -184,7 +186,7 @@ module _ (k : Known) (lines : List OwnLine) (c : Clerk) (v : PassValue Published
     tells goes near none (inl t) = true_is_not_false lasted goes t.0
     tells goes near none (inr t) =
         told_then at d e w x text line t.own t.got h room is t.task t.done more near none
-        (t.told goes ∙ (λ i. text ++ plain_text (pass_id (h.clerk i).who) t.own t.got))
+        (t.told goes ∙ (λ i. text ++ plain_text (pass_id (h.number i)) t.own t.got))
 
   -- a pass that told its lines, or stopped
   pub plain_run : (room : ℕ) (b : PassActor) (whole : Bool) (text : Text) → (whole ≡ true → IsTold k lines c v (length lines) b.clerk b.vcpu text)
@@ -192,9 +194,9 @@ module _ (k : Known) (lines : List OwnLine) (c : Clerk) (v : PassValue Published
       → HasRunBy k lines room c v b
   plain_run room b true text all some bounce out is =
       let h = all refl in
-      let pass : PassId = pass_id b.clerk.who in
+      let pass : PassId = pass_id v.number in
       let same : length h.all ≡ length h.tasks = h.count in
-      let told : plain_texts pass h.tasks h.all ≡ text = ap (λ (d : Clerk). plain_texts (pass_id d.who) h.tasks h.all) h.clerk ∙ sym h.told in record {
+      let told : plain_texts pass h.tasks h.all ≡ text = sym h.told in record {
         tasks = h.tasks;
         all = h.all;
         lines = inl (subst (λ (ls : List OwnLine). AreTasksOf k (lines_meant ls) h.tasks) (take_all lines (length lines) (omega arith)) h.are);

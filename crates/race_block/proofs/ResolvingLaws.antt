@@ -17,7 +17,6 @@ use Rattle.mem_base.specs.script.Spelling.{Text}
 use Rattle.mem_base.specs.script.Tasks.{Known, Resolved, Task, change_of, space, task_of, then_resolved}
 use Rattle.mem_base.specs.script.Tasks as tasks
 use Rattle.run_laws.specs.Fitting.{FitsCommand}
-use Rattle.race_laws.proofs.OutsideLaws.{orders_fit}
 use Rattle.generation.specs.Published.{Published}
 use Rattle.epoch_rule.specs.Values.{PassValue}
 use Rattle.race_lines.specs.declared.tasks.LineTask.{LineTask}
@@ -36,7 +35,6 @@ use Rattle.race_block.specs.Lines.{FitsLine, FitsTask, HasDoneTasks, HasRunBy, H
 use Rattle.race_block.specs.Resolving.{AreTasksOf, IsOfPass, IsTaskOf, StandsFor, copy_room, tasks_in}
 use Rattle.race_block.specs.Texts.{IsTextOf, KeepsTold}
 use Rattle.mem_base.proofs.BoolLaws.{true_is_not_false}
-use Rattle.desk_lock.proofs.ReceiptLaws.{has_notifier}
 
 -- a task of a pass, which copies no more than there is room for
 abbrev CanBeOfPass : Resolved Task → Type 0
@@ -80,7 +78,6 @@ is_of_pass k c (Ok (Unwatched name watcher)) h l r = absurd (subst CanBeOfPass (
 -- what a pass is asked for fits
 pub task_fits : (k : Known) (c : Command) (task : PassTask) → FitsCommand c → actor_number c < most_passes → StandsFor task (task_of k c)
     → FitsTask copy_room task
-task_fits k c (passes.Order order) h l s = has_notifier order (orders_fit k c order s.0 h s.1)
 task_fits k c (passes.Copy from addr len to to_addr) h l s = subst CanBeOfPass s (can_be k c h l)
 task_fits k c _ h l s = tt
 
@@ -129,7 +126,7 @@ keeps_told pass xs lines got None is told = (is, refl)
 keeps_told pass xs lines got (Some text) is told = subst (λ (ys : List BlockLine). IsTextOf pass ys got (Some text)) is told
 
 pub tasks_run : (xs : List BlockLine) (room : ℕ) (c : Clerk) (v : PassValue Published) (b : PassActor) (text : Option Text) → HasRunLines xs room c v b
-    → IsTextOf (pass_id b.clerk.who) (tasks_in b.lines) b.got.items text → HasDoneTasks xs room c v (record b { text = text })
+    → IsTextOf (pass_id v.number) (tasks_in b.lines) b.got.items text → HasDoneTasks xs room c v (record b { text = text })
 tasks_run xs room c v b text h told = record {
   tasks = xs;
   all = b.got.items;
@@ -138,7 +135,7 @@ tasks_run xs room c v b text h told = record {
   most = h.most;
   ran = h.ran;
   whole = h.whole;
-  text = λ lasted. keeps_told (pass_id b.clerk.who) xs b.lines b.got.items text h.lines told;
+  text = λ lasted. keeps_told (pass_id v.number) xs b.lines b.got.items text h.lines told;
 }
 
 pub runs_as : (Are Begin These First : List BlockLine → Type 0) (room : ℕ) (c : Clerk) (v : PassValue Published) (b : PassActor)

@@ -84,6 +84,13 @@ stays_inside (Refused why) c v got d w inside h = subst (λ (z : PassValue Publi
 stays_inside (Order order) c v got d w inside h = (h.1.inside, h.1.grew.cabinet)
 stays_inside _ c v got d w inside h = (h.does.inside, h.does.grew.cabinet)
 
+-- it has the number that it had
+pub keeps_number : (task : PassTask) (c : Clerk) (v : PassValue Published) (got : LineGot) (d : Clerk) (w : PassValue Published)
+    → HasDone task c v got d w → w.number ≡ v.number
+keeps_number (Refused why) c v got d w h = ap (λ (z : PassValue Published). z.number) h.2
+keeps_number (Order order) c v got d w h = h.1.grew.number
+keeps_number _ c v got d w h = h.does.grew.number
+
 take_more : (xs : List BlockLine) (at : ℕ) (x : BlockLine) → at < length xs → slice_index_or xs at x ≡ x → take (at + 1) xs ≡ take at xs ++ x ∷ []
 take_more [] at x l is = absurd (omega (arith, l))
 take_more (y ∷ xs) zero x l is = ap (λ (z : BlockLine). z ∷ []) is

@@ -1,5 +1,5 @@
 -- What the desk does in a block, line by line.
-use Rattle.std.specs.Prelude.{◌≡◌, ◌⊎◌, ℕ, ◌<◌, true, false, All, List, [], ◌∷◌, ◌++◌, length, map, Option, Some, None, Result, Ok}
+use Rattle.std.specs.Prelude.{◌≡◌, ◌⊎◌, ℕ, ◌<◌, true, false, List, [], ◌∷◌, ◌++◌, length, map, Option, Some, None, Result, Ok}
 use Rattle.std.specs.Arc.{arc_value}
 use mathlib.Core.List.{IsPrefix}
 use Rattle.atomic_table.specs.Seated.{TableId}
@@ -15,13 +15,12 @@ use Rattle.mem_base.specs.script.Tasks.{Known, task_of}
 use Rattle.mem_base.specs.script.RaceLines.{DeskLine, Said, asked_first, entry_at, line_of_desk, lines_of_desk, no_entry, number_looked}
 use Rattle.mem_base.specs.script.Race.{AsksAsGiven}
 use Rattle.epoch_rule.specs.Values.{NoteValue}
-use Rattle.run_laws.specs.Fitting.{FitsCommand}
 use Rattle.race_laws.specs.Acting.{DeskAt}
 use Rattle.race_laws.specs.SoFar.{IsTold}
 use Rattle.race_laws.specs.Stopped.{BeginsLine}
 use Rattle.desk_lock.specs.declared.orders.Receipt.{Receipt}
 use Rattle.desk_lock.specs.Clerks.{wrote_down}
-use Rattle.desk_lock.specs.Receipts.{HasNotifier, IsReceipt}
+use Rattle.desk_lock.specs.Receipts.{IsReceipt}
 use Rattle.race_lines.specs.declared.tasks.LineTask.{LineTask}
 use Rattle.race_lines.specs.declared.tasks.LineTask.TheVariants.{Ordered}
 use Rattle.race_lines.specs.declared.tasks.Refused.{Refused}
@@ -35,10 +34,6 @@ use Rattle.race_block.specs.declared.desks.DeskActor.{DeskActor}
 -- the line of the script
 abbrev pub line_meant : OwnLine → Line
 line_meant x = x.line.now
-
--- the numbers of its command fit
-abbrev pub FitsLine : OwnLine → Type 0
-FitsLine x = FitsCommand x.line.now.1
 
 -- an order was given, and what it got is its receipt's; the clerk wrote it down, and the receipt's note was kept
 pub record Gives (cabinet : TableId) (order : DeskOrder) (c : Clerk) (notes : List NoteValue) (got : Given) (d : Clerk) (more : List NoteValue)
@@ -58,11 +53,6 @@ AreNotesOf cabinet notes = Every (λ n. n.cabinet ≡ cabinet) notes
 
 abbrev pub KeepsNotes : TableId → List NoteValue → List NoteValue → Type 0
 KeepsNotes cabinet notes more = AreNotesOf cabinet notes → AreNotesOf cabinet more
-
--- what is asked of the order that a task has, if any
-abbrev pub OrderFits : Result LineTask Refused → Type 0
-OrderFits (Ok (Ordered order naming)) = HasNotifier order
-OrderFits _ = Unit {0}
 
 -- the order of a task was given, where it has one
 abbrev pub GivesOwn : TableId → Result LineTask Refused → Clerk → List NoteValue → Option Given → Clerk → List NoteValue → Type 0
@@ -159,7 +149,6 @@ pub record HasStopped (k : Known) (lines : List Line) (c d : Clerk) (notes : Lis
 
 -- the desk may begin
 pub record IsReady (a : DeskActor) : Type 0 where
-  pub fits : All FitsLine a.lines.items
   pub silent : a.said.items ≡ []
   pub unheard : a.notes.items ≡ []
 

@@ -14,7 +14,7 @@ use Rattle.generation.specs.Published.{Published}
 use Rattle.epoch_rule.specs.Values.{PassValue}
 use Rattle.desk_lock.specs.declared.orders.Receipt.{Receipt}
 use Rattle.desk_lock.specs.Clerks.{wrote_down}
-use Rattle.desk_lock.specs.Receipts.{HasNotifier, IsReceipt}
+use Rattle.desk_lock.specs.Receipts.{IsReceipt}
 use Rattle.pass_lines.specs.declared.answers.LineAnswer.{LineAnswer}
 use Rattle.pass_lines.specs.declared.answers.LineAnswer.TheVariants as answers
 use Rattle.pass_lines.specs.Doing.{DoesLine, Grew, IsInItsGeneration}
@@ -31,9 +31,8 @@ use Rattle.race_block.specs.Desks.{lines_meant}
 use Rattle.race_block.specs.Resolving.{AreFirstTasksIn, AreFirstTasksOf, AreTasksIn, AreTasksOf, IsPassLine, IsTaskOf, copy_room, tasks_in}
 use Rattle.race_block.specs.Texts.{KeepsTold, gave_order, plain_text, plain_texts}
 
--- what is asked of a task: the bounce has room for what it copies, and a notifier that is to be taken is one of those that there are
+-- what is asked of a task: the bounce has room for what it copies
 abbrev pub FitsTask : ℕ → PassTask → Type 0
-FitsTask room (Order order) = HasNotifier order
 FitsTask room (Copy from addr len to to_addr) = len ≤ room
 FitsTask room task = Unit {0}
 
@@ -147,10 +146,11 @@ pub record IsTold (k : Known) (lines : List OwnLine) (c : Clerk) (v : PassValue 
   pub count : length all ≡ length tasks
   pub ran : HaveRun tasks c v all d w
   pub none : list_any gave_order all ≡ false
-  pub told : text ≡ plain_texts (pass_id c.who) tasks all
+  pub told : text ≡ plain_texts (pass_id v.number) tasks all
   pub clerk : d ≡ c
   pub inside : IsInItsGeneration w
   pub cabinet : w.cabinet ≡ v.cabinet
+  pub number : w.number ≡ v.number
 
 -- a line of a pass that gives no order was done, and where memory lasted it was told: what it wrote was added to a text
 pub record HasDoneLine (k : Known) (line : Line) (c : Clerk) (v : PassValue Published) (before : Text) (lasted : Bool) (d : Clerk) (w : PassValue Published)
@@ -159,7 +159,7 @@ pub record HasDoneLine (k : Known) (line : Line) (c : Clerk) (v : PassValue Publ
   pub got : LineGot
   pub task : IsTaskOf k line own
   pub done : HasDone own.task c v got d w
-  pub told : lasted ≡ true → after ≡ before ++ plain_text (pass_id c.who) own got
+  pub told : lasted ≡ true → after ≡ before ++ plain_text (pass_id v.number) own got
 
 -- so a line was done, or memory ran out before anything was
 abbrev pub HasTold : Known → Line → Clerk → PassValue Published → Text → Bool → Clerk → PassValue Published → Text → Type 0
@@ -176,7 +176,7 @@ pub record HasRunTasks (Are Begin : List BlockLine → Type 0) (room : ℕ) (c :
   pub most : length all ≤ length tasks
   pub ran : HaveRun (take (length all) tasks) c v all b.clerk b.vcpu
   pub whole : b.out_of_memory ≡ false → length all ≡ length tasks
-  pub text : b.out_of_memory ≡ false → KeepsTold (pass_id b.clerk.who) tasks all b.lines b.got.items b.text
+  pub text : b.out_of_memory ≡ false → KeepsTold (pass_id v.number) tasks all b.lines b.got.items b.text
 
 -- so tasks were done, all of them or the first
 abbrev pub HasDoneTasks : List BlockLine → ℕ → Clerk → PassValue Published → PassActor → Type 0

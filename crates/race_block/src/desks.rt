@@ -1,11 +1,10 @@
 // The desk that does its lines.
 ghost use Rattle.std.specs.Prelude.{◌≡◌, ◌++◌, ◌∷◌, [], ℕ, true, false, All, IfOk, OnOk, OnErr};
 ghost use Rattle.mem_base.specs.script.RaceLines.{Said};
-ghost use Rattle.desk_lock.specs.Receipts.{HasNotifier};
 ghost use Rattle.race_lines.specs.DeskLines.{desk_line_by, entry_got};
 ghost use Rattle.race_lines.specs.LineTasks.{HasItsNames, resolved};
-ghost use Rattle.race_block.specs.Desks.{AreNotesOf, DoesDeskLine, FitsLine, Gives, GivesOwn, HasRun, IsAsked, IsNotDone, IsReady, KeepsNotes};
-ghost use Rattle.race_block.specs.Desks.{LeavesLine, OrderFits, StopsIn, entry_of, line_meant};
+ghost use Rattle.race_block.specs.Desks.{AreNotesOf, DoesDeskLine, Gives, GivesOwn, HasRun, IsAsked, IsNotDone, IsReady, KeepsNotes};
+ghost use Rattle.race_block.specs.Desks.{LeavesLine, StopsIn, entry_of, line_meant};
 
 use crate::tasks::OwnLine;
 use desk_lock::{Clerk, Orderly, Receipt};
@@ -48,7 +47,6 @@ fn ask<O: Orderly, R: Wait>(
     notes: &mut Vec<Note<Generation>>,
     order: &DeskOrder,
 ) -> Result<Given, AllocError>
-    requires notifier { HasNotifier order.now }
     ensures given { IfOk result (λ got. Gives (O.cabinet desk.old) order.now clerk.old notes.old.items got clerk.new notes.new.items) }
     ensures err { OnErr result ((clerk.new ≡ clerk.old) × (notes.new.items ≡ notes.old.items)) }
     ensures own { KeepsNotes (O.cabinet desk.old) notes.old.items notes.new.items }
@@ -79,7 +77,6 @@ fn ask_own<O: Orderly, R: Wait>(
     notes: &mut Vec<Note<Generation>>,
     task: &ResolvedTask<'_>,
 ) -> Result<Option<Given>, AllocError>
-    requires notifier { OrderFits task.now }
     ensures given { IfOk result (λ got. GivesOwn (O.cabinet desk.old) task.now clerk.old notes.old.items got clerk.new notes.new.items) }
     ensures err { OnErr result ((clerk.new ≡ clerk.old) × (notes.new.items ≡ notes.old.items)) }
     ensures own { KeepsNotes (O.cabinet desk.old) notes.old.items notes.new.items }
@@ -113,7 +110,6 @@ fn ask_line<'a, O: Orderly, R: Wait>(
     notes: &mut Vec<Note<Generation>>,
     own: &OwnLine<'a>,
 ) -> Result<Asked<'a>, AllocError>
-    requires fits { FitsLine own.now }
     ensures asked { IfOk result (λ x. IsAsked known.now (line_meant own.now) clerk.old notes.old.items x clerk.new notes.new.items) }
     ensures stopped { OnErr result (StopsIn known.now (line_meant own.now) clerk.old notes.old.items clerk.new notes.new.items) }
     ensures own { KeepsNotes (O.cabinet desk.old) notes.old.items notes.new.items }
@@ -176,7 +172,6 @@ fn do_line<O: Orderly, G: Gate, R: Wait>(
     said: &mut Vec<LineSaid>,
     own: &OwnLine<'_>,
 ) -> bool
-    requires fits { FitsLine own.now }
     ensures done { result ≡ true → DoesDeskLine known.old (line_meant own.now) clerk.old notes.old.items said.old.items clerk.new notes.new.items
         known.new said.new.items }
     ensures stopped { result ≡ false → IsNotDone known.old (line_meant own.now) clerk.old notes.old.items clerk.new notes.new.items }
@@ -197,7 +192,7 @@ impl<'a> DeskActor<'a> {
     /// Does the lines in order, and reaches the gate before each. Where memory runs out it stops, and has done the first of them; it may then
     /// have given the order of the next one.
     ///
-    /// Nothing was done yet, and the numbers of the lines' commands fit, as those of every script that was read do.
+    /// Nothing was done yet.
     pub fn run<O: Orderly, G: Gate, R: Wait>(
         self,
         rt: &R,

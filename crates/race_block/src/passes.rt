@@ -2,7 +2,6 @@
 ghost use Rattle.std.specs.Prelude.{◌≡◌, ◌≤◌, [], true, false, All, IfOk, OnErr, length, take};
 ghost use Rattle.mem_base.specs.access.AccessSteps.{reading};
 ghost use Rattle.mem_base.specs.script.Tasks.{accessed};
-ghost use Rattle.desk_lock.specs.Receipts.{HasNotifier};
 ghost use Rattle.pass_lines.specs.Doing.{IsInItsGeneration};
 ghost use Rattle.race_block.specs.Lines.{FitsLine, FitsTask, HasDone, HasDoneTasks, HasGot, HasOrdered, HasRun, HasRunBy, HasRunLines, HasStepped, IsReady};
 ghost use Rattle.race_block.specs.Resolving.{IsPassLine, copy_room};
@@ -16,7 +15,7 @@ use crate::tasks::{BlockLine, LineGot, OwnLine, PassLines, PassTask};
 use crate::texts::{tasks_in, text_of};
 use desk_lock::{Clerk, Orderly, Receipt};
 use io_window::Bounce;
-use mem_base::{Access, DeskOrder, PassId, SpaceId};
+use mem_base::{Access, DeskOrder, SpaceId};
 use outside::{Actor, Gate};
 use pass_lines::{copy, enter, leave, read, write};
 use race_lines::KnownNames;
@@ -50,7 +49,6 @@ fn order<O: Orderly, R: Wait>(
 ) -> Result<LineGot, AllocError>
     requires own { O.cabinet desk.old ≡ vcpu.old.cabinet }
     requires inside { IsInItsGeneration vcpu.old }
-    requires notifier { HasNotifier order.now }
     ensures done { IfOk result (λ got. (got ≡ Ordered) × HasOrdered order.now clerk.old vcpu.old clerk.new vcpu.new) }
     ensures err { OnErr result ((vcpu.new ≡ vcpu.old) × (clerk.new ≡ clerk.old)) }
     ensures desk { O.cabinet desk.new ≡ O.cabinet desk.old }
@@ -192,7 +190,7 @@ fn do_line<'a, O: Orderly, G: Gate, R: Wait>(
     ensures room { result.1 ≡ bounce }
     ensures desk { O.cabinet desk.new ≡ O.cabinet desk.old }
 {
-    gate.arrive(Actor::Pass(PassId(clerk.who())), line.number);
+    gate.arrive(Actor::Pass(vcpu.id()), line.number);
     let Ok(()) = got.reserve(1) else {
         return (vcpu, bounce, false);
     };
@@ -275,13 +273,9 @@ fn run_tasks<'a, 'k, O: Orderly, G: Gate, R: Wait>(
     ensures run { HasDoneTasks tasks.entry.items bounce clerk vcpu.entry result }
     ensures desk { O.cabinet desk.new ≡ O.cabinet desk.old }
 {
+    let pass = vcpu.id();
     let mut actor = run_lines(rt, alloc, gate, desk, vcpu, bounce, clerk, tasks, got);
-    actor.text = text_of(
-        alloc,
-        PassId(actor.clerk.who()),
-        tasks_in(&actor.lines),
-        actor.got.as_slice(),
-    );
+    actor.text = text_of(alloc, pass, tasks_in(&actor.lines), actor.got.as_slice());
     actor
 }
 

@@ -4,6 +4,7 @@ ghost use Rattle.std.specs.List.{list_any};
 ghost use Rattle.mem_base.specs.map.PassIds.{PassId};
 ghost use Rattle.mem_base.specs.declared.script.commands.Command.TheVariants.{Pass};
 ghost use Rattle.mem_base.specs.declared.script.commands.PassCommand.TheVariants as pass_commands;
+ghost use Rattle.mem_base.specs.machine.Records.{Clerk};
 ghost use Rattle.pass_lines.specs.Doing.{IsInItsGeneration};
 ghost use Rattle.race_block.specs.Desks.{line_meant};
 ghost use Rattle.race_block.specs.Lines.{HasDone, HasRunBy, HasStopped, HasTold, IsTold};
@@ -16,7 +17,7 @@ use crate::tasks::{BlockLine, LineGot, OwnLine, PassLines};
 use crate::texts::{add_answer, add_plain};
 use desk_lock::{Clerk, Orderly};
 use io_window::Bounce;
-use mem_base::{Bytes, Command, Name, PassCommand, PassId};
+use mem_base::{Bytes, Command, Name, PassCommand};
 use outside::{Actor, Gate};
 use pass_lines::write;
 use race_lines::KnownNames;
@@ -108,7 +109,7 @@ fn tell_any<'a, O: Orderly, R: Wait>(
     ensures room { result.1 ≡ bounce }
     ensures desk { O.cabinet desk.new ≡ O.cabinet desk.old }
 {
-    let pass = PassId(clerk.who());
+    let pass = vcpu.id();
     let (vcpu, bounce, done) = do_plain(rt, alloc, desk, vcpu, bounce, clerk, names, own);
     let Some(did) = done else {
         return (vcpu, bounce, false);
@@ -125,7 +126,6 @@ const MOST_READ: usize = 64;
 // Reads bytes of the space that has a name, and adds the line to a text. It answers whether memory lasted.
 fn tell_read<'l>(
     vcpu: &mut Vcpu<'_>,
-    clerk: &Clerk,
     spaces: &mut Spaces<'_, 'l>,
     number: u32,
     space: &'l Name,
@@ -135,22 +135,23 @@ fn tell_read<'l>(
 ) -> bool
     requires inside { IsInItsGeneration vcpu.old }
     requires few { len ≤ 64 }
-    ensures told { (pass : PassId) → HasTold spaces.old (number, Pass pass (pass_commands.Read space.now addr len)) clerk.now vcpu.old text.old result clerk.now vcpu.new text.new }
+    ensures told { (pass : PassId) (clerk : Clerk) → HasTold spaces.old (number, Pass pass (pass_commands.Read space.now addr len)) clerk vcpu.old
+        text.old result clerk vcpu.new text.new }
     ensures spaces { spaces.new ≡ spaces.old }
 {
     let Some(from) = spaces.space(space) else {
         return add_unknown_line(text, number, space.as_bytes()).is_ok();
     };
+    let pass = vcpu.id();
     let mut bytes = [0u8; MOST_READ];
     let access = read_first(vcpu, from, addr, len as usize, &mut bytes);
-    add_read_line(text, PassId(clerk.who()), access, &bytes[..len as usize]).is_ok()
+    add_read_line(text, pass, access, &bytes[..len as usize]).is_ok()
 }
 
 // Writes bytes to the space that has a name, and adds the line to a text. It answers whether memory lasted.
 fn tell_write<'l, R: Wait>(
     rt: &R,
     vcpu: &mut Vcpu<'_>,
-    clerk: &Clerk,
     spaces: &mut Spaces<'_, 'l>,
     number: u32,
     space: &'l Name,
@@ -159,14 +160,16 @@ fn tell_write<'l, R: Wait>(
     text: &mut Line,
 ) -> bool
     requires inside { IsInItsGeneration vcpu.old }
-    ensures told { (pass : PassId) → HasTold spaces.old (number, Pass pass (pass_commands.Write space.now addr bytes.now)) clerk.now vcpu.old text.old result clerk.now vcpu.new text.new }
+    ensures told { (pass : PassId) (clerk : Clerk) → HasTold spaces.old (number, Pass pass (pass_commands.Write space.now addr bytes.now)) clerk vcpu.old
+        text.old result clerk vcpu.new text.new }
     ensures spaces { spaces.new ≡ spaces.old }
 {
     let Some(to) = spaces.space(space) else {
         return add_unknown_line(text, number, space.as_bytes()).is_ok();
     };
+    let pass = vcpu.id();
     let answer = write(rt, vcpu, to, addr, bytes.as_slice());
-    add_answer(text, PassId(clerk.who()), &answer).is_ok()
+    add_answer(text, pass, &answer).is_ok()
 }
 
 // Does a line, and adds what it wrote to a text. It answers whether memory lasted. Reads and writes, which are most lines, go a short way: what is read
@@ -196,15 +199,11 @@ fn tell_line<'a, 'l, O: Orderly, R: Wait>(
     };
     match command {
         PassCommand::Read { space, addr, len } => {
-            let told = tell_read(
-                &mut vcpu, clerk, spaces, own.line.0, space, *addr, *len, text,
-            );
+            let told = tell_read(&mut vcpu, spaces, own.line.0, space, *addr, *len, text);
             (vcpu, bounce, told)
         }
         PassCommand::Write { space, addr, bytes } => {
-            let told = tell_write(
-                rt, &mut vcpu, clerk, spaces, own.line.0, space, *addr, bytes, text,
-            );
+            let told = tell_write(rt, &mut vcpu, spaces, own.line.0, space, *addr, bytes, text);
             (vcpu, bounce, told)
         }
         _ => tell_any(
@@ -251,7 +250,7 @@ fn do_all_plain<'a, 'l, O: Orderly, G: Gate, R: Wait>(
     let mut spaces = Spaces::new(names);
     for at in 0..lines.len() {
         let own = &lines[at];
-        gate.arrive(Actor::Pass(PassId(clerk.who())), own.line.0);
+        gate.arrive(Actor::Pass(vcpu.id()), own.line.0);
         let (next, room, told) = tell_line(
             rt,
             alloc,

@@ -65,7 +65,7 @@ module _ (k : Known) (lines : List Line) (v w : RecordState) (who : ℕ) (a b : 
   pass_text lasted names journal = go b.text refl
     where
       go : (t : Option Text) → b.text ≡ t
-          → text_or t (flat_map (said_text names journal) (lines_said names (pass_id c.who) (tasks_in b.lines) b.got.items c.got))
+          → text_or t (flat_map (said_text names journal) (lines_said names (pass_id b.vcpu.number) (tasks_in b.lines) b.got.items c.got))
           ≡ text_or t (flat_map (said_text names journal)
           (saids names k (pass_id b.vcpu.number) (lines_by b.vcpu.number (block lines)) b.got.items c.got))
       go (Some text) is = refl

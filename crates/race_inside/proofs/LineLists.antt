@@ -9,7 +9,7 @@ use Rattle.std.proofs.lemmas.List.{drop-map, get_or_append_left, get_or_push, ge
 use Rattle.std.proofs.lemmas.List.{length-map, length-set, length_push}
 use borrow.Author.Count.{below_more}
 use Rattle.mem_base.specs.lists.Every.{Every}
-use Rattle.mem_base.proofs.EveryLaws.{every_at, every_drop, every_filter}
+use Rattle.mem_base.proofs.EveryLaws.{every_at, every_drop}
 use Rattle.mem_base.specs.declared.script.commands.Command.{Command}
 use Rattle.mem_base.specs.map.Limits.{most_passes}
 use Rattle.run_laws.specs.Fitting.{AreFitting, FitsCommand}
@@ -19,7 +19,6 @@ use Rattle.mem_base.specs.script.Tasks.{Known}
 use Rattle.mem_base.specs.script.Race.{actor_number, block, desk_number, lines_by}
 use Rattle.race_phases.specs.Plain.{has_lines, whose_line}
 use Rattle.race_block.specs.declared.tasks.OwnLine.{OwnLine}
-use Rattle.race_block.specs.Desks as desks
 use Rattle.race_block.specs.Desks.{line_meant, lines_meant}
 use Rattle.race_block.specs.Lines as passes
 use Rattle.race_block.specs.Resolving.{AreTasksOf, IsPassLine, copy_room}
@@ -204,11 +203,6 @@ desks_own lines works others own all has =
 every_unmapped : (P : Line → Type 0) (own : List OwnLine) → Every P (lines_meant own) → Every (λ x. P (line_meant x)) own
 every_unmapped P [] h = tt
 every_unmapped P (x ∷ own) h = (h.0, every_unmapped P own h.1)
-
-pub desks_fit : (lines : List Line) (own : List OwnLine) → AreFitting lines → lines_meant own ≡ lines_by desk_number (block lines)
-    → All desks.FitsLine own
-desks_fit lines own fits is i d near = every_at desks.FitsLine own i d near (every_unmapped (λ l. FitsCommand l.1) own
-    (subst (Every (λ l. FitsCommand l.1)) (sym is) (every_filter (λ l. FitsCommand l.1) (λ l. actor_number l.1 == desk_number) lines fits)))
 
 abbrev CanBePassLine : Line → Type 0
 CanBePassLine line = (actor_number line.1 < most_passes) × FitsCommand line.1

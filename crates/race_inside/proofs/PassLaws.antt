@@ -242,17 +242,16 @@ module _ (k : Known) (lines : List Line) (before seen : List HistoryEntry) (who 
   keeps : b.out_of_memory ≡ false → (t : Option Text) → b.text ≡ t
       → KeepsTold (pass_id who) j.run.tasks j.run.all b.lines b.got.items t
   keeps e t is =
-      let clerk : j.after.clerk.who ≡ who = ap (λ (d : Clerk). d.who) (sym j.clerk) ∙ who_is in
       subst (λ (z : ℕ × PassLines × List LineGot × Option Text). KeepsTold (pass_id z.0) j.run.tasks j.run.all z.1 z.2 z.3)
-      (λ i. (clerk i, sym j.lines i, (sym j.got i).items, (sym j.text ∙ is) i)) (j.run.text (sym j.out_of_memory ∙ e))
+      (λ i. (s.number i, sym j.lines i, (sym j.got i).items, (sym j.text ∙ is) i)) (j.run.text (sym j.out_of_memory ∙ e))
 
   -- the lines of a pass that keeps no text, as they are told
   pub listed : b.out_of_memory ≡ false → b.text ≡ None → (names : Names)
-      → lines_said names (pass_id c.who) (tasks_in b.lines) b.got.items c.got
+      → lines_said names (pass_id b.vcpu.number) (tasks_in b.lines) b.got.items c.got
       ≡ saids names k (pass_id b.vcpu.number) (lines_by b.vcpu.number (block lines)) b.got.items c.got
   listed e none names =
       let kept_here = keeps e None none in
-      (λ i. lines_said names (pass_id (who_is i)) (kept_here.0 i) (kept_here.1 i) c.got) ∙ said_all e names
+      (λ i. lines_said names (pass_id (number_is i)) (kept_here.0 i) (kept_here.1 i) c.got) ∙ said_all e names
       ∙ (λ i. saids names k (pass_id (sym number_is i)) (lines_by (sym number_is i) (block lines)) (sym kept_here.1 i) c.got)
 
   tells : b.out_of_memory ≡ false → (names : Names) (journal : List Delivery) → actor_text k lines names journal (Pass b) c

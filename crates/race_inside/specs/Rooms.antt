@@ -7,7 +7,6 @@ use Rattle.mem_base.specs.script.Tasks.{Known}
 use Rattle.mem_base.specs.script.Race.{block, desk_number, lines_by}
 use Rattle.race_phases.specs.Plain.{has_lines}
 use Rattle.race_block.specs.declared.tasks.OwnLine.{OwnLine}
-use Rattle.race_block.specs.Desks as desks
 use Rattle.race_block.specs.Desks.{lines_meant}
 use Rattle.race_block.specs.Lines as passes
 use Rattle.race_block.specs.Resolving.{AreTasksOf, IsPassLine, copy_room}
@@ -103,7 +102,6 @@ pub record IsPassRoomFor (k : Known) (lines : List Line) (r : PassRoom) : Type 0
 -- the desk's lines are ready, and room for all actors
 pub record IsRoomFor (k : Known) (lines : List Line) (r : Room) : Type 0 where
   pub desk : lines_meant r.desk_lines.items ≡ lines_by desk_number (block lines)
-  pub desk_fits : All desks.FitsLine r.desk_lines.items
   pub no_actors : r.actors.items ≡ []
   pub actors_fit : most_passes + 1 ≤ vec_capacity r.actors
   pub passes : IsPassRoomFor k lines r.passes

@@ -21,7 +21,7 @@ text_or None other = other
 abbrev pub actor_said : Names → List Delivery → BlockActor → Clerk → Text
 actor_said names journal (Desk a) c = flat_map (said_text names journal) a.said.items
 actor_said names journal (Pass a) c =
-    text_or a.text (flat_map (said_text names journal) (lines_said names (pass_id c.who) (tasks_in a.lines) a.got.items c.got))
+    text_or a.text (flat_map (said_text names journal) (lines_said names (pass_id a.vcpu.number) (tasks_in a.lines) a.got.items c.got))
 actor_said names journal Gone c = []
 
 abbrev pub actors_said : Names → List Delivery → List BlockActor → List Clerk → Text

@@ -1,12 +1,11 @@
 // The virtual CPUs before a block and after it: those of its actors, and those that wait.
-ghost use Rattle.std.specs.Prelude.{◌≡◌, ℕ, ◌+◌, ◌<◌, ◌≤◌, [], All, List, Some, length, option_to_list, vec_capacity};
+ghost use Rattle.std.specs.Prelude.{◌≡◌, ℕ, ◌+◌, ◌<◌, ◌≤◌, [], List, Some, length, option_to_list, vec_capacity};
 ghost use Rattle.mem_base.specs.map.Limits.{most_passes};
 ghost use Rattle.mem_base.specs.script.Race.{block, desk_number, lines_by};
 ghost use Rattle.mem_base.specs.script.Scripts.{Line};
 ghost use Rattle.mem_base.specs.script.Tasks.{Known};
 ghost use Rattle.race_block.specs.HandedOn.{RecordState};
 ghost use Rattle.race_block.specs.declared.blocks.BlockActor.TheVariants.{Pass};
-ghost use Rattle.race_block.specs.Desks as desks;
 ghost use Rattle.race_block.specs.Desks.{lines_meant};
 ghost use Rattle.race_inside.specs.Rooms.{AreWorksOf, IsPassRoomFor};
 ghost use Rattle.race_inside.specs.Seats.{AllComeBack, AreSeated, AreSeatsOf, GivesLines, HaveSeats, IsTold, KeepsKnown, SeatsDesk};
@@ -41,7 +40,6 @@ pub(crate) fn seat_desk<'a>(
     actors: &mut Vec<BlockActor<'a, '_>>,
 ) -> Option<KnownNames>
     requires lines { lines_meant own.items ≡ lines_by desk_number (block lines.now) }
-    requires fits { All desks.FitsLine own.items }
     requires empty { actors.old.items ≡ [] }
     requires room { 0 < vec_capacity actors.old }
     ensures desk { SeatsDesk known lines.now result actors.new.items }

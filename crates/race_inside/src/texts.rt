@@ -137,7 +137,7 @@ fn add_pass(
             text,
             names,
             journal,
-            PassId(clerk.who()),
+            pass.vcpu.id(),
             tasks_in(&pass.lines),
             pass.got.as_slice(),
             clerk.got(),

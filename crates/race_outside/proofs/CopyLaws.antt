@@ -12,13 +12,11 @@ use Rattle.mem_base.specs.script.Tasks.{Known, kind_of, Resolved, Task, change_o
 use Rattle.mem_base.specs.script.Tasks.{watcher_named}
 use Rattle.mem_base.specs.script.Tasks as tasks
 use Rattle.run_laws.specs.Fitting.{FitsCommand}
-use Rattle.race_laws.proofs.OutsideLaws.{orders_fit}
 use Rattle.race_lines.specs.declared.tasks.LineTask.{LineTask}
 use Rattle.race_lines.specs.declared.tasks.LineTask.TheVariants.{Idle, Ordered, Shown, Found, Watched, Unwatched, Entered, Left, Read, Written, Copied}
 use Rattle.race_lines.specs.declared.tasks.Refused.{Refused}
-use Rattle.race_lines.specs.LineTasks.{Resolves, name_made}
+use Rattle.race_lines.specs.LineTasks.{Resolves}
 use Rattle.race_outside.specs.Passes.{FitsTask}
-use Rattle.desk_lock.proofs.ReceiptLaws.{has_notifier}
 
 abbrev CopiesFew : Task → Type 0
 CopiesFew (tasks.copied from addr n to to_addr) = n ≤ 64
@@ -64,7 +62,7 @@ few len room h k = omega (arith, h, k)
 
 pub fits_task : (k : Known) (c : Command) (room : ℕ) (task : Result LineTask Refused) → Resolves k task (task_of k c) → FitsCommand c → 64 ≤ room
     → FitsTask room task
-fits_task k c room (Ok (Ordered order naming)) r fits wide = has_notifier order (orders_fit k c order (name_made naming) fits (sym r.is))
+fits_task k c room (Ok (Ordered order naming)) r fits wide = tt
 fits_task k c room (Ok (Copied space addr len to_space to_addr)) r fits wide =
     few len room (subst AreFew (sym r.is) (copies_few k c fits)) wide
 fits_task k c room (Ok Idle) r fits wide = tt

@@ -45,24 +45,8 @@ use Rattle.race_outside.specs.Settling.{AreLevel, HaveMet}
 use Rattle.race_outside.proofs.SettlingLaws.{desk_settles}
 use Rattle.view_laws.proofs.Tests.{none_is_not_some}
 use Rattle.race_outside.specs.declared.desks.Asked.{Asked}
-use Rattle.race_outside.specs.Asked.{FitsOwn, IsAsked, LooksAt, TakesOwn, entry_of_receipt, line_asked}
+use Rattle.race_outside.specs.Asked.{IsAsked, LooksAt, TakesOwn, entry_of_receipt, line_asked}
 use Rattle.race_outside.specs.Outside.{StepsOn, stand_of}
-use Rattle.desk_lock.proofs.ReceiptLaws.{has_notifier}
-
-pub own_fits : (k : Known) (line : Line) (task : Result LineTask Refused) → Resolves k task (task_of k line.1) → FitsCommand line.1 → FitsOwn task
-own_fits k line (Ok (Ordered order naming)) r fits =
-    has_notifier order (orders_fit k line.1 order (name_made naming) fits (sym r.is))
-own_fits k line (Ok Idle) r fits = tt
-own_fits k line (Ok (Shown space)) r fits = tt
-own_fits k line (Ok (Found space addr)) r fits = tt
-own_fits k line (Ok (Watched name region first last)) r fits = tt
-own_fits k line (Ok (Unwatched name watcher)) r fits = tt
-own_fits k line (Ok Entered) r fits = tt
-own_fits k line (Ok Left) r fits = tt
-own_fits k line (Ok (Read space addr len)) r fits = tt
-own_fits k line (Ok (Written space addr bytes)) r fits = tt
-own_fits k line (Ok (Copied space addr len to_space to_addr)) r fits = tt
-own_fits k line (Err why) r fits = tt
 
 -- a look's answer tells the number of the generation that it hands out
 looked : (a : DeskAnswer) (g : Published) (seen : List HistoryEntry) → HandsOut orders.Look a (Some g) seen

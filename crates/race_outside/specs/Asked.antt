@@ -10,7 +10,7 @@ use Rattle.mem_base.specs.script.Race.{desk_number}
 use Rattle.generation.specs.Published.{Published}
 use Rattle.epoch_rule.specs.Copies.{value_in}
 use Rattle.desk_lock.specs.declared.orders.Receipt.{Receipt}
-use Rattle.desk_lock.specs.Receipts.{HasNotifier, IsReceipt}
+use Rattle.desk_lock.specs.Receipts.{IsReceipt}
 use Rattle.desk_lock.specs.Records.{RecordState}
 use Rattle.desk_lock.specs.Turned.{Takes}
 use Rattle.race_lines.specs.declared.tasks.LineTask.{LineTask}
@@ -19,11 +19,6 @@ use Rattle.race_lines.specs.declared.tasks.Refused.{Refused}
 use Rattle.race_lines.specs.DeskLines.{desk_line_by, entry_with}
 use Rattle.race_lines.specs.LineTasks.{Resolves, resolved}
 use Rattle.race_outside.specs.declared.desks.Asked.{Asked}
-
--- what is asked of the order that a task has, if any
-abbrev pub FitsOwn : Result LineTask Refused → Type 0
-FitsOwn (Ok (Ordered order naming)) = HasNotifier order
-FitsOwn _ = Unit {0}
 
 -- the record took the order of a task, if it has one, and else nothing
 abbrev pub TakesOwn : RecordState → Result LineTask Refused → Option Receipt → RecordState → Type 0

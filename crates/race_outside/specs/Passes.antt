@@ -11,7 +11,6 @@ use Rattle.generation.specs.Published.{Published}
 use Rattle.epoch_rule.specs.Rule.{IsLegal}
 use Rattle.epoch_rule.specs.Values.{PassValue}
 use Rattle.desk_lock.specs.declared.orders.Receipt.{Receipt}
-use Rattle.desk_lock.specs.Receipts.{HasNotifier}
 use Rattle.desk_lock.specs.Records.{GrewBy, RecordState}
 use Rattle.desk_lock.specs.Turned.{Takes}
 use Rattle.pass_lines.specs.declared.answers.LineAnswer.{LineAnswer}
@@ -26,9 +25,8 @@ use Rattle.race_lines.specs.LineTasks.{task_meant}
 use Rattle.race_lines.specs.PassLines.{said_of}
 use Rattle.race_outside.specs.Levels.{HasMet, IsHeard}
 
--- what is asked of a task: the bounce has room for what it copies, and a notifier that is to be taken is one of those that there are
+-- what is asked of a task: the bounce has room for what it copies
 abbrev pub FitsTask : ℕ → Result LineTask Refused → Type 0
-FitsTask room (Ok (Ordered order naming)) = HasNotifier order
 FitsTask room (Ok (Copied space addr len to_space to_addr)) = len ≤ room
 FitsTask room task = Unit {0}
 

@@ -7,7 +7,7 @@ ghost use Rattle.run_laws.specs.Fitting.{FitsCommand};
 ghost use Rattle.desk_lock.specs.Records.{IsLater};
 ghost use Rattle.race_lines.specs.DeskLines.{entry_got};
 ghost use Rattle.race_outside.specs.Ready.{AreReady};
-ghost use Rattle.race_outside.specs.Asked.{FitsOwn, IsAsked, LooksAt, StopsAsking, TakesOwn, entry_of_receipt};
+ghost use Rattle.race_outside.specs.Asked.{IsAsked, LooksAt, StopsAsking, TakesOwn, entry_of_receipt};
 ghost use Rattle.race_outside.specs.Outside.{StepsOn, StopsIn};
 
 use crate::levels::meet_all;
@@ -26,7 +26,6 @@ fn own_order<R: Wait>(
     desk: &mut Record,
     task: &ResolvedTask<'_>,
 ) -> Result<Option<Receipt>, AllocError>
-    requires { FitsOwn task.now }
     ensures took { IfOk result (λ got. TakesOwn desk.old task.now got desk.new) }
     ensures later { IsLater desk.old desk.new }
     ensures err { OnErr result (desk.new ≡ desk.old) }
@@ -76,7 +75,6 @@ fn ask_line<'a, R: Wait>(
     known: &KnownNames,
     command: &'a Command,
 ) -> Result<Asked<'a>, AllocError>
-    requires fits { FitsCommand command.now }
     ensures asked { IfOk result (λ x. IsAsked desk.old known.now command.now x desk.new) }
     ensures stopped { OnErr result (StopsAsking desk.old known.now command.now desk.new) }
     ensures later { IsLater desk.old desk.new }

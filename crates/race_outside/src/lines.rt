@@ -10,9 +10,9 @@ use crate::desks::desk_line;
 use crate::passes::pass_line;
 use desk_lock::Record;
 use io_window::Bounce;
-use mem_base::{Command, PassId};
+use mem_base::Command;
 use race_lines::{KnownNames, LineSaid};
-use race_phases::{DESK_NUMBER, actor_number};
+use race_phases::pass_of_line;
 use script_lines::Line;
 use std::alloc::{AllocError, Global};
 use std::sync::Wait;
@@ -70,30 +70,22 @@ pub fn outside_line<'c, R: Wait>(
     ensures stopped { OnErr result.1 (StopsIn desk.old known.old (alone (number, command.now)) desk.new) }
     ensures room { result.0 ≡ bounce }
 {
-    let who = actor_number(command);
-    if who != DESK_NUMBER {
-        return pass_line(
-            rt,
-            alloc,
-            desk,
-            cpus,
-            known,
-            bounce,
-            text,
-            number,
-            PassId(who),
-            command,
-        );
+    match pass_of_line(command) {
+        Some(pass) => pass_line(
+            rt, alloc, desk, cpus, known, bounce, text, number, pass, command,
+        ),
+        None => {
+            let done = write_desk_line(
+                rt,
+                alloc,
+                desk,
+                cpus.as_mut_slice(),
+                known,
+                text,
+                number,
+                command,
+            );
+            (bounce, done)
+        }
     }
-    let done = write_desk_line(
-        rt,
-        alloc,
-        desk,
-        cpus.as_mut_slice(),
-        known,
-        text,
-        number,
-        command,
-    );
-    (bounce, done)
 }

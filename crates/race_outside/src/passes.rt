@@ -1,12 +1,10 @@
 // A line of a pass.
 ghost use Rattle.std.specs.Prelude.{◌≡◌, ◌≢◌, ℕ, ◌<◌, ◌≤◌, All, IfOk, OnErr, OnOk, length, slice_index_or};
-ghost use Rattle.mem_base.specs.map.Limits.{most_passes};
 ghost use Rattle.mem_base.specs.script.Race.{actor_number, alone};
 ghost use Rattle.run_laws.specs.Fitting.{FitsCommand};
 ghost use Rattle.generation.specs.Published.{Published};
 ghost use Rattle.epoch_rule.specs.Values.{PassValue};
 ghost use Rattle.pass_lines.specs.Doing.{IsInItsGeneration};
-ghost use Rattle.desk_lock.specs.Receipts.{HasNotifier};
 ghost use Rattle.desk_lock.specs.Records.{IsLater};
 ghost use Rattle.race_outside.specs.Levels.{IsHeard, IsOfCabinet};
 ghost use Rattle.race_outside.specs.Ready.{AreReady};
@@ -37,15 +35,14 @@ fn said_by<'a>(answer: LineAnswer) -> PassSaid<'a>
     }
 }
 
-// Gives an order of a pass to the record. Out of memory nothing was done.
+// Gives an order of the pass of this number to the record. Out of memory nothing was done.
 fn give<'a, R: Wait>(
     rt: &R,
     desk: &mut Record,
-    pass: PassId,
+    who: u32,
     order: &DeskOrder,
 ) -> Result<PassSaid<'a>, AllocError>
-    requires notifier { HasNotifier order.now }
-    ensures given { IfOk result (λ said. (a : PassValue Published) → HasOrdered pass.0 desk.old a order.now said desk.new a) }
+    ensures given { IfOk result (λ said. (a : PassValue Published) → HasOrdered who desk.old a order.now said desk.new a) }
     ensures err { OnErr result (desk.new ≡ desk.old) }
     ensures later { IsLater desk.old desk.new }
 {
@@ -55,23 +52,23 @@ fn give<'a, R: Wait>(
         to,
         note: _note,
         current: _current,
-    } = desk.order(rt, pass.0, order)?;
+    } = desk.order(rt, who, order)?;
     Ok(PassSaid::Answered { answer, from, to })
 }
 
-// Does what a line of a pass asks for, on its virtual CPU or by an order. Out of memory nothing was done.
+// Does what a line of the pass of this number asks for, on its virtual CPU or by an order. Out of memory nothing was done.
 fn do_task<'a, 'c, R: Wait>(
     rt: &R,
     alloc: Global,
     desk: &mut Record,
     vcpu: Vcpu<'c>,
     bounce: Bounce,
-    pass: PassId,
+    who: u32,
     task: &ResolvedTask<'a>,
 ) -> (Vcpu<'c>, Bounce, Result<PassSaid<'a>, AllocError>)
     requires inside { IsInItsGeneration vcpu }
     requires fits { FitsTask bounce task.now }
-    ensures done { IfOk result.2 (λ said. DoesPassLine pass.0 desk.old vcpu.entry task.now said desk.new result.0) }
+    ensures done { IfOk result.2 (λ said. DoesPassLine who desk.old vcpu.entry task.now said desk.new result.0) }
     ensures err { OnErr result.2 ((desk.new ≡ desk.old) × (result.0 ≡ vcpu.entry)) }
     ensures room { result.1 ≡ bounce }
     ensures later { IsLater desk.old desk.new }
@@ -79,7 +76,7 @@ fn do_task<'a, 'c, R: Wait>(
     let mut vcpu = vcpu;
     match task {
         Ok(LineTask::Ordered { order, naming: _ }) => {
-            let said = give(rt, desk, pass, order);
+            let said = give(rt, desk, who, order);
             (vcpu, bounce, said)
         }
         Ok(LineTask::Entered) => {
@@ -129,40 +126,40 @@ fn do_task<'a, 'c, R: Wait>(
     }
 }
 
-// Does what a line of a pass asks for, with its virtual CPU among those of the race. Out of memory nothing was done.
+// Does what a line of the pass of this number asks for, with its virtual CPU among those of the race. Out of memory nothing was done.
 fn do_line<'a, 'c, R: Wait>(
     rt: &R,
     alloc: Global,
     desk: &mut Record,
     cpus: &mut Vec<Vcpu<'c>>,
     bounce: Bounce,
-    pass: PassId,
+    who: u32,
     task: &ResolvedTask<'a>,
 ) -> (Bounce, Result<PassSaid<'a>, AllocError>)
-    requires near { pass.0 < length cpus.old.items }
+    requires near { who < length cpus.old.items }
     requires inside { All IsInItsGeneration cpus.old.items }
     requires fits { FitsTask bounce task.now }
-    ensures done { IfOk result.1 (λ said. HasDoneLine pass.0 desk.old cpus.old.items task.now said desk.new cpus.new.items) }
-    ensures err { OnErr result.1 (HasDoneNothing pass.0 desk.old cpus.old.items desk.new cpus.new.items) }
+    ensures done { IfOk result.1 (λ said. HasDoneLine who desk.old cpus.old.items task.now said desk.new cpus.new.items) }
+    ensures err { OnErr result.1 (HasDoneNothing who desk.old cpus.old.items desk.new cpus.new.items) }
     ensures room { result.0 ≡ bounce }
     ensures later { IsLater desk.old desk.new }
 {
-    let at = pass.0 as usize;
+    let at = who as usize;
     let vcpu = cpus.remove(at);
-    let (vcpu, bounce, said) = do_task(rt, alloc, desk, vcpu, bounce, pass, task);
+    let (vcpu, bounce, said) = do_task(rt, alloc, desk, vcpu, bounce, who, task);
     let _ = cpus.insert(at, vcpu);
     (bounce, said)
 }
 
-// The record hears the virtual CPU that did a line, and all meet it. What the others have seen it heard before.
-fn settle(desk: &mut Record, cpus: &mut Vec<Vcpu<'_>>, pass: PassId)
-    requires near { pass.0 < length cpus.old.items }
+// The record hears the virtual CPU of this number, which did a line, and all meet it. What the others have seen it heard before.
+fn settle(desk: &mut Record, cpus: &mut Vec<Vcpu<'_>>, who: u32)
+    requires near { who < length cpus.old.items }
     requires own { All (IsOfCabinet desk.old.seat.cabinet) cpus.old.items }
-    requires others { (i : ℕ) (d : PassValue Published) → i < length cpus.old.items → i ≢ pass.0
+    requires others { (i : ℕ) (d : PassValue Published) → i < length cpus.old.items → i ≢ who
         → IsHeard desk.old.seat.seen (slice_index_or cpus.old.items i d) }
     ensures settled { HasSettled desk.old cpus.old.items desk.new cpus.new.items }
 {
-    level(desk, cpus.as_mut_slice(), pass.0 as usize);
+    level(desk, cpus.as_mut_slice(), who as usize);
 }
 
 // Adds what a line writes to the text, where it was done.
@@ -202,7 +199,6 @@ pub fn pass_line<'c, R: Wait>(
     command: &Command,
 ) -> (Bounce, Result<(), AllocError>)
     requires actor { actor_number command.now ≡ pass.0 }
-    requires near { pass.0 < most_passes }
     requires fits { FitsCommand command.now }
     requires ready { AreReady desk.old cpus.old.items }
     requires room { 64 ≤ bounce }
@@ -212,11 +208,12 @@ pub fn pass_line<'c, R: Wait>(
     ensures stopped { OnErr result.1 (StopsIn desk.old known.now (alone (number, command.now)) desk.new) }
     ensures room { result.0 ≡ bounce }
 {
+    let who = pass.number();
     let Ok(task) = task_of(alloc, known, command) else {
         return (bounce, Err(AllocError));
     };
-    let (bounce, said) = do_line(rt, alloc, desk, cpus, bounce, pass, &task);
-    settle(desk, cpus, pass);
+    let (bounce, said) = do_line(rt, alloc, desk, cpus, bounce, who, &task);
+    settle(desk, cpus, who);
     let done = write_line(text, known, desk, number, pass, said);
     (bounce, done)
 }

@@ -35,7 +35,6 @@ task_fits k (commands.Watch name at first last) h = task_then (region k at) _ (�
 task_fits k (commands.Unwatch name) h = task_then (known name (watcher_named k name)) _ (λ n. tt)
 task_fits k (commands.Show name) h = task_then (space k name) _ (λ s. tt)
 task_fits k (commands.At name addr) h = task_then (space k name) _ (λ s. tt)
-task_fits k (commands.Notified number) h = h
 task_fits k (commands.Dirty name client) h = task_then (region k name) _ (λ r. tt)
 task_fits k (commands.Pass pass (pass_commands.Read name addr len)) h = task_then (space k name) _ (λ s. h.1)
 task_fits k (commands.Pass pass (pass_commands.Write name addr bytes)) h = task_then (space k name) _ (λ s. tt)

@@ -1,11 +1,9 @@
 -- What a line asks of the machine, and what it got.
-use Rattle.std.specs.Prelude.{◌≡◌, ◌<◌, ◌≤◌, ℕ, true, Option, Some, None, Ok}
+use Rattle.std.specs.Prelude.{◌≡◌, ◌≤◌, ℕ, true, Option, Some, None, Ok}
 use Rattle.mem_base.specs.declared.machine.records.DeskAnswer.{DeskAnswer}
 use Rattle.mem_base.specs.declared.machine.records.DeskEntry.{DeskEntry}
 use Rattle.mem_base.specs.declared.machine.records.DeskOrder.{DeskOrder}
-use Rattle.mem_base.specs.declared.machine.records.DeskOrder.TheVariants as orders
 use Rattle.mem_base.specs.access.AccessSteps.{reading}
-use Rattle.mem_base.specs.map.Limits.{notifier_count}
 use Rattle.mem_base.specs.machine.World.{World, is_at_rest}
 use Rattle.mem_base.specs.machine.Composites.{completed}
 use Rattle.mem_base.specs.machine.Records.{call_of, told}
@@ -13,14 +11,8 @@ use Rattle.mem_base.specs.script.RaceLines.{no_entry}
 use Rattle.mem_base.specs.script.Tasks.{Resolved, Task, accessed, copied, ordered}
 use Rattle.race_lines.specs.DeskLines.{entry_with}
 
--- a notifier that is taken is one of those that there are
-abbrev pub HasNotifier : DeskOrder → Type 0
-HasNotifier (orders.Notified number) = number < notifier_count
-HasNotifier order = Unit {0}
-
--- and at most 64 bytes are read or copied at once
+-- at most 64 bytes are read or copied at once
 abbrev pub FitsTask : Resolved Task → Type 0
-FitsTask (Ok (ordered order name)) = HasNotifier order
 FitsTask (Ok (accessed space addr (reading n))) = n ≤ 64
 FitsTask (Ok (copied from addr n to to_addr)) = n ≤ 64
 FitsTask task = Unit {0}

@@ -7,7 +7,7 @@ ghost use Rattle.run_laws.specs.Fitting.{FitsCommand};
 ghost use Rattle.run_laws.specs.TaskSteps.{known_state};
 ghost use Rattle.race_lines.specs.DeskLines.{entry_got};
 ghost use Rattle.race_lines.specs.LineTasks.{resolved};
-ghost use Rattle.script_run.specs.Asking.{FitsTask, TakesOwn, entry_of};
+ghost use Rattle.script_run.specs.Asking.{TakesOwn, entry_of};
 ghost use Rattle.script_run.specs.Adding.{Adds};
 ghost use Rattle.script_run.specs.Standing.{IsReady};
 
@@ -23,8 +23,7 @@ fn own_order<M: Machine>(
     machine: &mut M,
     task: &ResolvedTask<'_>,
 ) -> Result<Option<DeskAnswer>, AllocError>
-    requires rest { is_at_rest (M.world machine.old).writer.desk ≡ true }
-    requires fits { FitsTask (resolved task.now) }
+    requires { is_at_rest (M.world machine.old).writer.desk ≡ true }
     ensures took { IfOk result (λ got. TakesOwn (M.world machine.old) (resolved task.now) got (M.world machine.new)) }
     ensures rest { OnOk result (is_at_rest (M.world machine.new).writer.desk ≡ true) }
     ensures passes { OnOk result ((M.world machine.new).passes ≡ (M.world machine.old).passes) }

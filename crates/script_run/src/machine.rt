@@ -1,9 +1,8 @@
 // The machine that a script runs on.
-ghost use Rattle.std.specs.Prelude.{◌≡◌, ◌≢◌, ◌<◌, ℕ, length, true, [], Some, None, Ok, Err};
+ghost use Rattle.std.specs.Prelude.{◌≡◌, ◌≢◌, ℕ, length, true, [], Some, None, Ok, Err};
 ghost use Rattle.std.specs.Arc.{arc_value};
 ghost use Rattle.mem_base.specs.declared.map.calls.Config.TheVariants as configs;
 ghost use Rattle.mem_base.specs.declared.machine.events.Event.TheVariants as events;
-ghost use Rattle.mem_base.specs.map.Limits.{notifier_count};
 ghost use Rattle.mem_base.specs.access.AccessSteps.{reading, writing};
 ghost use Rattle.mem_base.specs.machine.World.{World, is_at_rest, possible};
 ghost use Rattle.mem_base.specs.machine.Passes.{pass_of};
@@ -17,7 +16,8 @@ ghost use Rattle.mem_base.specs.machine.Completions.{may_access, IsAccessed, IsC
 
 use generation::Generation;
 use mem_base::{
-    Access, Applied, Call, Client, ListenerEvent, ListenerId, PassId, Refusal, RegionId, SpaceId,
+    Access, Applied, Call, Client, ListenerEvent, ListenerId, NotifierId, PassId, Refusal,
+    RegionId, SpaceId,
 };
 use std::alloc::Global;
 use std::sync::Arc;
@@ -84,9 +84,8 @@ pub trait Machine {
         ensures unchanged { result ≡ Err Refusal.Memory → world self.new ≡ world self.old };
 
     /// Takes the value of a notifier.
-    fn notified(&mut self, number: u32) -> u64
-        requires rest { is_at_rest (world self.old).writer.desk ≡ true }
-        requires known { number < notifier_count }
+    fn notified(&mut self, number: NotifierId) -> u64
+        requires { is_at_rest (world self.old).writer.desk ≡ true }
         ensures { IsCompleted (world self.old) (notified number) (notifier_answer result) (world self.new) };
 
     /// The calls that listeners got so far.

@@ -3,7 +3,7 @@ ghost use Rattle.std.specs.Prelude.{◌≡◌, ◌≢◌, Err, IfOk, true};
 ghost use Rattle.mem_base.specs.machine.World.{is_at_rest};
 ghost use Rattle.mem_base.specs.machine.Answers.{answer_with, call_answer, commit_answer, harvest_answer, plain_answer, reap_answer};
 ghost use Rattle.mem_base.specs.machine.Records.{told};
-ghost use Rattle.script_run.specs.Asking.{HasNotifier, IsAnswered};
+ghost use Rattle.script_run.specs.Asking.{IsAnswered};
 
 use crate::machine::Machine;
 use mem_base::{Applied, DeskAnswer, DeskOrder, Edition, Ids, Pages, Refusal, RegionId};
@@ -71,8 +71,7 @@ fn told_harvest(done: Result<Vec<u64>, Refusal>) -> Result<DeskAnswer, AllocErro
 
 // Asks the machine for what an order says, and gives its answer.
 pub(crate) fn ask<M: Machine>(machine: &mut M, order: &DeskOrder) -> Result<DeskAnswer, AllocError>
-    requires rest { is_at_rest (M.world machine.old).writer.desk ≡ true }
-    requires notifier { HasNotifier order.now }
+    requires { is_at_rest (M.world machine.old).writer.desk ≡ true }
     ensures { IfOk result (λ answer. IsAnswered (M.world machine.old) order.now answer (M.world machine.new)) }
 {
     match order {

@@ -1,8 +1,7 @@
 // A line of a virtual CPU: enter, leave, read, write, a copy from one space to another, and a change of the map.
-ghost use Rattle.std.specs.Prelude.{◌≡◌, ◌<◌, ◌≤◌, [], length, false, true, Ok, OnOk, if◌then◌else◌};
+ghost use Rattle.std.specs.Prelude.{◌≡◌, ◌≤◌, [], length, false, true, Ok, OnOk, if◌then◌else◌};
 ghost use Rattle.mem_base.specs.declared.machine.events.Event.TheVariants as events;
 ghost use Rattle.mem_base.specs.access.AccessSteps.{either};
-ghost use Rattle.mem_base.specs.map.Limits.{most_passes};
 ghost use Rattle.mem_base.specs.machine.World.{possible};
 ghost use Rattle.mem_base.specs.machine.History.{run_events};
 ghost use Rattle.mem_base.specs.machine.Composites.{enters_unless, is_entered, leaves, leaves_unless};
@@ -14,7 +13,7 @@ ghost use Rattle.run_laws.specs.Fitting.{FitsCommand};
 ghost use Rattle.run_laws.specs.KnownNames.{IsChangeOrder, IsPassTask};
 ghost use Rattle.run_laws.specs.TaskSteps.{known_state, pass_order, pass_step};
 ghost use Rattle.race_lines.specs.LineTasks.{task_meant};
-ghost use Rattle.script_run.specs.Asking.{FitsTask, HasNotifier};
+ghost use Rattle.script_run.specs.Asking.{FitsTask};
 ghost use Rattle.script_run.specs.Adding.{Adds, PassAdds};
 ghost use Rattle.script_run.specs.Standing.{IsReady};
 
@@ -220,7 +219,6 @@ fn order_by<M: Machine>(
     order: &DeskOrder,
 ) -> Result<(), AllocError>
     requires ready { IsReady known.now (M.world machine.old) }
-    requires notifier { HasNotifier order.now }
     requires change { IsChangeOrder order.now }
     ensures { OnOk result (Adds text.old text.new (pass_order known.now (M.world machine.old) pass number order.now)
         known.now (M.world machine.new)) }
@@ -241,12 +239,12 @@ fn do_task<M: Machine>(
     task: &LineTask<'_>,
 ) -> Result<(), AllocError>
     requires ready { IsReady known.now (M.world machine.old) }
-    requires pass { pass.0 < most_passes }
     requires fits { FitsTask (Ok (task_meant task.now)) }
     requires change { IsPassTask (Ok (task_meant task.now)) }
     ensures { OnOk result (Adds text.old text.new
         (pass_step known.now (M.world machine.old) pass number (Ok (task_meant task.now))) known.now (M.world machine.new)) }
 {
+    pass.knows_bound();
     match task {
         LineTask::Ordered { order, naming: _ } => {
             order_by(machine, known, text, number, pass, order)
@@ -282,13 +280,13 @@ pub(crate) fn pass_line<M: Machine>(
 ) -> Result<(), AllocError>
     requires ready { IsReady known.now (M.world machine.old) }
     requires fits { FitsCommand command.now }
-    requires pass { pass.0 < most_passes }
     requires actor { actor_number command.now ≡ pass.0 }
     requires par { is_par command.now ≡ false }
     requires end { is_end command.now ≡ false }
     ensures { OnOk result (Adds text.old text.new (step (known_state known.now (M.world machine.old)) number command.now)
         known.now (M.world machine.new)) }
 {
+    pass.knows_bound();
     let task = task_of(alloc, known, command)?;
     match &task {
         Ok(task) => do_task(machine, known, text, number, pass, task),

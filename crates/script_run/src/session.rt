@@ -1,6 +1,5 @@
 // What stands while a script runs, and the next command of it.
-ghost use Rattle.std.specs.Prelude.{◌≡◌, ◌<◌, ◌||◌, IfSome, None, OnOk};
-ghost use Rattle.mem_base.specs.map.Limits.{most_passes};
+ghost use Rattle.std.specs.Prelude.{◌≡◌, ◌||◌, IfSome, None, OnOk};
 ghost use Rattle.mem_base.specs.script.Race.{actor_number, desk_number, is_end, is_par};
 ghost use Rattle.mem_base.specs.script.Run.{step};
 ghost use Rattle.mem_base.specs.script.Tasks.{known_at_first};
@@ -46,8 +45,6 @@ fn is_block_end(command: &Command) -> bool
 
 // The pass whose line it is; none of a line of the desk.
 fn pass_of(command: &Command) -> Option<PassId>
-    requires { FitsCommand command.now }
-    ensures near { IfSome result (λ pass. pass.0 < most_passes) }
     ensures pass { IfSome result (λ pass. actor_number command.now ≡ pass.0) }
     ensures desk { result ≡ None → actor_number command.now ≡ desk_number }
 {

@@ -8,8 +8,8 @@ use crate::machine::Machine;
 use crate::runs::run_on;
 use generation::Generation;
 use mem_base::{
-    Access, Applied, Call, Client, ListenerEvent, ListenerId, MOST_PASSES, PassId, Refusal,
-    RegionId, SpaceId,
+    Access, Applied, Call, Client, ListenerEvent, ListenerId, MOST_PASSES, NotifierId, PassId,
+    Refusal, RegionId, SpaceId,
 };
 use outside::Sink;
 use script_text::{Script, pool_words};
@@ -57,7 +57,7 @@ impl Machine for World {
         World::harvest(self, region, client)
     }
 
-    fn notified(&mut self, number: u32) -> u64 {
+    fn notified(&mut self, number: NotifierId) -> u64 {
         World::notified(self, number)
     }
 

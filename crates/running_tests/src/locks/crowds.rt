@@ -1,6 +1,5 @@
 // Eight threads order through one lock.
 ghost use Rattle.std.specs.Prelude.{◌≡◌};
-ghost use Rattle.desk_lock.specs.Receipts.{HasNotifier};
 
 use config_desk::Config;
 use desk_lock::{Clerk, DeskLock, Naming, Order, Record};
@@ -15,9 +14,7 @@ use std::thread::{self, Threads};
 const ORDERS: u32 = 100;
 
 // A region is made.
-fn make() -> Order
-    ensures { HasNotifier result }
-{
+fn make() -> Order {
     match Size::new(4096) {
         Some(size) => Order::Call(Call::Region {
             kind: Kind::Container,
@@ -28,9 +25,7 @@ fn make() -> Order
 }
 
 // The order that is given at this place: a region that is made, one that is switched, a reap and a look.
-fn order_at(i: u32) -> Order
-    ensures { HasNotifier result }
-{
+fn order_at(i: u32) -> Order {
     match i % 4 {
         0 => make(),
         1 => Order::Call(Call::Enable {

@@ -1,10 +1,10 @@
 // Orders of each kind, with what they answer.
-ghost use Rattle.std.specs.Prelude.{IfOk};
-ghost use Rattle.desk_lock.specs.Receipts.{HasNotifier};
 
 use config_desk::Config;
 use desk_lock::{Answer, Clerk, Order, Orderly, Record};
-use mem_base::{Applied, Bytes, Call, Client, Kind, ListenerId, Refusal, RegionId, Size, SpaceId};
+use mem_base::{
+    Applied, Bytes, Call, Client, Kind, ListenerId, NotifierId, Refusal, RegionId, Size, SpaceId,
+};
 use std::alloc::{AllocError, Global};
 use std::sync::Wait;
 use std::test::Fail;
@@ -13,9 +13,7 @@ use std::test::Fail;
 const ORDERS: u32 = 16;
 
 // A call that makes a region of one page.
-fn make(kind: Kind) -> Order
-    ensures { HasNotifier result }
-{
+fn make(kind: Kind) -> Order {
     match Size::new(4096) {
         Some(size) => Order::Call(Call::Region { kind, size }),
         None => Order::Look,
@@ -23,9 +21,7 @@ fn make(kind: Kind) -> Order
 }
 
 // Bytes that are loaded.
-fn load(alloc: Global) -> Result<Order, AllocError>
-    ensures { IfOk result HasNotifier }
-{
+fn load(alloc: Global) -> Result<Order, AllocError> {
     let bytes = Vec::from_slice(alloc, [1u8, 2, 3].as_slice())?;
     Ok(Order::Load {
         region: RegionId(0),
@@ -34,10 +30,16 @@ fn load(alloc: Global) -> Result<Order, AllocError>
     })
 }
 
+// The first notifier is taken.
+fn take_notifier() -> Order {
+    let Some(notifier) = NotifierId::new(0) else {
+        unreachable!()
+    };
+    Order::Notified(notifier)
+}
+
 // The first orders: a region of RAM in a space, and what is done to its bytes.
-fn first_orders(i: u32) -> Order
-    ensures { HasNotifier result }
-{
+fn first_orders(i: u32) -> Order {
     match i {
         0 => make(Kind::Ram),
         1 => Order::Call(Call::Space {
@@ -54,15 +56,13 @@ fn first_orders(i: u32) -> Order
             region: RegionId(0),
             client: Client::Vga,
         },
-        6 => Order::Notified(0),
+        6 => take_notifier(),
         _ => Order::Begin,
     }
 }
 
 // The last ones: a transaction, a listener that leaves, refusals, and a region that is made, dropped and released.
-fn last_orders(i: u32) -> Order
-    ensures { HasNotifier result }
-{
+fn last_orders(i: u32) -> Order {
     match i {
         8 => Order::Call(Call::Enable {
             region: RegionId(0),
@@ -81,9 +81,7 @@ fn last_orders(i: u32) -> Order
 }
 
 // The order at a place.
-fn order_at(alloc: Global, i: u32) -> Result<Order, AllocError>
-    ensures { IfOk result HasNotifier }
-{
+fn order_at(alloc: Global, i: u32) -> Result<Order, AllocError> {
     if i == 4 {
         let order = load(alloc)?;
         return Ok(order);
@@ -135,9 +133,7 @@ fn is_last(i: u32, answer: &Answer) -> bool {
 }
 
 // Gives an order; where memory runs out, once more. `None` where it changed something then, or memory runs out again.
-fn given<R: Wait>(rt: &R, record: &mut Record, clerk: &mut Clerk, order: &Order) -> Option<Answer>
-    requires notifier { HasNotifier order.now }
-{
+fn given<R: Wait>(rt: &R, record: &mut Record, clerk: &mut Clerk, order: &Order) -> Option<Answer> {
     let before = sizes(record, clerk);
     if let Ok(receipt) = record.give(rt, clerk, order) {
         return Some(receipt.answer);

@@ -1,7 +1,6 @@
 use Rattle.std.proofs.Common.{◌++◌, ◌∙◌, List, ℕ, take, refl, sym, inr}
 use Rattle.mem_base.specs.script.RefusalLines.{refused_line, unknown_text}
 use Rattle.mem_base.specs.script.Output.{read_line}
-use Rattle.mem_base.specs.machine.Passes.{pass_id}
 use Rattle.race_lines.specs.declared.tasks.Refused.TheVariants.{Unknown}
 use Rattle.pass_lines.specs.declared.answers.LineAnswer.TheVariants as answers
 use Rattle.pass_lines.proofs.LineLaws.{read_into}
@@ -11,7 +10,7 @@ use Rattle.race_block.proofs.PlainLaws.{then_known, then_unknown, where_ok}
 use Rattle.race_block.proofs.plain.tell_read.Goals as goal
 
 pub returns-in_default-clause-told : goal.returns-in_default-clause-told
-returns-in_default-clause-told c = λ pass. inr (record {
+returns-in_default-clause-told c = λ pass clerk. inr (record {
   own = record { number = c.args.number; task = Refused (Unknown c.args.space) };
   got = gots.Refused;
   task = (refl, then_unknown c.args.space.now _ _ (sym c.space.ensures.space ∙ c.in_default.is));
@@ -22,7 +21,7 @@ returns-in_default-clause-told c = λ pass. inr (record {
 })
 
 pub returns-clause-told : goal.returns-clause-told
-returns-clause-told c = λ pass.
+returns-clause-told c = λ pass clerk.
     let bytes : List ℕ = take c.args.len c.read_first-access.new.bytes in inr (record {
       own = record { number = c.args.number; task = Read c.in-Some.from c.args.addr c.args.len };
       got = gots.ReadFew c.read_first-access.result bytes;
@@ -36,5 +35,5 @@ returns-clause-told c = λ pass.
       };
       told = λ lasted.
           where_ok c.add_read_line.result _ (sym c.is_ok-2.ensures.value ∙ lasted) c.add_read_line.ensures
-          ∙ (λ i. c.args.text.now ++ read_line (pass_id (c.who.ensures i)) c.read_first-access.result bytes);
+          ∙ (λ i. c.args.text.now ++ read_line (c.id-pass.ensures i) c.read_first-access.result bytes);
     })

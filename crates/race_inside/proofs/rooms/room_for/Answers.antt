@@ -1,7 +1,7 @@
 use Rattle.std.proofs.Common.{rules, map, ap, ◌∙◌}
 use Rattle.race_block.specs.Desks.{lines_meant}
 use Rattle.race_inside.specs.Rooms.{acts}
-use Rattle.race_inside.proofs.LineLists.{desks_fit, desks_own, others_own}
+use Rattle.race_inside.proofs.LineLists.{desks_own, others_own}
 use Rattle.race_inside.proofs.rooms.room_for.Goals as goal
 
 pub prepare_for-requires-clause-desk : goal.prepare_for-requires-clause-desk
@@ -28,7 +28,6 @@ returns c =
     let desk = desks_own lines c.deal.new.works.items others own c.in_ok-deal.ensures c.take_desk-desk_lines.ensures in
     let many = (others_own lines c.deal.new.works.items others own c.in_ok-deal.ensures c.take_desk-desk_lines.ensures).0 in record {
       desk = desk;
-      desk_fits = desks_fit lines own c.requires.fits desk;
       no_actors = search rules;
       actors_fit = search rules;
       passes = record {

@@ -12,8 +12,7 @@ use Rattle.race_inside.proofs.texts.add_pass.Goals as goal
 pub returns-in_ok-bytes-in-Some : goal.returns-in_ok-bytes-in-Some
 returns-in_ok-bytes-in-Some c =
     let names = printed_names c.args.names.now in
-    let clerk = c.args.clerk.now in
     let listed : Text = flat_map (said_text names c.args.journal.now)
-    (lines_said names (pass_id clerk.who) (tasks_in c.args.pass.now.lines) c.args.pass.now.got.items clerk.got) in
+    (lines_said names (pass_id c.args.pass.now.vcpu.number) (tasks_in c.args.pass.now.lines) c.args.pass.now.got.items c.args.clerk.now.got) in
     c.in_ok-bytes-in-Some.ensures
     ∙ ap (λ (t : Text). c.args.text.now ++ t) (c.as_bytes.ensures ∙ ap (λ (t : Option Text). text_or t listed) (sym c.in-Some.is))

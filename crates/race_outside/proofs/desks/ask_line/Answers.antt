@@ -2,12 +2,8 @@ use Rattle.std.proofs.Common.{inl, inr, refl, sym, subst}
 use Rattle.desk_lock.specs.Records.{RecordState}
 use Rattle.race_outside.specs.Asked.{TakesOwn}
 use Rattle.desk_lock.proofs.RecordLaws.{later_joins}
-use Rattle.race_outside.proofs.DeskLaws.{own_fits}
 use Rattle.race_outside.proofs.desks.ask_line.Goals as goal
 use Rattle.mem_base.proofs.OptionLaws.{on_failure}
-
-pub own_order-requires : goal.own_order-requires
-own_order-requires g c = own_fits c.args.known.now (0, c.args.command.now) c.in_ok-task.task c.in_ok-task.ensures c.requires.fits
 
 pub returns-in_err-task-clause-stopped : goal.returns-in_err-task-clause-stopped
 returns-in_err-task-clause-stopped g c = on_failure c.from_residual.result _ (inl refl)

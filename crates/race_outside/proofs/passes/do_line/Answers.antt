@@ -11,9 +11,9 @@ returns-clause-done g c =
     c.args.cpus.now.ok.1) in
     let count : length c.insert.new.self.items ≡ length c.args.cpus.now.items = sym c.insert.new.self.ok.0
     ∙ same_count _ c.args.cpus.now.len c.remove-vcpu.new.self.len c.insert.new.self.len fits taken.len put.len ∙ c.args.cpus.now.ok.0 in
-    if_done c.do_task-vcpu.result.2 c.args.pass.0 c.args.desk.now c.args.cpus.now.items c.args.task.now c.do_task-vcpu.new.desk c.insert.new.self.items
+    if_done c.do_task-vcpu.result.2 c.args.who c.args.desk.now c.args.cpus.now.items c.args.task.now c.do_task-vcpu.new.desk c.insert.new.self.items
     c.remove-vcpu.result c.do_task-vcpu.result.0 c.do_task-vcpu.ensures.done
-    (changed_by c.args.pass.0 c.args.cpus.now.items c.remove-vcpu.new.self.items c.insert.new.self.items c.remove-vcpu.result c.do_task-vcpu.result.0
+    (changed_by c.args.who c.args.cpus.now.items c.remove-vcpu.new.self.items c.insert.new.self.items c.remove-vcpu.result c.do_task-vcpu.result.0
     c.requires.near taken.value taken.by_index.0 taken.by_index.1 (λ d. put.by_index.0 d fits) put.by_index.1 (λ k d. put.by_index.2 k d fits) count)
 
 pub returns-clause-err : goal.returns-clause-err
@@ -24,7 +24,7 @@ returns-clause-err g c =
     c.args.cpus.now.ok.1) in
     let count : length c.insert.new.self.items ≡ length c.args.cpus.now.items = sym c.insert.new.self.ok.0
     ∙ same_count _ c.args.cpus.now.len c.remove-vcpu.new.self.len c.insert.new.self.len fits taken.len put.len ∙ c.args.cpus.now.ok.0 in
-    on_nothing c.do_task-vcpu.result.2 c.args.pass.0 c.args.desk.now c.args.cpus.now.items c.do_task-vcpu.new.desk c.insert.new.self.items
+    on_nothing c.do_task-vcpu.result.2 c.args.who c.args.desk.now c.args.cpus.now.items c.do_task-vcpu.new.desk c.insert.new.self.items
     c.remove-vcpu.result c.do_task-vcpu.result.0 c.do_task-vcpu.ensures.err
-    (changed_by c.args.pass.0 c.args.cpus.now.items c.remove-vcpu.new.self.items c.insert.new.self.items c.remove-vcpu.result c.do_task-vcpu.result.0
+    (changed_by c.args.who c.args.cpus.now.items c.remove-vcpu.new.self.items c.insert.new.self.items c.remove-vcpu.result c.do_task-vcpu.result.0
     c.requires.near taken.value taken.by_index.0 taken.by_index.1 (λ d. put.by_index.0 d fits) put.by_index.1 (λ k d. put.by_index.2 k d fits) count)

@@ -1,16 +1,10 @@
-use Rattle.std.proofs.Common.{◌++◌, ap, sym, subst, ◌∙◌, length}
+use Rattle.std.proofs.Common.{◌++◌, ap, sym, ◌∙◌, length}
 use Rattle.mem_base.specs.script.RaceLines.{said_text}
 use Rattle.race_lines.specs.LineTasks.{resolved}
-use Rattle.script_run.specs.Asking.{FitsTask}
 use Rattle.script_run.proofs.DeskLaws.{current_shown, desk_adds}
-use Rattle.script_run.proofs.FittingLaws.{task_fits}
 use Rattle.script_run.proofs.RunLaws.{desks_line}
 use Rattle.script_run.proofs.Writing.{on_ok}
 use Rattle.script_run.proofs.desk.desk_line.Goals as goal
-
-pub own_order-requires-clause-fits : goal.own_order-requires-clause-fits
-own_order-requires-clause-fits g c =
-    subst FitsTask (sym c.in_ok-task.ensures.is) (task_fits c.args.known.now c.args.command.now c.requires.fits)
 
 pub returns : goal.returns
 returns g c =

@@ -38,7 +38,7 @@ invariant_of-self-2 g c =
     c.in_ok-mine.ensures.order_is in
     still_record (record_state i.config i.entries.items) (record_state c.turned.new.config c.push_reserved.new.self.items) c.self.invariant
     (later_one (record_state i.config i.entries.items) (record_state c.turned.new.config c.push_reserved.new.self.items) c.args.who c.args.order.now r takes
-    c.fits_order.ensures)
+    c.knows_fits.ensures)
 
 pub returns-clause-later : goal.returns-clause-later
 returns-clause-later g c =
@@ -49,4 +49,4 @@ returns-clause-later g c =
     c.in_ok-mine.ensures.order_is in
     let w : RecordState = record_state c.turned.new.config c.push_reserved.new.self.items in
     let P : RecordState → Type 0 = λ z. IsLater z w in
-    subst P c.self.view_is (later_one (record_state i.config i.entries.items) w c.args.who c.args.order.now r takes c.fits_order.ensures)
+    subst P c.self.view_is (later_one (record_state i.config i.entries.items) w c.args.who c.args.order.now r takes c.knows_fits.ensures)
