@@ -33,6 +33,7 @@ impl<E: Edition + Drop> Cabinet<E> {
             (λ p. IsNewPass writer.old p × (writer.new.out ≡ slice_set writer.old.out p.number true)) }
         ensures same { (writer.new.cabinet ≡ writer.old.cabinet) × (writer.new.sizes ≡ writer.old.sizes) × (writer.new.seen ≡ writer.old.seen) }
     {
+        let shared = &self.table.shared;
         let free = first_free(writer.out.as_slice());
         if free >= writer.out.len() {
             return None;
@@ -40,7 +41,6 @@ impl<E: Edition + Drop> Cabinet<E> {
         let Some(id) = PassId::new(free as u32) else {
             unreachable!()
         };
-        let shared = &self.table.shared;
         let mut seat = shared.split_seat::<HandsOut>(&mut writer.seat);
         shared.load::<Settles>(&mut seat, NUMBER_WORD);
         writer.out[free] = true;

@@ -1,8 +1,9 @@
-use Rattle.epoch_rule.proofs.Common.{arith, ◌≡◌, ℕ, ◌+◌, ◌<◌, [], ◌∷◌, ◌++◌, length, sym, refl, ap, ◌∙◌, subst, Some, None, false, get_or, arc_value}
+use Rattle.epoch_rule.proofs.Common.{arith, ◌≡◌, ℕ, ◌+◌, ◌≤◌, [], ◌∷◌, ◌++◌, length, sym, refl, ap, ◌∙◌, subst, Some, None, false, get_or, arc_value}
 use Rattle.epoch_rule.proofs.Common.{length-map, Writer, number_seen, own_entries, held_up, history_entry, Sizes, Picked, PlacesFit, carried_pick}
 use Rattle.epoch_rule.proofs.Common.{generation_of_pick, generations_seen, picked, Wrote, IsWriting, stored, generations_in_seen, refusal_of, sweeps_of}
 use Rattle.epoch_rule.proofs.Common.{places_of, held_in, HasPlaced, HasSwept, HasWritten, weaker, option_map}
 use Rattle.mem_base.specs.declared.machine.events.Event.TheVariants as events
+use Rattle.mem_base.specs.map.Limits.{most_passes}
 use Rattle.epoch_rule.proofs.SweepLaws.{sweeping_current, all_near, writes_more, writes_generations, wrote_of, writes_both, swept_writing, placed_all}
 use Rattle.epoch_rule.proofs.SweepLaws.{placed_current, published_writing, held_found, writing_number}
 use Rattle.epoch_rule.proofs.PassLaws.{ends_added, same_sizes}
@@ -43,7 +44,7 @@ held-requires g c =
     let few = c.self.invariant.few in
     let counts = c.self.invariant.counts in
     let stored_is = ap length c.sweep_all.ensures.swept.is_known ∙ length-map (generations_seen c.sweep_all.new.seat.me.0).passes stored in
-    subst (λ l. length l < 4294967296) (sym c.as_slice.ensures.value) (omega arith)
+    subst (λ l. length l ≤ most_passes) (sym c.as_slice.ensures.value) (omega arith)
 
 pub invariant_of-writer : goal.invariant_of-writer
 invariant_of-writer g c = swept g (goal.at.invariant_of-writer g c).After-sweep_all

@@ -1,5 +1,8 @@
-use Rattle.epoch_rule.proofs.Common.{arith, ◌≡◌, ◌<◌, map, sym, refl, ap, ◌∙◌, ◌+◌, false, get_or, own_entries, least_lowest, pass_id, Sizes, View}
+use Rattle.epoch_rule.proofs.Common.{arith, ◌≡◌, ℕ, ◌<◌, subst, map, sym, refl, ap, ◌∙◌, ◌+◌, false, get_or, own_entries, least_lowest, pass_id, Sizes, View}
 use Rattle.epoch_rule.proofs.Common.{generations_seen, stored, IsLeastPassAt, generations_in_seen, least_in, sweeps_of}
+use Rattle.std.proofs.lemmas.Bool.{iff_false}
+use Rattle.std.specs.Prelude.{IfSome, is_some}
+use Rattle.mem_base.specs.map.Limits.{most_passes}
 use Rattle.epoch_rule.proofs.SweepLaws.{sweeping_current, wrote_of, swept_writing, least_is}
 use Rattle.epoch_rule.proofs.LeastLaws.{swept_pass}
 use Rattle.epoch_rule.proofs.PassLaws.{same_sizes}
@@ -44,28 +47,42 @@ invariant_of-writer g c =
     c.sweep_all.ensures.seat.1 c.sweep_all.ensures.swept c.writer.invariant
 
 pub returns-clause-some : goal.returns-clause-some
-returns-clause-some g c = rw (sym c.writer.view_is) (some g c)
+returns-clause-some g c = rw (sym c.writer.view_is) (some g (goal.at.returns-clause-some g c).After-first_at)
 
 pub returns-clause-swept : goal.returns-clause-swept
 returns-clause-swept g c =
     let s = c.sweep_all.ensures.swept in
     rw (sym c.writer.view_is) (
       s.rs,
-      s.many ∙ (c.self.invariant.counts ∙ sym (sizes g c)),
+      s.many ∙ (c.self.invariant.counts ∙ sym (sizes g (goal.at.returns-clause-swept g c).After-first_at)),
       wrote_of c.writer.inside.seat.me.0 (sweeps_of 0 s.rs) c.sweep_all.new.seat.me.0 s.writes s.ends,
     )
 
 pub returns-clause-lowest : goal.returns-clause-lowest
-returns-clause-lowest g c = rw (sym c.writer.view_is) (low g c)
+returns-clause-lowest g c = rw (sym c.writer.view_is) (low g (goal.at.returns-clause-lowest g c).After-first_at)
 
 pub returns-clause-same : goal.returns-clause-same
 returns-clause-same g c = rw (sym c.writer.view_is) (c.sweep_all.ensures.seat.0, c.sweep_all.ensures.swept.writes.sizes, refl)
 
 pub returns-clause-pass : goal.returns-clause-pass
-returns-clause-pass g c = rw (sym c.writer.view_is) (least g c).0
+returns-clause-pass g c =
+    let at = (goal.at.returns-clause-pass g c).After-first_at in
+    let is : c.in-Some.pass.0 ≡ c.first_at.result = subst (λ o. IfSome o (λ pass. pass.0 ≡ c.first_at.result)) c.in-Some.is c.new.ensures.value in
+    rw (sym c.writer.view_is)
+    (subst (λ (i : ℕ). IsLeastPassAt (generations_in_seen c.writer.inside.seat.me.0.sizes c.sweep_all.new.seat.me.0.seen) c.least-lowest.result (pass_id i))
+    (sym is) (least g at).0)
 
-pub overflow_cast-pass : goal.overflow_cast-pass
-overflow_cast-pass g c = let inside = (least g c).1 in let few = c.self.invariant.few in let is = sizes g c in omega arith
+-- the pass is one of those that a machine may have
+few : (g : Over) (c : After-first_at g) → c.first_at.result < most_passes
+few g c = let inside = (least g c).1 in let few = c.self.invariant.few in let is = sizes g c in omega arith
+
+pub overflow_cast-first_at : goal.overflow_cast-first_at
+overflow_cast-first_at g c = let low = few g c in omega arith
+
+pub unreachable-requires : goal.unreachable-requires
+unreachable-requires g c =
+    let at = (goal.at.unreachable-requires g c).After-first_at in
+    iff_false c.new.ensures.some (ap is_some c.in_default.is) (few g at)
 
 pub returns-clause-home : goal.returns-clause-home
 returns-clause-home g c q out =
