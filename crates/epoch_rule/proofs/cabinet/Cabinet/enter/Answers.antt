@@ -51,7 +51,8 @@ pub store-requires : goal.store-requires
 store-requires g c =
     let at = (goal.at.store-requires g c).After-load-looked in
     let a = c.self.invariant.suits.0 in
-    let l : c.pass.inside.id.0 < c.self.inside.table.shared.key.passes = near g at in (
+    let l : c.pass.inside.id.0 < c.self.inside.table.shared.key.passes = near g at in
+    rw c.number-who.ensures.value (
       c.load-looked.ensures.0 ∙ table g at,
       omega arith,
       announce (IsCopy g.E.Edition.counted g.E.Edition.forest g.E.Edition.places) _ _ _ _ c.pass.inside.id.0 c.load-looked.result l
@@ -82,7 +83,8 @@ pub exchange-requires : goal.exchange-requires
 exchange-requires g c =
     let at = goal.at.exchange-requires g c in
     let p : ℕ = c.pass.inside.id.0 in
-    let took = (c.load-number.ensures.2 p (role g at.After-load-number)).1 in (
+    let took = (c.load-number.ensures.2 p (role g at.After-load-number)).1 in
+    rw c.number-who.ensures.value (
       c.load-number.ensures.0 ∙ (c.store.ensures.0 ∙ (c.load-looked.ensures.0 ∙ table g at.After-load-looked)),
       (took.0, took.1 ∙ ap (λ l. (slot_of p c.load-number.result, took.0) ∷ rest l) (sym took.1)),
     )
@@ -137,7 +139,7 @@ invariant_of-pass g c =
       suits_on _ _ _ _ (sym (now.0 ∙ (c.load-number.ensures.0 ∙ (c.store.ensures.0 ∙ c.load-looked.ensures.0)))) (sym (whole g c)) inv.2,
       stands_in g.E.Edition.counted g.E.Edition.forest g.E.Edition.places p r c.exchange.new.seat.me c.exchange.result
           (ap (λ m. (pass_seen p m.0).entered) now.3 ∙ ap (λ (h : PassState). h.entered) (pass_added p _ _ _ _ _ refl both.0))
-          (ap (λ m. m.1) now.3 ∙ ap (λ l. (slot_of p r, None) ∷ l) bare) (omega arith) (copy g c)
+          (ap (λ m. m.1) now.3 ∙ (λ i. (slot_of (c.number-who.ensures.value i) r, None) ∷ bare i)) (omega arith) (copy g c)
           (subst (λ (y : Sizes × List HistoryEntry). PlacesFit y.0.words (generation_published y.1 r)) (λ i. (sym (sizes g c) i, sym (seen g c) i)) both.2),
       subst (λ (y : Sizes). IsLegal y c.exchange.new.seat.me.0.seen) (sym (whole g c)) (all g c).lawful,
     )

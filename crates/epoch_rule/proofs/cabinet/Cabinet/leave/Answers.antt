@@ -20,13 +20,14 @@ store-requires g c =
     let seen : c.exchange.new.seat.me.0.seen ≡ c.pass.inside.seat.me.0.seen = ap (λ m. m.0.seen) x.3 in
     let own = ap (λ v. v.cabinet) c.pass.view_is ∙ (c.requires.own ∙ sym (ap (λ w. w.id) c.self.view_is)) in
     let u = c.self.invariant.suits.0 in
-    let near = near_in _ _ _ _ p own inv.2 c.self.invariant.suits inv.1 in (
+    let near = near_in _ _ _ _ p own inv.2 c.self.invariant.suits inv.1 in
+    rw c.number-who.ensures.value (
       x.0 ∙ own,
       omega arith,
       leave (IsCopy g.E.Edition.counted g.E.Edition.forest g.E.Edition.places) _ _ _ c.exchange.new.seat.me p r (Some a) near c.self.invariant.suits.1
           (ap (λ m. m.0.role) x.3 ∙ inv.0)
           (ap (λ m. (pass_seen p m.0).entered) x.3 ∙ (st.0.entered ∙ ap (λ (y : ℕ). Some y) (sym is)))
-          (ap (λ m. m.1) x.3 ∙ ap (λ l. (slot_of p r, Some a) ∷ l) (ap rest st.1))
+          (ap (λ m. m.1) x.3 ∙ (λ i. (slot_of (c.number-who.ensures.value i) r, Some a) ∷ rest (st.1 i)))
           (λ log same lawful begins. (
             a,
             refl,

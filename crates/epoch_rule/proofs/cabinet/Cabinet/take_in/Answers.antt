@@ -52,8 +52,8 @@ invariant_of-writer g c =
     (ap (λ w. w.sizes) h.same)
     (ap generations_seen h.same ∙ ap (generations_after_all (first_generations c.writer.inside.seat.me.0.sizes.passes)) (sym h.quiet))
     (subst (λ w. IsLegal w.sizes w.seen) (sym h.same) h.lawful)
-    ((λ i. slice_set (inv.is_out i) (sym (number g at) i) false) ∙ sym (ap (λ w. w.out) h.same))
-    (length-set c.writer.inside.out.items c.pass.inside.id.0 false) inv
+    ((λ i. slice_set (inv.is_out i) ((c.number.ensures.value ∙ sym (number g at)) i) false) ∙ sym (ap (λ w. w.out) h.same))
+    (length-set c.writer.inside.out.items c.number.result false) inv
 
 pub returns-clause-longer : goal.returns-clause-longer
 returns-clause-longer g c = rw (sym c.writer.view_is, sym c.pass.view_is) (seen g (goal.at.returns-clause-longer g c).After-load)
