@@ -1,6 +1,6 @@
 -- The rule holds of a new table.
 use Rattle.epoch_rule.proofs.Common.{◌≡◌, ◌≢◌, ℕ, zero, suc, ◌+◌, ◌<◌, false, List, [], ◌∷◌, length, map, replicate, get_or, sym, refl, ap, ◌∙◌}
-use Rattle.epoch_rule.proofs.Common.{subst, arith, Option, Some, None, some, none, some-ne-none, get_elem?, get_or-replicate, length-map, opening, arc_value}
+use Rattle.epoch_rule.proofs.Common.{subst, arith, Option, Some, None, some, some-ne-none, get_elem?, get_or-replicate, length-map, opening, arc_value}
 use Rattle.epoch_rule.proofs.Common.{Arc, ◌++◌, length-append, dite, ℕ_discrete, AreFirstSlots, PassState, idle, Generation, PassTrack, nothing_known}
 use Rattle.epoch_rule.proofs.Common.{pin_word, Sizes, View, first_generation, HasAt, PassSlots, SeatKnows, IsRuled, first_view, same_number, AddsSlots, at_map}
 use Rattle.epoch_rule.proofs.Common.{at_last, at_longer, some_there}

@@ -16,7 +16,6 @@ use Rattle.mem_base.specs.declared.map.kinds.Client.TheVariants as clients
 use Rattle.mem_base.specs.map.Region.{node_of}
 use Rattle.mem_base.specs.declared.machine.events.Hand.TheVariants as hands
 use Rattle.mem_base.specs.declared.access.cells.WordStep.TheVariants as steps
-use Rattle.mem_base.specs.declared.machine.events.Event.TheVariants as events
 use Rattle.mem_base.specs.views.Naming.{names}
 use Rattle.mem_base.specs.machine.Guards.{is_notifier, may_reach, may_mark}
 use Rattle.epoch_rule.specs.declared.touches.Touch.{Touch}

@@ -1,4 +1,4 @@
-use Rattle.epoch_rule.proofs.Common.{arith, ◌≡◌, ℕ, ◌+◌, ◌<◌, [], ◌∷◌, ◌++◌, length, Some, sym, refl, ap, ◌∙◌, subst, arc_value, rest, Nothing}
+use Rattle.epoch_rule.proofs.Common.{arith, ◌≡◌, ℕ, ◌<◌, [], ◌∷◌, ◌++◌, length, Some, sym, refl, ap, ◌∙◌, subst, arc_value, rest, Nothing}
 use Rattle.epoch_rule.proofs.Common.{Sizes, pass_id, history_entry, generations_published, generation_published, IsLegal, pass_seen, IsCopy, HasItsEdition}
 use Rattle.epoch_rule.proofs.Common.{generation_stays, View, Pass, Wrote, Leave}
 use Rattle.epoch_rule.proofs.ActorSteps.{leave}
