@@ -104,7 +104,7 @@ impl Gate for Holds {
 /// Holds the desk's first line until the virtual CPU has arrived at its second one, and that one until the desk has arrived at its
 /// reap, when both moves were answered. Actors that go on one after another are held for ever, whoever comes first.
 fn two_holds() -> Holds {
-    let cpu = Actor::Pass(PassId(0));
+    let cpu = Actor::Pass(PassId::FIRST);
     Holds::new([
         Hold {
             actor: cpu,
@@ -127,17 +127,25 @@ fn two_holds() -> Holds {
     ])
 }
 
+// The pass after the first.
+fn second() -> PassId {
+    let Some(pass) = PassId::new(1) else {
+        unreachable!();
+    };
+    pass
+}
+
 /// Holds the second line of each of three actors until all three have arrived at it.
 fn three_holds() -> Holds {
     Holds::new([
         Hold {
-            actor: Actor::Pass(PassId(0)),
+            actor: Actor::Pass(PassId::FIRST),
             line: 12,
             sets: 1,
             until: 7,
         },
         Hold {
-            actor: Actor::Pass(PassId(1)),
+            actor: Actor::Pass(second()),
             line: 14,
             sets: 2,
             until: 7,
