@@ -17,8 +17,8 @@ ghost use Rattle.config_desk.specs.Configs.{IsTurnOf, with_calls};
 use epoch_rule::{Cabinet, WriterSeat};
 use generation::Generation;
 use mem_base::{
-    Applied, Call, Client, Config as Event, ListenerEvent, ListenerId, NOTIFIER_COUNT, NotifierId, Place,
-    Refusal, RegionId, SpaceId,
+    Applied, Call, Client, Config as Event, ListenerEvent, ListenerId, NOTIFIER_COUNT, NotifierId,
+    Place, Refusal, RegionId, SpaceId,
 };
 use seat_run::{Recent, SeatHand};
 use std::alloc::{AllocError, Global};

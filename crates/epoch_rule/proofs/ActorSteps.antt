@@ -97,7 +97,7 @@ module _ {S : Type 0} (Copy : ℕ → Generation → S → Type 0) (z : Sizes) w
       let i : ℕ = slot_of p r in
       let log' : List HistoryEntry = k.log ++ history_entry (events.Enter (pass_id p)) Nothing r ∷ [] in
       let did = moves s k id me.0 at p near role events.Enter r (record (pass_of st.passes (pass_id p)) { entered = Some r })
-        (get_or s.words (word_of_pass p) 0)
+      (get_or s.words (word_of_pass p) 0)
       (set s.homes i none) refl may is refl refl (k.shown.pins p near) (length-set s.homes i none)
       (λ v j other l. set_else s.homes i (slots_before v + j) none (λ y. other (omega arith)))
       (subst (λ (n : ℕ). PassSlots Copy c gs (known_of st.generations (pass_id p)) (Some n) k.held (generation_of_pick k.next)
@@ -209,7 +209,7 @@ module _ {S : Type 0} (Copy : ℕ → Generation → S → Type 0) (z : Sizes) w
       let was : PassTrack = known_of st.generations (pass_id p) in
       let next : Generation = generation_of_pick k.next in
       let close' : c ≤ was.lowest + (most_generations - 2) =
-        subst (λ (d : Generations). d.current ≤ (known_of d (pass_id p)).lowest + (most_generations - 2)) (sym knows) close in
+      subst (λ (d : Generations). d.current ≤ (known_of d (pass_id p)).lowest + (most_generations - 2)) (sym knows) close in
       let free' : was.placed ≡ false = ap (λ (d : Generations). (known_of d (pass_id p)).placed) knows ∙ free in
       let ok = (sound z.words z.passes k.log k.lawful).each p near in
       let mine_slots : PassSlots Copy c gs was (pass_of st.passes (pass_id p)).entered 0 next s.homes p =

@@ -82,9 +82,12 @@ module _ {E Z : Type 0} (e : E) where
     long = ap length h.2.2 ∙ (length-append (old ++ Some h.0 ∷ []) h.2.0
         ∙ (let a = length-append old (Some h.0 ∷ []) in let b = s.long in let c = h.2.1 in omega arith));
     each = λ v l. dite (ℕ_discrete v n)
-        (λ same. subst (λ (x : ℕ). (a : Arc E Z) × (get_elem? new (slots_before x) ≡ some (Some a)) × (arc_value a ≡ e)) (sym same)
-        (h.0, ap (λ l. get_elem? l (slots_before n)) h.2.2 ∙ at_longer (old ++ Some h.0 ∷ []) h.2.0 (slots_before n) (Some h.0)
-            (at_last old (Some h.0) (slots_before n) s.long), h.1))
+        (λ same. subst (λ (x : ℕ). (a : Arc E Z) × (get_elem? new (slots_before x) ≡ some (Some a)) × (arc_value a ≡ e)) (sym same) (
+          h.0,
+          ap (λ l. get_elem? l (slots_before n)) h.2.2 ∙ at_longer (old ++ Some h.0 ∷ []) h.2.0 (slots_before n) (Some h.0)
+              (at_last old (Some h.0) (slots_before n) s.long),
+          h.1,
+        ))
         (λ other. let t = s.each v (omega arith) in (
           t.0,
           ap (λ l. get_elem? l (slots_before v)) h.2.2

@@ -77,7 +77,7 @@ module _ {S : Type 0} where
     pub placed : k.placed ≡ true → HasAt homes (slot_of v (c + 1)) (Copy (c + 1) next)
     -- each slot is at home that neither the pass nor the writer holds
     pub home : (j : ℕ) → j < most_generations → ((g : ℕ) → inside ≡ Some g → j ≢ g % most_generations) → (held ≡ v + 1 → j ≢ (c + 1) % most_generations)
-      → HasAt homes (slots_before v + j) (λ y. Unit {0})
+        → HasAt homes (slots_before v + j) (λ y. Unit {0})
     -- the writer holds a slot of the pass only for the next generation, and where the pass has no copy of it yet
     pub clear : held ≡ v + 1 → (c ≤ k.lowest + (most_generations - 2)) × (k.placed ≡ false)
 

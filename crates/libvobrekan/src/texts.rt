@@ -4,7 +4,9 @@ ghost use Rattle.libvobrekan.specs.Texts.{id_in, limit_in, one_in, pass_in, plai
 
 use crate::answers::{Answer, CODE_MEMORY};
 use crate::buffers::copy_first;
-use mem_base::{ListenerId, MOST_PASSES, PassId, Refusal, RegionId, SpaceId, User, WatcherId, What, Which};
+use mem_base::{
+    ListenerId, MOST_PASSES, PassId, Refusal, RegionId, SpaceId, User, WatcherId, What, Which,
+};
 use std::alloc::{AllocError, Global};
 
 // A number of 32 bits.

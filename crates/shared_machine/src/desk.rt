@@ -15,7 +15,8 @@ use config_desk::Config;
 use epoch_rule::Cabinet;
 use generation::Generation;
 use mem_base::{
-    Applied, Client, Config as Event, ListenerEvent, ListenerId, MOST_PASSES, NotifierId, Refusal, RegionId,
+    Applied, Client, Config as Event, ListenerEvent, ListenerId, MOST_PASSES, NotifierId, Refusal,
+    RegionId,
 };
 use std::alloc::{AllocError, Global};
 use std::marker::Model;

@@ -33,8 +33,8 @@ pub use maps::Map;
 pub use mem_base::{
     Access, Applied, Attrs, Call, Change, Changes, Client, DeskAnswer, DeskOrder, Device,
     DeviceKind, Entries, Entry, Events, FlatRange, Forest, Ioevent, Kind, ListenerEvent,
-    ListenerId, Node, NotifierId, Ops, PassId, Path, Perm, RangeEvent, Refusal, RegionId, Size, SpaceId,
-    Spot, TxResult, View,
+    ListenerId, Node, NotifierId, Ops, PassId, Path, Perm, RangeEvent, Refusal, RegionId, Size,
+    SpaceId, Spot, TxResult, View,
 };
 pub use pure_machine::PureMachine;
 pub use transactions::Transaction;

@@ -1,6 +1,8 @@
 // Everything that the users of a machine may ask it to do.
 use crate::machines::Machine;
-use mem_base::{Applied, Call, Client, ListenerId, NotifierId, Refusal, RegionId, SpaceId, TxResult};
+use mem_base::{
+    Applied, Call, Client, ListenerId, NotifierId, Refusal, RegionId, SpaceId, TxResult,
+};
 use std::alloc::AllocError;
 
 /// The most bytes of an access or a load.

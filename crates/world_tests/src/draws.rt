@@ -3,8 +3,8 @@ ghost use Rattle.std.specs.Prelude.{◌<◌};
 
 use crate::composites::{Composite, Outcome};
 use mem_base::{
-    Call, Client, Device, DeviceKind, Forest, Ioevent, Kind, ListenerId, NotifierId, Perm, RegionId,
-    Size, SpaceId,
+    Call, Client, Device, DeviceKind, Forest, Ioevent, Kind, ListenerId, NotifierId, Perm,
+    RegionId, Size, SpaceId,
 };
 use rand_core::utils::NextWord;
 use rand_pcg::Lcg64Xsh32;
