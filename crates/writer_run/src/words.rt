@@ -69,9 +69,10 @@ pub fn load_bytes<H: Loads>(
     }
     // So the region has its place.
     backed.knows_places();
-    if let Some(place) = backed.place_of(region) {
-        load_words(hand, &place, offset, bytes);
-    }
+    let Some(place) = backed.place_of(region) else {
+        unreachable!()
+    };
+    load_words(hand, &place, offset, bytes);
     Ok(())
 }
 

@@ -37,8 +37,8 @@ load_words-requires-clause-inside g c =
     room c.args.desk.now gens words c.requires.parts f told are fit made c.args.region c.args.offset (length c.args.bytes.now)
     none c.in-Some-place_of.place found
 
-pub returns-in_default-place_of-clause-turn : goal.returns-in_default-place_of-clause-turn
-returns-in_default-place_of-clause-turn g c =
+pub unreachable-requires : goal.unreachable-requires
+unreachable-requires g c =
     let gens : Generations = g.H.Writing.generations c.args.hand.now in
     let words : ℕ = g.H.Writing.words c.args.hand.now in
     let f : Forest = c.args.desk.now.listened.backed.desk.state.forest in
@@ -48,11 +48,11 @@ returns-in_default-place_of-clause-turn g c =
     let found : place_in c.args.desk.now.listened.backed.backing.places c.args.region ≡ None = search rules in
     let made : IsMade f = search rules in
     let none : load_refusal f c.args.region c.args.offset (length c.args.bytes.now) ≡ None = search rules in
-    absurd (never c.args.desk.now gens words c.requires.parts f told are fit made c.args.region c.args.offset
-    (length c.args.bytes.now) none found)
+    never c.args.desk.now gens words c.requires.parts f told are fit made c.args.region c.args.offset
+    (length c.args.bytes.now) none found
 
-pub returns-in-Some-place_of-clause-turn : goal.returns-in-Some-place_of-clause-turn
-returns-in-Some-place_of-clause-turn g c =
+pub returns-clause-turn : goal.returns-clause-turn
+returns-clause-turn g c =
     let gens : Generations = g.H.Writing.generations c.args.hand.now in
     let words : ℕ = g.H.Writing.words c.args.hand.now in
     let p : Place = c.in-Some-place_of.place in
@@ -71,8 +71,8 @@ returns-in-Some-place_of-clause-turn g c =
     c.args.region p found) none makes replies made
     (g.H.Writing.generations c.load_words.new.hand) (left.0 ∙ loads_keep p c.args.region c.args.offset c.args.bytes.now replies gens)
 
-pub returns-in-Some-place_of-clause-parts : goal.returns-in-Some-place_of-clause-parts
-returns-in-Some-place_of-clause-parts g c =
+pub returns-clause-parts : goal.returns-clause-parts
+returns-clause-parts g c =
     let gens : Generations = g.H.Writing.generations c.args.hand.now in
     let words : ℕ = g.H.Writing.words c.args.hand.now in
     let p : Place = c.in-Some-place_of.place in
