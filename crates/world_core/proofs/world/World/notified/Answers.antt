@@ -10,8 +10,8 @@ use Rattle.world_core.proofs.RestLaws.{LeavesIn, leaves_all, parts_of, rested, s
 use Rattle.world_core.proofs.world.World.notified.Goals.{After-notified}
 use Rattle.world_core.proofs.world.World.notified.Goals as goal
 
-pub notified-requires-clause-parts : goal.notified-requires-clause-parts
-notified-requires-clause-parts c = parts_of c.self.inside c.args.self.now c.self.invariant c.self.view_is c.requires.rest
+pub notified-requires : goal.notified-requires
+notified-requires c = record { parts = parts_of c.self.inside c.args.self.now c.self.invariant c.self.view_is c.requires.rest }
 
 leaves : (c : After-notified) → LeavesIn c.args.self.now (notified c.args.number) (notifier_answer c.notified.result) c.self.inside c.self.inside.desk
     c.notified.new.hand.kept c.notified.new.hand.words
