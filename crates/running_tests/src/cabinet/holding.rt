@@ -27,14 +27,6 @@ fn publish_from(
     Ok(all)
 }
 
-/// The pass after the first.
-fn second() -> PassId {
-    let Some(pass) = PassId::new(1) else {
-        unreachable!();
-    };
-    pass
-}
-
 #[test]
 fn a_pass_that_stays_at_1_holds_up_the_publish_of_9(rt: HostRuntime) -> Result<(), Fail> {
     let alloc = rt.alloc();
@@ -83,7 +75,7 @@ fn a_sweep_names_the_least_pass_that_may_use_the_oldest_generation(
     assert!(rt; publish_from(alloc, &cabinet, &mut writer, 4, 5)?);
     let wanted = Swept {
         lowest: 3,
-        pass: second(),
+        pass: second.id(),
     };
     assert_eq!(rt; cabinet.sweep(&mut writer), wanted);
     cabinet.leave(&mut second);
