@@ -33,6 +33,25 @@ pub(crate) fn ended(access: Access) -> Answer
     }
 }
 
+// Reads bytes of a space by a pass.
+fn read(
+    alloc: Global,
+    handle: &mut Handle,
+    pass: PassId,
+    space: SpaceId,
+    addr: u64,
+    out: &mut [u8],
+) -> Answer
+    ensures { HasRead handle.old.machine pass space addr out.old result out.new handle.new.machine }
+{
+    let Some(mut machine) = handle.take(alloc) else {
+        return no_machine();
+    };
+    let access = machine.read(pass, space, addr, out);
+    handle.put(alloc, machine);
+    ended(access)
+}
+
 /// Reads bytes of a space by a pass, 0 to 15, as many as there is room for. A pass that is out enters the current generation
 /// before it and leaves after it. QEMU's core, `address_space_read`.
 ///
@@ -50,13 +69,27 @@ pub extern "C" fn vb_read(
     ensures read { pass < 16 → HasRead handle.old.machine (pass_at pass) (space_at space) addr out.old result out.new handle.new.machine }
     ensures argument { 16 ≤ pass → IsRefused handle.old.machine (bad_argument pass) result handle.new.machine × (out.new ≡ out.old) }
 {
-    let Some(known) = PassId::new(pass) else {
-        return bad_argument(u64::from(pass));
-    };
+    match PassId::new(pass) {
+        Some(pass) => read(alloc, handle, pass, SpaceId(space), addr, out),
+        None => bad_argument(u64::from(pass)),
+    }
+}
+
+// Writes bytes to a space by a pass.
+fn write(
+    alloc: Global,
+    handle: &mut Handle,
+    pass: PassId,
+    space: SpaceId,
+    addr: u64,
+    bytes: &[u8],
+) -> Answer
+    ensures { HasAccessed handle.old.machine pass space addr (writing bytes.now) result handle.new.machine }
+{
     let Some(mut machine) = handle.take(alloc) else {
         return no_machine();
     };
-    let access = machine.read(known, SpaceId(space), addr, out);
+    let access = machine.write(pass, space, addr, bytes);
     handle.put(alloc, machine);
     ended(access)
 }
@@ -74,13 +107,8 @@ pub extern "C" fn vb_write(
     ensures written { pass < 16 → HasAccessed handle.old.machine (pass_at pass) (space_at space) addr (writing bytes.now) result handle.new.machine }
     ensures argument { 16 ≤ pass → IsRefused handle.old.machine (bad_argument pass) result handle.new.machine }
 {
-    let Some(known) = PassId::new(pass) else {
-        return bad_argument(u64::from(pass));
-    };
-    let Some(mut machine) = handle.take(alloc) else {
-        return no_machine();
-    };
-    let access = machine.write(known, SpaceId(space), addr, bytes);
-    handle.put(alloc, machine);
-    ended(access)
+    match PassId::new(pass) {
+        Some(pass) => write(alloc, handle, pass, SpaceId(space), addr, bytes),
+        None => bad_argument(u64::from(pass)),
+    }
 }

@@ -144,6 +144,18 @@ pub extern "C" fn vb_load(
     of_plain(answer)
 }
 
+// Takes a notifier.
+fn notified(alloc: Global, handle: &mut Handle, number: NotifierId) -> Answer
+    ensures { IsDone handle.old.machine (notified number) result handle.new.machine }
+{
+    let Some(mut machine) = handle.take(alloc) else {
+        return no_machine();
+    };
+    let value = machine.notified(number);
+    handle.put(alloc, machine);
+    done(value, 0)
+}
+
 /// Takes a notifier, 0 to 63: `value` of the answer is what stood in its word, and 0 stands there then. A greater number is
 /// refused.
 #[unsafe(no_mangle)]
@@ -151,15 +163,10 @@ pub extern "C" fn vb_notified(alloc: Global, handle: &mut Handle, number: u32) -
     ensures taken { number < 64 → IsDone handle.old.machine (notified number) result handle.new.machine }
     ensures argument { 64 ≤ number → IsRefused handle.old.machine (bad_argument number) result handle.new.machine }
 {
-    let Some(known) = NotifierId::new(number) else {
-        return bad_argument(u64::from(number));
-    };
-    let Some(mut machine) = handle.take(alloc) else {
-        return no_machine();
-    };
-    let value = machine.notified(known);
-    handle.put(alloc, machine);
-    done(value, 0)
+    match NotifierId::new(number) {
+        Some(notifier) => notified(alloc, handle, notifier),
+        None => bad_argument(u64::from(number)),
+    }
 }
 
 /// What was released, in a buffer.

@@ -4,10 +4,10 @@ use Rattle.mem_base.specs.machine.Answers as machine
 use Rattle.libvobrekan.specs.Answers.{done}
 use Rattle.libvobrekan.specs.Asked.{Did}
 use Rattle.libvobrekan.proofs.AskedLaws.{did, done_on_handle}
-use Rattle.libvobrekan.proofs.writer.vb_notified.Goals as goal
+use Rattle.libvobrekan.proofs.writer.notified.Goals as goal
 
-pub returns-clause-taken : goal.returns-clause-taken
-returns-clause-taken c less =
+pub returns : goal.returns
+returns c =
     let w = c.in-Some.machine.value in
     let v = c.notified-value.new.self in
     let k = notified c.args.number in
