@@ -110,7 +110,7 @@ fn made(world: &mut World) -> bool {
     let rows = [
         (Event::Announce(FIRST), None),
         (fill(0), None),
-        (word(writer, 0, OR), None),
+        (word(Hand::Writer, 0, OR), None),
         (Event::Publish, None),
         (
             makes_a_bell(),
@@ -122,15 +122,17 @@ fn made(world: &mut World) -> bool {
 
 // Two words are to be cleared before the next private event.
 fn cleared(world: &mut World) -> bool {
-    let writer = Hand::Writer;
     let rows = [
         (BEGIN, None),
         (Event::Reap, None),
         (fill(2), None),
-        (word(writer, 1, OR), Some(Ok(Reply::Old(0)))),
+        (word(Hand::Writer, 1, OR), Some(Ok(Reply::Old(0)))),
         (fill(1), DONE),
         (fill(1), None),
-        (word(writer, 1, WordStep::Load), Some(Ok(Reply::Old(0)))),
+        (
+            word(Hand::Writer, 1, WordStep::Load),
+            Some(Ok(Reply::Old(0))),
+        ),
         (BEGIN, None),
         (fill(0), DONE),
     ];
@@ -166,16 +168,18 @@ fn published(world: &mut World) -> bool {
 
 // A pass enters it.
 fn entered(world: &mut World) -> bool {
-    let pass = Hand::Pass(FIRST);
     let rows = [
         (Event::Look(FIRST), Some(Ok(Reply::Number(1)))),
         (Event::Enter(FIRST), None),
         (Event::Announce(FIRST), DONE),
-        (word(pass, 1, OR), None),
+        (word(Hand::Pass(FIRST), 1, OR), None),
         (Event::Enter(FIRST), Some(Ok(Reply::Number(1)))),
-        (word(pass, 1, OR), Some(Ok(Reply::Old(0)))),
-        (word(pass, 1, WordStep::Take), Some(Ok(Reply::Old(5)))),
-        (word(pass, 2, OR), None),
+        (word(Hand::Pass(FIRST), 1, OR), Some(Ok(Reply::Old(0)))),
+        (
+            word(Hand::Pass(FIRST), 1, WordStep::Take),
+            Some(Ok(Reply::Old(5))),
+        ),
+        (word(Hand::Pass(FIRST), 2, OR), None),
         (MARK, None),
         (HARVEST, None),
         (Event::Sweep(FIRST), Some(Ok(Reply::Number(2)))),
