@@ -98,6 +98,9 @@ pub(crate) fn publish_next(
     let next = next_board(alloc, writer, passes)?;
     match cabinet.publish(writer, next) {
         Ok(number) => Ok(Ok(number)),
-        Err((held, _)) => Ok(Err(held)),
+        Err((held, next)) => {
+            drop(next);
+            Ok(Err(held))
+        }
     }
 }
