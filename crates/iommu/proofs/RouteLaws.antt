@@ -8,6 +8,7 @@ use Rattle.mem_base.specs.declared.access.accesses.Target.{Target}
 use Rattle.mem_base.specs.access.Trails.{Route, route_of}
 use Rattle.iommu.specs.Probes.{IsBoundOfAll}
 use Rattle.iommu.specs.Ways.{way, way_within, leads_through}
+use Rattle.mem_base.specs.map.Limits.{most_translations}
 
 -- a route by the translations that are used first, and the route from there on
 abbrev pub after : List Entry → Route → Route
@@ -107,10 +108,10 @@ more_probes f i before now next h e k b =
     let z : (i + 1) * k ≡ i * k + k = grind arith in
     omega arith
 
-pub all_probes : (f : Forest) (i before now next : ℕ) → i ≤ 8 → AreProbesOf f i before now → ((k : ℕ) → IsBoundOfAll f k → next ≤ now + k)
-    → (k : ℕ) → IsBoundOfAll f k → next ≤ before + 9 * k
+pub all_probes : (f : Forest) (i before now next : ℕ) → i ≤ most_translations → AreProbesOf f i before now → ((k : ℕ) → IsBoundOfAll f k → next ≤ now + k)
+    → (k : ℕ) → IsBoundOfAll f k → next ≤ before + (most_translations + 1) * k
 all_probes f i before now next l h e k b =
     let x = h k b in
     let y = e k b in
-    let z : i * k ≤ 8 * k = mul-le i k 8 k l (omega arith) in
+    let z : i * k ≤ most_translations * k = mul-le i k most_translations k l (omega arith) in
     omega arith

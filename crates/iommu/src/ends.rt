@@ -1,6 +1,7 @@
 // Where routes end, without the translations that are used.
 ghost use Rattle.std.specs.Prelude.{◌≡◌, ◌+◌, ◌*◌, ◌≤◌, ◌^◌, ◌<◌, ℕ};
 ghost use Rattle.mem_base.specs.access.Trails.{route_of};
+ghost use Rattle.mem_base.specs.map.Limits.{most_translations};
 ghost use Rattle.iommu.specs.Probes.{IsBoundOfAll};
 ghost use Rattle.iommu.specs.Hops.{FitsLeaf};
 
@@ -30,7 +31,7 @@ pub fn end_of_route<L: Ledger>(
     ensures some { 0 < result.1 }
     ensures within { result.1 ≤ len }
     ensures offsets { FitsLeaf result.0 result.1 }
-    ensures probes { (k : ℕ) → IsBoundOfAll g.now.forest k → steps.new ≤ steps.old + 9 * k }
+    ensures probes { (k : ℕ) → IsBoundOfAll g.now.forest k → steps.new ≤ steps.old + (most_translations + 1) * k }
 {
     let (mut here, mut from, mut count) = (space, addr, len);
     for _ in 0..MOST_TRANSLATIONS {

@@ -1,6 +1,7 @@
 // Routes, hop by hop: each hop narrows the number of addresses that go along, and hands it on.
 ghost use Rattle.std.specs.Prelude.{◌≡◌, ◌+◌, ◌*◌, ◌≤◌, ◌^◌, ◌<◌, ℕ};
 ghost use Rattle.mem_base.specs.access.Trails.{route_of};
+ghost use Rattle.mem_base.specs.map.Limits.{most_translations};
 ghost use Rattle.iommu.specs.Probes.{IsBoundOfAll};
 ghost use Rattle.iommu.specs.Hops.{FitsLeaf};
 
@@ -18,8 +19,8 @@ use step_counter::Steps;
 /// translations and, where what is found is unmergeable, on the same path; and the translations that are used. An address is
 /// unassigned where nothing is found, where no translation covers it or lets it through, and where a ninth one would be used.
 ///
-/// It takes no memory. Where a look-up in each view takes at most k probes, it takes at most 9 * k: one look-up for each
-/// translation, and one more.
+/// It takes no memory. Where a look-up in each view takes at most k probes, it takes at most
+/// (`MOST_TRANSLATIONS` + 1) * k: one look-up for each translation, and one more.
 pub fn route<L: Ledger>(
     g: &Generation,
     space: SpaceId,
@@ -36,7 +37,7 @@ pub fn route<L: Ledger>(
     ensures some { 0 < result.len }
     ensures within { result.len ≤ len }
     ensures offsets { FitsLeaf result.target result.len }
-    ensures probes { (k : ℕ) → IsBoundOfAll g.now.forest k → steps.new ≤ steps.old + 9 * k }
+    ensures probes { (k : ℕ) → IsBoundOfAll g.now.forest k → steps.new ≤ steps.old + (most_translations + 1) * k }
 {
     let mut used = Used::new();
     let (mut here, mut from, mut count) = (space, addr, len);

@@ -22,15 +22,16 @@ use Rattle.map_laws.proofs.KeptLaws.{field_forest, retarget_field, del_forest}
 use Rattle.map_laws.proofs.MoveLaws.{move_forest}
 use Rattle.map_laws.proofs.DropLaws.{drop_forest}
 use Rattle.map_laws.proofs.RefusalLaws.{each_none, is_known, known_node, target_made, has_container-none, too_deep-none, too_wide-none}
+use Rattle.mem_base.specs.map.Limits.{most_depth, most_weight}
 
 -- a new alias is refused where it would be too deep or too wide; no other new region is
 made_bounds : (f : Forest) (kind : Kind) (size : ℕ) → IsOrderedForest f → alias_too_long f kind size ≡ None →
-    (greatest_depth (changed f (calls.Region kind size)).nodes ≤ 32) × (greatest_weight (changed f (calls.Region kind size)).nodes ≤ 65536)
+    (greatest_depth (changed f (calls.Region kind size)).nodes ≤ most_depth) × (greatest_weight (changed f (calls.Region kind size)).nodes ≤ most_weight)
 made_bounds f kind size h e =
     let nodes = (changed f (calls.Region kind size)).nodes in
     let r = made_region (record { 0 = f.made }) kind size in
-    elim (is_alias kind) as (λ b. is_alias kind ≡ b → cond b (first_refusal (too_deep nodes ∷ too_wide nodes ∷ [])) None ≡ None → (greatest_depth nodes ≤ 32)
-    × (greatest_weight nodes ≤ 65536)) [
+    elim (is_alias kind) as (λ b. is_alias kind ≡ b → cond b (first_refusal (too_deep nodes ∷ too_wide nodes ∷ [])) None ≡ None → (greatest_depth nodes ≤ most_depth)
+    × (greatest_weight nodes ≤ most_weight)) [
       | true ↦ λ t w. let each = each_none (too_deep nodes ∷ too_wide nodes ∷ []) w in (too_deep-none nodes each.0, too_wide-none nodes each.1.0)
       | false ↦ λ t w. (shallow_made f h r refl refl t, narrow_made f h r refl refl t)
     ] refl e

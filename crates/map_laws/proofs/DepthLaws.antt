@@ -5,7 +5,7 @@ use Rattle.std.specs.List.{list_any}
 use Rattle.mem_base.specs.declared.map.ids.RegionId.{RegionId}
 use Rattle.mem_base.specs.declared.map.forests.Forest.{Forest}
 use Rattle.mem_base.specs.lists.Every.{Every, HasElement}
-use Rattle.mem_base.specs.map.Steps.{Steps, depth_by, weight_by, reaches_by, steps_of, depth_of, weight_of, reaches}
+use Rattle.mem_base.specs.map.Steps.{longest, Steps, depth_by, weight_by, reaches_by, steps_of, depth_of, weight_of, reaches}
 use Rattle.mem_base.specs.map.Depths.{Leads, stays, onward, Measures, MeasureAll, above, none, each, HasDepth, HasWeight}
 use Rattle.mem_base.specs.map.Forest.{IsOrderedForest}
 use Rattle.mem_base.proofs.StepLaws.{IsWithin}
@@ -99,11 +99,11 @@ reaches_by-Leads s (suc most) r to h (onward q among l) =
 
 -- of each forest that keeps its bounds
 pub depth_is : (f : Forest) → IsOrderedForest f → (r : RegionId) → HasDepth (steps_of f.nodes) r (depth_of f.nodes r)
-depth_is f h r = HasDepth-depth_by (steps_of f.nodes) 64 r (IsWithin-longer (steps_of f.nodes) 63 r (within_forest f h r))
+depth_is f h r = HasDepth-depth_by (steps_of f.nodes) longest r (IsWithin-longer (steps_of f.nodes) 63 r (within_forest f h r))
 
 pub weight_is : (f : Forest) → IsOrderedForest f → (r : RegionId) → HasWeight (steps_of f.nodes) r (weight_of f.nodes r)
-weight_is f h r = HasWeight-weight_by (steps_of f.nodes) 64 r (IsWithin-longer (steps_of f.nodes) 63 r (within_forest f h r))
+weight_is f h r = HasWeight-weight_by (steps_of f.nodes) longest r (IsWithin-longer (steps_of f.nodes) 63 r (within_forest f h r))
 
 pub reaches_is : (f : Forest) → IsOrderedForest f → (r to : RegionId) → (reaches f.nodes r to ≡ true) ↔ Leads (steps_of f.nodes) r to
 reaches_is f h r to =
-    (Leads-reaches_by (steps_of f.nodes) 64 r to, reaches_by-Leads (steps_of f.nodes) 64 r to (IsWithin-longer (steps_of f.nodes) 63 r (within_forest f h r)))
+    (Leads-reaches_by (steps_of f.nodes) longest r to, reaches_by-Leads (steps_of f.nodes) longest r to (IsWithin-longer (steps_of f.nodes) 63 r (within_forest f h r)))

@@ -12,7 +12,7 @@ use Rattle.mem_base.specs.map.Region.{has_id, node_of, is_in, is_child_of, IsAsc
 use Rattle.mem_base.specs.lists.Sorting.{sorted_by}
 use Rattle.mem_base.specs.map.Order.{trial_order, children_of}
 use Rattle.mem_base.specs.map.Forest.{IsOrderedForest, IsPlacedBefore, IsTargetBefore}
-use Rattle.mem_base.specs.map.Steps.{steps_of, steps_from, greatest, total, depth_of, weight_of, greatest_depth, greatest_weight}
+use Rattle.mem_base.specs.map.Steps.{longest, steps_of, steps_from, greatest, total, depth_of, weight_of, greatest_depth, greatest_weight}
 use Rattle.mem_base.specs.map.Changes.{changed}
 use Rattle.mem_base.specs.map.Calls.{counted}
 use Rattle.mem_base.proofs.EveryLaws.{weaker}
@@ -118,11 +118,11 @@ module _ (r : RegionId) (m : Node) (nodes : List Node) (h : IsAscending nodes) (
 
   pub greatest_depth-without : greatest_depth (without r nodes) ≤ greatest_depth nodes
   greatest_depth-without = greatest_without (λ (n : Node). depth_of (without r nodes) n.id) (λ (n : Node). depth_of nodes n.id) r nodes
-      (λ n. depth_by-fewer (steps_of (without r nodes)) (steps_of nodes) fewer_without 64 n.id)
+      (λ n. depth_by-fewer (steps_of (without r nodes)) (steps_of nodes) fewer_without longest n.id)
 
   pub greatest_weight-without : greatest_weight (without r nodes) ≤ greatest_weight nodes
   greatest_weight-without = greatest_without (λ (n : Node). weight_of (without r nodes) n.id) (λ (n : Node). weight_of nodes n.id) r nodes
-      (λ n. weight_by-fewer (steps_of (without r nodes)) (steps_of nodes) fewer_without 64 n.id)
+      (λ n. weight_by-fewer (steps_of (without r nodes)) (steps_of nodes) fewer_without longest n.id)
 
 pub drop_forest : (f : Forest) (r : RegionId) (m : Node) → IsOrderedForest f → node_of f.nodes r ≡ Some m → m.parent ≡ None →
     IsOrderedForest (counted (changed f (calls.Drop r)))

@@ -9,7 +9,7 @@ use Rattle.mem_base.specs.map.Kinds.{target_of}
 use Rattle.mem_base.specs.map.Region.{has_id, node_of, is_in, is_child_of}
 use Rattle.mem_base.specs.map.Order.{trial_order, children_of}
 use Rattle.mem_base.specs.map.Changes.{changed_at}
-use Rattle.mem_base.specs.map.Steps.{steps_of, steps_from, steps_at, greatest, depth_of, weight_of, greatest_depth, greatest_weight}
+use Rattle.mem_base.specs.map.Steps.{longest, steps_of, steps_from, steps_at, greatest, depth_of, weight_of, greatest_depth, greatest_weight}
 use Rattle.mem_base.proofs.StepLaws.{Alike, alike-sorted_by, map_agree, every_of, depth_by-alike, weight_by-alike}
 use Rattle.mem_base.proofs.JoinLaws.{node_of-changed_at, map_ids-changed_at, steps_seen, alike_of}
 
@@ -72,10 +72,10 @@ module _ (r : RegionId) (g : Node → Node) (keeps : KeepsSteps g) where
       (steps_from_alike nodes (node_of nodes q))
 
   pub depth_of-kept : (nodes : List Node) (q : RegionId) → depth_of (changed_at r g nodes) q ≡ depth_of nodes q
-  depth_of-kept nodes q = depth_by-alike (steps_of (changed_at r g nodes)) (steps_of nodes) (steps_alike_kept nodes) 64 q
+  depth_of-kept nodes q = depth_by-alike (steps_of (changed_at r g nodes)) (steps_of nodes) (steps_alike_kept nodes) longest q
 
   pub weight_of-kept : (nodes : List Node) (q : RegionId) → weight_of (changed_at r g nodes) q ≡ weight_of nodes q
-  weight_of-kept nodes q = weight_by-alike (steps_of (changed_at r g nodes)) (steps_of nodes) (steps_alike_kept nodes) 64 q
+  weight_of-kept nodes q = weight_by-alike (steps_of (changed_at r g nodes)) (steps_of nodes) (steps_alike_kept nodes) longest q
 
   pub greatest_depth-kept : (nodes : List Node) → greatest_depth (changed_at r g nodes) ≡ greatest_depth nodes
   greatest_depth-kept nodes =

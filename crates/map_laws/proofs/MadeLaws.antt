@@ -11,12 +11,13 @@ use Rattle.mem_base.specs.map.Kinds.{is_alias}
 use Rattle.mem_base.specs.map.Region.{has_id, node_of, is_child_of}
 use Rattle.mem_base.specs.map.Order.{children_of}
 use Rattle.mem_base.specs.map.Forest.{IsOrderedForest, IsTargetBefore}
-use Rattle.mem_base.specs.map.Steps.{steps_of, steps_from, steps_at, greatest, depth_by, weight_by, depth_of, weight_of, greatest_depth, greatest_weight}
+use Rattle.mem_base.specs.map.Steps.{longest, steps_of, steps_from, steps_at, greatest, depth_by, weight_by, depth_of, weight_of, greatest_depth, greatest_weight}
 use Rattle.mem_base.proofs.EveryLaws.{weaker, every_map}
 use Rattle.mem_base.proofs.ForestLaws.{children_of-made, every_node_of, every_child, no_children}
 use Rattle.mem_base.proofs.StepLaws.{map_agree, depth_by-inside, weight_by-inside, depth_by-end, weight_by-end, depth_by-one, weight_by-one}
 use Rattle.mem_base.proofs.StepLaws.{depth_by-further, weight_by-further, greatest_push}
 use Rattle.mem_base.proofs.JoinLaws.{steps_alike, steps_children, within_forest}
+use Rattle.mem_base.specs.map.Limits.{most_depth, most_weight}
 
 node_of-push : (nodes : List Node) (n : Node) (q : RegionId) → has_id q n ≡ false → node_of (nodes ++ n ∷ []) q ≡ node_of nodes q
 node_of-push [] n q e = rw e refl
@@ -63,14 +64,14 @@ module _ (f : Forest) (h : IsOrderedForest f) (n : Node) (fresh : n.id.0 ≡ f.m
       greatest_push (λ (m : Node). depth_of new m.id) f.nodes n
       ∙ ap (λ xs. max (greatest xs) (depth_of new n.id))
       (map_agree (λ (m : Node). depth_of new m.id) (λ (m : Node). depth_of f.nodes m.id) f.nodes
-      (weaker (λ m. m.id.0 < f.made) _ (λ m l. depth_made 64 m.id l) f.nodes h.made_before))
+      (weaker (λ m. m.id.0 < f.made) _ (λ m l. depth_made longest m.id l) f.nodes h.made_before))
 
   pub greatest_weight_made : greatest_weight new ≡ max (greatest_weight f.nodes) (weight_of new n.id)
   greatest_weight_made =
       greatest_push (λ (m : Node). weight_of new m.id) f.nodes n
       ∙ ap (λ xs. max (greatest xs) (weight_of new n.id))
       (map_agree (λ (m : Node). weight_of new m.id) (λ (m : Node). weight_of f.nodes m.id) f.nodes
-      (weaker (λ m. m.id.0 < f.made) _ (λ m l. weight_made 64 m.id l) f.nodes h.made_before))
+      (weaker (λ m. m.id.0 < f.made) _ (λ m l. weight_made longest m.id l) f.nodes h.made_before))
 
   found_made : node_of new n.id ≡ Some n
   found_made =
@@ -83,11 +84,11 @@ module _ (f : Forest) (h : IsOrderedForest f) (n : Node) (fresh : n.id.0 ≡ f.m
       ap (steps_from new) found_made ∙ steps_children new n.kind n e
       ∙ ap (map (λ (c : Node). c.id)) (children_of-made f.nodes n n.id free ∙ no_children f n.id h (omega arith))
 
-  pub shallow_made : is_alias n.kind ≡ false → greatest_depth new ≤ 32
-  shallow_made e = let a = greatest_depth_made in let b = depth_by-end (steps_of new) 64 n.id (no_steps e) in let c = h.shallow in omega arith
+  pub shallow_made : is_alias n.kind ≡ false → greatest_depth new ≤ most_depth
+  shallow_made e = let a = greatest_depth_made in let b = depth_by-end (steps_of new) longest n.id (no_steps e) in let c = h.shallow in omega arith
 
-  pub narrow_made : is_alias n.kind ≡ false → greatest_weight new ≤ 65536
-  narrow_made e = let a = greatest_weight_made in let b = weight_by-end (steps_of new) 64 n.id (no_steps e) in let c = h.narrow in omega arith
+  pub narrow_made : is_alias n.kind ≡ false → greatest_weight new ≤ most_weight
+  narrow_made e = let a = greatest_weight_made in let b = weight_by-end (steps_of new) longest n.id (no_steps e) in let c = h.narrow in omega arith
 
   -- an alias is made one deeper and one wider than its target
   module _ (target : RegionId) (offset : ℕ) (kind : n.kind ≡ Alias target offset) (before : target.0 < f.made) where
@@ -97,9 +98,9 @@ module _ (f : Forest) (h : IsOrderedForest f) (n : Node) (fresh : n.id.0 ≡ f.m
     pub depth_alias : depth_of new n.id ≡ depth_of f.nodes target + 1
     depth_alias =
         depth_by-one (steps_of new) 63 n.id target one_step
-        ∙ ap (λ k. k + 1) (depth_made 63 target before ∙ sym (depth_by-further (steps_of f.nodes) 63 64 target (omega arith) (within_forest f h target)))
+        ∙ ap (λ k. k + 1) (depth_made 63 target before ∙ sym (depth_by-further (steps_of f.nodes) 63 longest target (omega arith) (within_forest f h target)))
 
     pub weight_alias : weight_of new n.id ≡ weight_of f.nodes target + 1
     weight_alias =
         weight_by-one (steps_of new) 63 n.id target one_step
-        ∙ ap (λ k. k + 1) (weight_made 63 target before ∙ sym (weight_by-further (steps_of f.nodes) 63 64 target (omega arith) (within_forest f h target)))
+        ∙ ap (λ k. k + 1) (weight_made 63 target before ∙ sym (weight_by-further (steps_of f.nodes) 63 longest target (omega arith) (within_forest f h target)))

@@ -21,6 +21,7 @@ use Rattle.mem_base.specs.map.Refusals.{in_use, first_id, targets, has_root, lea
 use Rattle.mem_base.specs.map.Refusals.{too_deep, too_wide}
 use Rattle.mem_base.specs.map.Steps.{greatest_depth, greatest_weight}
 use Rattle.mem_base.proofs.ForestLaws.{known_below}
+use Rattle.mem_base.specs.map.Limits.{most_depth, most_weight}
 
 pub first_none : (x y : Option Refusal) → option_or x y ≡ None → (x ≡ None) × (y ≡ None)
 first_none None y e = (refl, e)
@@ -67,11 +68,11 @@ pub has_container-none : (f : Forest) (r : RegionId) (n : Node) → node_of f.no
 has_container-none f r n e h = unmapped (λ p. HasContainer p) n.parent
     (ap (option_and_then (λ (m : Node). option_map (λ p. HasContainer p) m.parent)) (let back : Some n ≡ node_of f.nodes r = cc in back) ∙ h)
 
-pub too_deep-none : (nodes : List Node) → too_deep nodes ≡ None → greatest_depth nodes ≤ 32
-too_deep-none nodes e = let t = refuse_if-none (nat_lt 32 (greatest_depth nodes)) (TooDeep (greatest_depth nodes)) e in grind (arith, nat_tests)
+pub too_deep-none : (nodes : List Node) → too_deep nodes ≡ None → greatest_depth nodes ≤ most_depth
+too_deep-none nodes e = let t = refuse_if-none (nat_lt most_depth (greatest_depth nodes)) (TooDeep (greatest_depth nodes)) e in grind (arith, nat_tests)
 
-pub too_wide-none : (nodes : List Node) → too_wide nodes ≡ None → greatest_weight nodes ≤ 65536
-too_wide-none nodes e = let t = refuse_if-none (nat_lt 65536 (greatest_weight nodes)) (TooWide (greatest_weight nodes)) e in grind (arith, nat_tests)
+pub too_wide-none : (nodes : List Node) → too_wide nodes ≡ None → greatest_weight nodes ≤ most_weight
+too_wide-none nodes e = let t = refuse_if-none (nat_lt most_weight (greatest_weight nodes)) (TooWide (greatest_weight nodes)) e in grind (arith, nat_tests)
 
 -- what is not found passes no test
 pub find-none : {A : Type 0} (p : A → Bool) (xs : List A) → find p xs ≡ None → Every (λ x. p x ≡ false) xs

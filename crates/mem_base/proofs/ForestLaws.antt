@@ -23,6 +23,7 @@ use Rattle.mem_base.specs.declared.map.calls.Call.TheVariants as calls
 use Rattle.mem_base.specs.map.Changes.{changed_at, changed, placed}
 use Rattle.mem_base.specs.map.Calls.{counted}
 use Rattle.mem_base.specs.map.Steps.{greatest_depth, greatest_weight}
+use Rattle.mem_base.specs.map.Limits.{most_depth, most_weight}
 use Rattle.mem_base.proofs.EveryLaws.{weaker, both, every_push, every_at}
 use Rattle.mem_base.proofs.SortingLaws.{put_by-swap}
 
@@ -157,8 +158,8 @@ known_below f r h e =
     ] refl e
 
 pub added_forest : (f : Forest) (parent : RegionId) (offset : ℕ) (child : RegionId) (priority : ℤ) → IsOrderedForest f → parent.0 < f.made →
-    greatest_depth (changed f (calls.Add parent offset child priority)).nodes ≤ 32 →
-    greatest_weight (changed f (calls.Add parent offset child priority)).nodes ≤ 65536 →
+    greatest_depth (changed f (calls.Add parent offset child priority)).nodes ≤ most_depth →
+    greatest_weight (changed f (calls.Add parent offset child priority)).nodes ≤ most_weight →
     IsOrderedForest (counted (changed f (calls.Add parent offset child priority)))
 added_forest f parent offset child priority h l deep wide =
     let g = placed parent offset priority f.placings in
@@ -176,7 +177,7 @@ added_forest f parent offset child priority h l deep wide =
 
 -- one more region without a container, of the next id
 pub pushed_forest : (f : Forest) (n : Node) → IsOrderedForest f → n.id.0 ≡ f.made → n.parent ≡ None → IsTargetBefore f.made n.kind →
-    greatest_depth (f.nodes ++ n ∷ []) ≤ 32 → greatest_weight (f.nodes ++ n ∷ []) ≤ 65536 →
+    greatest_depth (f.nodes ++ n ∷ []) ≤ most_depth → greatest_weight (f.nodes ++ n ∷ []) ≤ most_weight →
     IsOrderedForest (record f { nodes = f.nodes ++ n ∷ []; made = f.made + 1; calls = f.calls + 1 })
 pushed_forest f n h e k t deep wide = record {
   ascending = ascending_push f.nodes n (weaker (λ m. m.id.0 < f.made) (λ m. m.id.0 < n.id.0) (λ m l. omega arith) f.nodes h.made_before) h.ascending;

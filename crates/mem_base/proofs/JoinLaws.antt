@@ -16,7 +16,8 @@ use Rattle.mem_base.specs.lists.Sorting.{put_by, sorted_by}
 use Rattle.mem_base.specs.map.Order.{trial_order, children_of}
 use Rattle.mem_base.specs.map.Forest.{IsOrderedForest}
 use Rattle.mem_base.specs.map.Changes.{placed, changed_at}
-use Rattle.mem_base.specs.map.Steps.{steps_of, steps_from, steps_at, greatest, total, depth_by, weight_by, reaches, weight_of, depth_of}
+use Rattle.mem_base.specs.map.Steps.{steps_of, steps_from, steps_at, greatest, total, longest, depth_by, weight_by, reaches, weight_of, depth_of}
+use Rattle.mem_base.specs.map.Limits.{most_depth, most_weight}
 use Rattle.mem_base.proofs.EveryLaws.{weaker}
 use Rattle.mem_base.proofs.ForestLaws.{trial_apart, filter-changed_at, children_of-joined, only_node, child_before, id_of, every_node_of}
 use Rattle.mem_base.proofs.StepLaws.{Alike, joined_steps, alike-put_by, weight_by-bounded, depth_by-longer, IsWithin, IsWithin-depth_by, IsWithin-depth_at_most}
@@ -151,21 +152,21 @@ weight_missing nodes zero r e = omega arith
 weight_missing nodes (suc most) r e = rw e (omega arith)
 
 -- no region of a forest, and none that is not there, weighs more than the most
-pub weight_at_most : (f : Forest) → IsOrderedForest f → (r : RegionId) → weight_by (steps_of f.nodes) 64 r ≤ 65536
+pub weight_at_most : (f : Forest) → IsOrderedForest f → (r : RegionId) → weight_by (steps_of f.nodes) longest r ≤ most_weight
 weight_at_most f h r =
-    elim (node_of f.nodes r) as (λ o. node_of f.nodes r ≡ o → weight_by (steps_of f.nodes) 64 r ≤ 65536) [
-      | None ↦ λ e. let l = weight_missing f.nodes 64 r e in omega arith
+    elim (node_of f.nodes r) as (λ o. node_of f.nodes r ≡ o → weight_by (steps_of f.nodes) longest r ≤ most_weight) [
+      | None ↦ λ e. let l = weight_missing f.nodes longest r e in omega arith
       | Some n ↦ λ e.
-          let each = each_at_most (λ (x : Node). weight_of f.nodes x.id) 65536 f.nodes h.narrow in
-          let l = (every_node_of (λ x. weight_of f.nodes x.id ≤ 65536) f.nodes r n e each).0 in
-          subst (λ q. weight_by (steps_of f.nodes) 64 q ≤ 65536) (id_of f.nodes r n e) l
+          let each = each_at_most (λ (x : Node). weight_of f.nodes x.id) most_weight f.nodes h.narrow in
+          let l = (every_node_of (λ x. weight_of f.nodes x.id ≤ most_weight) f.nodes r n e each).0 in
+          subst (λ q. weight_by (steps_of f.nodes) longest q ≤ most_weight) (id_of f.nodes r n e) l
     ] refl
 
 -- with one more step that makes no loop, weights stay far below the range of numbers
 pub weight_joined_bound : (f : Forest) → IsOrderedForest f → (parent child : RegionId) → reaches f.nodes child parent ≡ false → (k : ℕ) (q : RegionId) →
-    k ≤ 64 → weight_by (joined_steps (steps_of f.nodes) parent child) k q < 9223372036854775808
+    k ≤ longest → weight_by (joined_steps (steps_of f.nodes) parent child) k q < 9223372036854775808
 weight_joined_bound f h parent child e k q l =
-    let b = weight_by-bounded (steps_of f.nodes) parent child 65536 64 (weight_at_most f h) e k q l in
+    let b = weight_by-bounded (steps_of f.nodes) parent child most_weight longest (weight_at_most f h) e k q l in
     omega arith
 
 depth_missing : (nodes : List Node) (most : ℕ) (r : RegionId) → node_of nodes r ≡ None → depth_by (steps_of nodes) most r ≤ 1
@@ -173,26 +174,26 @@ unfolding depth_by
 depth_missing nodes zero r e = omega arith
 depth_missing nodes (suc most) r e = rw e (omega arith)
 
-pub depth_at_most : (f : Forest) → IsOrderedForest f → (r : RegionId) → depth_by (steps_of f.nodes) 64 r ≤ 32
+pub depth_at_most : (f : Forest) → IsOrderedForest f → (r : RegionId) → depth_by (steps_of f.nodes) longest r ≤ most_depth
 depth_at_most f h r =
-    elim (node_of f.nodes r) as (λ o. node_of f.nodes r ≡ o → depth_by (steps_of f.nodes) 64 r ≤ 32) [
-      | None ↦ λ e. let l = depth_missing f.nodes 64 r e in omega arith
+    elim (node_of f.nodes r) as (λ o. node_of f.nodes r ≡ o → depth_by (steps_of f.nodes) longest r ≤ most_depth) [
+      | None ↦ λ e. let l = depth_missing f.nodes longest r e in omega arith
       | Some n ↦ λ e.
-          let each = each_at_most (λ (x : Node). depth_of f.nodes x.id) 32 f.nodes h.shallow in
-          let l = (every_node_of (λ x. depth_of f.nodes x.id ≤ 32) f.nodes r n e each).0 in
-          subst (λ q. depth_by (steps_of f.nodes) 64 q ≤ 32) (id_of f.nodes r n e) l
+          let each = each_at_most (λ (x : Node). depth_of f.nodes x.id) most_depth f.nodes h.shallow in
+          let l = (every_node_of (λ x. depth_of f.nodes x.id ≤ most_depth) f.nodes r n e each).0 in
+          subst (λ q. depth_by (steps_of f.nodes) longest q ≤ most_depth) (id_of f.nodes r n e) l
     ] refl
 
 -- no path of a forest has more than 63 regions, so looking at longer ones changes nothing
 pub within_forest : (f : Forest) → IsOrderedForest f → (r : RegionId) → IsWithin (steps_of f.nodes) 63 r
 within_forest f h r =
     let a = depth_at_most f h r in
-    let b = depth_by-longer (steps_of f.nodes) 63 64 r (omega arith) in
+    let b = depth_by-longer (steps_of f.nodes) 63 longest r (omega arith) in
     IsWithin-depth_by (steps_of f.nodes) 63 r (omega arith)
 
--- no path of a forest has more than 32 regions
-pub within_most_depth : (f : Forest) → IsOrderedForest f → (r : RegionId) → IsWithin (steps_of f.nodes) 32 r
+-- no path of a forest has more than `most_depth` regions
+pub within_most_depth : (f : Forest) → IsOrderedForest f → (r : RegionId) → IsWithin (steps_of f.nodes) most_depth r
 within_most_depth f h r =
     let a = depth_at_most f h r in
-    let b = depth_by-longer (steps_of f.nodes) 33 64 r (omega arith) in
-    IsWithin-depth_at_most (steps_of f.nodes) 32 r (omega arith)
+    let b = depth_by-longer (steps_of f.nodes) 33 longest r (omega arith) in
+    IsWithin-depth_at_most (steps_of f.nodes) most_depth r (omega arith)

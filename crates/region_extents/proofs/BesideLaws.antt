@@ -25,7 +25,7 @@ use Rattle.mem_base.specs.declared.map.calls.Call.{Call}
 use Rattle.mem_base.specs.map.Edits.{edited}
 use Rattle.region_slots.proofs.HandedOn.{edited_field, moved_keeps, KeepsSteps, depth_of-kept, weight_of-kept, depth_made, weight_made, depth_alias, weight_alias, has_container-none, some_of, is_known}
 use Rattle.mem_base.specs.map.Changes.{changed, changed_at, placed, moved}
-use Rattle.mem_base.specs.map.Steps.{Steps, steps_of, steps_from, depth_by, weight_by, depth_of, weight_of, greatest, total, reaches}
+use Rattle.mem_base.specs.map.Steps.{longest, Steps, steps_of, steps_from, depth_by, weight_by, depth_of, weight_of, greatest, total, reaches}
 use Rattle.mem_base.specs.map.Steps.{greatest_depth, greatest_weight}
 use Rattle.mem_base.proofs.EveryLaws.{weaker, every_at}
 use Rattle.mem_base.proofs.StepLaws.{every_of}
@@ -48,6 +48,7 @@ use Rattle.region_slots.proofs.PlaceLaws.{length_nodes}
 use Rattle.std.proofs.lemmas.Bool.{false_from_ne_true, le-ltb}
 use Rattle.mem_base.proofs.NodeLaws.{steps_to_children}
 use Rattle.region_slots.proofs.SlotsLaws.{some_element}
+use Rattle.mem_base.specs.map.Limits.{most_depth, most_weight}
 
 abbrev extent : ℕ → ℕ → Extent
 extent d w = record { depth = d; weight = w }
@@ -152,9 +153,9 @@ joined_extents f h slots seen parent child is_known here no_alias free es settle
     first_fall f.nodes join (λ q. (told_of slots es q).depth < (told_of slots es parent).depth) (fall parent) in
     let no_loop : reaches f.nodes child parent ≡ false =
     reaches_down (steps_of f.nodes) (λ q. (told_of slots es q).depth)
-    (λ r. fewer_fall f.nodes join (λ q. (told_of slots es q).depth < (told_of slots es r).depth) r (fall r)) 64 child parent lower in
-    let deep = le-ltb 32 (greatest_depth new) limits.0 in
-    let wide = le-ltb 65536 (greatest_weight new) limits.1 in
+    (λ r. fewer_fall f.nodes join (λ q. (told_of slots es q).depth < (told_of slots es r).depth) r (fall r)) longest child parent lower in
+    let deep = le-ltb most_depth (greatest_depth new) limits.0 in
+    let wide = le-ltb most_weight (greatest_weight new) limits.1 in
     record {
       extents = extents;
       allowed = rw (no_loop, deep, wide) refl;
@@ -170,16 +171,16 @@ pub moved_beside : (nodes : List Node) (k : Kept) → IsBeside k nodes → (chil
 moved_beside nodes k h child offset placing = beside_kept child (moved offset placing) (moved_keeps offset placing) nodes k h
 
 by_alike : (nodes : List Node) (join : Join) (new : List Node) → ((q : RegionId) → Alike (steps_of new q) (steps_with nodes join q)) → (r : RegionId) →
-    extent_by nodes join 64 r ≡ extent_in new r
+    extent_by nodes join longest r ≡ extent_in new r
 unfolding extent_by extent_in
 by_alike nodes join new alike r =
-    ap (λ k. extent k (weight_by (steps_with nodes join) 64 r)) (sym (depth_by-alike (steps_of new) (steps_with nodes join) alike 64 r))
-    ∙ ap (λ k. extent (depth_of new r) k) (sym (weight_by-alike (steps_of new) (steps_with nodes join) alike 64 r))
+    ap (λ k. extent k (weight_by (steps_with nodes join) longest r)) (sym (depth_by-alike (steps_of new) (steps_with nodes join) alike longest r))
+    ∙ ap (λ k. extent (depth_of new r) k) (sym (weight_by-alike (steps_of new) (steps_with nodes join) alike longest r))
 
 -- the extents of all regions, found by lengthening all paths
 pub slow_extents : (f : Forest) → IsOrderedForest f → (slots : List Slot) → f.nodes ≡ nodes_of slots → (parent child : RegionId) →
     is_some (node_of f.nodes parent) ≡ true → is_some (node_of f.nodes child) ≡ true → alias_parent f parent ≡ None → has_container f child ≡ None →
-    (es : List Extent) → es ≡ extents_by (nodes_of slots) (record { parent = parent; child = child }) 64 slots → (offset : ℕ) (priority : ℤ) →
+    (es : List Extent) → es ≡ extents_by (nodes_of slots) (record { parent = parent; child = child }) longest slots → (offset : ℕ) (priority : ℤ) →
     es ≡ extents_in (changed f (calls.Add parent offset child priority)).nodes
 slow_extents f h slots seen parent child is_known here no_alias free es e offset priority =
     let join : Join = record { parent = parent; child = child } in
@@ -191,8 +192,8 @@ slow_extents f h slots seen parent child is_known here no_alias free es e offset
     let alike = steps_joined f h parent offset child priority p.0 m.0 p.1 plain m.1 loose in
     let g = placed parent offset priority f.placings in
     let new = changed_at child g f.nodes in
-    e ∙ ap (λ ns. map (λ (s : Slot). extent_by ns join 64 s.node.id) slots) (sym seen)
-    ∙ map_by (extent_by f.nodes join 64) (extent_in new) (by_alike f.nodes join new alike) slots
+    e ∙ ap (λ ns. map (λ (s : Slot). extent_by ns join longest s.node.id) slots) (sym seen)
+    ∙ map_by (extent_by f.nodes join longest) (extent_in new) (by_alike f.nodes join new alike) slots
     ∙ ap (map (λ (n : Node). extent_in new n.id)) (sym seen)
     ∙ sym (map_changed_at (extent_in new) child g (λ n. refl) f.nodes)
 
@@ -265,8 +266,8 @@ module _ (f : Forest) (h : IsOrderedForest f) (n : Node) (fresh : n.id.0 ≡ f.m
 
   extent_before : (q : RegionId) → q.0 < f.made → extent_in grown q ≡ extent_in f.nodes q
   unfolding extent_in
-  extent_before q l = ap (λ k. extent k (weight_of grown q)) (depth_made f h n fresh free 64 q l)
-      ∙ ap (λ k. extent (depth_of f.nodes q) k) (weight_made f h n fresh free 64 q l)
+  extent_before q l = ap (λ k. extent k (weight_of grown q)) (depth_made f h n fresh free longest q l)
+      ∙ ap (λ k. extent (depth_of f.nodes q) k) (weight_made f h n fresh free longest q l)
 
   others_extents : map (λ (m : Node). extent_in grown m.id) f.nodes ≡ extents_in f.nodes
   others_extents = map_same (λ (m : Node). extent_in grown m.id) (λ (m : Node). extent_in f.nodes m.id) f.nodes

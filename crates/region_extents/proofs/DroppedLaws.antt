@@ -11,7 +11,7 @@ use Rattle.mem_base.specs.map.Region.{node_of, has_id, IsAscending}
 use Rattle.mem_base.specs.map.Order.{ids_of}
 use Rattle.mem_base.specs.map.Kinds.{target_of}
 use Rattle.mem_base.specs.map.Refusals.{targets}
-use Rattle.mem_base.specs.map.Steps.{steps_of, depth_of, weight_of}
+use Rattle.mem_base.specs.map.Steps.{longest, steps_of, depth_of, weight_of}
 use Rattle.mem_base.proofs.EveryLaws.{weaker}
 use Rattle.mem_base.proofs.StepLaws.{depth_by-inside, weight_by-inside}
 use Rattle.std.specs.Prelude.{is_some}
@@ -101,8 +101,8 @@ module _ (r : RegionId) (m : Node) (nodes : List Node) (a : IsAscending nodes) (
   unfolding extent_in
   extent_left q k =
       let same = steps_of-without r m nodes a there free in
-      let d = depth_by-inside (steps_of left) (steps_of nodes) (λ x. x.0 ≢ r.0) same closed 64 q k in
-      let w = weight_by-inside (steps_of left) (steps_of nodes) (λ x. x.0 ≢ r.0) same closed 64 q k in
+      let d = depth_by-inside (steps_of left) (steps_of nodes) (λ x. x.0 ≢ r.0) same closed longest q k in
+      let w = weight_by-inside (steps_of left) (steps_of nodes) (λ x. x.0 ≢ r.0) same closed longest q k in
       ap (λ j. extent j (weight_of left q)) d ∙ ap (λ j. extent (depth_of nodes q) j) w
 
   module _ (i : ℕ) (d : Node) (l : i < length nodes) (at : has_id r (get_or nodes i d) ≡ true) where

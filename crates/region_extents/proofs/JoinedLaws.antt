@@ -13,7 +13,7 @@ use Rattle.mem_base.specs.map.Region.{IsAscending}
 use Rattle.mem_base.specs.map.Forest.{IsOrderedForest}
 use Rattle.mem_base.specs.map.Changes.{changed_at}
 use Rattle.mem_base.specs.map.Order.{ids_of}
-use Rattle.mem_base.specs.map.Steps.{Steps, steps_of, steps_from, greatest, total, depth_by, weight_by, reaches_by, depth_of, weight_of}
+use Rattle.mem_base.specs.map.Steps.{longest, Steps, steps_of, steps_from, greatest, total, depth_by, weight_by, reaches_by, depth_of, weight_of}
 use Rattle.mem_base.specs.map.Steps.{greatest_depth, greatest_weight}
 use Rattle.mem_base.proofs.EveryLaws.{weaker}
 use Rattle.mem_base.proofs.StepLaws.{map_agree, every_of, IsWithin, depth_by-further, weight_by-further, depth_by-alike, weight_by-alike, Alike, joined_steps}
@@ -27,6 +27,7 @@ use Rattle.region_extents.specs.Extents.{told_of, stepped, alone, steps_with}
 use Rattle.region_extents.specs.Kept.{listed, extent_in, extents_in, steps_plus, IsSettledBy, IsShort}
 use Rattle.region_extents.proofs.RaiseLaws.{stepped_agree, steps_fall, told_by}
 use Rattle.region_extents.proofs.SettledLaws.{told_missing, all_told}
+use Rattle.mem_base.specs.map.Limits.{most_depth, most_weight}
 
 abbrev extent : ℕ → ℕ → Extent
 extent d w = record { depth = d; weight = w }
@@ -123,9 +124,9 @@ module _ (steps : Steps) (slots : List Slot) (es : List Extent) (ascending : IsA
   unfolding extent_in
   told_new q =
       let few = (told_short slots es short q).0 in
-      told_by steps (told_of slots es) settled 64 q (omega arith)
-      ∙ ap (λ k. extent k (weight_by steps 64 q)) (sym (depth_by-alike (steps_of new) steps alike 64 q))
-      ∙ ap (λ k. extent (depth_by (steps_of new) 64 q) k) (sym (weight_by-alike (steps_of new) steps alike 64 q))
+      told_by steps (told_of slots es) settled longest q (omega arith)
+      ∙ ap (λ k. extent k (weight_by steps longest q)) (sym (depth_by-alike (steps_of new) steps alike longest q))
+      ∙ ap (λ k. extent (depth_by (steps_of new) longest q) k) (sym (weight_by-alike (steps_of new) steps alike longest q))
 
   pub extents_new : es ≡ extents_in new
   extents_new = all_told slots es ascending all ∙ map_by (told_of slots es) (extent_in new) told_new slots
@@ -133,7 +134,7 @@ module _ (steps : Steps) (slots : List Slot) (es : List Extent) (ascending : IsA
 
 -- short extents are within the limits
 pub within_limits : (nodes ms : List Node) → Every IsShort (map (λ (n : Node). extent_in nodes n.id) ms) →
-    (greatest (map (λ (n : Node). depth_of nodes n.id) ms) ≤ 32) × (greatest (map (λ (n : Node). weight_of nodes n.id) ms) ≤ 65536)
+    (greatest (map (λ (n : Node). depth_of nodes n.id) ms) ≤ most_depth) × (greatest (map (λ (n : Node). weight_of nodes n.id) ms) ≤ most_weight)
 unfolding extent_in
 within_limits nodes [] h = (omega arith, omega arith)
 within_limits nodes (m ∷ ms) h =
@@ -206,7 +207,7 @@ unfolding extent_in
 settled_extents_in slots es ascending all settled short =
     all_told slots es ascending all
     ∙ map_by (told_of slots es) (extent_in (nodes_of slots))
-    (λ q. let few = (told_short slots es short q).0 in told_by (steps_of (nodes_of slots)) (told_of slots es) settled 64 q (omega arith)) slots
+    (λ q. let few = (told_short slots es short q).0 in told_by (steps_of (nodes_of slots)) (told_of slots es) settled longest q (omega arith)) slots
 
 -- a region that is not listed is not there
 pub unlisted_missing : (nodes : List Node) (v : RegionId) → listed v (ids_of nodes) ≡ false → node_of nodes v ≡ None

@@ -10,6 +10,7 @@ use Rattle.region_extents.specs.declared.extents.Join.{Join}
 use Rattle.region_extents.specs.Extents.{steps_with}
 use Rattle.region_extents.specs.Room.{room_left, is_within}
 use Rattle.region_extents.proofs.ReachLaws.{depth_none, depth_on, weight_none, weight_on}
+use Rattle.mem_base.specs.map.Limits.{most_depth, most_weight}
 
 same_room : (k r d w k' r' d' w' : ℕ) → leb d k ≡ leb d' k' → leb w r ≡ leb w' r' → r - w ≡ r' - w' → room_left k r d w ≡ room_left k' r' d' w'
 same_room k r d w k' r' d' w' a b c =
@@ -101,10 +102,10 @@ within_greatest g h (n ∷ ns) =
   where
     both : (a b c d : ℕ) → (is_within a c && is_within b d) ≡ is_within (max a b) (max c d)
     both a b c d =
-        let e : leb (max a b) 32 ≡ (leb a 32 && leb b 32) = grind (arith, nat_tests) in
-        let f : leb (max c d) 65536 ≡ (leb c 65536 && leb d 65536) = grind (arith, nat_tests) in
-        shuffle (leb a 32) (leb c 65536) (leb b 32) (leb d 65536) ∙ ap (λ x. x && (leb c 65536 && leb d 65536)) (sym e)
-        ∙ ap (λ x. leb (max a b) 32 && x) (sym f)
+        let e : leb (max a b) most_depth ≡ (leb a most_depth && leb b most_depth) = grind (arith, nat_tests) in
+        let f : leb (max c d) most_weight ≡ (leb c most_weight && leb d most_weight) = grind (arith, nat_tests) in
+        shuffle (leb a most_depth) (leb c most_weight) (leb b most_depth) (leb d most_weight) ∙ ap (λ x. x && (leb c most_weight && leb d most_weight)) (sym e)
+        ∙ ap (λ x. leb (max a b) most_depth && x) (sym f)
       where
         shuffle : (p q r s : Bool) → ((p && q) && (r && s)) ≡ ((p && r) && (q && s))
         shuffle true true r s = refl

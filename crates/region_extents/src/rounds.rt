@@ -5,12 +5,12 @@ ghost use Rattle.mem_base.specs.declared.map.ids.RegionId.{RegionId as Region};
 ghost use Rattle.mem_base.specs.lists.Every.{Every};
 ghost use Rattle.mem_base.specs.map.Region.{IsAscending};
 ghost use Rattle.mem_base.specs.map.Region.{node_of};
-ghost use Rattle.mem_base.specs.map.Steps.{greatest, total, steps_of, depth_by, weight_by};
+ghost use Rattle.mem_base.specs.map.Steps.{greatest, total, longest, steps_of, depth_by, weight_by};
 ghost use Rattle.region_slots.specs.Slots.{nodes_of};
 ghost use Rattle.region_extents.specs.Extents.{steps_with, extent_by, extents_by, HasItsSteps};
 
 use crate::extents::{Extent, Join};
-use mem_base::RegionId;
+use mem_base::{MOST_DEPTH, RegionId};
 use region_slots::{Slot, place_of};
 use std::alloc::{AllocError, Global};
 
@@ -73,7 +73,7 @@ fn extent_below(slots: &[Slot], join: Join, round: u32, known: &[Extent], slot: 
 fn extent_of(slots: &[Slot], join: Join, round: u32, known: &[Extent], slot: &Slot) -> Extent
     requires known { known.now ≡ extents_by (nodes_of slots.now) join round slots.now }
     requires round { 1 ≤ round }
-    requires last { round < 64 }
+    requires last { round < longest }
     requires ascending { IsAscending (nodes_of slots.now) }
     requires parent { IsSome (node_of (nodes_of slots.now) join.parent) }
     requires steps { HasItsSteps (nodes_of slots.now) slot.now }
@@ -105,7 +105,7 @@ fn lengthen(
 ) -> Result<Vec<Extent>, AllocError>
     requires known { known.now ≡ extents_by (nodes_of slots.now) join round slots.now }
     requires round { 1 ≤ round }
-    requires last { round < 64 }
+    requires last { round < longest }
     requires ascending { IsAscending (nodes_of slots.now) }
     requires parent { IsSome (node_of (nodes_of slots.now) join.parent) }
     requires steps { Every (HasItsSteps (nodes_of slots.now)) slots.now }
@@ -125,14 +125,14 @@ pub fn lengthened(alloc: Global, slots: &[Slot], join: Join) -> Result<Vec<Exten
     requires ascending { IsAscending (nodes_of slots.now) }
     requires parent { IsSome (node_of (nodes_of slots.now) join.parent) }
     requires steps { Every (HasItsSteps (nodes_of slots.now)) slots.now }
-    requires few { (k : ℕ) (r : Region) → k ≤ 64 → weight_by (steps_with (nodes_of slots.now) join) k r < 2 ^ 63 }
-    ensures { IfOk result (λ v. v.items ≡ extents_by (nodes_of slots.now) join 64 slots.now) }
+    requires few { (k : ℕ) (r : Region) → k ≤ longest → weight_by (steps_with (nodes_of slots.now) join) k r < 2 ^ 63 }
+    ensures { IfOk result (λ v. v.items ≡ extents_by (nodes_of slots.now) join longest slots.now) }
 {
     let mut known = vec![in alloc; Extent {
         depth: 1,
         weight: 1
     }; slots.len()]?;
-    for round in 1..64_u32 {
+    for round in 1..2 * MOST_DEPTH {
         let next = lengthen(alloc, slots, join, round, &known)?;
         if next == known {
             return Ok(known);

@@ -25,9 +25,10 @@ use Rattle.region_slots.specs.Slots.{nodes_of}
 use Rattle.region_extents.specs.declared.extents.Extent.{Extent}
 use Rattle.region_extents.specs.Kept.{extents_in, steps_plus, IsSettledBy, IsShort}
 use Rattle.region_extents.proofs.BesideLaws.{joined_extents}
-use Rattle.mem_base.specs.map.Steps.{steps_of, reaches, greatest_depth, greatest_weight}
+use Rattle.mem_base.specs.map.Steps.{longest, steps_of, reaches, greatest_depth, greatest_weight}
 use Rattle.region_slots.proofs.HandedOn.{has_container-none, first_none, refuse_if-none, is_known}
 use Rattle.std.proofs.lemmas.Bool.{leb-false, ltb-false}
+use Rattle.mem_base.specs.map.Limits.{most_depth, most_weight}
 
 pub first_refusal-append : (xs ys : List (Option Refusal)) → first_refusal (xs ++ ys) ≡ option_or (first_refusal xs) (first_refusal ys)
 first_refusal-append [] ys = refl
@@ -104,8 +105,8 @@ refusal_of-add f parent offset child priority =
 -- what an accepted Add keeps
 pub record IsAllowed (f : Forest) (parent : RegionId) (offset : ℕ) (child : RegionId) (priority : ℤ) : Type 0 where
   pub free : IsFree f parent child
-  pub shallow : greatest_depth (changed f (calls.Add parent offset child priority)).nodes ≤ 32
-  pub narrow : greatest_weight (changed f (calls.Add parent offset child priority)).nodes ≤ 65536
+  pub shallow : greatest_depth (changed f (calls.Add parent offset child priority)).nodes ≤ most_depth
+  pub narrow : greatest_weight (changed f (calls.Add parent offset child priority)).nodes ≤ most_weight
   pub few : f.calls < 2 ^ 62
 
 pub allowed_of : (f : Forest) (parent : RegionId) (offset : ℕ) (child : RegionId) (priority : ℤ) →
@@ -129,7 +130,7 @@ allowed_of f parent offset child priority e =
     }
 
 pub apart_of : (f : Forest) (parent child : RegionId) → IsFree f parent child → parent.0 ≢ child.0
-apart_of f parent child h e = reaches_by-apart (steps_of f.nodes) 64 child parent (omega arith) h.no_loop (sym e)
+apart_of f parent child h e = reaches_by-apart (steps_of f.nodes) longest child parent (omega arith) h.no_loop (sym e)
 
 pub loose_of : (f : Forest) (child : RegionId) (n : Node) → has_container f child ≡ None → node_of f.nodes child ≡ Some n → n.parent ≡ None
 loose_of f child n h e = has_container-none f child n e h

@@ -24,6 +24,7 @@ use Rattle.mem_base.proofs.ForestLaws.{known_below}
 use Rattle.region_slots.proofs.HandedOn.{greatest_depth_made, greatest_weight_made, depth_alias, weight_alias, shallow_made, narrow_made, first_none, refuse_if-none, is_known}
 use Rattle.region_tree.proofs.AddLaws.{or_none}
 use Rattle.std.proofs.lemmas.Bool.{leb-false, ltb-false}
+use Rattle.mem_base.specs.map.Limits.{most_depth, most_weight}
 
 limit_of : (most g d : ℕ) (why : ℕ → Refusal) → g ≤ most → refuse_if (leb most d) (why (d + 1)) ≡ refuse_if (ltb most (max g (d + 1))) (why (max g (d + 1)))
 limit_of most g d why l =
@@ -42,8 +43,8 @@ limit_of most g d why l =
 
 -- only the target's own depth and weight decide
 pub alias_refused : (f : Forest) → IsOrderedForest f → (target : RegionId) (offset size : ℕ) → unknown_region f target ≡ None →
-    option_or (refuse_if (leb 32 (depth_of f.nodes target)) (TooDeep (depth_of f.nodes target + 1)))
-    (refuse_if (leb 65536 (weight_of f.nodes target)) (TooWide (weight_of f.nodes target + 1)))
+    option_or (refuse_if (leb most_depth (depth_of f.nodes target)) (TooDeep (depth_of f.nodes target + 1)))
+    (refuse_if (leb most_weight (weight_of f.nodes target)) (TooWide (weight_of f.nodes target + 1)))
     ≡ alias_too_long f (Alias target offset) size
 alias_refused f h target offset size e =
     let n = made_region (record { 0 = f.made }) (Alias target offset) size in
@@ -53,16 +54,16 @@ alias_refused f h target offset size e =
     ∙ ap (max (greatest_depth f.nodes)) (depth_alias f h n refl refl target offset refl before) in
     let w : greatest_weight new ≡ max (greatest_weight f.nodes) (weight_of f.nodes target + 1) = greatest_weight_made f h n refl refl
     ∙ ap (max (greatest_weight f.nodes)) (weight_alias f h n refl refl target offset refl before) in
-    let a = limit_of 32 (greatest_depth f.nodes) (depth_of f.nodes target) TooDeep h.shallow ∙ ap (λ k. refuse_if (ltb 32 k) (TooDeep k)) (sym d) in
-    let b = limit_of 65536 (greatest_weight f.nodes) (weight_of f.nodes target) TooWide h.narrow ∙ ap (λ k. refuse_if (ltb 65536 k) (TooWide k)) (sym w) in
-    ap (λ x. option_or x (refuse_if (leb 65536 (weight_of f.nodes target)) (TooWide (weight_of f.nodes target + 1)))) a
+    let a = limit_of most_depth (greatest_depth f.nodes) (depth_of f.nodes target) TooDeep h.shallow ∙ ap (λ k. refuse_if (ltb most_depth k) (TooDeep k)) (sym d) in
+    let b = limit_of most_weight (greatest_weight f.nodes) (weight_of f.nodes target) TooWide h.narrow ∙ ap (λ k. refuse_if (ltb most_weight k) (TooWide k)) (sym w) in
+    ap (λ x. option_or x (refuse_if (leb most_weight (weight_of f.nodes target)) (TooWide (weight_of f.nodes target + 1)))) a
     ∙ ap (option_or (too_deep new)) (b ∙ sym (or_none (too_wide new)))
 
 -- what an accepted Region keeps
 pub record IsMakeable (f : Forest) (kind : Kind) (size : ℕ) : Type 0 where
   pub target : IsTargetBefore f.made kind
-  pub shallow : greatest_depth (changed f (calls.Region kind size)).nodes ≤ 32
-  pub narrow : greatest_weight (changed f (calls.Region kind size)).nodes ≤ 65536
+  pub shallow : greatest_depth (changed f (calls.Region kind size)).nodes ≤ most_depth
+  pub narrow : greatest_weight (changed f (calls.Region kind size)).nodes ≤ most_weight
   pub room : f.made < 4294967294
   pub few : f.calls < 4611686018427387904
 
@@ -71,7 +72,7 @@ target_made f h (Alias target offset) e = known_below f target h (is_known f tar
 target_made f h _ e = tt
 
 lengths_made : (f : Forest) → IsOrderedForest f → (kind : Kind) (size : ℕ) → alias_too_long f kind size ≡ None →
-    (greatest_depth (changed f (calls.Region kind size)).nodes ≤ 32) × (greatest_weight (changed f (calls.Region kind size)).nodes ≤ 65536)
+    (greatest_depth (changed f (calls.Region kind size)).nodes ≤ most_depth) × (greatest_weight (changed f (calls.Region kind size)).nodes ≤ most_weight)
 lengths_made f h (Alias target offset) size e =
     let new = (changed f (calls.Region (Alias target offset) size)).nodes in
     let a = first_none (too_deep new) (first_refusal (too_wide new ∷ [])) e in

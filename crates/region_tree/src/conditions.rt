@@ -9,6 +9,7 @@ ghost use Rattle.mem_base.specs.map.TableRefusals as tables;
 ghost use Rattle.mem_base.specs.map.Devices as devices;
 ghost use Rattle.mem_base.specs.map.Calls.{alias_too_long};
 ghost use Rattle.mem_base.specs.map.Forest.{IsOrderedForest};
+ghost use Rattle.mem_base.specs.map.Limits.{most_depth, most_weight};
 ghost use Rattle.mem_base.specs.map.Steps.{depth_of, weight_of};
 ghost use Rattle.mem_base.specs.map.Kinds as kinds;
 ghost use Rattle.mem_base.specs.map.Region.{is_in, is_child_of, node_of};
@@ -166,8 +167,8 @@ pub(crate) fn no_place(tree: &Tree, parent: RegionId, child: RegionId) -> Option
 
 /// A depth or a weight above its limit.
 pub(crate) fn too_long(most: Extent) -> Option<Refusal>
-    ensures { result ≡ conditions.first_refusal (conditions.refuse_if (nat_lt 32 most.depth) (Refusal.TooDeep most.depth)
-        ∷ conditions.refuse_if (nat_lt 65536 most.weight) (Refusal.TooWide most.weight) ∷ []) }
+    ensures { result ≡ conditions.first_refusal (conditions.refuse_if (nat_lt most_depth most.depth) (Refusal.TooDeep most.depth)
+        ∷ conditions.refuse_if (nat_lt most_weight most.weight) (Refusal.TooWide most.weight) ∷ []) }
 {
     if most.depth > MOST_DEPTH {
         Some(Refusal::TooDeep(most.depth))
@@ -192,9 +193,9 @@ pub(crate) fn alias_too_long(tree: &Tree, kind: Kind) -> Option<Refusal>
 /// Paths through one more region before this one that are too long.
 fn longer_than(tree: &Tree, target: RegionId) -> Option<Refusal>
     requires { IsSome (node_of tree.now.nodes target) }
-    ensures refused { result ≡ option_or (conditions.refuse_if (nat_le 32 (depth_of tree.now.nodes target))
+    ensures refused { result ≡ option_or (conditions.refuse_if (nat_le most_depth (depth_of tree.now.nodes target))
         (Refusal.TooDeep (depth_of tree.now.nodes target + 1)))
-        (conditions.refuse_if (nat_le 65536 (weight_of tree.now.nodes target)) (Refusal.TooWide (weight_of tree.now.nodes target + 1))) }
+        (conditions.refuse_if (nat_le most_weight (weight_of tree.now.nodes target)) (Refusal.TooWide (weight_of tree.now.nodes target + 1))) }
     ensures forest { IsOrderedForest tree.now }
 {
     let _ = tree.node(target);

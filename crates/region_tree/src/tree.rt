@@ -10,6 +10,7 @@ ghost use Rattle.mem_base.specs.map.Refusals.{targets};
 ghost use Rattle.mem_base.specs.map.Search.{root_of};
 ghost use Rattle.mem_base.specs.map.Forest.{IsOrderedForest, IsClosedForest};
 ghost use Rattle.mem_base.specs.map.Calls.{empty};
+ghost use Rattle.mem_base.specs.map.Limits.{most_depth, most_weight};
 ghost use Rattle.mem_base.specs.map.Steps.{reaches, depth_of, weight_of};
 ghost use Rattle.mem_base.specs.map.Touched.{reached};
 ghost use Rattle.region_slots.specs.Slots.{nodes_of, placed_of};
@@ -160,7 +161,7 @@ impl Tree {
     pub fn depth(&self, region: RegionId) -> u32
         requires { IsSome (node_of self.now.nodes region) }
         ensures value { result ≡ depth_of self.now.nodes region }
-        ensures within { result ≤ 32 }
+        ensures within { result ≤ most_depth }
     {
         let _ = &self.alloc;
         match kept_extent(self.slots.as_slice(), &self.kept, region) {
@@ -175,7 +176,7 @@ impl Tree {
     pub fn weight(&self, region: RegionId) -> u64
         requires { IsSome (node_of self.now.nodes region) }
         ensures value { result ≡ weight_of self.now.nodes region }
-        ensures within { result ≤ 65536 }
+        ensures within { result ≤ most_weight }
     {
         let _ = &self.alloc;
         match kept_extent(self.slots.as_slice(), &self.kept, region) {

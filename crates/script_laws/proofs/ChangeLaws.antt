@@ -1,5 +1,6 @@
 -- Each change that was read is printed so that it reads as the same.
-use Rattle.std.proofs.Common.{◌≡◌, List, true, Ok, refl, arith, decimal}
+use Rattle.std.proofs.Common.{◌≡◌, ◌-◌, List, true, Ok, refl, arith, decimal}
+use Rattle.mem_base.specs.map.Limits.{notifier_count}
 use Rattle.mem_base.specs.declared.script.changes.MapChange.{MapChange}
 use Rattle.mem_base.specs.declared.script.changes.MapChange.TheVariants as changes
 use Rattle.mem_base.specs.declared.script.commands.Command.TheVariants as commands
@@ -24,8 +25,8 @@ Again f = (t : List Text) (y : MapChange) → f t ≡ Ok y → Reads y
 pub decimal_255_law : Law (digits 10 255) decimal
 decimal_255_law = decimal_law 255 (omega arith)
 
-pub notifier_law : Law (number_of 63) decimal
-notifier_law = short_law 63 (omega arith)
+pub notifier_law : Law (number_of (notifier_count - 1)) decimal
+notifier_law = short_law (notifier_count - 1) (omega arith)
 
 add_again : Again add
 add_again t y e =

@@ -2,6 +2,7 @@
 use Rattle.std.proofs.Common.{◌≡◌, ◌==◌, ◌<◌, ◌≤◌, ◌+◌, ◌-◌, ◌*◌, ◌/◌, ◌%◌, ◌^◌, ◌++◌, ◌&&◌, ℕ, zero, suc, List, [], ◌∷◌, Bool, true, false}
 use Rattle.std.proofs.Common.{not, cond, nat_lt, nat_le, None, Some, Option, refl, sym, ap, ap₂, subst, ◌∙◌, arith, length, take, drop}
 use Rattle.std.proofs.Common.{codes, decimal, bytes_eq, ℤ, pos, negsuc, neg_ℤ, option_map, option_and_then, position, true≢false, eqb-true}
+use Rattle.mem_base.specs.map.Limits.{most_passes, page_size}
 use Rattle.std.proofs.lemmas.Bool.{eqb-false, lt-ltb, and_parts, and_from}
 use Rattle.std.proofs.lemmas.List.{drop-drop, length-append}
 use Rattle.std.proofs.lemmas.List.Folds.{list_all-append}
@@ -47,7 +48,7 @@ decimal_law limit small token n e =
 pub machine_law : Law machine_size number_text
 machine_law token n e =
     option_and_then_some whole_pages (number_of (2 ^ 29) token) n e λ k is e.
-    let pages = cond_some ((k % 4096 == 0) && nat_le 4096 k) k n e in
+    let pages = cond_some ((k % page_size == 0) && nat_le page_size k) k n e in
     let fits : k ≤ 2 ^ 29 = number_fits (2 ^ 29) token k is in
     subst (λ m. Spelled machine_size (number_text m) m) pages.1
     (record {
@@ -168,9 +169,9 @@ value_is n (Some m) e = ap Some (eqb-true m n e)
 
 pub pass_law : Law pass_of pass_number_text
 pass_law token n e =
-    let some = cond_then (bytes_eq (take 1 token) (codes "v") && leads_with_no_zero (drop 1 token)) (digits 10 15 (drop 1 token)) n e in
+    let some = cond_then (bytes_eq (take 1 token) (codes "v") && leads_with_no_zero (drop 1 token)) (digits 10 (most_passes - 1) (drop 1 token)) n e in
     let test = and_parts (is_token (pass_number_text n)) (is_value n (pass_of (pass_number_text n)))
-    (below 16 n pass_test passes (let fits = digits_fit 10 15 (drop 1 token) n some in omega (arith, fits))) in
+    (below most_passes n pass_test passes (let fits = digits_fit 10 (most_passes - 1) (drop 1 token) n some in omega (arith, fits))) in
     record { token = test.0; reads = value_is n (pass_of (pass_number_text n)) test.1 }
   where
     cond_then : (b : Bool) (o : Option ℕ) (n : ℕ) → cond b o None ≡ Some n → o ≡ Some n

@@ -1,6 +1,6 @@
 // What stands while a script runs, and the next command of it.
-ghost use Rattle.std.specs.Prelude.{◌≡◌, ◌||◌, IfSome, None, OnOk};
-ghost use Rattle.mem_base.specs.script.Race.{actor_number, desk_number, is_end, is_par};
+ghost use Rattle.std.specs.Prelude.{◌≡◌, ◌||◌, OnOk};
+ghost use Rattle.mem_base.specs.script.Race.{is_end, is_par};
 ghost use Rattle.mem_base.specs.script.Run.{step};
 ghost use Rattle.mem_base.specs.script.Tasks.{known_at_first};
 ghost use Rattle.run_laws.specs.Fitting.{FitsCommand};
@@ -10,9 +10,10 @@ ghost use Rattle.script_run.specs.Standing.{MayGoOn, state_of};
 use crate::desk::desk_line;
 use crate::machine::Machine;
 use crate::passes::pass_line;
-use mem_base::{Command, PassId};
+use mem_base::Command;
 use race_lines::{KnownNames, LineSaid};
 use script_lines::Line;
+use script_text::pass_of_line;
 use std::alloc::{AllocError, Global};
 use std::marker::Model;
 
@@ -41,17 +42,6 @@ fn is_block_end(command: &Command) -> bool
     ensures { result ≡ (is_par command.now || is_end command.now) }
 {
     matches!(command, Command::Par | Command::End)
-}
-
-// The pass whose line it is; none of a line of the desk.
-fn pass_of(command: &Command) -> Option<PassId>
-    ensures pass { IfSome result (λ pass. actor_number command.now ≡ pass.0) }
-    ensures desk { result ≡ None → actor_number command.now ≡ desk_number }
-{
-    match command {
-        Command::Pass { pass, .. } => Some(*pass),
-        _ => None,
-    }
 }
 
 impl<M: Machine + Drop> Session<M> {
@@ -88,7 +78,7 @@ impl<M: Machine + Drop> Session<M> {
         if is_block_end(command) {
             return Ok(());
         }
-        match pass_of(command) {
+        match pass_of_line(command) {
             Some(pass) => pass_line(
                 self.alloc,
                 &mut self.machine,

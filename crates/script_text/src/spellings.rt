@@ -5,7 +5,7 @@ ghost use Rattle.mem_base.specs.script.Spelling.{byte_of, bytes_of, digit_of, di
 ghost use Rattle.mem_base.specs.script.Spelling.{machine_size, may_follow, number_of, pair_of, pass_of, plain_number, priority_of};
 ghost use Rattle.mem_base.specs.script.Spelling.{range_of, scale_of};
 
-use mem_base::PassId;
+use mem_base::{MOST_BYTES, MOST_PASSES, PAGE_SIZE, PassId};
 use std::alloc::{AllocError, Global};
 
 fn is_letter(byte: u8) -> bool
@@ -122,13 +122,14 @@ pub fn length_of(text: &[u8]) -> Option<u8>
     }
 }
 
-/// The size of a machine's memory: whole pages of 4096 bytes, from one page to 512 MiB.
+/// The size of a machine's memory: whole pages of 4,096 bytes, from one page to 512 MiB.
 pub fn machine_size(text: &[u8]) -> Option<u128>
     ensures value { result ≡ machine_size text.now }
     ensures bound { IfSome result (λ n. n ≤ 2 ^ 64) }
 {
-    match number_of(1 << 29, text) {
-        Some(number) if number % 4096 == 0 && number >= 4096 => Some(number),
+    let page = u128::from(PAGE_SIZE);
+    match number_of(u128::from(MOST_BYTES), text) {
+        Some(number) if number % page == 0 && number >= page => Some(number),
         _ => None,
     }
 }
@@ -209,7 +210,7 @@ pub fn pass_of(text: &[u8]) -> Option<PassId>
     ensures { option_map (λ pass. pass.0) result ≡ pass_of text.now }
 {
     match text {
-        [b'v', rest @ ..] if leads_with_no_zero(rest) => match digits(10, 15, rest) {
+        [b'v', rest @ ..] if leads_with_no_zero(rest) => match digits(10, u128::from(MOST_PASSES) - 1, rest) {
             Some(number) => PassId::new(number as u32),
             None => None,
         },

@@ -148,7 +148,7 @@ impl<'a> Tokens<'a> {
         ensures { MatchResult result (λ n. notifier self.old ≡ Ok (n, self.new)) (λ e. notifier self.old ≡ Err e) }
     {
         let token = self.token()?;
-        match number_of(63, token) {
+        match number_of(NOTIFIER_COUNT as u128 - 1, token) {
             Some(number) => NotifierId::new(number as u32).ok_or(Cause::Number),
             None => Err(Cause::Number),
         }

@@ -4,6 +4,7 @@ ghost use Rattle.std.specs.Prelude.{◌≡◌, ◌+◌, ◌<◌, ◌≤◌, ◌^
 ghost use Rattle.mem_base.specs.map.Region.{node_of};
 ghost use Rattle.mem_base.specs.map.Order.{children_of};
 ghost use Rattle.mem_base.specs.map.Forest.{IsOrderedForest};
+ghost use Rattle.mem_base.specs.map.Limits.{most_depth};
 ghost use Rattle.mem_base.specs.map.Search.{found_in, at_node, first_of_children, inside, flagged, spot_of, path_of};
 ghost use Rattle.region_slots.specs.Told.{IsChild};
 ghost use Rattle.tree_find.specs.Children.{tried, holds};
@@ -21,7 +22,7 @@ pub(crate) fn find_from(
     at: u128,
     path: &mut Path,
 ) -> Option<Spot>
-    requires { length path.old + depth ≤ 32 }
+    requires { length path.old + depth ≤ most_depth }
     ensures spot { result ≡ spot_of (found_in tree.now depth region at) }
     ensures path { path.new ≡ path.old ++ path_of (found_in tree.now depth region at) }
     ensures forest { IsOrderedForest tree.now }
@@ -35,7 +36,7 @@ pub(crate) fn find_from(
 fn find_in(tree: &Tree, depth: u32, node: &Node, at: u128, path: &mut Path) -> Option<Spot>
     requires known { node_of tree.now.nodes node.now.id ≡ Some node.now }
     requires forest { IsOrderedForest tree.now }
-    requires room { length path.old + depth ≤ 32 }
+    requires room { length path.old + depth ≤ most_depth }
     ensures spot { result ≡ spot_of (found_in tree.now depth node.now.id at) }
     ensures path { path.new ≡ path.old ++ path_of (found_in tree.now depth node.now.id at) }
 {
@@ -50,7 +51,7 @@ fn find_in(tree: &Tree, depth: u32, node: &Node, at: u128, path: &mut Path) -> O
 fn find_at(tree: &Tree, depth: u32, node: &Node, at: u128, path: &mut Path) -> Option<Spot>
     requires known { IsSome (node_of tree.now.nodes node.now.id) }
     requires forest { IsOrderedForest tree.now }
-    requires room { length path.old + depth + 1 ≤ 32 }
+    requires room { length path.old + depth + 1 ≤ most_depth }
     ensures spot { result ≡ spot_of (at_node tree.now (found_in tree.now depth) node.now at) }
     ensures path { path.new ≡ path.old ++ path_of (at_node tree.now (found_in tree.now depth) node.now at) }
 {
@@ -87,7 +88,7 @@ fn find_inside(tree: &Tree, depth: u32, node: &Node, at: u128, path: &mut Path) 
     requires known { IsSome (node_of tree.now.nodes node.now.id) }
     requires forest { IsOrderedForest tree.now }
     requires at { at < 2 ^ 64 }
-    requires room { length path.old + depth ≤ 32 }
+    requires room { length path.old + depth ≤ most_depth }
     ensures spot { result ≡ spot_of (inside tree.now (found_in tree.now depth) node.now.kind node.now at) }
     ensures path { path.new ≡ path.old ++ path_of (inside tree.now (found_in tree.now depth) node.now.kind node.now at) }
 {
@@ -106,7 +107,7 @@ fn find_inside(tree: &Tree, depth: u32, node: &Node, at: u128, path: &mut Path) 
 fn find_below(tree: &Tree, depth: u32, region: RegionId, at: u64, path: &mut Path) -> Option<Spot>
     requires known { IsSome (node_of tree.now.nodes region) }
     requires forest { IsOrderedForest tree.now }
-    requires room { length path.old + depth ≤ 32 }
+    requires room { length path.old + depth ≤ most_depth }
     ensures spot { result ≡ spot_of (first_of_children (found_in tree.now depth) (children_of tree.now.nodes region) at) }
     ensures path { path.new ≡ path.old ++ path_of (first_of_children (found_in tree.now depth) (children_of tree.now.nodes region) at) }
 {
@@ -133,7 +134,7 @@ fn holds(child: &Child, at: u64) -> bool
 #[inline(always)]
 fn find_child(tree: &Tree, depth: u32, child: &Child, at: u64, path: &mut Path) -> Option<Spot>
     requires child { IsChild tree.now.nodes child.now }
-    requires room { length path.old + depth ≤ 32 }
+    requires room { length path.old + depth ≤ most_depth }
     ensures spot { result ≡ spot_of (tried (found_in tree.now depth) child.now at) }
     ensures path { path.new ≡ path.old ++ path_of (tried (found_in tree.now depth) child.now at) }
 {

@@ -1,7 +1,7 @@
 -- The operands of a line. Each is read from the first of the tokens that are left.
 -- `x ← operand` in a `do` block reads one and goes on with the tokens after it; at the first token that is at fault, the
 -- line has the cause of that token.
-use Rattle.std.specs.Prelude.{ℕ, Bool, true, false, if◌then◌else◌, List, [], ◌∷◌, Option, Some, None, Result, Ok, Err, codes, ℤ, pos}
+use Rattle.std.specs.Prelude.{ℕ, ◌-◌, Bool, true, false, if◌then◌else◌, List, [], ◌∷◌, Option, Some, None, Result, Ok, Err, codes, ℤ, pos}
 use Rattle.std.specs.Str.{bytes_eq}
 use Rattle.mem_base.specs.declared.script.faults.Cause.{Cause}
 use Rattle.mem_base.specs.declared.script.faults.Cause.TheVariants as causes
@@ -9,6 +9,7 @@ use Rattle.mem_base.specs.declared.map.kinds.Client.{Client}
 use Rattle.mem_base.specs.declared.map.kinds.Client.TheVariants.{Vga, Code, Migration}
 use Rattle.mem_base.specs.declared.map.translations.Perm.{Perm}
 use Rattle.mem_base.specs.declared.map.translations.Perm.TheVariants.{Nothing, Read, Write, Both}
+use Rattle.mem_base.specs.map.Limits.{notifier_count}
 use Rattle.mem_base.specs.script.Spelling.{Text, bytes_of, digits, length_of, machine_size, most_address, most_size, name_of, number_of, priority_of, range_of}
 
 -- what the tokens of a line give, or the cause of the first token at fault
@@ -87,9 +88,9 @@ memory_size = token_as causes.Number machine_size
 abbrev pub len : Operand ℕ
 len = token_as causes.Number length_of
 
--- N of a notifier
+-- N of a notifier, from 0 to 63
 abbrev pub notifier : Operand ℕ
-notifier = number 63
+notifier = number (notifier_count - 1)
 
 -- N of a priority
 abbrev pub priority : Operand ℤ

@@ -3,6 +3,7 @@ use Rattle.std.specs.Prelude.{ℕ, ◌+◌, ◌-◌, ◌*◌, ◌%◌, ◌^◌, 
 use Rattle.std.specs.Prelude.{take, drop, position, slice_get, Option, Some, None, option_and_then, option_map, codes, ℤ, pos, neg_ℤ}
 use Rattle.std.specs.List.{list_all}
 use Rattle.std.specs.Str.{bytes_eq}
+use Rattle.mem_base.specs.map.Limits.{most_bytes, most_passes, page_size}
 
 -- the bytes of a text
 abbrev pub Text : Type 0
@@ -97,11 +98,11 @@ length_of text = option_and_then nonzero (number_of 64 text)
 
 -- one page or more, and no part of a page
 abbrev pub whole_pages : ℕ → Option ℕ
-whole_pages n = if (n % 4096 == 0) && nat_le 4096 n then Some n else None
+whole_pages n = if (n % page_size == 0) && nat_le page_size n then Some n else None
 
--- the size of a machine's memory: whole pages of 4096 bytes, from one page to 512 MiB
+-- the size of a machine's memory: whole pages of 4,096 bytes, from one page to 512 MiB
 abbrev pub machine_size : Text → Option ℕ
-machine_size text = option_and_then whole_pages (number_of (2 ^ 29) text)
+machine_size text = option_and_then whole_pages (number_of most_bytes text)
 
 -- a priority: decimal digits, `-` before them or not, with a value of 32 bits with a sign
 abbrev pub priority_of : Text → Option ℤ
@@ -130,7 +131,7 @@ leads_with_no_zero text = (length text == 1) || not (bytes_eq (take 1 text) (cod
 -- the number of a pass: `v` and a number from 0 to 15, in decimal, without leading zeros
 abbrev pub pass_of : Text → Option ℕ
 pass_of text =
-    if bytes_eq (take 1 text) (codes "v") && leads_with_no_zero (drop 1 text) then digits 10 15 (drop 1 text) else None
+    if bytes_eq (take 1 text) (codes "v") && leads_with_no_zero (drop 1 text) then digits 10 (most_passes - 1) (drop 1 text) else None
 
 -- Bytes
 

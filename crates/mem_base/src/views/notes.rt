@@ -4,7 +4,7 @@ ghost use Rattle.std.specs.List.{slice_get};
 ghost use Rattle.mem_base.specs.map.Limits.{most_depth};
 ghost use Rattle.mem_base.specs.views.Notes.{note_at, last_of_path, path_to};
 
-use crate::{Path, RegionId};
+use crate::{MOST_DEPTH, Path, RegionId};
 use std::marker::Model;
 
 /// A region that a search passes, and the number of the note of the region passed before it.
@@ -99,7 +99,12 @@ impl Paths {
     {
         let number = *self.numbers.get(i)?;
         let mut path = Path::new();
-        spell(self.notes.as_slice(), 32, number, &mut path);
+        spell(
+            self.notes.as_slice(),
+            MOST_DEPTH as usize,
+            number,
+            &mut path,
+        );
         Some(path)
     }
 
@@ -109,6 +114,11 @@ impl Paths {
         requires second { j < length self.now }
         ensures { IsTrue result ↔ slice_get self.now i ≡ slice_get self.now j }
     {
-        meet(self.notes.as_slice(), 32, self.numbers[i], self.numbers[j])
+        meet(
+            self.notes.as_slice(),
+            MOST_DEPTH as usize,
+            self.numbers[i],
+            self.numbers[j],
+        )
     }
 }

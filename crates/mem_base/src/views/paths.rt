@@ -1,13 +1,14 @@
 // Paths of regions.
 ghost use Rattle.std.specs.Prelude.{◌≡◌, ◌+◌, ◌<◌, ◌≤◌, ◌↔◌, List, [], ◌∷◌, ◌++◌, IsTrue, length, take};
+ghost use Rattle.mem_base.specs.map.Limits.{most_depth};
 
-use crate::RegionId;
+use crate::{MOST_DEPTH, RegionId};
 use std::marker::Model;
 
 /// The most regions on a path: the greatest depth of a forest.
-const MOST: usize = 32;
+const MOST: usize = MOST_DEPTH as usize;
 
-/// The regions that a search passes, from the root to the leaf: at most 32.
+/// The regions that a search passes, from the root to the leaf: at most `MOST_DEPTH`.
 #[derive(Debug, Drop)]
 pub struct Path {
     len: u8,
@@ -17,12 +18,13 @@ pub struct Path {
 impl Model for Path {
     ghost use Rattle.std.specs.Prelude.{List, take, ◌≤◌};
     ghost use Rattle.mem_base.specs.declared.map.ids.RegionId.{RegionId};
+    ghost use Rattle.mem_base.specs.map.Limits.{most_depth};
 
     ghost Value = { List RegionId };
 
     ghost view = { λ p. take p.len p.steps };
 
-    ghost invariant = { λ p. p.len ≤ 32 };
+    ghost invariant = { λ p. p.len ≤ most_depth };
 }
 
 impl Path {
@@ -39,7 +41,7 @@ impl Path {
     /// The regions, from the root to the leaf.
     pub fn as_slice(&self) -> &[RegionId]
         ensures value { result.now ≡ self.now }
-        ensures bound { length self.now ≤ 32 }
+        ensures bound { length self.now ≤ most_depth }
     {
         &self.steps[..usize::from(self.len)]
     }
@@ -47,14 +49,14 @@ impl Path {
     /// How many regions there are.
     pub fn len(&self) -> usize
         ensures value { result ≡ length self.now }
-        ensures bound { result ≤ 32 }
+        ensures bound { result ≤ most_depth }
     {
         self.as_slice().len()
     }
 
     /// Goes one region further.
     pub fn push(&mut self, region: RegionId)
-        requires { length self.old < 32 }
+        requires { length self.old < most_depth }
         ensures { self.new ≡ self.old ++ region ∷ [] }
     {
         self.steps[usize::from(self.len)] = region;

@@ -9,6 +9,7 @@ use Rattle.find_why.proofs.HopLaws.{hop_found}
 use Rattle.find_why.proofs.SeenLaws.{tried}
 use Rattle.find_why.proofs.WithinLaws.{root_there, whole_depth}
 use Rattle.find_why.proofs.hops.hop_at.Goals as goal
+use Rattle.mem_base.specs.map.Limits.{most_depth}
 
 pub look_from-requires-clause-known : goal.look_from-requires-clause-known
 look_from-requires-clause-known c =
@@ -26,8 +27,8 @@ returns-clause-hop c =
     let a = c.args.addr in
     let new = c.look_from.new.looks in
     let s = c.in_ok-sight.sight in
-    let seen = subst (λ b. Sees f false (root, Some b) (found_in f 32 root b) [] new s) c.from.ensures
-    (subst (λ looks. Sees f false (root, Some c.from.result) (found_in f 32 root c.from.result) looks new s) c.new-looks.ensures c.in_ok-sight.ensures) in
+    let seen = subst (λ b. Sees f false (root, Some b) (found_in f most_depth root b) [] new s) c.from.ensures
+    (subst (λ looks. Sees f false (root, Some c.from.result) (found_in f most_depth root c.from.result) looks new s) c.new-looks.ensures c.in_ok-sight.ensures) in
     subst (λ (looks : List Look). IsHop f (record {
       space = c.args.space;
       addr = a;

@@ -11,6 +11,7 @@ use Rattle.mem_base.proofs.ForestLaws.{found_by_id, id_of}
 use Rattle.tree_find.proofs.FoundLaws.{no_path, none_found, no_child, next_placed, not_held, found_first, found_later}
 use Rattle.tree_find.proofs.search.+search.Goals as goal
 use Rattle.mem_base.proofs.NodeLaws.{found_itself}
+use Rattle.mem_base.specs.map.Limits.{most_depth}
 
 pub find_from-returns-in_err-node-clause-spot : goal.find_from-returns-in_err-node-clause-spot
 find_from-returns-in_err-node-clause-spot t c =
@@ -71,7 +72,7 @@ find_below-find_child-requires t c = (
     every_at (IsChild c.args.tree.now.nodes) c.placed_children-child-items.result.now c.loop-child.child-index no_child c.loop-child-test.true
         (subst (Every (IsChild c.args.tree.now.nodes)) (sym c.placed_children-child-items.ensures)
         (children_are c.args.tree.now.nodes c.args.region c.requires.forest.ascending)),
-    subst (λ p. length p + c.args.depth ≤ 32) (sym c.loop-child.invariant.path) c.requires.room,
+    subst (λ p. length p + c.args.depth ≤ most_depth) (sym c.loop-child.invariant.path) c.requires.room,
   ),
 )
 
