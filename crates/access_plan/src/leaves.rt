@@ -1,5 +1,5 @@
 // What an access reaches where a route ends.
-ghost use Rattle.std.specs.Prelude.{◌≡◌, ◌≤◌, ◌<◌, ◌+◌, ◌^◌, IfOk, length, map, true};
+ghost use Rattle.std.specs.Prelude.{◌≡◌, ◌≤◌, ◌<◌, ◌+◌, ◌^◌, IfOk, length, true};
 ghost use Rattle.mem_base.specs.access.AccessSteps.{part};
 ghost use Rattle.mem_base.specs.access.Marks.{marks_of};
 ghost use Rattle.mem_base.specs.access.Plans.{in_memory, reached};

@@ -1,12 +1,10 @@
 // What an access reaches by QEMU's core, round by round.
-ghost use Rattle.std.specs.Prelude.{◌≡◌, ◌≤◌, ◌<◌, ◌+◌, ◌^◌, IfOk, IfSome, IfNone, MatchOption, length, true};
-ghost use Rattle.mem_base.specs.access.AccessSteps.{part};
+ghost use Rattle.std.specs.Prelude.{◌≡◌, ◌≤◌, ◌<◌, ◌+◌, ◌^◌, IfOk, IfSome, MatchOption, length, true};
 ghost use Rattle.mem_base.specs.access.Pieces.{piece_at};
 ghost use Rattle.access_cut.specs.Conditions.{AreGood, IsCut};
 ghost use Rattle.access_base.specs.Sizes.{IsSize};
-ghost use Rattle.access_plan.specs.HostPlans.{MeetsEnd, answerer_with_host};
 ghost use Rattle.access_plan.specs.Lists.{moved};
-ghost use Rattle.access_plan.specs.Rounds.{AddsRound, AddsRounds, IsDeviceAt, IsRoundAt, TakesRound};
+ghost use Rattle.access_plan.specs.Rounds.{AddsRound, AddsRounds, IsDeviceAt, TakesRound};
 
 use crate::answerers::{Answerer, answerer_of};
 use crate::devices::piece;

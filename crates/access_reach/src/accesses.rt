@@ -1,5 +1,5 @@
 // Accesses, chunk by chunk.
-ghost use Rattle.std.specs.Prelude.{◌≡◌, ◌≤◌, ◌+◌, ◌^◌, [], length, take};
+ghost use Rattle.std.specs.Prelude.{◌≤◌, ◌+◌, ◌^◌, [], length, take};
 ghost use Rattle.mem_base.specs.access.AccessSteps.{reading, writing};
 ghost use Rattle.access_plan.specs.HostPlans.{plan_by, plan_with_host};
 ghost use Rattle.access_reach.specs.Asking.{outcome};

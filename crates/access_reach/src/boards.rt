@@ -1,5 +1,5 @@
 // A generation of the map with memory and devices of one's own.
-ghost use Rattle.std.specs.Prelude.{◌≡◌, ◌≤◌, ◌+◌, ◌^◌, ℕ, List, ◌∷◌, [], length, Some, None};
+ghost use Rattle.std.specs.Prelude.{◌≡◌, ◌≤◌, ◌+◌, ◌^◌, [], length, Some, None};
 ghost use Rattle.std.specs.Arc.{arc_value};
 ghost use Rattle.mem_base.specs.access.AccessSteps.{reading, writing};
 ghost use Rattle.access_plan.specs.HostPlans.{plan_with_host};

@@ -1,5 +1,5 @@
 // Who answers an access.
-ghost use Rattle.std.specs.Prelude.{◌≡◌, ℕ, ◌+◌, ◌≤◌, ◌++◌, List, [], ◌∷◌, length, Bool, true, Some, None, ◌<◌};
+ghost use Rattle.std.specs.Prelude.{◌≡◌, ◌+◌, ◌≤◌, ◌++◌, List, [], ◌∷◌, length, Bool, true, Some, None, ◌<◌};
 ghost use Rattle.mem_base.specs.map.Limits.{notifier_count};
 ghost use Rattle.mem_base.specs.views.Naming.{names, shows_events};
 ghost use Rattle.generation.specs.Published.{Published};

@@ -1,5 +1,5 @@
 // What an access reaches where a route ends.
-ghost use Rattle.std.specs.Prelude.{◌≡◌, [], false, true, length};
+ghost use Rattle.std.specs.Prelude.{[], false, true, length};
 ghost use Rattle.mem_base.specs.declared.access.accesses.Target.TheVariants.{Leaf};
 ghost use Rattle.mem_base.specs.access.AccessSteps.{reading, writing};
 ghost use Rattle.access_base.specs.Leaves.{IsLeafRun, IsTargetRun};

@@ -1,5 +1,5 @@
 -- Laws of what callbacks do to registers.
-use Rattle.std.proofs.Common.{◌≡◌, ℕ, ◌+◌, ◌%◌, ◌^◌, ◌<◌, Some, subst, arith}
+use Rattle.std.proofs.Common.{◌≡◌, ℕ, ◌%◌, ◌^◌, ◌<◌, Some, subst, arith}
 use Rattle.std.specs.Prelude.{unwrap_or, option_map}
 use Rattle.std.proofs.lemmas.Nat.{mod_below}
 use Rattle.mem_base.specs.declared.map.kinds.Device.{Device}

@@ -49,7 +49,7 @@ use Rattle.mem_base.specs.access.Plans.{answerer_at, answerer_in, answerer, nobo
 use Rattle.mem_base.specs.access.Plans.{in_device, reached, in_chunk, plan}
 use Rattle.mem_base.specs.access.PlanSteps.{by_register, by_kind, by_region, steps_of}
 use Rattle.access_reach.proofs.HandedOn.{access_is_planned}
-use Rattle.access_reach.specs.Asking.{Asked, asked, Reply, Outcome, outcome, followed_by, of_device, of_memory, told, outcome_of}
+use Rattle.access_reach.specs.Asking.{asked, Reply, Outcome, outcome, followed_by, of_device, of_memory, told, outcome_of}
 use Rattle.access_reach.specs.Asking.{reads, writes, calls, sets, marks, taken}
 use Rattle.access_reach.specs.Reaching.{HasReached}
 use Rattle.access_run.specs.Runs.{Makes, HasDone, TakesAll}

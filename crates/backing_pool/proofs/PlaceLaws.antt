@@ -15,7 +15,6 @@ use Rattle.mem_base.specs.access.PlacesByRegion.{place_in}
 use Rattle.mem_base.specs.access.EditionPlaces.{ArePlacesApart}
 use Rattle.mem_base.specs.access.Places.{past, is_free}
 use Rattle.backing_pool.specs.Backing.{IsBacked}
-use Rattle.mem_base.proofs.SortingLaws.{pairs_filter}
 
 -- a place is found by its region
 

@@ -1,5 +1,5 @@
 // The holes of a pool as starts and lengths, ascending, and how one is cut and made.
-ghost use Rattle.std.specs.Prelude.{◌≡◌, ◌+◌, ◌^◌, ◌<◌, ◌≤◌, ◌++◌, ◌∷◌, nat_le, take, drop, length, find, option_map, IfSome, Some, vec_len, vec_capacity};
+ghost use Rattle.std.specs.Prelude.{◌≡◌, ◌+◌, ◌^◌, ◌<◌, ◌≤◌, ◌++◌, nat_le, take, drop, length, find, option_map, IfSome, Some, vec_len, vec_capacity};
 ghost use Rattle.std.specs.List.{slice_get};
 ghost use Rattle.mem_base.specs.lists.Every.{Every};
 ghost use Rattle.backing_pool.specs.Holes.{Ascends, end_of, cut, next_joined, put_last, IsGiven};

@@ -1,6 +1,6 @@
 // The pool, by its places and its holes.
-ghost use Rattle.std.specs.Prelude.{◌≡◌, ◌≢◌, ◌↔◌, ◌+◌, ◌%◌, ◌<◌, ◌≤◌, ◌==◌, ◌++◌, ◌∷◌, [], ℕ, map, filter, not, length, Some, None, Err};
-ghost use Rattle.std.specs.Prelude.{true, IfOk, IfSome, IfNone, OnErr, Option, option_and_then};
+ghost use Rattle.std.specs.Prelude.{◌≡◌, ◌≢◌, ◌↔◌, ◌+◌, ◌%◌, ◌<◌, ◌≤◌, ◌==◌, ◌++◌, ◌∷◌, [], map, filter, not, length, Some, None, Err};
+ghost use Rattle.std.specs.Prelude.{true, IfOk, IfSome, OnErr, Option, option_and_then};
 ghost use Rattle.std.specs.List.{slice_get};
 ghost use Rattle.mem_base.specs.declared.map.refusals.Refusal.{Refusal};
 ghost use Rattle.mem_base.specs.declared.map.refusals.Refusal.TheVariants.{Memory, NoBacking};

@@ -1,6 +1,6 @@
 -- Where a write is cut: at the first bytes of its first chunk, and between chunks.
-use Rattle.std.proofs.Common.{◌≡◌, ℕ, zero, suc, ◌+◌, ◌-◌, ◌<◌, ◌≤◌, Bool, true, false, List, [], ◌∷◌, ◌++◌, length, take, drop}
-use Rattle.std.proofs.Common.{refl, sym, ap, subst, ◌∙◌, arith, append-nil, append_assoc}
+use Rattle.std.proofs.Common.{◌≡◌, ℕ, ◌+◌, ◌-◌, ◌<◌, ◌≤◌, Bool, true, List, [], ◌∷◌, ◌++◌, length, take, drop}
+use Rattle.std.proofs.Common.{refl, sym, ap, subst, ◌∙◌, arith, append_assoc}
 use Rattle.std.proofs.lemmas.List.{take-take, drop-take, drop-drop, length-take-le, length-drop}
 use Rattle.mem_base.specs.declared.map.ids.SpaceId.{SpaceId}
 use Rattle.mem_base.specs.declared.map.forests.Forest.{Forest}
@@ -9,7 +9,7 @@ use Rattle.mem_base.specs.declared.access.accesses.Target.TheVariants.{Leaf, Una
 use Rattle.mem_base.specs.declared.access.accesses.WindowStart.{WindowStart}
 use Rattle.mem_base.specs.lists.Runs.{runs}
 use Rattle.mem_base.specs.access.Trails.{shares_next, first_length}
-use Rattle.mem_base.specs.access.AccessSteps.{writing, AccessStep}
+use Rattle.mem_base.specs.access.AccessSteps.{writing}
 use Rattle.mem_base.specs.access.Access.{access}
 use Rattle.mem_base.specs.access.Windows.{window_start, is_direct, target_at, chunk_length, part_steps, mark_steps}
 use Rattle.access_base.proofs.RunLaws.{first_run}

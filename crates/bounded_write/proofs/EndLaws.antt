@@ -1,9 +1,7 @@
 -- Laws of whole writes: what comes before one and after it, joined with what it did.
-use Rattle.std.proofs.Common.{◌≡◌, ℕ, ◌+◌, ◌-◌, ◌^◌, ◌<◌, ◌≤◌, Bool, true, false, List, [], ◌∷◌, ◌++◌, length, take, drop}
-use Rattle.std.proofs.Common.{refl, sym, ap, subst, ◌∙◌, arith, append-nil}
-use Rattle.std.proofs.lemmas.List.{length-append, length-take-le, take-take}
-use Rattle.std.proofs.Math.Seq.{take-length}
-use Rattle.std.specs.Prelude.{flat_map}
+use Rattle.std.proofs.Common.{◌≡◌, ℕ, ◌+◌, ◌-◌, ◌<◌, ◌≤◌, Bool, true, false, List, [], ◌++◌, length, take, drop}
+use Rattle.std.proofs.Common.{refl, sym, ap, subst, ◌∙◌}
+use Rattle.std.proofs.lemmas.List.{length-append}
 use base.Growing.{prefix_refl, prefix_trans}
 use mathlib.Core.List.{IsPrefix}
 use Rattle.mem_base.specs.map.PassIds.{PassId}
@@ -11,14 +9,13 @@ use Rattle.mem_base.specs.declared.map.ids.SpaceId.{SpaceId}
 use Rattle.mem_base.specs.declared.map.forests.Forest.{Forest}
 use Rattle.mem_base.specs.declared.access.accesses.TxResult.{TxResult}
 use Rattle.mem_base.specs.declared.machine.events.Event.{Event}
-use Rattle.mem_base.specs.declared.machine.events.HistoryEntry.{HistoryEntry}
-use Rattle.mem_base.specs.access.AccessSteps.{writing, events_of_steps, result_of}
+use Rattle.mem_base.specs.access.AccessSteps.{writing, events_of_steps}
 use Rattle.mem_base.specs.access.Access.{access}
 use Rattle.mem_base.specs.machine.Passes.{pass_id}
 use Rattle.generation.specs.Published.{Published}
 use Rattle.epoch_rule.specs.Values.{PassValue}
 use Rattle.vcpu_pass.specs.Around.{HasBegun, HasEnded}
-use Rattle.vcpu_pass.specs.Calls.{HasAccessed, generation_of}
+use Rattle.vcpu_pass.specs.Calls.{generation_of}
 use Rattle.vcpu_pass.specs.Steps.{HasMade, generation_in}
 use Rattle.vcpu_pass.specs.StepLaws.{made_then}
 use Rattle.vcpu_pass.proofs.CallLaws.{accessed, around}

@@ -1,12 +1,9 @@
 -- Laws of the steps of an entered pass: what it may touch in its generation, and what a step adds. They are those of `vcpu_pass`, which are its own.
-use Rattle.std.proofs.Common.{◌≡◌, ◌≤◌, if◌then◌else◌}
-use Rattle.std.proofs.Common.{◌∙◌}
+use Rattle.std.proofs.Common.{◌≡◌}
 use Rattle.mem_base.specs.declared.machine.events.Event.TheVariants as events
 use Rattle.mem_base.specs.declared.machine.events.Hand.TheVariants as hands
 use Rattle.generation.specs.Published.{Published}
 use Rattle.epoch_rule.specs.Values.{PassValue}
-use Rattle.std.proofs.lemmas.Bool.{and_from}
-use Rattle.std.proofs.lemmas.Option.{same_Some}
 
 -- a place among places
 

@@ -10,7 +10,7 @@ use Rattle.mem_base.specs.declared.access.cells.WordStep.TheVariants.{Replace}
 use Rattle.mem_base.specs.declared.machine.events.Hand.TheVariants as hands
 use Rattle.mem_base.specs.declared.machine.events.HistoryEntry.{HistoryEntry}
 use Rattle.mem_base.specs.lists.Every.{Every}
-use Rattle.mem_base.specs.lists.Runs.{Run, run, runs, touched, is_in_unit}
+use Rattle.mem_base.specs.lists.Runs.{Run, run, touched, is_in_unit}
 use Rattle.mem_base.specs.access.AccessSteps.{AccessStep, writing, steps, nothing_shown}
 use Rattle.mem_base.specs.access.Cells.{cell}
 use Rattle.mem_base.specs.access.MemoryAccess.{on_word, on_words}

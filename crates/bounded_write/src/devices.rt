@@ -1,5 +1,5 @@
 // Writes to what is not memory that is written directly.
-ghost use Rattle.std.specs.Prelude.{◌≡◌, ◌≤◌, ◌<◌, [], length, is_some, true, false};
+ghost use Rattle.std.specs.Prelude.{◌≡◌, ◌<◌, is_some, true, false};
 ghost use Rattle.std.proofs.Common.{refl, ap, ◌∙◌};
 ghost use Rattle.mem_base.specs.machine.Passes.{pass_id};
 ghost use Rattle.mem_base.specs.access.AccessSteps.{result_of, writing};

@@ -23,7 +23,6 @@ use Rattle.change_laws.specs.Meeting.{is_among}
 use Rattle.change_laws.specs.Reaching.{HasSameWays, KeepsWays}
 use Rattle.mem_base.proofs.BoolLaws.{both_ways}
 use Rattle.mem_base.proofs.NodeLaws.{steps_to_children, steps_to_target}
-use Rattle.std.proofs.lemmas.Option.{same_Some}
 
 ways_same : (o p : Option Node) → o ≡ p → HasSameWays o p
 ways_same o p e = subst (HasSameWays o) e (itself o)

@@ -1,16 +1,15 @@
 -- What tests on two states of a region tell.
-use Rattle.std.proofs.Common.{◌≡◌, Bool, true, false, ◌&&◌, List, [], ◌∷◌, Option, Some, None, refl, sym, ap, subst, ◌∙◌, arith}
+use Rattle.std.proofs.Common.{◌≡◌, true, List, [], Option, Some, None, refl, sym, ◌∙◌, arith}
 use Rattle.std.proofs.lemmas.Bool.{eqb-true, and_parts}
 use Rattle.mem_base.specs.declared.map.ids.RegionId.{RegionId}
 use Rattle.mem_base.specs.declared.map.forests.Node.{Node}
-use Rattle.mem_base.specs.lists.Every.{Every}
 use Rattle.mem_base.specs.map.Kinds.{target_of}
 use Rattle.mem_base.specs.map.Region.{node_of}
 use Rattle.mem_base.proofs.ForestLaws.{id_of}
 use Rattle.view_laws.proofs.TouchedLaws.{kind_same, region_same}
 use Rattle.change_laws.specs.Placing.{DiffersInPlace}
 use Rattle.change_laws.specs.Reaching.{HasSameWays}
-use Rattle.change_spans.specs.Alike.{is_moved_alone, moves_alone, has_same_ways, keeps_ways}
+use Rattle.change_spans.specs.Alike.{is_moved_alone, moves_alone, keeps_ways}
 use Rattle.mem_base.proofs.BoolLaws.{bool_same}
 
 moved_alone : (n m : Node) → n.id ≡ m.id → is_moved_alone n m ≡ true → DiffersInPlace (Some n) (Some m)

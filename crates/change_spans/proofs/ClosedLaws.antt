@@ -1,11 +1,10 @@
 -- Spans that keep what leads to each changed region, and into each of them, are closed upward in both forests: so a change is seen within
 -- them alone.
 use Rattle.std.proofs.Common.{◌≡◌, ℕ, ◌+◌, ◌-◌, ◌^◌, ◌<◌, ◌≤◌, Bool, true, false, eqb, eq-eqb, List, Option, Some, None, refl, sym, ap, subst, ◌∙◌, arith}
-use Rattle.std.specs.Prelude.{nat_lt, IfSome, IsSome, filter, map}
+use Rattle.std.specs.Prelude.{nat_lt, IfSome, IsSome, filter}
 use Rattle.std.proofs.lemmas.Bool.{eqb-true, and_parts}
 use Rattle.std.proofs.lemmas.Bool.Decides.{nat_tests}
 use Rattle.mem_base.specs.declared.map.ids.RegionId.{RegionId}
-use Rattle.mem_base.specs.declared.map.ids.SpaceId.{SpaceId}
 use Rattle.mem_base.specs.declared.map.kinds.Kind.{Kind}
 use Rattle.mem_base.specs.declared.map.kinds.Kind.TheVariants.{Alias}
 use Rattle.mem_base.specs.declared.map.forests.Node.{Node}
@@ -15,7 +14,7 @@ use Rattle.mem_base.specs.map.Kinds.{target_of}
 use Rattle.mem_base.specs.map.Order.{ids_of}
 use Rattle.mem_base.specs.map.Refusals.{targets}
 use Rattle.mem_base.specs.map.Region.{IsAscending, node_of, is_in, is_child_of}
-use Rattle.mem_base.specs.map.Search.{root_of, found_at}
+use Rattle.mem_base.specs.map.Search.{found_at}
 use Rattle.mem_base.specs.map.Forest.{IsClosedForest, IsRegion, HasTarget}
 use Rattle.view_laws.proofs.Tests.{same_region, none_is_not_some}
 use Rattle.view_laws.proofs.LiveLaws.{In, every_in}
@@ -23,7 +22,7 @@ use Rattle.view_laws.proofs.SortedLaws.{any_found, filter_out, map_out}
 use Rattle.view_laws.proofs.TouchedLaws.{found_in_list}
 use Rattle.change_laws.specs.Meeting.{is_among, meets, OthersStay, ChangesOnly}
 use Rattle.change_laws.specs.Upward.{is_open, IsClosedUpward}
-use Rattle.change_laws.specs.Placing.{meets_placed, DiffersInPlace, ChangesPlaces}
+use Rattle.change_laws.specs.Placing.{meets_placed, ChangesPlaces}
 use Rattle.change_laws.specs.PlacedUpward.{IsClosedPlaced}
 use Rattle.change_laws.proofs.MeetingLaws.{stays_where_none_is_met}
 use Rattle.change_laws.proofs.PlacingLaws.{stays_where_none_is_placed}

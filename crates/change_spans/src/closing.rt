@@ -3,7 +3,6 @@ ghost use Rattle.std.specs.Prelude.{◌≡◌, ℕ, ◌+◌, ◌-◌, ◌^◌, �
 ghost use Rattle.mem_base.specs.declared.map.ids.RegionId.{RegionId};
 ghost use Rattle.mem_base.specs.declared.map.forests.Node.{Node};
 ghost use Rattle.mem_base.specs.lists.Every.{Every};
-ghost use Rattle.mem_base.specs.map.Refusals.{targets};
 ghost use Rattle.mem_base.specs.map.Region.{node_of};
 ghost use Rattle.change_laws.specs.Upward.{is_open};
 ghost use Rattle.change_spans.specs.Reaches.{has_in, HasThrough, HasAbove, Keeps, KeepsIn, KeepsSpan};

@@ -1,5 +1,5 @@
 // The record behind a lock.
-ghost use Rattle.std.specs.Prelude.{◌≡◌, ◌≤◌, IfOk, OnErr, MatchOption, MatchResult, None, Some, drop, length};
+ghost use Rattle.std.specs.Prelude.{◌≡◌, ◌≤◌, IfOk, OnErr, MatchResult, None, Some, drop, length};
 ghost use Rattle.mem_base.specs.machine.Records.{Closes};
 ghost use Rattle.desk_lock.specs.Clerks.{wrote_down};
 ghost use Rattle.desk_lock.specs.Receipts.{IsReceipt};

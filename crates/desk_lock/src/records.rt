@@ -1,11 +1,10 @@
 // The record of a desk.
-ghost use Rattle.std.specs.Prelude.{◌≡◌, ◌≢◌, ℕ, ◌+◌, ◌++◌, ◌∷◌, [], IfOk, OnErr, MatchOption, None, false, true, length, slice_index_or, slice_set};
+ghost use Rattle.std.specs.Prelude.{◌≡◌, ◌≢◌, ℕ, ◌+◌, [], IfOk, OnErr, MatchOption, None, false, true, length, slice_index_or, slice_set};
 ghost use Rattle.std.specs.Arc.{arc_value};
 ghost use mathlib.Core.List.{IsPrefix};
 ghost use Rattle.mem_base.specs.declared.machine.events.Hand.TheVariants.{Writer};
 ghost use Rattle.mem_base.specs.machine.Actors.{own_entries};
 ghost use Rattle.mem_base.specs.machine.Publishing.{current_forest};
-ghost use Rattle.epoch_rule.specs.Rule.{IsLegal, KeepsHome};
 ghost use Rattle.epoch_rule.specs.Values.{first_free};
 ghost use Rattle.epoch_rule.specs.Wrote.{IsNewPass, Wrote, longer};
 ghost use Rattle.desk_lock.specs.Receipts.{IsReceipt};

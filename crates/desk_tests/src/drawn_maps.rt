@@ -1,5 +1,5 @@
 // Drawn maps of small spaces, with regions of every kind.
-ghost use Rattle.std.specs.Prelude.{◌≡◌, ◌<◌};
+ghost use Rattle.std.specs.Prelude.{◌<◌};
 
 use crate::calls::{event, map, region, space};
 use crate::desks::commit;

@@ -1,5 +1,5 @@
 // Passes that are handed out and taken in.
-ghost use Rattle.std.specs.Prelude.{◌≡◌, ◌≢◌, ℕ, ◌+◌, ◌≤◌, slice_index_or, [], length, None, MatchOption, slice_set, true, false};
+ghost use Rattle.std.specs.Prelude.{◌≡◌, ◌≢◌, ℕ, ◌+◌, slice_index_or, [], length, None, MatchOption, slice_set, true, false};
 ghost use Rattle.mem_base.specs.declared.machine.events.Hand.TheVariants.{Writer};
 ghost use Rattle.epoch_rule.specs.Values.{first_free as first_free_in};
 ghost use Rattle.mem_base.specs.machine.Actors.{own_entries};

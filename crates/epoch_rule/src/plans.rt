@@ -1,8 +1,7 @@
 // Single steps on a word of the cabinet, each as the event that the caller plans.
-ghost use Rattle.std.specs.Prelude.{◌≡◌, ℕ, ◌+◌, ◌%◌, ◌<◌, ◌^◌, ◌==◌, bit_or, MatchBool};
+ghost use Rattle.std.specs.Prelude.{◌≡◌, ℕ, ◌+◌, ◌%◌, ◌<◌, ◌^◌, ◌==◌, MatchBool};
 ghost use Rattle.mem_base.specs.declared.access.cells.WordStep.TheVariants.{Load, AddOne, Or, Take};
 ghost use Rattle.mem_base.specs.access.Words.{word_after};
-ghost use Rattle.epoch_rule.specs.Rule.{ComesNext, KeepsSlot};
 ghost use Rattle.epoch_rule.specs.Copies.{Suits};
 ghost use Rattle.epoch_rule.specs.Layout.{words_before_pool};
 ghost use Rattle.epoch_rule.specs.Touches.{IsStepReady, touched};

@@ -1,6 +1,6 @@
 // The touches of the cabinet's words. What a pass does is inlined where it is called: the touch is known there, so that one step
 // is left of it, and the touch need not be written to memory and read back.
-ghost use Rattle.std.specs.Prelude.{◌≡◌, ℕ, ◌+◌, ◌^◌, ◌≤◌, ◌<◌};
+ghost use Rattle.std.specs.Prelude.{◌≡◌, ◌+◌, ◌^◌, ◌≤◌, ◌<◌};
 ghost use Rattle.mem_base.specs.declared.machine.events.Hand.TheVariants.{Pass, Writer};
 ghost use Rattle.mem_base.specs.access.Places.{mark_word, word_of_page};
 ghost use Rattle.epoch_rule.specs.declared.touches.Touch.TheVariants.{Look, Step, Try, Fill, Mark, Harvest};

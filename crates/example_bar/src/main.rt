@@ -1,8 +1,6 @@
 //! A PCI BAR that moves while a listener prints what a hypervisor would do: which ranges to unmap, and which to map.
 #![tactic(auto)]
 
-ghost use Rattle.std.specs.Prelude.{◌≡◌};
-
 use anyhow::{Context, Result};
 use std::process::ExitCode;
 use vobrekan::{

@@ -1,8 +1,6 @@
 //! Dirty pages in rounds, as a migration sends them: each round takes the marks of the pages that were written since the last one.
 #![tactic(auto)]
 
-ghost use Rattle.std.specs.Prelude.{◌≡◌};
-
 use anyhow::{Context, Result};
 use std::process::ExitCode;
 use vobrekan::{Applied, Call, Client, Kind, PassId, PureMachine, RegionId, Size, SpaceId};

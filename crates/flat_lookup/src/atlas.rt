@@ -1,6 +1,6 @@
 // A view with levels over the starts of its ranges.
-ghost use Rattle.std.specs.Prelude.{◌≡◌, ◌+◌, ◌-◌, ◌*◌, ◌≤◌, ◌^◌, ◌<◌, ℕ, length, map, MatchResult, IfOk};
-ghost use Rattle.mem_base.specs.views.View.{seen, shown, IsRanges, IsMerged};
+ghost use Rattle.std.specs.Prelude.{◌≡◌, ◌+◌, ◌-◌, ◌≤◌, ◌^◌, ◌<◌, length, MatchResult, IfOk};
+ghost use Rattle.mem_base.specs.views.View.{shown, IsRanges};
 ghost use Rattle.mem_base.specs.views.Naming.{has_leaf};
 ghost use Rattle.flat_lookup.specs.Leaves.{AreLeavesOf};
 ghost use Rattle.flat_lookup.specs.Atlases.{HasLevels, starts_of, run_end, AreProbes, end_at, no_range};

@@ -1,6 +1,6 @@
 // Levels of keys, and the search through them.
-ghost use Rattle.std.specs.Prelude.{◌≡◌, ◌+◌, ◌-◌, ◌*◌, ◌/◌, ◌≤◌, ◌^◌, ◌<◌, ℕ, [], length, slice_index, slice_index_or, IfOk, ◌∷◌};
-ghost use Rattle.flat_lookup.specs.Levels.{Ascends, IsPlace, IsNode, IsThin, AreLevels, HasTop, AreFew, IsBuilt};
+ghost use Rattle.std.specs.Prelude.{◌≡◌, ◌+◌, ◌-◌, ◌*◌, ◌/◌, ◌≤◌, ◌<◌, ℕ, [], length, slice_index, slice_index_or, IfOk, ◌∷◌};
+ghost use Rattle.flat_lookup.specs.Levels.{Ascends, IsPlace, IsNode, IsThin, AreLevels, HasTop, IsBuilt};
 
 use std::alloc::{AllocError, Global};
 use std::marker::Model;

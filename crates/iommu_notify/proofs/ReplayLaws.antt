@@ -18,7 +18,7 @@ use Rattle.mem_base.specs.access.Parts.{is_same_part, is_same_perm, meets_part, 
 use Rattle.mem_base.specs.access.Parts.{parts_after_all, parts_without}
 use Rattle.mem_base.proofs.EveryLaws.{weaker, every_filter, every_push}
 use Rattle.iommu_notify.specs.PartLists.{AreParts}
-use Rattle.mem_base.proofs.BoolLaws.{left_of, number_itself, number_swap, right_of}
+use Rattle.mem_base.proofs.BoolLaws.{left_of, number_itself, right_of}
 use Rattle.std.proofs.lemmas.Bool.{eqb-true}
 use Rattle.mem_base.proofs.EntryLaws.{lt_number}
 

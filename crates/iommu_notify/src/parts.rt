@@ -1,5 +1,5 @@
 // The parts of a range of a table.
-ghost use Rattle.std.specs.Prelude.{◌≡◌, ◌+◌, ◌<◌, ◌≤◌, ◌^◌, IfOk, true};
+ghost use Rattle.std.specs.Prelude.{◌≡◌, ◌+◌, ◌<◌, ◌≤◌, ◌^◌, IfOk};
 ghost use Rattle.mem_base.specs.map.Entries.{AreEntries};
 ghost use Rattle.mem_base.specs.access.Parts.{meets_offsets, part_of, parts_of, parts_in, is_same_part, is_same_perm};
 ghost use Rattle.mem_base.specs.access.Translations.{translated_address};

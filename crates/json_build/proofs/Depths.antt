@@ -1,5 +1,5 @@
 -- How deep values nest.
-use Rattle.std.proofs.Common.{◌≡◌, ◌≤◌, ℕ, suc, max, List, [], ◌∷◌, arith, Less, Equal, Greater, Ordering, nat_cmp}
+use Rattle.std.proofs.Common.{◌≤◌, ℕ, suc, max, List, [], ◌∷◌, arith, Less, Equal, Greater, Ordering, nat_cmp}
 use Rattle.std.specs.Prelude.{map}
 use Rattle.std.specs.Ordering.{match_ordering}
 use Rattle.std.specs.Cmp.Lexicographic.{slice_cmp}

@@ -1,5 +1,5 @@
 // What the numbers that C hands over stand for.
-ghost use Rattle.std.specs.Prelude.{◌≡◌, option_map};
+ghost use Rattle.std.specs.Prelude.{◌≡◌};
 ghost use Rattle.libvobrekan.specs.Arguments.{client_of, device_kind_of, device_of, device_with, event_of, perm_of, size_of};
 
 use mem_base::{Client, Device, DeviceKind, Ioevent, Ops, Perm, Size};

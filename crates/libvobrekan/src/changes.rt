@@ -1,5 +1,5 @@
 // The calls that change the map.
-ghost use Rattle.std.specs.Prelude.{◌≡◌, IfNone, IfSome};
+ghost use Rattle.std.specs.Prelude.{IfNone, IfSome};
 ghost use Rattle.mem_base.specs.declared.map.calls.Call.TheVariants as calls;
 ghost use Rattle.mem_base.specs.declared.map.calls.Config.TheVariants as configs;
 ghost use Rattle.mem_base.specs.machine.Orders.{configure};

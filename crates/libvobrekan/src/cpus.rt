@@ -1,6 +1,5 @@
 // Virtual CPUs: each works by its own handle, beside the others and the desk.
-ghost use Rattle.std.specs.Prelude.{◌≡◌, None, length};
-ghost use Rattle.mem_base.specs.access.AccessSteps.{reading};
+ghost use Rattle.std.specs.Prelude.{◌≡◌, None};
 ghost use Rattle.libvobrekan.specs.Arguments.{space_at};
 ghost use Rattle.libvobrekan.specs.Cpus.{Enters, Leaves, Reads, WritesFirst, WritesWord, written_told, wrote_told};
 

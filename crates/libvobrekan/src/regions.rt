@@ -1,5 +1,5 @@
 // The calls that make regions, one for each kind.
-ghost use Rattle.std.specs.Prelude.{◌≡◌, IfNone, IfSome};
+ghost use Rattle.std.specs.Prelude.{IfNone, IfSome};
 ghost use Rattle.mem_base.specs.declared.map.calls.Call.TheVariants as calls;
 ghost use Rattle.mem_base.specs.declared.map.calls.Config.TheVariants as configs;
 ghost use Rattle.mem_base.specs.declared.map.kinds.Kind.TheVariants as kinds;

@@ -1,10 +1,9 @@
 // What a machine shows: ranges of views, and what an address leads to, in the current generation.
-ghost use Rattle.std.specs.Prelude.{◌≡◌, ◌<◌, ◌↔◌, IfSome, IsNone, None, length, slice_get};
+ghost use Rattle.std.specs.Prelude.{◌≡◌, ◌<◌, None};
 ghost use Rattle.mem_base.specs.declared.map.refusals.Refusal.TheVariants as refusal;
 ghost use Rattle.mem_base.specs.declared.map.refusals.What.TheVariants as what;
 ghost use Rattle.mem_base.specs.map.Region.{node_of};
 ghost use Rattle.mem_base.specs.map.Search.{root_of};
-ghost use Rattle.mem_base.specs.views.Flattened.{view_of};
 ghost use Rattle.mem_base.specs.views.View.{shown};
 ghost use Rattle.flat_lookup.specs.Atlases.{run_end};
 ghost use Rattle.libvobrekan.specs.Answers.{refusal_told};

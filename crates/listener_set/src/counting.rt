@@ -1,5 +1,5 @@
 // How many calls a publish makes.
-ghost use Rattle.std.specs.Prelude.{◌≡◌, ◌+◌, ◌*◌, ◌≤◌, filter, flat_map, length, IfSome};
+ghost use Rattle.std.specs.Prelude.{◌≡◌, ◌≤◌, filter, flat_map, length, IfSome};
 ghost use Rattle.mem_base.specs.views.Listening.{hears, calls_of, deliveries_of, deliveries_of_changes};
 
 use mem_base::{Change, Listener, SpaceId};

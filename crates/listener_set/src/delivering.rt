@@ -1,5 +1,5 @@
 // A call to each listener of a space, in the direction that the call has.
-ghost use Rattle.std.specs.Prelude.{◌≡◌, ◌+◌, ◌≤◌, ◌++◌, [], ◌∷◌, filter, length, vec_len, vec_capacity};
+ghost use Rattle.std.specs.Prelude.{◌≡◌, ◌+◌, ◌≤◌, ◌++◌, filter, length, vec_len, vec_capacity};
 ghost use Rattle.mem_base.specs.views.Listening.{deliver_each};
 ghost use Rattle.listener_set.specs.Sets.{is_told, told_one, told_up, told_down};
 

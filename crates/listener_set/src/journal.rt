@@ -1,6 +1,6 @@
 // The journal of all calls to listeners.
 ghost use Rattle.std.specs.Prelude.{◌≡◌, ◌+◌, ◌-◌, ◌<◌, ◌≤◌, ◌++◌, [], ◌∷◌, IfOk, length, vec_len, vec_capacity};
-ghost use Rattle.mem_base.specs.views.Listening.{Delivery, deliveries_to, joining, leaving};
+ghost use Rattle.mem_base.specs.views.Listening.{deliveries_to, joining, leaving};
 
 use mem_base::{FlatRange, ListenerEvent, ListenerId, Live, RangeEvent};
 use std::alloc::{AllocError, Global};

@@ -1,6 +1,6 @@
 -- The lines of the monitor's texts (QEMU 7.2, softmmu/memory.c: mtree_print_mr, mtree_print_flatview, mtree_info_as).
 use Rattle.std.specs.Prelude.{ℕ, ◌-◌, ◌/◌, ◌==◌, ◌||◌, if◌then◌else◌, nat_le, not, length, take, drop, position, Option, Some, None}
-use Rattle.std.specs.Prelude.{option_and_then, option_map, unwrap_or, codes, Bool, true, false}
+use Rattle.std.specs.Prelude.{option_and_then, option_map, unwrap_or, codes, Bool}
 use Rattle.std.specs.Str.{bytes_eq}
 use Rattle.mem_base.specs.script.Spelling.{Text}
 use Rattle.monitor_text.specs.declared.parts.RowHead.{RowHead}

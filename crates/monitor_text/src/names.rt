@@ -1,5 +1,5 @@
 // The names that a script gives to what the monitor calls by a name of any bytes.
-ghost use Rattle.std.specs.Prelude.{◌≡◌, IfOk, map};
+ghost use Rattle.std.specs.Prelude.{◌≡◌, IfOk};
 ghost use Rattle.std.specs.List.{list_all, list_any};
 ghost use Rattle.mem_base.specs.script.Spelling.{is_letter, may_follow};
 ghost use Rattle.monitor_text.specs.Names.{cleaned, ended_so, fit_byte, is_digit, is_ending, is_named_after, needs_letter, numbered, up_to};

@@ -1,5 +1,4 @@
 // A tree beside the plain program, and how the two are compared.
-ghost use Rattle.std.specs.Prelude.{◌≡◌};
 
 use crate::grid::{STRETCHES, last_of, start_of};
 use crate::plain::Plain;

@@ -1,5 +1,4 @@
 // Marks of writes, and the pages of mark words: worked cases, and drawn ones against plain loops.
-ghost use Rattle.std.specs.Prelude.{◌≤◌, ◌+◌, vec_len, vec_capacity};
 
 use crate::draws::draw;
 use dirty_log::{Marks, mark_of, marks_of, pages_of};

@@ -1,6 +1,5 @@
 // The bytes of a source in memory that are not yet read.
 ghost use Rattle.std.specs.Prelude.{◌≡◌, ◌≤◌, min, length, Ok, Some, vec_len};
-ghost use Rattle.std.specs.Io.{ReadsAtMost};
 ghost use Rattle.std.specs.Io.KnownBytes.{ReadConsumes};
 ghost use Rattle.outside.specs.declared.Failed.{Failed};
 

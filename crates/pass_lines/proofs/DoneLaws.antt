@@ -18,7 +18,7 @@ use Rattle.mem_base.specs.machine.Turns.{replies_of}
 use Rattle.mem_base.specs.script.Spelling.{Text}
 use Rattle.mem_base.specs.script.Named.{Names}
 use Rattle.mem_base.specs.script.Output.{dma_line, enter_line, read_line, write_line}
-use Rattle.mem_base.specs.script.Tasks.{Known, Resolved, Task, task_of}
+use Rattle.mem_base.specs.script.Tasks.{Known, Resolved, Task}
 use Rattle.mem_base.specs.script.Tasks as tasks
 use Rattle.mem_base.specs.script.RaceLines.{entry_at, line_of_pass, says}
 use Rattle.history_laws.proofs.AppendLaws.{published_append, published_grows}

@@ -1,5 +1,5 @@
 // Reads and writes by windows at any addresses: what lies above 2^64 - 1 reads as 0 and is not written, with a decode error.
-ghost use Rattle.std.specs.Prelude.{◌≡◌, ◌≤◌, ◌+◌, ◌^◌, ◌<◌, [], length, take, true};
+ghost use Rattle.std.specs.Prelude.{◌≡◌, ◌≤◌, ◌+◌, ◌^◌, ◌<◌, [], length, true};
 ghost use Rattle.mem_base.specs.map.Forest.{IsMade};
 ghost use Rattle.mem_base.specs.access.AccessSteps.{reading, writing};
 ghost use Rattle.vcpu_pass.specs.Steps.{generation_in};

@@ -9,7 +9,7 @@ use Rattle.mem_base.specs.declared.access.cells.Cell.{Cell}
 use Rattle.mem_base.specs.access.Cells.{cell, is_same_cell}
 use Rattle.place_words.specs.Unfilled.{cells_left}
 use Rattle.std.proofs.lemmas.Bool.{and_parts}
-use Rattle.mem_base.proofs.BoolLaws.{and_nothing, and_always, or_nothing}
+use Rattle.mem_base.proofs.BoolLaws.{and_nothing, or_nothing}
 
 -- a word before the first one is none of them
 none_before : (q r : RegionId) (word at : ℕ) (flags : List Bool) → word < at → list_any (is_same_cell (cell q word)) (cells_left r at flags) ≡ false

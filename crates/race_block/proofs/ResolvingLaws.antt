@@ -31,7 +31,7 @@ use Rattle.race_block.specs.declared.passes.PassActor.{PassActor}
 use Rattle.race_block.specs.Desks.{line_meant, lines_meant}
 use Rattle.race_block.specs.declared.tasks.LineGot.{LineGot}
 use Rattle.race_block.specs.declared.tasks.PassLines.{PassLines}
-use Rattle.race_block.specs.Lines.{FitsLine, FitsTask, HasDoneTasks, HasRunBy, HasRunLines, HasRunTasks, HaveRun}
+use Rattle.race_block.specs.Lines.{FitsLine, FitsTask, HasDoneTasks, HasRunBy, HasRunLines, HasRunTasks}
 use Rattle.race_block.specs.Resolving.{AreTasksOf, IsOfPass, IsTaskOf, StandsFor, copy_room, tasks_in}
 use Rattle.race_block.specs.Texts.{IsTextOf, KeepsTold}
 use Rattle.mem_base.proofs.BoolLaws.{true_is_not_false}

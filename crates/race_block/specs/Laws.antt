@@ -1,9 +1,8 @@
 -- What the lines of a pass in a block are, in the words of the script's definition.
-use Rattle.std.specs.Prelude.{◌≡◌, ℕ, ◌+◌, List, [], ◌∷◌, ◌++◌, drop, length, map, Ok, Err}
+use Rattle.std.specs.Prelude.{◌≡◌, ℕ, ◌+◌, List, [], ◌∷◌, ◌++◌, drop, length, map, Err}
 use Rattle.mem_base.specs.map.PassIds.{PassId}
 use Rattle.mem_base.specs.declared.machine.events.HistoryEntry.{HistoryEntry}
 use Rattle.mem_base.specs.declared.machine.records.DeskEntry.{DeskEntry}
-use Rattle.mem_base.specs.access.AccessSteps.{reading, writing}
 use Rattle.mem_base.specs.machine.Actors.{generations_published, own_entries}
 use Rattle.mem_base.specs.machine.Generations.{Generation}
 use Rattle.mem_base.specs.machine.Passes.{PassState, pass_id}
@@ -14,7 +13,7 @@ use Rattle.mem_base.specs.script.Named.{Names}
 use Rattle.mem_base.specs.script.RefusalLines.{refused_line}
 use Rattle.mem_base.specs.script.RaceLines.{Said, do_text, entry_at, lines_of_pass, says, says_with}
 use Rattle.mem_base.specs.script.Scripts.{Line}
-use Rattle.mem_base.specs.script.Tasks.{Known, Resolved, Task, task_of, ordered, entered, left, accessed, copied}
+use Rattle.mem_base.specs.script.Tasks.{Known, Resolved, Task, task_of}
 use Rattle.generation.specs.Published.{Published}
 use Rattle.epoch_rule.specs.Values.{PassValue}
 use Rattle.race_laws.specs.Acting.{PassDeed}
@@ -22,7 +21,6 @@ use Rattle.pass_lines.specs.Doing.{Grew, IsInItsGeneration, state_seen}
 use Rattle.pass_lines.specs.Laws.{KeepsLines}
 use Rattle.pass_lines.specs.declared.answers.LineAnswer.TheVariants as answers
 use Rattle.pass_lines.specs.Texts.{answer_text}
-use Rattle.race_lines.specs.LineTasks.{refused_text}
 use Rattle.race_block.specs.declared.tasks.BlockLine.{BlockLine}
 use Rattle.race_block.specs.declared.tasks.LineGot.{LineGot}
 use Rattle.race_block.specs.declared.tasks.LineGot.TheVariants as gots

@@ -1,5 +1,5 @@
 // The actors of a block beside one another.
-ghost use Rattle.std.specs.Prelude.{◌≡◌, ℕ, ◌<◌, length, All, slice_index_or};
+ghost use Rattle.std.specs.Prelude.{ℕ, ◌<◌, length, All, slice_index_or};
 ghost use Rattle.race_block.specs.Blocks.{CanAct, HasActed};
 
 use crate::desks::DeskActor;

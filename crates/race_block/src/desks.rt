@@ -1,8 +1,7 @@
 // The desk that does its lines.
-ghost use Rattle.std.specs.Prelude.{◌≡◌, ◌++◌, ◌∷◌, [], ℕ, true, false, All, IfOk, OnOk, OnErr};
-ghost use Rattle.mem_base.specs.script.RaceLines.{Said};
-ghost use Rattle.race_lines.specs.DeskLines.{desk_line_by, entry_got};
-ghost use Rattle.race_lines.specs.LineTasks.{HasItsNames, resolved};
+ghost use Rattle.std.specs.Prelude.{◌≡◌, true, false, IfOk, OnOk, OnErr};
+ghost use Rattle.race_lines.specs.DeskLines.{entry_got};
+ghost use Rattle.race_lines.specs.LineTasks.{HasItsNames};
 ghost use Rattle.race_block.specs.Desks.{AreNotesOf, DoesDeskLine, Gives, GivesOwn, HasRun, IsAsked, IsNotDone, IsReady, KeepsNotes};
 ghost use Rattle.race_block.specs.Desks.{LeavesLine, StopsIn, entry_of, line_meant};
 

@@ -1,5 +1,5 @@
 // The tasks of a pass's lines, by what is known of names.
-ghost use Rattle.std.specs.Prelude.{◌≡◌, All, IfOk};
+ghost use Rattle.std.specs.Prelude.{All, IfOk};
 ghost use Rattle.race_lines.specs.LineTasks.{resolved};
 ghost use Rattle.race_block.specs.Desks.{line_meant, lines_meant};
 ghost use Rattle.race_block.specs.Lines.{FitsLine};

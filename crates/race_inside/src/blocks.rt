@@ -1,5 +1,5 @@
 // A block, from what its runner has before it to what it has after it.
-ghost use Rattle.std.specs.Prelude.{◌≡◌, ℕ, ◌<◌, ◌≤◌, [], All, IfOk, OnOk, length, map, slice_index_or, vec_capacity};
+ghost use Rattle.std.specs.Prelude.{◌≡◌, ℕ, ◌<◌, ◌≤◌, [], All, OnOk, length, map, slice_index_or, vec_capacity};
 ghost use Rattle.mem_base.specs.script.Race.{block};
 ghost use Rattle.mem_base.specs.script.Tasks.{Known};
 ghost use Rattle.run_laws.specs.Fitting.{AreFitting};

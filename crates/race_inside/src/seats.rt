@@ -1,5 +1,5 @@
 // The virtual CPUs before a block and after it: those of its actors, and those that wait.
-ghost use Rattle.std.specs.Prelude.{◌≡◌, ℕ, ◌+◌, ◌<◌, ◌≤◌, [], List, Some, length, option_to_list, vec_capacity};
+ghost use Rattle.std.specs.Prelude.{◌≡◌, ◌+◌, ◌<◌, ◌≤◌, [], List, Some, length, option_to_list, vec_capacity};
 ghost use Rattle.mem_base.specs.map.Limits.{most_passes};
 ghost use Rattle.mem_base.specs.script.Race.{block, desk_number, lines_by};
 ghost use Rattle.mem_base.specs.script.Scripts.{Line};

@@ -11,7 +11,7 @@ use Rattle.mem_base.specs.script.Named.{Names}
 use Rattle.mem_base.specs.script.RaceLines.{Said, said_text}
 use Rattle.mem_base.specs.script.Scripts.{Line}
 use Rattle.mem_base.specs.script.Run.{pool_words}
-use Rattle.mem_base.specs.script.Tasks.{Known, Resolved, Task, task_of}
+use Rattle.mem_base.specs.script.Tasks.{Known, task_of}
 use Rattle.mem_base.specs.script.Tasks as tasks
 use Rattle.mem_base.specs.script.Race.{Course, IsTextOfRace, Phase, Stand, actor_number, alone, desk_number}
 use Rattle.generation.specs.Published.{Published}

@@ -1,6 +1,5 @@
 // The record hears the virtual CPUs, and they meet it.
 ghost use Rattle.std.specs.Prelude.{◌≡◌, ◌≢◌, ℕ, ◌<◌, [], All, length, slice_index_or};
-ghost use mathlib.Core.List.{IsPrefix};
 ghost use Rattle.generation.specs.Published.{Published};
 ghost use Rattle.epoch_rule.specs.Rule.{IsLegal};
 ghost use Rattle.epoch_rule.specs.Values.{PassValue};

@@ -33,7 +33,6 @@ use Rattle.race_run.specs.declared.racers.Racer.{Racer}
 use Rattle.race_run.specs.Ends.{HasClosed, IsFresh}
 use Rattle.race_run.specs.Racing.{Goes, GoesThrough, HasStopped, StopsWithin, TakesOne}
 use Rattle.script_run.proofs.Writing.{on_ok}
-use Rattle.mem_base.proofs.OptionLaws.{on_failure}
 use Rattle.race_laws.proofs.OutsideRuns.{name_theirs}
 
 -- before the first phase

@@ -4,7 +4,6 @@ use Rattle.std.proofs.Common.{refl, sym, ap, subst, ◌∙◌, arith}
 use Rattle.std.specs.Prelude.{if◌then◌else◌, find, min, option_and_then}
 use Rattle.std.specs.Ordering.{is_lt}
 use Rattle.std.proofs.Math.Nat.{min-le_left, min-le_right, le-min}
-use Rattle.std.proofs.lemmas.List.{length-map}
 use Rattle.std.proofs.lemmas.Bool.Decides.{nat_tests}
 use Rattle.mem_base.specs.declared.map.ids.RegionId.{RegionId}
 use Rattle.mem_base.specs.lists.Every.{Every}
@@ -12,8 +11,8 @@ use Rattle.mem_base.specs.lists.Sorting.{put_by}
 use Rattle.mem_base.proofs.EveryLaws.{weaker, every_map}
 use Rattle.generation.specs.Published.{Published}
 use Rattle.reclaim.specs.declared.notes.Note.{Note}
-use Rattle.reclaim.specs.Notes.{NoteList, note, note_order, is_of, is_noted, others, seen_in}
-use Rattle.reclaim.specs.Ledgers.{LedgerState, AreApart, IsLedger, noted_last}
+use Rattle.reclaim.specs.Notes.{note, note_order, is_of, is_noted, others, seen_in}
+use Rattle.reclaim.specs.Ledgers.{AreApart, noted_last}
 use Rattle.reclaim.proofs.NoteLaws.{seen_region}
 use Rattle.mem_base.proofs.ForestLaws.{every_put}
 

@@ -1,20 +1,17 @@
 -- Notes in order: putting in, taking out, and the first that passes a test.
-use Rattle.std.proofs.Common.{◌≡◌, ◌≢◌, ℕ, zero, suc, ◌+◌, ◌<◌, ◌≤◌, ◌==◌, ◌||◌, Bool, true, false, not, cond, List, [], ◌∷◌, length}
-use Rattle.std.proofs.Common.{Some, None, Option, Ok, Err}
-use Rattle.std.proofs.Common.{refl, sym, ap, subst, ◌∙◌, arith, filter, get_or, set, add-one, take, drop, ◌++◌}
-use Rattle.std.specs.Prelude.{if◌then◌else◌, map, find, insert, remove}
-use Rattle.std.specs.List.{list_any}
-use Rattle.std.specs.declared.cmp.Ordering.{Ordering}
+use Rattle.std.proofs.Common.{◌≡◌, ℕ, zero, suc, ◌+◌, ◌<◌, ◌||◌, Bool, true, false, not, List, [], ◌∷◌, length}
+use Rattle.std.proofs.Common.{Some, None, Ok, Err}
+use Rattle.std.proofs.Common.{refl, sym, ap, ◌∙◌, arith, get_or, set, add-one, take, drop, ◌++◌}
+use Rattle.std.specs.Prelude.{if◌then◌else◌, map, find, insert}
 use Rattle.std.specs.declared.cmp.Ordering.TheVariants.{Less, Equal, Greater}
 use Rattle.std.specs.Ordering.{nat_cmp, is_lt, is_eq, ordering_reverse}
 use Rattle.std.specs.Cmp.{IsTotalOrder}
 use Rattle.std.proofs.lemmas.Cmp.{on_total, nat_cmp_total}
 use Rattle.mem_base.specs.declared.map.ids.RegionId.{RegionId}
-use Rattle.mem_base.specs.lists.Every.{Every}
-use Rattle.mem_base.specs.lists.Sorting.{put_by, IsRising, place_of, place_at}
-use Rattle.mem_base.proofs.PlaceLaws.{Rises, Rises-rising, rising-filter, any-present, insert-place_of, remove-place_of, filter-absent, any-absent, one_later-ok}
+use Rattle.mem_base.specs.lists.Sorting.{put_by, place_of, place_at}
+use Rattle.mem_base.proofs.PlaceLaws.{Rises, Rises-rising, rising-filter, insert-place_of, any-absent, one_later-ok}
 use Rattle.mem_base.proofs.EntryLaws.{nat_is}
-use Rattle.mem_base.proofs.EveryLaws.{weaker, every_filter, every_map}
+use Rattle.mem_base.proofs.EveryLaws.{weaker, every_map}
 use Rattle.mem_base.specs.views.Naming.{names}
 use Rattle.generation.specs.Published.{Published}
 use Rattle.reclaim.specs.declared.notes.Note.{Note}

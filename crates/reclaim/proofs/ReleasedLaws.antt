@@ -1,7 +1,7 @@
 -- A ledger that has seen each generation answers what a reap releases.
 use Rattle.std.proofs.Common.{◌≡◌, ℕ, suc, ◌+◌, ◌-◌, ◌<◌, ◌≤◌, ◌||◌, Bool, true, false, not, List, [], ◌∷◌, length, Option, Some, None, take-take}
 use Rattle.std.proofs.Common.{refl, sym, ap, subst, ◌∙◌, arith, filter}
-use Rattle.std.specs.Prelude.{if◌then◌else◌, find, map, take, nat_lt, nat_le}
+use Rattle.std.specs.Prelude.{if◌then◌else◌, find, map, take, nat_le}
 use Rattle.std.specs.List.{list_any}
 use Rattle.std.proofs.lemmas.List.{take-map}
 use Rattle.std.proofs.lemmas.Bool.Decides.{nat_tests}
@@ -9,14 +9,14 @@ use Rattle.mem_base.specs.declared.map.ids.RegionId.{RegionId}
 use Rattle.mem_base.specs.declared.map.forests.Forest.{Forest}
 use Rattle.mem_base.specs.lists.Every.{Every}
 use Rattle.mem_base.specs.views.Naming.{names}
-use Rattle.mem_base.specs.machine.Generations.{Generation, Generations, least_lowest, held_generations}
-use Rattle.mem_base.specs.machine.Reaps.{Writer, is_named, released}
+use Rattle.mem_base.specs.machine.Generations.{Generation, Generations, least_lowest}
+use Rattle.mem_base.specs.machine.Reaps.{is_named}
 use Rattle.mem_base.proofs.EveryLaws.{weaker, every_filter}
 use Rattle.generation.specs.Published.{Published}
 use Rattle.reclaim.specs.declared.notes.Note.{Note}
 use Rattle.reclaim.specs.Notes.{note, note_order, is_of, is_noted, is_before, is_due, others, others_if, seen_in}
 use Rattle.reclaim.specs.Ledgers.{noted_last}
-use Rattle.reclaim.specs.Released.{last_naming, TellLast, HasSeen, KeepsSight, ArePublished, AnswersReleased}
+use Rattle.reclaim.specs.Released.{last_naming, TellLast, KeepsSight, ArePublished, AnswersReleased}
 use Rattle.reclaim.proofs.LedgerLaws.{found_every, found_note, noted_found}
 use Rattle.mem_base.proofs.ForestLaws.{every_put}
 

@@ -5,7 +5,7 @@ use Rattle.mem_base.specs.declared.map.forests.Forest.{Forest}
 use Rattle.mem_base.specs.lists.Every.{Every}
 use Rattle.mem_base.specs.lists.Sorting.{put_by}
 use Rattle.mem_base.specs.views.Naming.{names}
-use Rattle.mem_base.specs.machine.Generations.{Generation, Generations, least_lowest}
+use Rattle.mem_base.specs.machine.Generations.{Generations, least_lowest}
 use Rattle.mem_base.specs.machine.Reaps.{Writer, released}
 use Rattle.generation.specs.Published.{Published}
 use Rattle.reclaim.specs.declared.notes.Note.{Note}

@@ -1,6 +1,5 @@
 // Notes on regions, by ascending id.
 ghost use Rattle.std.specs.Prelude.{◌≡◌, ◌+◌, ◌^◌, ◌<◌, ◌≤◌, false, [], map, find, length, option_map, IfSome, OnOk};
-ghost use Rattle.std.specs.List.{list_any};
 ghost use Rattle.std.specs.List.Sorted.{IsSearchInRange};
 ghost use Rattle.mem_base.specs.lists.Sorting.{put_by, place_of};
 ghost use Rattle.reclaim.specs.Notes.{by_region, note_order, is_of, is_due, is_noted, others, AreNotes, seen_in};

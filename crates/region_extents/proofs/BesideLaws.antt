@@ -1,7 +1,7 @@
 -- Laws of what a tree keeps beside its regions: what each call makes of it.
-use Rattle.std.proofs.Common.{◌≡◌, ◌≢◌, ℕ, zero, suc, ◌+◌, ◌<◌, ◌≤◌, max, min, Bool, true, false, cond, eqb, ◌||◌, ℤ, List, [], ◌∷◌}
+use Rattle.std.proofs.Common.{◌≡◌, ◌≢◌, ℕ, zero, suc, ◌+◌, ◌<◌, ◌≤◌, min, Bool, true, false, cond, eqb, ℤ, List, [], ◌∷◌}
 use Rattle.std.proofs.Common.{◌++◌, length, get_or, set, map, filter, Option, Some, None, refl, sym, ap, subst, ◌∙◌, arith}
-use Rattle.std.specs.Prelude.{is_some, IsSome, IfSome}
+use Rattle.std.specs.Prelude.{is_some, IfSome}
 use Rattle.std.proofs.lemmas.Bool.Decides.{nat_tests}
 use Rattle.std.proofs.lemmas.List.{get_or-map}
 use Rattle.mem_base.specs.declared.map.ids.RegionId.{RegionId}
@@ -9,18 +9,16 @@ use Rattle.mem_base.specs.declared.map.forests.Node.{Node}
 use Rattle.mem_base.specs.declared.map.forests.Forest.{Forest}
 use Rattle.mem_base.specs.declared.map.kinds.Kind.{Kind}
 use Rattle.mem_base.specs.declared.map.kinds.Kind.TheVariants.{Alias}
-use Rattle.mem_base.specs.declared.map.refusals.Refusal.{Refusal}
-use Rattle.mem_base.specs.declared.map.refusals.Refusal.TheVariants.{TooDeep, TooWide, Loop}
 use Rattle.mem_base.specs.declared.map.calls.Call.TheVariants as calls
 use Rattle.mem_base.specs.lists.Every.{Every}
 use Rattle.mem_base.specs.map.Kinds.{is_alias, target_of}
 use Rattle.mem_base.specs.map.Region.{node_of, has_id}
-use Rattle.mem_base.specs.map.Order.{children_of, ids_of}
+use Rattle.mem_base.specs.map.Order.{ids_of}
 use Rattle.mem_base.specs.map.Region.{IsAscending}
 use Rattle.mem_base.specs.map.Forest.{IsOrderedForest, IsTargetBefore}
-use Rattle.mem_base.specs.map.Refusals.{targets, unknown_target, first_refusal, refuse_if, makes_loop, too_deep, too_wide, alias_parent}
+use Rattle.mem_base.specs.map.Refusals.{targets, unknown_target, first_refusal, makes_loop, too_deep, too_wide, alias_parent}
 use Rattle.mem_base.specs.map.Refusals.{has_container}
-use Rattle.std.specs.Prelude.{not, ◌-◌}
+use Rattle.std.specs.Prelude.{◌-◌}
 use Rattle.mem_base.specs.declared.map.calls.Call.{Call}
 use Rattle.mem_base.specs.map.Edits.{edited}
 use Rattle.region_slots.proofs.HandedOn.{edited_field, moved_keeps, KeepsSteps, depth_of-kept, weight_of-kept, depth_made, weight_made, depth_alias, weight_alias, has_container-none, some_of, is_known}
@@ -28,7 +26,6 @@ use Rattle.mem_base.specs.map.Changes.{changed, changed_at, placed, moved}
 use Rattle.mem_base.specs.map.Steps.{longest, Steps, steps_of, steps_from, depth_by, weight_by, depth_of, weight_of, greatest, total, reaches}
 use Rattle.mem_base.specs.map.Steps.{greatest_depth, greatest_weight}
 use Rattle.mem_base.proofs.EveryLaws.{weaker, every_at}
-use Rattle.mem_base.proofs.StepLaws.{every_of}
 use Rattle.mem_base.proofs.ForestLaws.{id_of, node_of-itself, children_of-made, no_children}
 use Rattle.mem_base.proofs.JoinLaws.{steps_joined, depth_at_most, weight_at_most}
 use Rattle.mem_base.proofs.StepLaws.{depth_by-alike, weight_by-alike, Alike}

@@ -1,8 +1,7 @@
 -- Laws of the extents after a region was placed in a container, found by setting right what stands above it.
-use Rattle.std.proofs.Common.{◌≡◌, ◌≢◌, ℕ, zero, suc, ◌+◌, ◌<◌, ◌≤◌, max, Bool, true, false, cond, eqb, ltb, ◌||◌, ℤ, List, [], ◌∷◌, ◌++◌}
-use Rattle.std.proofs.Common.{length, get_or, take, replicate, map, Option, Some, None, refl, sym, ap, subst, ◌∙◌, arith}
-use Rattle.std.specs.Prelude.{is_some, option_map}
-use Rattle.std.specs.List.{list_any}
+use Rattle.std.proofs.Common.{◌≡◌, ◌≢◌, ℕ, zero, suc, ◌+◌, ◌≤◌, true, false, cond, eqb, ◌||◌, List, [], ◌∷◌, ◌++◌}
+use Rattle.std.proofs.Common.{length, take, replicate, map, Option, Some, None, refl, sym, ap, subst, ◌∙◌, arith}
+use Rattle.std.specs.Prelude.{option_map}
 use Rattle.std.proofs.lemmas.Bool.Decides.{nat_tests}
 use Rattle.mem_base.specs.declared.map.ids.RegionId.{RegionId}
 use Rattle.mem_base.specs.declared.map.forests.Node.{Node}
@@ -13,11 +12,8 @@ use Rattle.mem_base.specs.map.Region.{IsAscending}
 use Rattle.mem_base.specs.map.Forest.{IsOrderedForest}
 use Rattle.mem_base.specs.map.Changes.{changed_at}
 use Rattle.mem_base.specs.map.Order.{ids_of}
-use Rattle.mem_base.specs.map.Steps.{longest, Steps, steps_of, steps_from, greatest, total, depth_by, weight_by, reaches_by, depth_of, weight_of}
-use Rattle.mem_base.specs.map.Steps.{greatest_depth, greatest_weight}
-use Rattle.mem_base.proofs.EveryLaws.{weaker}
-use Rattle.mem_base.proofs.StepLaws.{map_agree, every_of, IsWithin, depth_by-further, weight_by-further, depth_by-alike, weight_by-alike, Alike, joined_steps}
-use Rattle.mem_base.proofs.ForestLaws.{id_of}
+use Rattle.mem_base.specs.map.Steps.{longest, Steps, steps_of, steps_from, greatest, total, depth_by, weight_by, depth_of, weight_of}
+use Rattle.mem_base.proofs.StepLaws.{every_of, IsWithin, depth_by-further, weight_by-further, depth_by-alike, weight_by-alike, Alike}
 use Rattle.mem_base.proofs.JoinLaws.{within_forest, depth_at_most, weight_at_most, node_of-changed_at}
 use Rattle.region_slots.specs.declared.slots.Slot.{Slot}
 use Rattle.region_extents.specs.declared.extents.Extent.{Extent}
@@ -25,7 +21,7 @@ use Rattle.region_extents.specs.declared.extents.Join.{Join}
 use Rattle.region_slots.specs.Slots.{nodes_of}
 use Rattle.region_extents.specs.Extents.{told_of, stepped, alone, steps_with}
 use Rattle.region_extents.specs.Kept.{listed, extent_in, extents_in, steps_plus, IsSettledBy, IsShort}
-use Rattle.region_extents.proofs.RaiseLaws.{stepped_agree, steps_fall, told_by}
+use Rattle.region_extents.proofs.RaiseLaws.{stepped_agree, told_by}
 use Rattle.region_extents.proofs.SettledLaws.{told_missing, all_told}
 use Rattle.mem_base.specs.map.Limits.{most_depth, most_weight}
 

@@ -1,6 +1,6 @@
 -- Laws of a region that is taken out of its container: only the container leads elsewhere then.
-use Rattle.std.proofs.Common.{◌≡◌, ◌≢◌, ℕ, true, false, cond, eqb, List, [], ◌∷◌, ◌++◌, length, map, Option, Some, None, refl, sym, ap, subst, ◌∙◌, arith}
-use Rattle.std.specs.Prelude.{is_some, option_map, not}
+use Rattle.std.proofs.Common.{◌≡◌, ◌≢◌, true, false, eqb, List, [], ◌∷◌, ◌++◌, length, Option, Some, None, refl, sym, ap, ◌∙◌, arith}
+use Rattle.std.specs.Prelude.{not}
 use Rattle.std.proofs.lemmas.Bool.Decides.{nat_tests}
 use Rattle.mem_base.specs.declared.map.ids.RegionId.{RegionId}
 use Rattle.mem_base.specs.declared.map.forests.Node.{Node}
@@ -13,8 +13,7 @@ use Rattle.mem_base.specs.lists.Sorting.{sorted_by}
 use Rattle.mem_base.specs.map.Order.{trial_order, children_of}
 use Rattle.mem_base.specs.map.Region.{IsAscending}
 use Rattle.mem_base.specs.map.Forest.{IsOrderedForest}
-use Rattle.mem_base.specs.map.Changes.{changed, changed_at}
-use Rattle.mem_base.specs.map.Refusals.{not_child_of, unknown_region}
+use Rattle.mem_base.specs.map.Changes.{changed_at}
 use Rattle.mem_base.specs.map.TableRefusals.{no_more_calls}
 use Rattle.mem_base.specs.map.Calls.{refusal_of, refusals}
 use Rattle.mem_base.specs.map.Steps.{steps_of, steps_from}

@@ -1,9 +1,8 @@
 -- Laws of extents that are set right upward from a region whose steps changed.
 use Rattle.std.proofs.Common.{◌≡◌, ◌≢◌, ℕ, zero, suc, ◌+◌, ◌<◌, ◌≤◌, max, Bool, true, false, cond, eqb, List, [], ◌∷◌, ◌++◌, length}
-use Rattle.std.proofs.Common.{get_or, set, insert, take, map, filter, Option, Some, None, refl, sym, ap, subst, ◌∙◌, arith}
-use Rattle.std.specs.Prelude.{is_some, IfSome, ◌-◌}
+use Rattle.std.proofs.Common.{get_or, set, insert, take, map, Option, Some, None, refl, sym, ap, subst, ◌∙◌, arith}
+use Rattle.std.specs.Prelude.{IfSome, ◌-◌}
 use Rattle.std.proofs.lemmas.Bool.Decides.{nat_tests}
-use Rattle.std.proofs.lemmas.List.Folds.{list_any-append}
 use Rattle.mem_base.specs.declared.map.ids.RegionId.{RegionId}
 use Rattle.mem_base.specs.declared.map.forests.Node.{Node}
 use Rattle.mem_base.specs.lists.Every.{Every}
@@ -11,17 +10,16 @@ use Rattle.mem_base.specs.map.Region.{node_of, has_id}
 use Rattle.mem_base.specs.map.Region.{IsAscending}
 use Rattle.mem_base.specs.map.Steps.{Steps, steps_of, greatest, total, depth_by, weight_by, reaches_by}
 use Rattle.mem_base.proofs.EveryLaws.{weaker}
-use Rattle.mem_base.proofs.StepLaws.{map_agree, every_of, no_any}
+use Rattle.mem_base.proofs.StepLaws.{map_agree, no_any}
 use Rattle.mem_base.proofs.ForestLaws.{id_of}
 use Rattle.region_slots.specs.declared.slots.Slot.{Slot}
 use Rattle.region_extents.specs.declared.extents.Extent.{Extent}
 use Rattle.region_slots.specs.Slots.{nodes_of}
 use Rattle.region_extents.specs.declared.extents.Join.{Join}
 use Rattle.region_extents.specs.declared.journal.Before.{Before}
-use Rattle.region_extents.specs.Extents.{told_of, stepped, alone, steps_with}
-use Rattle.region_extents.specs.Kept.{listed, undone, with_child, IsSettledBy, IsShort}
+use Rattle.region_extents.specs.Extents.{told_of, stepped, steps_with}
+use Rattle.region_extents.specs.Kept.{listed, undone, with_child, IsSettledBy}
 use Rattle.region_slots.proofs.PlaceLaws.{ids_rise}
-use Rattle.region_extents.proofs.SettledLaws.{told_there}
 use Rattle.std.proofs.lemmas.Bool.{or_parts}
 
 -- an extent by its two numbers

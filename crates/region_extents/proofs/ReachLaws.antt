@@ -1,16 +1,14 @@
 -- Laws of what the paths of a tree reach.
 use Rattle.std.proofs.Common.{◌≡◌, ◌≢◌, ℕ, zero, suc, ◌+◌, ◌-◌, ◌<◌, ◌≤◌, Bool, true, false, ◌||◌, eqb, cond, List, [], ◌∷◌, length, get_or}
-use Rattle.std.proofs.Common.{set, drop, map, Option, Some, None, refl, sym, ap, subst, ◌∙◌, arith, add-one}
+use Rattle.std.proofs.Common.{set, drop, map, Some, None, refl, sym, ap, subst, ◌∙◌, arith, add-one}
 use Rattle.std.specs.List.{list_any}
 use Rattle.std.proofs.lemmas.Bool.Decides.{nat_tests}
 use Rattle.mem_base.specs.declared.map.ids.RegionId.{RegionId}
 use Rattle.mem_base.specs.declared.map.forests.Node.{Node}
-use Rattle.mem_base.specs.declared.map.kinds.Kind.{Kind}
-use Rattle.mem_base.specs.declared.map.kinds.Kind.TheVariants.{Alias}
 use Rattle.mem_base.specs.map.Region.{node_of}
 use Rattle.mem_base.specs.map.Order.{children_of}
 use Rattle.mem_base.specs.map.Kinds.{target_of}
-use Rattle.mem_base.specs.map.Steps.{Steps, steps_of, steps_from, steps_at, reaches_by, depth_by, weight_by, greatest, total}
+use Rattle.mem_base.specs.map.Steps.{Steps, steps_of, steps_from, reaches_by, depth_by, weight_by, greatest, total}
 use Rattle.mem_base.proofs.ForestLaws.{id_of}
 use Rattle.mem_base.specs.map.Order.{ids_of}
 use Rattle.mem_base.specs.lists.Every.{Every}

@@ -1,23 +1,18 @@
 -- Laws of extents that are settled: where what is told of each region is what its steps give, it is its extent.
-use Rattle.std.proofs.Common.{◌≡◌, ◌≢◌, ℕ, zero, suc, ◌+◌, ◌<◌, ◌≤◌, max, Bool, true, false, cond, eqb, List, [], ◌∷◌, length, get_or, map}
-use Rattle.std.proofs.Common.{Option, Some, None, refl, sym, ap, subst, ◌∙◌, arith}
-use Rattle.std.specs.Prelude.{is_some}
+use Rattle.std.proofs.Common.{◌≡◌, ◌≢◌, ℕ, zero, suc, ◌+◌, ◌<◌, max, true, false, cond, eqb, List, [], ◌∷◌, length, get_or, map}
+use Rattle.std.proofs.Common.{Some, None, refl, sym, ap, ◌∙◌, arith}
 use Rattle.std.proofs.lemmas.Bool.Decides.{nat_tests}
 use Rattle.mem_base.specs.declared.map.ids.RegionId.{RegionId}
 use Rattle.mem_base.specs.declared.map.forests.Node.{Node}
 use Rattle.mem_base.specs.lists.Every.{Every}
 use Rattle.mem_base.specs.map.Region.{node_of, has_id}
 use Rattle.mem_base.specs.map.Region.{IsAscending}
-use Rattle.mem_base.specs.map.Steps.{steps_of, steps_from, greatest, total, depth_by, weight_by}
-use Rattle.mem_base.proofs.EveryLaws.{weaker}
-use Rattle.mem_base.proofs.StepLaws.{map_agree}
-use Rattle.mem_base.proofs.ForestLaws.{every_node_of, id_of}
+use Rattle.mem_base.specs.map.Steps.{steps_of, greatest, total}
 use Rattle.region_slots.specs.declared.slots.Slot.{Slot}
 use Rattle.region_extents.specs.declared.extents.Extent.{Extent}
 use Rattle.region_extents.specs.declared.extents.Join.{Join}
 use Rattle.region_slots.specs.Slots.{nodes_of}
-use Rattle.region_extents.specs.Extents.{steps_with, extent_by, extents_by, alone, told_of, stepped}
-use Rattle.region_extents.proofs.ExtentsLaws.{other_parent}
+use Rattle.region_extents.specs.Extents.{steps_with, alone, told_of, stepped}
 use Rattle.region_slots.proofs.PlaceLaws.{ids_rise}
 
 -- what is told of a region whose slot is found

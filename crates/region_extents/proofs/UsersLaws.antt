@@ -1,7 +1,7 @@
 -- Laws of the regions whose steps lead to a region: its container and its aliases.
-use Rattle.std.proofs.Common.{◌≡◌, ◌≢◌, ℕ, zero, ◌+◌, ◌<◌, ◌≤◌, Bool, true, false, cond, eqb, ◌||◌, List, [], ◌∷◌, ◌++◌, length}
-use Rattle.std.proofs.Common.{get_or, map, filter, Option, Some, None, refl, sym, ap, subst, ◌∙◌, arith}
-use Rattle.std.specs.Prelude.{is_some, IfSome}
+use Rattle.std.proofs.Common.{◌≡◌, ◌≢◌, ℕ, ◌<◌, Bool, true, false, cond, eqb, ◌||◌, List, [], ◌∷◌, length}
+use Rattle.std.proofs.Common.{get_or, filter, Option, Some, None, refl, sym, ap, subst, ◌∙◌, arith}
+use Rattle.std.specs.Prelude.{IfSome}
 use Rattle.std.specs.List.{list_any}
 use Rattle.std.specs.Ordering.{is_lt}
 use Rattle.std.specs.declared.cmp.Ordering.{Ordering}
@@ -16,13 +16,12 @@ use Rattle.mem_base.specs.lists.Sorting.{put_by, sorted_by}
 use Rattle.mem_base.specs.map.Order.{trial_order, children_of, ids_of}
 use Rattle.mem_base.specs.map.Refusals.{targets}
 use Rattle.mem_base.specs.map.Region.{IsAscending}
-use Rattle.mem_base.specs.map.Steps.{Steps, steps_of, steps_from, steps_at}
-use Rattle.mem_base.proofs.ForestLaws.{id_of, every_node_of, only_node}
+use Rattle.mem_base.specs.map.Steps.{steps_of, steps_from, steps_at}
+use Rattle.mem_base.proofs.ForestLaws.{id_of, only_node}
 use Rattle.std.proofs.lemmas.List.{get_or-map}
 use Rattle.region_slots.specs.declared.slots.Slot.{Slot}
 use Rattle.region_slots.specs.Slots.{nodes_of}
 use Rattle.region_extents.specs.declared.extents.Join.{Join}
-use Rattle.region_extents.specs.Extents.{steps_with}
 use Rattle.region_extents.specs.Kept.{listed, aliases_of, steps_plus, container_list, aliases_in}
 use Rattle.std.proofs.lemmas.Bool.{or_right, or_left, false_from_ne_true}
 use Rattle.region_slots.proofs.PlaceLaws.{length_nodes}

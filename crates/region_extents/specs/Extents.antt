@@ -2,14 +2,13 @@
 use Rattle.std.specs.Prelude.{ℕ, ◌≡◌, Some, None, ◌+◌, ◌==◌, if◌then◌else◌, List, [], ◌∷◌, map}
 use Rattle.mem_base.specs.declared.map.ids.RegionId.{RegionId}
 use Rattle.mem_base.specs.declared.map.forests.Node.{Node}
-use Rattle.mem_base.specs.lists.Every.{Every}
 use Rattle.mem_base.specs.map.Region.{has_id}
 use Rattle.mem_base.specs.map.Steps.{Steps, steps_of, depth_by, weight_by, greatest, total}
 use Rattle.region_slots.specs.declared.slots.Slot.{Slot}
 use Rattle.region_extents.specs.declared.extents.Extent.{Extent}
 use Rattle.region_extents.specs.declared.extents.Join.{Join}
 use Rattle.mem_base.specs.map.Kinds.{target_of}
-use Rattle.region_slots.specs.Slots.{nodes_of, ids_in}
+use Rattle.region_slots.specs.Slots.{ids_in}
 
 -- the steps, with one more from the parent to the child
 abbrev pub steps_with : List Node → Join → Steps

@@ -13,7 +13,6 @@ use Rattle.region_extents.specs.declared.extents.Join.{Join}
 use Rattle.region_extents.specs.declared.kept.Kept.{Kept}
 use Rattle.region_extents.specs.declared.journal.Before.{Before}
 use Rattle.mem_base.specs.map.Limits.{most_depth, most_weight}
-use Rattle.region_slots.specs.Slots.{nodes_of}
 use Rattle.region_extents.specs.Extents.{steps_with, told_of, stepped, alone}
 
 -- the region is among these

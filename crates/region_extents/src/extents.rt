@@ -1,6 +1,6 @@
 // How deep and how wide regions are, and what is told of it.
 
-ghost use Rattle.std.specs.Prelude.{◌≡◌, ◌+◌, ℕ, length, map, max, IfSome};
+ghost use Rattle.std.specs.Prelude.{◌≡◌, ◌+◌, length, map, max, IfSome};
 ghost use Rattle.mem_base.specs.map.Region.{IsAscending};
 ghost use Rattle.mem_base.specs.map.Steps.{greatest, total, steps_of};
 ghost use Rattle.region_slots.specs.Slots.{nodes_of};

@@ -1,7 +1,7 @@
 // What a tree keeps beside its regions.
 
-ghost use Rattle.std.specs.Prelude.{◌≡◌, ◌≢◌, ◌<◌, ◌≤◌, ◌++◌, ◌∷◌, ℕ, List, [], length, slice_index_or, false, true, IfOk, IfSome, IsSome};
-ghost use Rattle.std.specs.Prelude.{IsTrue, OnOk, OnErr, Some, None};
+ghost use Rattle.std.specs.Prelude.{◌≡◌, ◌≢◌, ◌<◌, ◌++◌, ◌∷◌, [], length, slice_index_or, false, true, IfOk, IfSome, IsSome};
+ghost use Rattle.std.specs.Prelude.{IsTrue, OnOk, Some, None};
 ghost use Rattle.std.specs.List.{remove};
 ghost use Rattle.mem_base.specs.declared.map.ids.RegionId.{RegionId as Region};
 ghost use Rattle.mem_base.specs.declared.map.forests.Forest.{Forest};

@@ -1,6 +1,6 @@
 -- Laws of regions beside the lists of their children.
 use Rattle.std.proofs.Common.{◌≡◌, ◌≢◌, ℕ, zero, suc, ◌+◌, ◌-◌, ◌<◌, ◌≤◌, Bool, true, false, not, cond, eqb, ℤ, List, [], ◌∷◌, ◌++◌, length}
-use Rattle.std.proofs.Common.{get_or, set, map, filter, take, drop, Option, Some, None, refl, sym, ap, subst, ◌∙◌, arith, add-one}
+use Rattle.std.proofs.Common.{get_or, set, map, filter, Option, Some, None, refl, sym, ap, subst, ◌∙◌, arith, add-one}
 use Rattle.std.specs.Prelude.{insert, int_lt}
 use Rattle.std.specs.List.{remove}
 use Rattle.std.specs.declared.cmp.Ordering.{Ordering}
@@ -26,8 +26,8 @@ use Rattle.mem_base.specs.map.Region.{IsAscending}
 use Rattle.mem_base.specs.map.Forest.{IsOrderedForest}
 use Rattle.mem_base.specs.map.Changes.{placed, changed_at, moved}
 use Rattle.mem_base.proofs.EveryLaws.{weaker, both, every_at, every_push, every_filter}
-use Rattle.mem_base.proofs.ForestLaws.{trial_apart, changed_at-set, filter-changed_at, children_of-joined, children_of-made, every_node_of}
-use Rattle.mem_base.proofs.ForestLaws.{only_node, node_of-itself, every_child, child_before, ascending_changed_at, id_of}
+use Rattle.mem_base.proofs.ForestLaws.{trial_apart, changed_at-set, filter-changed_at, children_of-joined, children_of-made}
+use Rattle.mem_base.proofs.ForestLaws.{only_node, every_child, child_before, ascending_changed_at, id_of}
 use Rattle.map_laws.proofs.FieldLaws.{IsField, children_field}
 use Rattle.mem_base.proofs.DelLaws.{children_of-left}
 use Rattle.map_laws.proofs.MoveLaws.{unmoved, children_there, children_elsewhere}

@@ -1,7 +1,7 @@
 // Regions beside the lists of their children.
 
-ghost use Rattle.std.specs.Prelude.{◌≡◌, ◌≢◌, ◌+◌, ◌++◌, ◌∷◌, ◌<◌, ◌≤◌, ◌^◌, ℕ, List, [], true, false, length, filter, not, slice_index_or};
-ghost use Rattle.std.specs.Prelude.{Some, None, ℤ, IsSome, OnOk, OnErr, IfOk, MatchOption, option_copied};
+ghost use Rattle.std.specs.Prelude.{◌≡◌, ◌≢◌, ◌+◌, ◌++◌, ◌∷◌, ◌<◌, List, [], true, false, length, filter, not, slice_index_or};
+ghost use Rattle.std.specs.Prelude.{Some, None, IsSome, OnOk, OnErr, IfOk, MatchOption, option_copied};
 ghost use Rattle.mem_base.specs.declared.map.forests.Node.{Node as N};
 ghost use Rattle.mem_base.specs.declared.map.forests.Forest.{Forest};
 ghost use Rattle.mem_base.specs.lists.Every.{Every};

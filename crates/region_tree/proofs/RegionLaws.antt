@@ -1,11 +1,9 @@
 -- Laws of why a Region is refused.
-use Rattle.std.proofs.Common.{◌≡◌, ◌≢◌, ℕ, zero, suc, ◌+◌, ◌<◌, ◌≤◌, max, Bool, true, false, cond, ltb, leb, List, [], ◌∷◌, ◌++◌, length}
-use Rattle.std.proofs.Common.{map, Option, Some, None, refl, sym, ap, subst, ◌∙◌, arith}
-use Rattle.std.specs.Prelude.{is_some}
+use Rattle.std.proofs.Common.{◌≡◌, ℕ, ◌+◌, ◌<◌, ◌≤◌, max, true, false, ltb, leb, [], ◌∷◌, ◌++◌, length}
+use Rattle.std.proofs.Common.{None, refl, sym, ap, ◌∙◌, arith}
 use Rattle.std.specs.Option.{option_or}
 use Rattle.std.proofs.lemmas.Bool.Decides.{nat_tests}
 use Rattle.mem_base.specs.declared.map.ids.RegionId.{RegionId}
-use Rattle.mem_base.specs.declared.map.forests.Node.{Node}
 use Rattle.mem_base.specs.declared.map.kinds.Kind.{Kind}
 use Rattle.mem_base.specs.declared.map.kinds.Kind.TheVariants.{Alias}
 use Rattle.mem_base.specs.declared.map.forests.Forest.{Forest}
@@ -13,7 +11,7 @@ use Rattle.mem_base.specs.declared.map.refusals.Refusal.{Refusal}
 use Rattle.mem_base.specs.declared.map.refusals.Refusal.TheVariants.{TooDeep, TooWide}
 use Rattle.mem_base.specs.declared.map.calls.Call.TheVariants as calls
 use Rattle.mem_base.specs.map.Forest.{IsOrderedForest, IsTargetBefore}
-use Rattle.mem_base.specs.map.Kinds.{is_alias, device_of}
+use Rattle.mem_base.specs.map.Kinds.{device_of}
 use Rattle.mem_base.specs.map.Refusals.{first_refusal, refuse_if, too_deep, too_wide, unknown_region, unknown_target, bad_size}
 use Rattle.mem_base.specs.map.TableRefusals.{bad_device, no_more_regions, no_more_calls, at_limit}
 use Rattle.mem_base.specs.declared.map.refusals.Which.TheVariants as which

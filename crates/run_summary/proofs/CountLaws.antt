@@ -1,19 +1,18 @@
 -- What is counted line by line, and what is counted over all lines.
-use Rattle.std.proofs.Common.{◌≡◌, ℕ, zero, suc, ◌+◌, ◌<◌, Bool, true, false, cond, eqb, List, [], ◌∷◌, ◌++◌, length, filter}
+use Rattle.std.proofs.Common.{◌≡◌, ℕ, ◌+◌, ◌<◌, Bool, true, false, cond, eqb, List, [], ◌∷◌, ◌++◌, length, filter}
 use Rattle.std.proofs.Common.{take, drop, position, refl, sym, ap}
 use Rattle.std.proofs.Common.{◌∙◌, arith, append_assoc, Option, None, Some}
-use Rattle.std.specs.Prelude.{codes, reverse, option_map}
+use Rattle.std.specs.Prelude.{reverse, option_map}
 use Rattle.std.specs.List.{slice_split}
 use Rattle.std.proofs.lemmas.List.{append-nil, length-append, reverse-append}
 use Rattle.std.proofs.lemmas.List.Elements.{filter-append}
 use Rattle.std.proofs.lemmas.List.Splits.{length-slice_split}
 use Rattle.mem_base.specs.script.Spelling.{Text}
 use Rattle.mem_base.specs.script.Summary.{count, ended_lines, generation_in, is_decode, is_error, is_ok, is_refusal, is_view}
-use Rattle.mem_base.specs.script.Summary.{last_view, lines_in, number_line, summary}
-use Rattle.mem_base.specs.script.Summary.{ranges_after}
+use Rattle.mem_base.specs.script.Summary.{last_view, lines_in}
 use Rattle.script_text.proofs.Cuts.{split_first, split_none}
-use Rattle.run_summary.specs.Counted.{Counted, after_line, after_lines, counted, generation_at, kinds_of, one_if, ranges_at}
-use Rattle.run_summary.specs.Counted.{view_after, view_of, viewed}
+use Rattle.run_summary.specs.Counted.{Counted, after_line, after_lines, counted, one_if}
+use Rattle.run_summary.specs.Counted.{view_after, viewed}
 
 one_more : (test : Text → Bool) (lines : List Text) (line : Text)
     → count test (lines ++ line ∷ []) ≡ count test lines + one_if (test line)

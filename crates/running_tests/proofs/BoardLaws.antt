@@ -1,16 +1,11 @@
 -- The generations of the tests are editions.
-use Rattle.std.proofs.Common.{◌≡◌, ◌⊎◌, ℕ, zero, suc, ◌+◌, ◌<◌, true, false, Bool, ne_eqb, List, [], ◌∷◌, length, Some, None, Option, refl}
-use Rattle.std.proofs.Common.{sym, ap, ◌∙◌, inl, arith}
-use Rattle.std.specs.Prelude.{IsSomeAnd}
-use Rattle.std.specs.List.{list_any}
-use Rattle.mem_base.specs.declared.map.ids.RegionId.{RegionId}
-use Rattle.mem_base.specs.declared.access.cells.Place.{Place}
+use Rattle.std.proofs.Common.{◌≡◌, ℕ, zero, suc, true, ne_eqb, [], ◌∷◌, length, refl}
+use Rattle.std.proofs.Common.{inl, arith}
 use Rattle.mem_base.specs.map.Calls.{empty}
 use Rattle.mem_base.specs.map.Search as search
 use Rattle.mem_base.specs.views.LiveEvents.{events_of}
-use Rattle.mem_base.specs.views.Naming.{names, shows_events}
-use Rattle.mem_base.specs.access.EditionPlaces.{IsEdition, IsRegionPlace}
-use Rattle.mem_base.specs.machine.SharedHistory.{is_same_place}
+use Rattle.mem_base.specs.views.Naming.{names}
+use Rattle.mem_base.specs.access.EditionPlaces.{IsEdition}
 use Rattle.view_laws.specs.Named.{ShowsEvents}
 use Rattle.view_laws.proofs.NamingLaws.{names_leaves}
 use Rattle.view_laws.proofs.ShownEvents.{events_shown}

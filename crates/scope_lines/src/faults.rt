@@ -1,5 +1,5 @@
 // The lines of what looks wrong in a map.
-ghost use Rattle.std.specs.Prelude.{◌≡◌, ◌++◌, OnOk, flat_map};
+ghost use Rattle.std.specs.Prelude.{◌≡◌, ◌++◌, OnOk};
 ghost use Rattle.script_names.specs.Tables.{printed_names};
 ghost use Rattle.scope_lines.specs.Faults.{fault, finding_line, finding_lines, pair_line};
 

@@ -1,5 +1,5 @@
 -- Requests on files.
-use Rattle.std.proofs.Common.{◌≡◌, ◌<◌, ℕ, Option, Some, None, Ok, Err, cond, eqb, sym, ap, subst, ◌∙◌, length}
+use Rattle.std.proofs.Common.{◌≡◌, ◌<◌, Option, Some, Err, cond, eqb, sym, ap, subst, ◌∙◌, length}
 use Rattle.std.proofs.lemmas.Bool.{lt-leb}
 use Rattle.std.specs.List.{slice_split}
 use Rattle.mem_base.specs.declared.script.faults.BadScript.{BadScript}

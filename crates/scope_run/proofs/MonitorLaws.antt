@@ -1,5 +1,5 @@
 -- Requests on what the monitor printed.
-use Rattle.std.proofs.Common.{◌≡◌, ◌<◌, ◌||◌, ℕ, Bool, nat_lt, Option, Some, None, Err, sym, ap, ◌∙◌, subst, length}
+use Rattle.std.proofs.Common.{◌≡◌, ◌||◌, ℕ, Bool, nat_lt, Option, Some, None, sym, ap, ◌∙◌, subst}
 use Rattle.mem_base.specs.script.Spelling.{Text}
 use Rattle.scope_run.specs.Files.{Tells}
 use Rattle.script_settle.specs.Refused.{HasRefused}

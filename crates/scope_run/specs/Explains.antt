@@ -1,7 +1,7 @@
 -- `explain`: what is wrong with a script.
-use Rattle.std.specs.Prelude.{◌≡◌, List, ◌++◌, Ok, Err, Option, Some}
+use Rattle.std.specs.Prelude.{◌≡◌, ◌++◌, Ok, Err, Option, Some}
 use Rattle.mem_base.specs.script.RefusalLines.{refused_line}
-use Rattle.mem_base.specs.script.Scripts.{Line, Meaning}
+use Rattle.mem_base.specs.script.Scripts.{Meaning}
 use Rattle.mem_base.specs.script.Spelling.{Text}
 use Rattle.script_map.specs.Left.{first_of, refused_in}
 use Rattle.script_map.specs.Refusals.{Refused}

@@ -1,5 +1,5 @@
 -- What is asked, and what is answered by what files hold.
-use Rattle.std.specs.Prelude.{◌≡◌, ◌<◌, ℕ, Bool, true, false, is_some, length, List, [], Option, Some, None, option_map, Ok, Err, ⊤}
+use Rattle.std.specs.Prelude.{◌≡◌, ◌<◌, ℕ, Bool, true, false, is_some, length, [], Option, Some, None, option_map, Ok, Err, ⊤}
 use Rattle.mem_base.specs.script.Operands.{address}
 use Rattle.mem_base.specs.script.Lines.{tokens_of}
 use Rattle.mem_base.specs.script.Scripts.{script_of}

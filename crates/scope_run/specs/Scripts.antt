@@ -1,6 +1,5 @@
 -- What is said of the script of a text, and why a command has no answer.
-use Rattle.std.specs.Prelude.{◌≡◌, ℕ, List, [], ◌∷◌, ◌++◌, Option, Some, None, Ok, Err, ⊤}
-use Rattle.mem_base.specs.declared.script.faults.BadScript.{BadScript}
+use Rattle.std.specs.Prelude.{◌≡◌, List, [], ◌∷◌, ◌++◌, Option, Some, None, Ok, Err, ⊤}
 use Rattle.mem_base.specs.script.Spelling.{Text}
 use Rattle.mem_base.specs.script.Scripts.{Line, script_of}
 use Rattle.mem_base.specs.script.States.{State, region_named, space_named}

@@ -1,7 +1,6 @@
 // `lint`.
 ghost use Rattle.std.specs.Prelude.{◌≡◌, ◌++◌, IfOk, IfErr, OnOk, None};
-ghost use Rattle.mem_base.specs.script.Scripts.{script_of};
-ghost use Rattle.script_map.specs.Left.{first_of, left_state, refused_in};
+ghost use Rattle.script_map.specs.Left.{left_state};
 ghost use Rattle.scope_run.specs.Lints.{faults_text, lint_text, line_findings_text, tells_something};
 ghost use Rattle.scope_run.specs.Scripts.{FailsOn, OfScript};
 ghost use Rattle.scope_run.specs.declared.answers.Fault.TheVariants.{Memory};

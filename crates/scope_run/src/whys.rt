@@ -2,7 +2,6 @@
 ghost use Rattle.std.specs.Prelude.{◌≡◌, ◌++◌, false, IfOk, IfErr, OnOk, option_map, Some};
 ghost use Rattle.mem_base.specs.map.Limits.{most_translations};
 ghost use Rattle.mem_base.specs.script.Shows.{shown_forest};
-ghost use Rattle.mem_base.specs.script.States.{space_named};
 ghost use Rattle.find_why.specs.Hops.{AreHops};
 ghost use Rattle.find_why.specs.declared.hops.Hop.{Hop};
 ghost use Rattle.scope_run.specs.Scripts.{FailsIn, FailsOn, IsMissing, OfScript, told_by};

@@ -1,9 +1,9 @@
 -- How deep the values nest.
-use Rattle.std.proofs.Common.{◌≤◌, ℕ, Bool, true, false, List, [], ◌∷◌, ◌++◌, map, arith}
+use Rattle.std.proofs.Common.{◌≤◌, ℕ, Bool, true, false, List, [], ◌∷◌, ◌++◌, arith}
 use Rattle.std.specs.Prelude.{flat_map, if◌then◌else◌, Option, Some, None, codes}
 use Rattle.serde_json.specs.Data.{Data, depth}
 use Rattle.json_build.specs.Parts.{Text}
-use Rattle.json_build.proofs.Depths.{AreShallow, HaveShallow, depth_of_list, depth_of_map, depth_of_record}
+use Rattle.json_build.proofs.Depths.{AreShallow, depth_of_list, depth_of_map, depth_of_record}
 use Rattle.mem_base.specs.declared.map.ids.RegionId.{RegionId}
 use Rattle.mem_base.specs.declared.map.spots.Attrs.{Attrs}
 use Rattle.mem_base.specs.declared.map.spots.Spot.{Spot}

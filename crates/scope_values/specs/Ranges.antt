@@ -3,7 +3,6 @@ use Rattle.std.specs.Prelude.{ℕ, Bool, if◌then◌else◌, List, [], ◌∷�
 use Rattle.std.specs.List.{before_first}
 use Rattle.serde_json.specs.Data.{Data, null, number, string, unsigned}
 use Rattle.json_build.specs.Parts.{address_of, list_of, name_of, record_of}
-use Rattle.mem_base.specs.declared.map.ids.RegionId.{RegionId}
 use Rattle.mem_base.specs.declared.map.spots.Attrs.{Attrs}
 use Rattle.mem_base.specs.declared.map.spots.Spot.{Spot}
 use Rattle.mem_base.specs.declared.views.flat.FlatRange.{FlatRange}

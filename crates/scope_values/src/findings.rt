@@ -1,7 +1,6 @@
 // What looks wrong in a map.
-ghost use Rattle.std.specs.Prelude.{◌≡◌, IfOk, OnOk, map};
+ghost use Rattle.std.specs.Prelude.{◌≡◌, IfOk, map};
 ghost use Rattle.serde_json.specs.View.{view};
-ghost use Rattle.json_build.specs.Held.{members, values};
 ghost use Rattle.json_build.specs.Parts.{list_of};
 ghost use Rattle.script_names.specs.Tables.{printed_names};
 ghost use Rattle.scope_values.specs.Findings.{finding_data, finding_words, object_of, region_data, subject};

@@ -1,7 +1,7 @@
 // The regions that a search looked into.
 ghost use Rattle.std.specs.Prelude.{◌≡◌, ◌++◌, ◌==◌, IfOk, OnOk, flat_map, map};
 ghost use Rattle.serde_json.specs.View.{view};
-ghost use Rattle.json_build.specs.Held.{members, values};
+ghost use Rattle.json_build.specs.Held.{values};
 ghost use Rattle.json_build.specs.Parts.{list_of};
 ghost use Rattle.script_names.specs.Tables.{printed_names};
 ghost use Rattle.scope_lines.specs.Whys.{reason_text};

@@ -1,5 +1,5 @@
 // What answers at an address, and ranges of views.
-ghost use Rattle.std.specs.Prelude.{◌≡◌, ◌+◌, ◌<◌, ◌++◌, ◌==◌, IfOk, IfSome, OnOk, codes, drop, length, position};
+ghost use Rattle.std.specs.Prelude.{◌≡◌, ◌+◌, ◌<◌, ◌++◌, ◌==◌, IfOk, IfSome, OnOk, drop, length, position};
 ghost use Rattle.serde_json.specs.View.{view};
 ghost use Rattle.json_build.specs.Held.{members, values};
 ghost use Rattle.json_build.specs.Parts.{with_fields};

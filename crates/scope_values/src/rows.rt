@@ -1,7 +1,6 @@
 // The rows of a picture.
 ghost use Rattle.std.specs.Prelude.{◌≡◌, IfOk, map};
 ghost use Rattle.serde_json.specs.View.{view};
-ghost use Rattle.json_build.specs.Held.{members, values};
 ghost use Rattle.json_build.specs.Parts.{list_of};
 ghost use Rattle.script_names.specs.Tables.{printed_names};
 ghost use Rattle.view_picture.specs.declared.rows.Row.TheVariants.{Hole, Range};

@@ -1,7 +1,7 @@
 // The searches on the way of an address.
 ghost use Rattle.std.specs.Prelude.{◌≡◌, ◌++◌, IfOk, OnOk, flat_map, map};
 ghost use Rattle.serde_json.specs.View.{view};
-ghost use Rattle.json_build.specs.Held.{members, values};
+ghost use Rattle.json_build.specs.Held.{members};
 ghost use Rattle.json_build.specs.Parts.{list_of, with_fields};
 ghost use Rattle.mem_base.specs.script.Printing.{perm_text};
 ghost use Rattle.script_names.specs.Tables.{printed_names};

@@ -1,7 +1,6 @@
 // What a refusal or a cause means.
-ghost use Rattle.std.specs.Prelude.{◌≡◌, IfOk, OnOk};
+ghost use Rattle.std.specs.Prelude.{◌≡◌, IfOk};
 ghost use Rattle.serde_json.specs.View.{view};
-ghost use Rattle.json_build.specs.Held.{members};
 ghost use Rattle.scope_values.specs.Topics.{topic_data};
 
 use json_build::{Fields, Value};

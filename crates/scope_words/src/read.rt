@@ -1,6 +1,6 @@
 // Reads the words.
 ghost use Rattle.std.specs.Prelude.{◌≡◌, IfSome, Some, codes, map, string_bytes};
-ghost use Rattle.clap.specs.Words.{first_of, found_of, one_of, rows_of, subcommand_rows_of};
+ghost use Rattle.clap.specs.Words.{found_of, one_of, rows_of, subcommand_rows_of};
 ghost use Rattle.scope_words.specs.Asks.{Asks, IsAskedBy, IsForm, IsRequest, IsStyle, style_by, word_of};
 
 use crate::commands::command;

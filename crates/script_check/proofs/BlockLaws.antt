@@ -1,5 +1,5 @@
 -- Views that are read line by line.
-use Rattle.std.proofs.Common.{◌≡◌, List, [], ◌∷◌, ◌++◌, append_assoc, refl, sym, ap, ◌∙◌}
+use Rattle.std.proofs.Common.{◌≡◌, List, [], ◌∷◌, ◌++◌, append_assoc, sym, ap, ◌∙◌}
 use Rattle.std.proofs.lemmas.List.{append-nil}
 use Rattle.mem_base.specs.script.Spelling.{Text}
 use Rattle.monitor_text.specs.declared.rows.FlatRow.{FlatRow}

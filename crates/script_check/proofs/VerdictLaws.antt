@@ -26,17 +26,16 @@ use Rattle.std.proofs.Common.{
   arith,
   if◌then◌else◌,
 }
-use Rattle.std.specs.Prelude.{Contains}
 use Rattle.std.proofs.lemmas.List.Elements.{Contains-append_left, Contains-append_right, Contains-push}
 use Rattle.std.specs.declared.option.Option.{Option}
 use Rattle.mem_base.specs.declared.map.ids.RegionId.{RegionId}
 use Rattle.mem_base.specs.declared.views.flat.FlatRange.{FlatRange}
 use Rattle.mem_base.specs.script.Spelling.{Text}
 use Rattle.mem_base.specs.script.Named.{Names}
-use Rattle.view_check.specs.Shown.{AreShown, first_difference}
+use Rattle.view_check.specs.Shown.{first_difference}
 use Rattle.view_check.proofs.ShownLaws.{none_shown}
 use Rattle.script_check.specs.Blocks.{Printed}
-use Rattle.script_check.specs.Verdicts.{IsPrinted, first_verdict, is_of, verdict_by, verdict_from, verdict_on}
+use Rattle.script_check.specs.Verdicts.{IsPrinted, first_verdict, is_of, verdict_by, verdict_from}
 use Rattle.script_check.specs.declared.verdicts.Verdict.{Verdict}
 use Rattle.script_check.specs.declared.verdicts.Verdict.TheVariants.{Same, Differs, Unprinted}
 

@@ -1,5 +1,5 @@
 -- What is told of a space.
-use Rattle.std.specs.Prelude.{ℕ, Bool, List, [], ◌∷◌, ◌++◌, if◌then◌else◌, Option, None, Some, codes}
+use Rattle.std.specs.Prelude.{ℕ, Bool, List, ◌++◌, if◌then◌else◌, Option, None, Some, codes}
 use Rattle.std.specs.List.{slice_get}
 use Rattle.mem_base.specs.declared.views.flat.FlatRange.{FlatRange}
 use Rattle.mem_base.specs.script.Spelling.{Text}

@@ -1,5 +1,5 @@
 -- The numbers and words of refusals and causes.
-use Rattle.std.specs.Prelude.{List, [], ◌∷◌, ◌++◌, codes}
+use Rattle.std.specs.Prelude.{List, [], ◌∷◌, codes}
 use Rattle.mem_base.specs.script.Spelling.{Text}
 use Rattle.script_explain.specs.declared.topics.Topic.{Topic}
 

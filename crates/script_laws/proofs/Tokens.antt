@@ -1,6 +1,6 @@
 -- Bytes that stand in tokens, and what it is to be spelled.
-use Rattle.std.proofs.Common.{◌≡◌, ◌==◌, ◌&&◌, ℕ, Bool, true, not, cond, nat_le, nat_lt, length, List, [], ◌∷◌, ◌++◌, refl, sym, ap}
-use Rattle.std.proofs.Common.{◌∙◌, arith, Option, Some, None}
+use Rattle.std.proofs.Common.{◌≡◌, ◌&&◌, ℕ, Bool, true, nat_le, nat_lt, length, [], ◌∷◌, refl, sym}
+use Rattle.std.proofs.Common.{arith, Option, Some}
 use Rattle.std.specs.List.{list_all}
 use Rattle.std.proofs.lemmas.Bool.Decides.{nat_tests}
 use Rattle.mem_base.specs.script.Spelling.{Text, is_name, may_follow, begins_with_letter}

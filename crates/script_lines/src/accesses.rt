@@ -1,6 +1,6 @@
 // The lines of a virtual CPU, of notifiers, of marks and of releases.
-ghost use Rattle.std.specs.Prelude.{◌≡◌, ◌++◌, ◌∷◌, OnOk};
-ghost use Rattle.mem_base.specs.script.Printing.{bytes_text, pass_text};
+ghost use Rattle.std.specs.Prelude.{◌≡◌, ◌++◌, OnOk};
+ghost use Rattle.mem_base.specs.script.Printing.{pass_text};
 ghost use Rattle.mem_base.specs.script.Output.{dirty_line, dma_line, do_line, enter_line, entered_text, leave_line, notified_line};
 ghost use Rattle.mem_base.specs.script.Output.{page_list, pages_text, published_text, read_line, released_line, result_text, write_line};
 ghost use Rattle.script_names.specs.Tables.{printed_names};

@@ -2,7 +2,7 @@
 ghost use Rattle.std.specs.Prelude.{◌≡◌, ◌++◌, OnOk};
 ghost use Rattle.mem_base.specs.script.SpotLines.{range_text};
 ghost use Rattle.mem_base.specs.script.Output.{from_to_text, listener_event_text, live_text, notice_line, notice_text, offsets_text};
-ghost use Rattle.mem_base.specs.script.Output.{range_event_text, signed_hex, told_line, value_text};
+ghost use Rattle.mem_base.specs.script.Output.{range_event_text, told_line, value_text};
 ghost use Rattle.script_names.specs.Tables.{printed_names};
 
 use crate::commands::perm_text;

@@ -1,6 +1,6 @@
 // Transactions that a script leaves open.
-ghost use Rattle.std.specs.Prelude.{◌≡◌, ◌++◌, [], IfOk, OnOk, flat_map};
-ghost use Rattle.script_lint.specs.Transactions.{after_command, after_line, open_after, open_text, unclosed, unclosed_text};
+ghost use Rattle.std.specs.Prelude.{◌≡◌, ◌++◌, IfOk, OnOk, flat_map};
+ghost use Rattle.script_lint.specs.Transactions.{after_command, after_line, open_text, unclosed, unclosed_text};
 
 use crate::refusals::is_refused;
 use mem_base::Command;

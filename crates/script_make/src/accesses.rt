@@ -1,6 +1,6 @@
 // The lines that read and write, and the moves between them.
-ghost use Rattle.std.specs.Prelude.{◌≡◌, ◌<◌, ◌≤◌, IfOk, OnOk, ◌++◌, ◌∷◌, []};
-ghost use Rattle.mem_base.specs.script.Make.{draw, draw_access, draw_accesses, draw_bytes, draw_move, draw_move_at, draw_write};
+ghost use Rattle.std.specs.Prelude.{◌≡◌, ◌<◌, ◌≤◌, IfOk, OnOk, ◌∷◌, []};
+ghost use Rattle.mem_base.specs.script.Make.{draw, draw_access, draw_accesses, draw_bytes, draw_move, draw_move_at};
 ghost use Rattle.script_make.specs.Draws.{AccessPushed, Appended, AccessDrawn, draw_either, draw_len, first_accesses, one_access};
 ghost use Rattle.rand_pcg.specs.Pcg.{pcg32};
 

@@ -1,5 +1,5 @@
 // The lines that make regions and place them.
-ghost use Rattle.std.specs.Prelude.{◌≡◌, ◌<◌, ◌≤◌, ◌-ℤ◌, IfOk, OnOk, IfSome, None, pos};
+ghost use Rattle.std.specs.Prelude.{◌≡◌, ◌<◌, IfOk, OnOk, None};
 ghost use Rattle.mem_base.specs.script.Make.{add_line, added, draw_alias, draw_kind, draw_place, draw_region, draw_regions, latch};
 ghost use Rattle.mem_base.specs.script.Make.{latest_after, region_name, root};
 ghost use Rattle.rand_pcg.specs.Pcg.{pcg32};

@@ -1,5 +1,5 @@
 // The whole script.
-ghost use Rattle.std.specs.Prelude.{◌≡◌, ◌++◌, IfOk, OnOk};
+ghost use Rattle.std.specs.Prelude.{◌≡◌, IfOk};
 ghost use Rattle.mem_base.specs.script.Make.{made_of};
 ghost use Rattle.script_make.specs.Texts.{commands_of_seed};
 

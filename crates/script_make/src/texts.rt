@@ -1,5 +1,5 @@
 // The text of the script that a seed gives.
-ghost use Rattle.std.specs.Prelude.{◌≡◌, ◌++◌, IfOk};
+ghost use Rattle.std.specs.Prelude.{◌≡◌, IfOk};
 ghost use Rattle.mem_base.specs.script.Printing.{numbered_commands, printed};
 ghost use Rattle.script_make.specs.Texts.{text_of_seed};
 

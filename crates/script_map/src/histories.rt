@@ -1,6 +1,5 @@
 // The generations that a script publishes.
 ghost use Rattle.std.specs.Prelude.{◌≡◌, ◌++◌, IfOk, OnOk, map};
-ghost use Rattle.std.specs.Arc.{arc_value};
 ghost use Rattle.run_laws.specs.Fitting.{AreFitting};
 ghost use Rattle.script_run.specs.Standing.{MayGoOn, state_of};
 ghost use Rattle.script_map.specs.Left.{IsLeftBy, all_shown, first_of, published_in, refused_in, shown_unless, state_after};

@@ -1,7 +1,6 @@
 // A script's text to the map that it leaves.
 ghost use Rattle.std.specs.Prelude.{◌≡◌, IfOk, IfErr, Ok};
 ghost use Rattle.mem_base.specs.script.Scripts.{script_of};
-ghost use Rattle.script_map.specs.Left.{IsLeftBy};
 ghost use Rattle.script_map.specs.Reads.{IfBad, IsLeftByText};
 ghost use Rattle.script_map.specs.declared.reading.MapStop.TheVariants.{Bad, Memory};
 

@@ -1,5 +1,5 @@
 // A command that was refused, by what it wrote.
-ghost use Rattle.std.specs.Prelude.{◌≡◌, ◌++◌, ◌==◌, OnOk, IfOk, drop, length, position};
+ghost use Rattle.std.specs.Prelude.{◌≡◌, ◌++◌, ◌==◌, OnOk, IfOk, drop, position};
 ghost use Rattle.mem_base.specs.script.Summary.{begins_with};
 ghost use Rattle.script_map.specs.Refusals.{first_line, refusal_head, refused_by};
 

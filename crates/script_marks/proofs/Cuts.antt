@@ -1,10 +1,9 @@
 -- Texts that are cut at a space or a tab.
-use Rattle.std.proofs.Common.{◌≡◌, ◌<◌, ◌≤◌, ◌+◌, ℕ, zero, suc, Bool, true, false, cond, List, [], ◌∷◌, ◌++◌, length, take, drop, get_or, filter, refl, sym, ap}
-use Rattle.std.proofs.Common.{◌∙◌, arith, add-one, subst, position, Some, None}
+use Rattle.std.proofs.Common.{◌≡◌, ◌<◌, ◌+◌, ℕ, zero, suc, Bool, true, false, cond, List, [], ◌∷◌, ◌++◌, length, take, drop, get_or, filter, refl, sym, ap}
+use Rattle.std.proofs.Common.{◌∙◌, arith, add-one, subst, position, Some}
 use Rattle.std.specs.List.{onto_first, slice_split, list_all}
 use Rattle.std.proofs.lemmas.List.{append-nil, take-append-drop, take_more}
 use Rattle.std.proofs.lemmas.List.Elements.{filter-append}
-use Rattle.std.proofs.lemmas.List.Folds.{list_all-append}
 use Rattle.std.proofs.lemmas.List.Quantifiers.{position-Some}
 use Rattle.std.proofs.Math.Seq.{drop-cons}
 use Rattle.mem_base.specs.script.Spelling.{Text}

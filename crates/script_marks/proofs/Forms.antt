@@ -1,13 +1,13 @@
 -- What the answers of a form tell: whether some line has these first tokens.
 use Rattle.std.proofs.Common.{◌≡◌, ◌⊎◌, inl, inr, Bool, true, false, cond, List, [], ◌∷◌, ◌++◌, Option, Some, None, Result, Ok, Err, is_ok}
-use Rattle.std.proofs.Common.{refl, sym, ap, ◌∙◌, subst, option_map, codes, true≢false}
+use Rattle.std.proofs.Common.{refl, ap, ◌∙◌, subst, option_map, codes}
 use Rattle.std.specs.Option.{option_or}
 use Rattle.std.specs.Str.{bytes_eq}
 use Rattle.mem_base.specs.declared.script.faults.Cause.{Cause}
 use Rattle.mem_base.specs.declared.script.faults.Cause.TheVariants as causes
 use Rattle.mem_base.specs.lists.Every.{Every}
 use Rattle.mem_base.specs.script.Spelling.{Text}
-use Rattle.mem_base.specs.script.Operands.{◌>>=◌, Form, Operand, ends, ends_after_options, flag, give, last_option, made_by, optional, then_read, token_as}
+use Rattle.mem_base.specs.script.Operands.{◌>>=◌, Form, Operand, ends, ends_after_options, last_option, made_by, optional, then_read, token_as}
 use Rattle.mem_base.specs.script.Operands.{value_in, with_value}
 
 -- a token that no operand takes

@@ -1,6 +1,6 @@
 -- What reading a text of one line tells of its tokens.
 use Rattle.std.proofs.Common.{◌≡◌, ◌⊎◌, inl, inr, ◌≤◌, ◌==◌, ℕ, Bool, true, false, not, cond, nat_le, List, [], ◌∷◌, ◌++◌, length, take, Option, Some, None}
-use Rattle.std.proofs.Common.{Result, Ok, Err, is_ok, is_some, refl, sym, ap, ◌∙◌, subst, arith, codes, true≢false, ◌+◌}
+use Rattle.std.proofs.Common.{Result, Ok, Err, is_ok, is_some, refl, sym, ap, ◌∙◌, arith, codes, true≢false, ◌+◌}
 use Rattle.std.specs.Prelude.{MatchBool}
 use Rattle.std.proofs.lemmas.List.{length-append}
 use Rattle.std.specs.List.{list_all, slice_split, position_or_len}
@@ -25,7 +25,7 @@ use Rattle.script_laws.proofs.Tokens.{list_all-more}
 use Rattle.script_marks.specs.Marks.{IsShort, Opens, OpensNone, is_plain}
 use Rattle.script_marks.specs.Openings.{cause_in, is_own, of_line, opens_by}
 use Rattle.script_marks.proofs.Cuts.{tokens_at_gap}
-use Rattle.script_marks.proofs.Forms.{Failing, Lacking, Tells, own, probe}
+use Rattle.script_marks.proofs.Forms.{Failing, Tells, own, probe}
 use Rattle.script_marks.proofs.Lines.{command_good}
 
 -- the cause that a line's reading has

@@ -1,5 +1,5 @@
 -- Where a line of a script is at fault.
-use Rattle.std.specs.Prelude.{◌≡◌, ℕ, ◌+◌, ◌<◌, ◌≤◌, ◌==◌, ◌&&◌, Bool, true, false, not, List, [], ◌∷◌, ◌++◌, length, position, take, drop, is_ok, Option, Some, None, MatchOption}
+use Rattle.std.specs.Prelude.{◌≡◌, ℕ, ◌+◌, ◌<◌, ◌≤◌, ◌==◌, ◌&&◌, Bool, true, false, not, List, ◌∷◌, ◌++◌, length, position, take, drop, is_ok, Option, Some, None, MatchOption}
 use Rattle.std.specs.List.{list_all}
 use Rattle.mem_base.specs.declared.script.faults.Cause.{Cause}
 use Rattle.mem_base.specs.declared.script.faults.Cause.TheVariants as causes

@@ -1,6 +1,6 @@
 // Where a line is at fault.
 ghost use Rattle.std.specs.Prelude.{◌≡◌, ◌<◌, ◌==◌, IfOk, IfSome, MatchOption, length, position, take, not};
-ghost use Rattle.mem_base.specs.script.Lines.{is_gap, may_stand, tokens_of, uncommented};
+ghost use Rattle.mem_base.specs.script.Lines.{is_gap, may_stand, uncommented};
 ghost use Rattle.script_marks.specs.Marks.{Fails, IsShort, Marks, MarksPart, part_of};
 ghost use Rattle.script_marks.specs.declared.marks.Part.TheVariants.{Byte};
 

@@ -7,11 +7,10 @@ use Rattle.std.proofs.lemmas.Option.{get_or_from_slice_get, none-some, slice_get
 use Rattle.std.proofs.Math.Seq.{drop-cons}
 use Rattle.mem_base.specs.declared.map.ids.RegionId.{RegionId}
 use Rattle.mem_base.specs.declared.map.kinds.Kind.{Kind}
-use Rattle.mem_base.specs.script.Named.{Names, name_at}
+use Rattle.mem_base.specs.script.Named.{name_at}
 use Rattle.mem_base.specs.script.Spelling.{Text}
 use Rattle.script_names.specs.Tables.{AllNames, printed_names}
 use Rattle.script_memory.specs.Told.{told_kind, told_kinds, told_names, without_names}
-use Rattle.script_map.proofs.LeftLaws.{ok_gives}
 
 -- one name more
 pub name_next : (names : List Text) (i : ℕ) (old new whole : List Text) → i < length names → new ≡ old ++ name_at names i ∷ []

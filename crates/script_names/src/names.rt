@@ -1,5 +1,5 @@
 // The names of all sorts.
-ghost use Rattle.std.specs.Prelude.{◌≡◌, ◌<◌, ◌^◌, ◌++◌, [], ◌∷◌, None, Some, IfOk, OnOk, OnErr, length, option_map};
+ghost use Rattle.std.specs.Prelude.{◌≡◌, ◌<◌, ◌^◌, ◌++◌, [], ◌∷◌, None, IfOk, OnOk, OnErr, length};
 ghost use Rattle.mem_base.specs.script.Named.{kind_named, listener_name, watcher_name, region_name, space_name};
 ghost use Rattle.script_names.specs.Tables.{AllNames, Rebinds, number_of, printed_names, table};
 

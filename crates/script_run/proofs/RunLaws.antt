@@ -23,7 +23,6 @@ use Rattle.run_laws.proofs.TaskLaws.{lines_are_tasks}
 use Rattle.script_run.specs.Adding.{StepAdds}
 use Rattle.script_run.specs.Standing.{IsReady, Standing, state_of}
 use Rattle.script_run.proofs.Writing.{Through, through_next, through_part}
-use Rattle.std.proofs.lemmas.Bool.{or_parts}
 use Rattle.run_laws.proofs.FittingLaws.{names_its}
 
 -- Before the first command

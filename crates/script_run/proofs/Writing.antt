@@ -3,7 +3,6 @@ use Rattle.std.proofs.Common.{◌≡◌, ◌≤◌, ℕ, List, [], ◌++◌, sym
 use Rattle.std.proofs.lemmas.List.{append-nil, take-append-drop}
 use Rattle.outside.specs.Sink.{Takes, TakesPrefix}
 use Rattle.outside.proofs.Took.{Takes-append, Takes-nil, TakesPrefix-after}
-use Rattle.mem_base.proofs.OptionLaws.{on_failure}
 
 pub on_ok : {T E P Q : Type 0} (r : Result T E) → OnOk r P → (P → Q) → OnOk r Q
 on_ok (Ok x) p f = f p

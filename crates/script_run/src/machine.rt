@@ -1,5 +1,5 @@
 // The machine that a script runs on.
-ghost use Rattle.std.specs.Prelude.{◌≡◌, ◌≢◌, ℕ, length, true, [], Some, None, Ok, Err};
+ghost use Rattle.std.specs.Prelude.{◌≡◌, ◌≢◌, length, true, [], Some, Err};
 ghost use Rattle.std.specs.Arc.{arc_value};
 ghost use Rattle.mem_base.specs.declared.map.calls.Config.TheVariants as configs;
 ghost use Rattle.mem_base.specs.declared.machine.events.Event.TheVariants as events;

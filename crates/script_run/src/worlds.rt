@@ -1,5 +1,4 @@
 // The pure machine as the one that a script runs on.
-ghost use Rattle.std.specs.Prelude.{◌≡◌};
 ghost use Rattle.mem_base.specs.script.Run.{text_of};
 ghost use Rattle.outside.specs.Sink.{Writes};
 

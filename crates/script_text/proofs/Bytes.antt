@@ -1,5 +1,5 @@
 -- Bytes that are read one after another.
-use Rattle.std.proofs.Common.{◌≡◌, ◌==◌, ◌≤◌, ℕ, List, [], ◌∷◌, ◌++◌, Bool, true, false, None, Some, refl, sym, ap, ◌∙◌, append_assoc}
+use Rattle.std.proofs.Common.{◌≡◌, ◌==◌, ◌≤◌, ℕ, List, [], ◌∷◌, ◌++◌, true, false, None, Some, refl, sym, ap, ◌∙◌, append_assoc}
 use Rattle.std.proofs.Common.{option_map, length, arith, eqb-true}
 use Rattle.std.specs.declared.option.Option.{Option}
 use Rattle.mem_base.specs.script.Spelling.{byte_of, byte_pairs}

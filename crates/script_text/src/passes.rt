@@ -1,5 +1,4 @@
 // The lines of a pass.
-ghost use Rattle.std.specs.Prelude.{option_map};
 ghost use Rattle.mem_base.specs.script.Operands.{value_in};
 ghost use Rattle.mem_base.specs.script.PassForms.{pass_dma, pass_do, pass_forms, pass_line, pass_read, pass_write};
 ghost use Rattle.script_text.specs.Reads.{Reads, chosen};

@@ -1,12 +1,12 @@
 // A script's text, line by line.
-ghost use Rattle.std.specs.Prelude.{◌≡◌, ◌<◌, ◌^◌, ◌==◌, ◌≤◌, Ok, Err, Some, IfOk, OnOk, MatchResult, length, map, position, option_map, []};
+ghost use Rattle.std.specs.Prelude.{◌≡◌, ◌<◌, ◌^◌, ◌==◌, Ok, Err, Some, MatchResult, length, map, position, []};
 ghost use Rattle.std.specs.List.{slice_split};
 ghost use Rattle.mem_base.specs.declared.script.places.Section.TheVariants.{Start};
 ghost use Rattle.mem_base.specs.script.Lines.{line_of};
 ghost use Rattle.mem_base.specs.script.Race.{actor_number};
-ghost use Rattle.mem_base.specs.script.Scripts.{ends_at, most_text, placed, script_from, script_of, rule_of};
+ghost use Rattle.mem_base.specs.script.Scripts.{ends_at, placed, script_from, script_of, rule_of};
 ghost use Rattle.mem_base.specs.script.Sound.{Sound};
-ghost use Rattle.script_text.specs.Parses.{FailsBy, Parses, Steps};
+ghost use Rattle.script_text.specs.Parses.{Parses, Steps};
 
 use crate::faults::ParseFault;
 use crate::lines::{line_of, without_return};

@@ -1,5 +1,5 @@
 // How names, numbers and bytes are spelled: one function for one definition.
-ghost use Rattle.std.specs.Prelude.{◌≡◌, ◌≤◌, ◌<◌, ◌-◌, ◌^◌, ◌==◌, ◌++◌, IfSome, IfOk, MatchOption, option_map, position, length, take, drop, ◌∷◌, pos, neg_ℤ};
+ghost use Rattle.std.specs.Prelude.{◌≡◌, ◌≤◌, ◌<◌, ◌-◌, ◌^◌, ◌==◌, IfSome, IfOk, MatchOption, option_map, position, length, ◌∷◌, pos, neg_ℤ};
 ghost use Rattle.std.specs.List.{list_all};
 ghost use Rattle.mem_base.specs.script.Spelling.{byte_of, bytes_of, digit_of, digits, is_letter, is_name, leads_with_no_zero, length_of};
 ghost use Rattle.mem_base.specs.script.Spelling.{machine_size, may_follow, number_of, pair_of, pass_of, plain_number, priority_of};
@@ -210,7 +210,11 @@ pub fn pass_of(text: &[u8]) -> Option<PassId>
     ensures { option_map (λ pass. pass.0) result ≡ pass_of text.now }
 {
     match text {
-        [b'v', rest @ ..] if leads_with_no_zero(rest) => match digits(10, u128::from(MOST_PASSES) - 1, rest) {
+        [b'v', rest @ ..] if leads_with_no_zero(rest) => match digits(
+            10,
+            u128::from(MOST_PASSES) - 1,
+            rest,
+        ) {
             Some(number) => PassId::new(number as u32),
             None => None,
         },

@@ -1,5 +1,5 @@
 // Reads the words by clap, as one level of subcommands.
-ghost use Rattle.std.specs.Prelude.{◌≡◌, IfOk, None, false, Some, map, string_bytes, option_map, option_and_then, slice_get};
+ghost use Rattle.std.specs.Prelude.{◌≡◌, IfOk, None, false, Some, map, string_bytes, option_map, option_and_then};
 ghost use Rattle.std.specs.List.{list_any};
 ghost use Rattle.mem_base.specs.declared.script.tasks.Task.TheVariants.{Make, Demo};
 ghost use Rattle.clap.specs.Words.{app_of, subcommand_rows_of, with_subcommand};

@@ -1,5 +1,5 @@
 // A sink that keeps what it takes.
-ghost use Rattle.std.specs.Prelude.{◌≡◌, List, ℕ, [], Some};
+ghost use Rattle.std.specs.Prelude.{◌≡◌, [], Some};
 ghost use Rattle.top_call.specs.KeptText.{kept_text};
 
 use outside::{Failed, Sink};

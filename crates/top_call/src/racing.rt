@@ -1,5 +1,5 @@
 // `race`: the bytes of a source are read as a script, which runs on a machine of its own, its actors beside one another.
-ghost use Rattle.std.specs.Prelude.{◌≡◌, ◌≢◌, ◌≤◌, ◌⊎◌, None, Ok};
+ghost use Rattle.std.specs.Prelude.{◌≡◌, ◌≤◌, ◌⊎◌, None, Ok};
 ghost use Rattle.std.specs.Arc.{arc_value};
 ghost use Rattle.outside.specs.Causes.{Rose};
 ghost use Rattle.mem_base.specs.script.Scripts.{script_of};

@@ -31,7 +31,6 @@ use Rattle.change_laws.specs.Meeting.{is_among, OthersStay}
 use Rattle.transact.specs.Noted.{is_parent_among, is_placed_among, stay_away}
 use Rattle.transact.proofs.MadeLaws.{ordered_made, closed_made}
 use Rattle.transact.proofs.TouchedLaws.{is_other, touched_by}
-use Rattle.mem_base.proofs.BoolLaws.{both_ways}
 use Rattle.std.proofs.lemmas.Bool.{or_right, or_left}
 use Rattle.std.proofs.lemmas.Option.{same_Some}
 

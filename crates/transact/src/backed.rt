@@ -7,7 +7,7 @@ ghost use Rattle.mem_base.specs.map.Limits.{most_nested};
 ghost use Rattle.mem_base.specs.lists.Sorting.{place_of};
 ghost use Rattle.mem_base.specs.map.Refusals.{bad_size};
 ghost use Rattle.mem_base.specs.map.Region.{node_of};
-ghost use Rattle.mem_base.specs.map.Calls.{after, answer_of, is_quiet};
+ghost use Rattle.mem_base.specs.map.Calls.{after, is_quiet};
 ghost use Rattle.mem_base.specs.machine.Committed.{transaction_after};
 ghost use Rattle.mem_base.specs.access.PlacesByRegion.{place_in};
 ghost use Rattle.mem_base.specs.access.Places.{extent, extent_of, words_of};

@@ -1,5 +1,5 @@
 // The regions that calls may have changed since the current generation.
-ghost use Rattle.std.specs.Prelude.{◌≡◌, ◌==◌, ◌||◌, ◌++◌, [], ◌∷◌, not, Ok, Option, IfSome};
+ghost use Rattle.std.specs.Prelude.{◌≡◌, ◌||◌, ◌++◌, [], ◌∷◌, Ok, Option, IfSome};
 ghost use Rattle.std.specs.List.{list_any};
 ghost use Rattle.mem_base.specs.declared.map.forests.Forest.{Forest};
 ghost use Rattle.mem_base.specs.map.Region.{node_of};

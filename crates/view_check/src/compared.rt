@@ -1,6 +1,6 @@
 // A view beside the monitor's lines.
 ghost use Rattle.std.specs.Prelude.{◌≡◌, ◌<◌, ◌==◌, IfOk, None, Some, length};
-ghost use Rattle.std.specs.List.{list_any, slice_get};
+ghost use Rattle.std.specs.List.{slice_get};
 ghost use Rattle.script_names.specs.Tables.{printed_names};
 ghost use Rattle.view_check.specs.Shown.{AreShown, first_difference, is_memory, is_shown, same_place};
 

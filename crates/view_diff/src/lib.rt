@@ -4,10 +4,10 @@
 //! steps are then those that a listener would be told: replayed on the first view they give the second.
 #![tactic(auto)]
 
-ghost use Rattle.std.specs.Prelude.{◌≡◌, ◌++◌, [], Some, IfOk, OnOk};
+ghost use Rattle.std.specs.Prelude.{◌≡◌, Some, IfOk};
 ghost use Rattle.mem_base.specs.views.Replay.{ranges_after_all};
 ghost use Rattle.mem_base.specs.views.Walk.{walk};
-ghost use Rattle.script_names.specs.Tables.{printed_names, table};
+ghost use Rattle.script_names.specs.Tables.{printed_names};
 ghost use Rattle.view_diff.specs.Numbers.{Numbers, Renumbered};
 
 mod numbers;

@@ -1,5 +1,5 @@
 // Numbers for the leaves of views, by their names and kinds.
-ghost use Rattle.std.specs.Prelude.{◌≡◌, ◌++◌, Some, None, IfOk, OnOk};
+ghost use Rattle.std.specs.Prelude.{◌≡◌, Some, None, IfOk};
 ghost use Rattle.mem_base.specs.script.SpotLines.{kind_text, kind_word};
 ghost use Rattle.script_names.specs.Tables.{number_of, printed_names};
 ghost use Rattle.view_diff.specs.Numbers.{Grows, Numbers, Renumbered, label_of};

@@ -1,5 +1,5 @@
 // The lines of a difference.
-ghost use Rattle.std.specs.Prelude.{◌≡◌, ◌++◌, [], OnOk};
+ghost use Rattle.std.specs.Prelude.{◌≡◌, ◌++◌, OnOk};
 ghost use Rattle.mem_base.specs.script.SpotLines.{attrs_text, flag_text, log_text};
 ghost use Rattle.view_diff.specs.Lines.{range_text, signed_line, step_text};
 

@@ -6,8 +6,7 @@ use Rattle.std.specs.List.{list_all}
 use Rattle.std.specs.Option.{unwrap_or}
 use Rattle.mem_base.specs.declared.map.ids.RegionId.{RegionId}
 use Rattle.mem_base.specs.declared.access.cells.Place.{Place}
-use Rattle.std.proofs.lemmas.Bool.{and_parts, not-true, and_from, not_from_false, not_from_true}
-use Rattle.std.proofs.lemmas.Option.{same_Some}
+use Rattle.std.proofs.lemmas.Bool.{and_parts}
 
 pub none_is_no_number : (a : ℕ) → None ≡ Some a → ⊥
 none_is_no_number a e = absurd (omega (arith, ap (λ (r : Option ℕ). unwrap_or r (a + 1)) e))

@@ -8,7 +8,7 @@ use Rattle.mem_base.specs.declared.views.flat.FlatRange.{FlatRange}
 use Rattle.mem_base.specs.views.View.{IsRanges}
 use Rattle.view_picture.specs.declared.rows.Row.{Row}
 use Rattle.view_picture.specs.declared.rows.Row.TheVariants.{Range, Hole}
-use Rattle.view_picture.specs.Rows.{Tiles, last_of, ranges_of, start_of, with_hole}
+use Rattle.view_picture.specs.Rows.{Tiles, last_of, ranges_of, with_hole}
 use Rattle.mem_base.proofs.ViewLaws.{IsRanges-within}
 
 tiles_both : (from mid end : ℕ) (xs ys : List Row) → Tiles from mid xs → Tiles mid end ys → Tiles from end (xs ++ ys)

@@ -1,6 +1,5 @@
 // The rows of a picture.
 ghost use Rattle.std.specs.Prelude.{◌≡◌, ◌+◌, ◌^◌, ◌<◌, ◌≤◌, ◌++◌, OnOk, IfOk};
-ghost use Rattle.mem_base.specs.views.View.{IsRanges};
 ghost use Rattle.view_picture.specs.Rows.{Tiles, ranges_of, with_hole};
 
 use mem_base::{FlatRange, View};

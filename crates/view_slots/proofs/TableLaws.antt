@@ -1,6 +1,6 @@
 -- Tables of slots.
-use Rattle.std.proofs.Common.{◌≡◌, ◌==◌, ℕ, ◌+◌, ◌-◌, ◌^◌, ◌<◌, ◌≤◌, ◌⊎◌, inl, inr, Bool, true, false, cond, List}
-use Rattle.std.proofs.Common.{[], ◌∷◌, ◌++◌, Option, Some, None, refl, sym, ap, ◌∙◌, subst, arith, nat_lt, nat_le, ◌&&◌, true≢false}
+use Rattle.std.proofs.Common.{◌≡◌, ℕ, ◌+◌, ◌-◌, ◌^◌, ◌<◌, ◌≤◌, ◌⊎◌, inl, inr, Bool, true, false, cond, List}
+use Rattle.std.proofs.Common.{[], ◌∷◌, ◌++◌, Option, Some, None, refl, sym, ap, ◌∙◌, subst, arith, nat_lt, nat_le, true≢false}
 use Rattle.std.proofs.Common.{is_some, zero, suc, length, take, get_or}
 use Rattle.std.proofs.lemmas.List.{take_all, take_more}
 use Rattle.std.specs.Option.{option_or}
@@ -9,13 +9,13 @@ use Rattle.std.proofs.lemmas.Option.{same_Some}
 use Rattle.mem_base.specs.declared.map.ids.RegionId.{RegionId}
 use Rattle.mem_base.specs.declared.map.spots.Spot.{Spot}
 use Rattle.mem_base.specs.declared.views.flat.FlatRange.{FlatRange}
-use Rattle.mem_base.specs.lists.Every.{Every, HasElement}
+use Rattle.mem_base.specs.lists.Every.{Every}
 use Rattle.mem_base.specs.script.Named.{Names}
 use Rattle.mem_base.specs.views.View.{IsRanges, holds, seen, shown}
-use Rattle.view_slots.specs.Edges.{HasEnds, NoEdge}
+use Rattle.view_slots.specs.Edges.{HasEnds}
 use Rattle.view_slots.specs.Slots.{Adds, AlikeKeep, CutsInto, IsPiece, is_slot, memory_alone}
 use Rattle.view_slots.proofs.PieceLaws.{or_none, pieces_end, pieces_lie, pieces_show}
-use Rattle.mem_base.proofs.ViewLaws.{ranges_join, shown_join, shown-before, shown-past}
+use Rattle.mem_base.proofs.ViewLaws.{ranges_join, shown_join, shown-past}
 
 -- Lists of ranges, one after another
 

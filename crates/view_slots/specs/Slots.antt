@@ -7,7 +7,7 @@ use Rattle.mem_base.specs.declared.map.kinds.Kind.TheVariants.{Ram, Rom, RomDevi
 use Rattle.mem_base.specs.declared.map.spots.Attrs.{Attrs}
 use Rattle.mem_base.specs.declared.map.spots.Spot.{Spot}
 use Rattle.mem_base.specs.declared.views.flat.FlatRange.{FlatRange}
-use Rattle.mem_base.specs.lists.Every.{Every, HasElement}
+use Rattle.mem_base.specs.lists.Every.{HasElement}
 use Rattle.mem_base.specs.script.Named.{Names, kind_named}
 use Rattle.mem_base.specs.views.View.{seen}
 use Rattle.view_slots.specs.Edges.{HasEnds, NoEdge}

@@ -5,9 +5,8 @@
 //! the walk, replayed on the old view, gives the new one.
 #![tactic(auto)]
 
-ghost use Rattle.std.specs.Prelude.{◌≡◌, ◌++◌, List, IfOk, OnOk, None, Some};
-ghost use Rattle.mem_base.specs.views.Walk.{is_same_range, added_or_kept, walk};
-ghost use Rattle.view_walk.specs.Sides.{side_of};
+ghost use Rattle.std.specs.Prelude.{◌≡◌, ◌++◌, IfOk, OnOk, Some};
+ghost use Rattle.mem_base.specs.views.Walk.{added_or_kept, walk};
 
 mod sides;
 

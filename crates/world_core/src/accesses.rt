@@ -1,9 +1,8 @@
 // Accesses of the world's passes.
-ghost use Rattle.std.specs.Prelude.{◌≡◌, ◌||◌, ◌&&◌, length, true, [], is_some};
+ghost use Rattle.std.specs.Prelude.{◌≡◌, length, true, []};
 ghost use Rattle.mem_base.specs.declared.machine.events.Event.TheVariants as events;
 ghost use Rattle.mem_base.specs.access.AccessSteps.{reading, writing, result_of};
 ghost use Rattle.mem_base.specs.access.Access.{access};
-ghost use Rattle.mem_base.specs.machine.World.{possible};
 ghost use Rattle.mem_base.specs.machine.Composites.{is_entered, enters_unless, leaves_unless};
 ghost use Rattle.access_run.specs.Runs.{HasDone};
 ghost use Rattle.mem_base.specs.machine.Completions.{may_access, IsAccessed};

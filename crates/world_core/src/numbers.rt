@@ -4,7 +4,6 @@ ghost use Rattle.mem_base.specs.declared.machine.events.Event.TheVariants as eve
 ghost use Rattle.mem_base.specs.machine.World.{possible, reply, number_in, world_after};
 ghost use Rattle.mem_base.specs.machine.Completions.{KeepsWriter};
 ghost use Rattle.mem_base.specs.machine.Composites.{enters, leaves};
-ghost use Rattle.mem_base.specs.machine.Passes.{is_pass, pass_of};
 ghost use Rattle.world_core.specs.Worlds.{after_events};
 
 use crate::world::World;

@@ -1,7 +1,7 @@
 // Which events are possible.
 ghost use Rattle.std.specs.Prelude.{◌≡◌, ◌&&◌, Some};
 ghost use Rattle.mem_base.specs.declared.machine.events.Event.TheVariants as events;
-ghost use Rattle.mem_base.specs.access.Places.{is_data_or_register, mark_words, pages_in};
+ghost use Rattle.mem_base.specs.access.Places.{is_data_or_register, mark_words};
 ghost use Rattle.mem_base.specs.machine.Generations.{generation};
 ghost use Rattle.mem_base.specs.machine.Guards.{is_notifier, may_mark, may_reach};
 ghost use Rattle.mem_base.specs.machine.World.{is_at_rest, possible};

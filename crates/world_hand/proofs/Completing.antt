@@ -1,6 +1,6 @@
 -- A turn whose entries the pure machine makes one after another, from a world to which a legal history leads, is the call of the
 -- pure machine in that world.
-use Rattle.std.proofs.Common.{◌≡◌, ℕ, ◌+◌, ◌<◌, ◌≤◌, true, false, List, [], ◌∷◌, ◌++◌, length, append_assoc, refl, sym, ap, subst, ◌∙◌, arith, inl, Some}
+use Rattle.std.proofs.Common.{◌≡◌, ℕ, ◌+◌, ◌<◌, ◌≤◌, true, false, List, [], ◌∷◌, ◌++◌, length, append_assoc, refl, sym, ap, subst, ◌∙◌, arith, inl}
 use Rattle.std.specs.Prelude.{slice_index}
 use Rattle.std.proofs.lemmas.Bool.{eqb-false, and_parts, not-true}
 use Rattle.mem_base.specs.declared.access.cells.Place.{Place}
@@ -20,8 +20,6 @@ use Rattle.mem_base.specs.machine.Composites.{completed}
 use Rattle.mem_base.specs.machine.Desk.{places_of}
 use Rattle.mem_base.specs.machine.History.{PureEntry, IsLegalFrom, after_entries, run_events}
 use Rattle.mem_base.specs.machine.Orders.{Order, configure, current, events_after, events_before, harvest, journal, load, notified, private_of, reap}
-use Rattle.mem_base.specs.machine.Passes.{PassState}
-use Rattle.mem_base.specs.machine.Reaps.{Writer}
 use Rattle.mem_base.specs.machine.SharedHistory.{Shared, IsSharedLegalFrom, after_shared_entries}
 use Rattle.mem_base.specs.machine.ShownWorlds.{world_shown}
 use Rattle.mem_base.specs.machine.Turns.{entries_of_turn, turn}

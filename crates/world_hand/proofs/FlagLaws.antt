@@ -36,7 +36,7 @@ use Rattle.mem_base.specs.machine.Configs.{configured, after_call, backed, begun
 use Rattle.mem_base.specs.machine.Desk.{Desk, carried_by, places_of, unswept}
 use Rattle.mem_base.specs.machine.Generations.{Generations}
 use Rattle.mem_base.specs.machine.Orders.{Order, configure, current, events_before, events_after, harvest, harvest_refusal, journal, load, load_refusal}
-use Rattle.mem_base.specs.machine.Orders.{mark_words_at, notified, pass_ids, private_of, reap, sweeps, unless}
+use Rattle.mem_base.specs.machine.Orders.{mark_words_at, notified, pass_ids, reap, sweeps, unless}
 use Rattle.mem_base.specs.machine.Publishing.{Settled, current_forest, held_up, publishing, refused_desk, settled, unless_refused, would_publish}
 use Rattle.mem_base.specs.machine.Reaps.{Writer, released, writer}
 use Rattle.mem_base.specs.machine.Turns.{Played, after_private, entries_of_turn, history_entry, played, replies_of, turn}

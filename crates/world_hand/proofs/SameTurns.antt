@@ -3,7 +3,7 @@ use Rattle.std.proofs.Common.{◌≡◌, ℕ, List, [], ◌∷◌, ◌++◌, dro
 use Rattle.mem_base.specs.declared.machine.events.Event.{Event}
 use Rattle.mem_base.specs.declared.machine.events.Carried.{Carried}
 use Rattle.mem_base.specs.declared.machine.events.HistoryEntry.{HistoryEntry}
-use Rattle.mem_base.specs.machine.Answers.{Answer, answer_to, first_or_zero}
+use Rattle.mem_base.specs.machine.Answers.{answer_to, first_or_zero}
 use Rattle.mem_base.specs.machine.Configs.{writer_after}
 use Rattle.mem_base.specs.machine.Desk.{carried_by}
 use Rattle.mem_base.specs.machine.Orders.{Order, events_before, private_of, events_after}

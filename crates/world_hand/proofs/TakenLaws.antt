@@ -1,7 +1,7 @@
 -- Nothing but the answer of a journal looks at the journal: the machine goes on alike, whichever calls stand in it before the others.
 use Rattle.std.proofs.Common.{◌≡◌, ℕ, ◌+◌, Bool, ◌&&◌, if◌then◌else◌, List, [], ◌∷◌, ◌++◌, refl, sym, ap, subst, ◌∙◌}
 use Rattle.std.proofs.Common.{Option, Some, None}
-use Rattle.std.specs.Prelude.{◌-◌, ◌||◌, not, Result, Ok}
+use Rattle.std.specs.Prelude.{◌||◌, not, Result, Ok}
 use Rattle.mem_base.specs.declared.map.ids.RegionId.{RegionId}
 use Rattle.mem_base.specs.declared.map.refusals.Refusal.{Refusal}
 use Rattle.mem_base.specs.declared.machine.events.Event.{Event}

@@ -19,7 +19,7 @@ use Rattle.mem_base.specs.map.Limits.{notifier_count}
 use Rattle.mem_base.specs.lists.Every.{Every}
 use Rattle.mem_base.specs.access.PlacesByRegion.{place_in}
 use Rattle.mem_base.specs.access.Places.{is_notifiers, is_data_or_register, data_words, mark_words, mark_word, pages_in}
-use Rattle.mem_base.specs.access.Cells.{cell, Touch, touch, Block, has_block, touch_of, cells_in, blocks_after, words_after}
+use Rattle.mem_base.specs.access.Cells.{Touch, touch, Block, has_block, touch_of, cells_in, blocks_after, words_after}
 use Rattle.mem_base.specs.views.Naming.{names}
 use Rattle.mem_base.specs.machine.Generations.{Generation, held_generations, entered_generation}
 use Rattle.mem_base.specs.machine.Guards.{is_notifier, may_reach, may_mark}

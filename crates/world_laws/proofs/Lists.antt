@@ -1,9 +1,8 @@
 -- Laws of lists that several of these proofs use.
 use Rattle.std.proofs.Common.{◌≡◌, ℕ, zero, suc, ◌+◌, ◌<◌, Bool, true, false, List, [], ◌∷◌, subst}
-use Rattle.std.proofs.Common.{if◌then◌else◌, arith}
+use Rattle.std.proofs.Common.{arith}
 use Rattle.mem_base.specs.lists.Every.{Every}
 use Rattle.mem_base.specs.lists.Runs.{Run, runs, put_before}
-use Rattle.view_laws.proofs.Tests.{none_is_not_some}
 
 -- each run starts among the numbers
 pub starts_below : (with_next : ℕ → Bool) (a n : ℕ) → Every (λ r. r.start < a + n) (runs with_next a n)

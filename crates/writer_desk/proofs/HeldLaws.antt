@@ -32,19 +32,19 @@ use Rattle.mem_base.specs.map.Entries.{least_met}
 use Rattle.mem_base.specs.map.Region.{node_of, is_child_of}
 use Rattle.mem_base.specs.map.Search.{root_of}
 use Rattle.mem_base.specs.map.Kinds.{device_of, is_alias}
-use Rattle.mem_base.specs.map.Refusals.{first_refusal, refuse_if, refuse_where, unknown_region, unknown_target, wrong_kind, bad_size}
-use Rattle.mem_base.specs.map.Refusals.{first_id, has_container, has_root, in_use, least_space, or_refused}
+use Rattle.mem_base.specs.map.Refusals.{first_refusal, refuse_if, refuse_where, unknown_region, unknown_target, bad_size}
+use Rattle.mem_base.specs.map.Refusals.{first_id, has_root, in_use, least_space, or_refused}
 use Rattle.mem_base.specs.map.Refusals.{targets, too_deep, too_wide, unknown_space}
 use Rattle.mem_base.specs.views.Flattened.{view_of}
 use Rattle.mem_base.specs.views.LiveEvents.{lives_of}
 use Rattle.mem_base.specs.views.Listening.{Listening, joined, join_refusal, leave_refusal, listens}
 use Rattle.mem_base.specs.map.TableRefusals.{bad_device, page_overlap, at_limit, no_more_calls, no_more_regions, no_more_entries, no_more_events}
-use Rattle.mem_base.specs.map.Calls.{after, alias_too_long, answer_of, counted, is_quiet, refusal_of, refusals}
+use Rattle.mem_base.specs.map.Calls.{alias_too_long, answer_of, counted, is_quiet, refusal_of, refusals}
 use Rattle.mem_base.specs.map.Changes.{changed}
 use Rattle.mem_base.specs.access.Places.{Extent, extent_of, first_fit, words_of}
 use Rattle.mem_base.specs.machine.Generations.{Generations, PassTrack}
 use Rattle.mem_base.specs.machine.Desk.{Desk}
-use Rattle.mem_base.specs.machine.Publishing.{Settled, settled, refused_desk, unless_refused, readied, publishing, would_publish, held_up, held_from}
+use Rattle.mem_base.specs.machine.Publishing.{Settled, settled, refused_desk, unless_refused, readied, publishing, would_publish, held_from}
 use Rattle.mem_base.specs.machine.Publishing.{current_forest, held_at, holds_up}
 use Rattle.mem_base.specs.machine.Configs.{backed, configured, kept_back, made, without_listener}
 use Rattle.writer_desk.specs.Writers.{is_held}

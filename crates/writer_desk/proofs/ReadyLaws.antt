@@ -1,6 +1,6 @@
 -- What an event makes ready to be published is what the machine's definitions make of it, once the listeners are told.
-use Rattle.std.proofs.Common.{◌≡◌, ◌==◌, ◌-◌, Bool, true, false, not, List, [], ◌∷◌, ◌++◌, Option, Some, None, Ok, Err, refl, sym, ap, ◌∙◌, append-nil}
-use Rattle.std.specs.Prelude.{◌&&◌, if◌then◌else◌, is_ok, Result}
+use Rattle.std.proofs.Common.{◌≡◌, ◌==◌, ◌-◌, true, false, not, Option, Some, None, Ok, refl, sym, ap, ◌∙◌}
+use Rattle.std.specs.Prelude.{◌&&◌, if◌then◌else◌, Result}
 use Rattle.mem_base.specs.declared.map.forests.Forest.{Forest}
 use Rattle.mem_base.specs.declared.map.calls.Call.{Call}
 use Rattle.mem_base.specs.declared.map.calls.Call.TheVariants as calls
@@ -16,7 +16,7 @@ use Rattle.mem_base.specs.machine.Desk.{Desk}
 use Rattle.mem_base.specs.machine.Publishing.{Settled, settled, readied, refused_desk, unless_refused, publishing, held_up, current_forest}
 use Rattle.mem_base.specs.machine.Configs.{configured, after_call, kept_back}
 use Rattle.transact.specs.Preparing.{Readied, heard_by}
-use Rattle.transact.specs.Backed.{BackedState, backing_after, backing_at, forest_at}
+use Rattle.transact.specs.Backed.{BackedState, forest_at}
 use Rattle.writer_desk.specs.Writers.{writer_state, Beside, desk_of, beside_by, settled_as}
 use Rattle.writer_desk.proofs.HeardLaws.{delivered_heard}
 

@@ -1,5 +1,5 @@
 // The generations of the tests, and a cabinet for them.
-ghost use Rattle.std.specs.Prelude.{◌≡◌, ◌+◌, ◌≤◌, ◌<◌, IfOk, IfSome, false, replicate, Some, None};
+ghost use Rattle.std.specs.Prelude.{◌≡◌, ◌+◌, ◌≤◌, ◌<◌, IfOk, false, replicate, Some, None};
 ghost use Rattle.running_tests.specs.Boards.{forest_of, places_of, ram_place};
 ghost use Rattle.mem_base.specs.machine.Actors.{number_seen};
 

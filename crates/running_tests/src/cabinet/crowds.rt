@@ -1,6 +1,5 @@
 // Passes and the writer in threads of their own.
-ghost use Rattle.std.specs.Prelude.{◌≡◌, ◌<◌, All, None, Some, IfOk, length, vec_len};
-ghost use Rattle.running_tests.specs.Boards.{places_of};
+ghost use Rattle.std.specs.Prelude.{◌≡◌, ◌<◌, All, None, Some, IfOk};
 
 use crate::cabinet::boards::{Board, open, publish_next, ram};
 use epoch_rule::{Cabinet, Pass, WriterSeat};

@@ -1,5 +1,5 @@
 // A publish that a pass holds up.
-ghost use Rattle.std.specs.Prelude.{◌≡◌, None, false, slice_index_or};
+ghost use Rattle.std.specs.Prelude.{◌≡◌};
 
 use crate::cabinet::boards::{Board, next_board, open, publish_next};
 use epoch_rule::{Cabinet, Held, Swept, WriterSeat};

@@ -1,6 +1,5 @@
 // Marks and harvests beside one another, and each call on words once.
 ghost use Rattle.std.specs.Prelude.{◌≡◌, ◌<◌, None, Some};
-ghost use Rattle.running_tests.specs.Boards.{places_of};
 
 use crate::cabinet::boards::{Board, open, publish_next, ram};
 use crate::cabinet::crowds::TIMES;

@@ -1,5 +1,4 @@
 // What actors tell one another.
-ghost use Rattle.std.specs.Prelude.{◌≡◌, None};
 
 use crate::cabinet::boards::{open, publish_next};
 use std::test::Fail;

@@ -1,6 +1,6 @@
 // A machine of the tests: a desk whose regions have their words in a pool, and a cabinet in which its generations are
 // published.
-ghost use Rattle.std.specs.Prelude.{◌≡◌, ◌<◌, ◌≤◌, IsTrue, IfOk, false};
+ghost use Rattle.std.specs.Prelude.{◌≡◌, ◌<◌, IsTrue, IfOk, false};
 ghost use Rattle.mem_base.specs.lists.Every.{Every};
 ghost use Rattle.running_tests.specs.Fits.{IsFit};
 ghost use Rattle.mem_base.specs.map.Calls.{is_quiet};

@@ -1,5 +1,5 @@
 use Rattle.std.proofs.Common.{sym, ◌∙◌}
-use Rattle.access_plan.proofs.WhoLaws.{by_any, by_nobody_own, by_nobody_there}
+use Rattle.access_plan.proofs.WhoLaws.{by_any, by_nobody_own}
 use Rattle.access_plan.proofs.answerers.by_kind.Goals as goal
 
 pub returns-then-lacks_bytes : goal.returns-then-lacks_bytes

@@ -1,4 +1,4 @@
-use Rattle.std.proofs.Common.{ℕ, true, ◌<◌, ◌≤◌, sym, subst, ◌∙◌}
+use Rattle.std.proofs.Common.{true, ◌<◌, ◌≤◌, sym, subst, ◌∙◌}
 use Rattle.mem_base.specs.access.Windows.{window_start}
 use Rattle.bounded_write.proofs.RunLaws.{first_chunk_is, first_memory, first_size}
 use Rattle.bounded_write.proofs.chunks.write_first.Goals as goal

@@ -1,4 +1,4 @@
-use Rattle.std.proofs.Common.{[], ap, ◌∙◌}
+use Rattle.std.proofs.Common.{[]}
 use Rattle.std.specs.Prelude.{take}
 use Rattle.mem_base.specs.access.AccessSteps.{writing}
 use Rattle.mem_base.specs.access.MemoryAccess.{marked, on_words}

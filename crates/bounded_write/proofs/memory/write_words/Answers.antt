@@ -1,12 +1,9 @@
-use Rattle.std.proofs.Common.{◌≡◌, ℕ, ◌+◌, ◌-◌, ◌≤◌, List, [], ◌∷◌, length, take, drop, inl, refl, sym, ap, subst, ◌∙◌, arith}
-use Rattle.std.specs.Prelude.{is_some}
+use Rattle.std.proofs.Common.{◌≡◌, ℕ, ◌+◌, ◌-◌, ◌≤◌, List, [], length, take, drop, inl, refl, sym, subst, arith}
 use Rattle.mem_base.specs.lists.Runs.{run}
 use Rattle.mem_base.specs.access.AccessSteps.{writing}
 use Rattle.mem_base.specs.access.MemoryAccess.{on_word, on_words}
-use Rattle.access_run.specs.Hands.{IsPlaceOf}
 use Rattle.access_base.proofs.MemoryLaws.{part_length}
 use Rattle.access_run.proofs.MemoryLaws.{word_written}
-use Rattle.vcpu_pass.specs.Steps.{generation_shown}
 use Rattle.io_window.specs.Calls.{Does}
 use Rattle.io_window.proofs.WholeLaws.{does_nothing}
 use Rattle.bounded_write.specs.Tries.{WasContended}

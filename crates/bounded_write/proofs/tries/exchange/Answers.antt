@@ -1,4 +1,4 @@
-use Rattle.std.proofs.Common.{ℕ, ◌+◌, ◌-◌, ◌∙◌, arith}
+use Rattle.std.proofs.Common.{◌+◌, ◌-◌, ◌∙◌, arith}
 use Rattle.bounded_write.proofs.WordLaws.{contended, first_found, found_again, not_found}
 use Rattle.bounded_write.proofs.tries.exchange.Goals as goal
 

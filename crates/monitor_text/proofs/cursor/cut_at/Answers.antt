@@ -1,4 +1,4 @@
-use Rattle.std.proofs.Common.{◌≡◌, ◌+◌, ℕ, List, rules, ap, sym, ◌∙◌, drop, take, Some}
+use Rattle.std.proofs.Common.{ap, sym, ◌∙◌, drop}
 use Rattle.std.proofs.lemmas.List.{drop-drop}
 use Rattle.monitor_text.proofs.LineLaws.{until_at}
 use Rattle.monitor_text.proofs.cursor.cut_at.Goals as goal

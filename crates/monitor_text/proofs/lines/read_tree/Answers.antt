@@ -1,4 +1,4 @@
-use Rattle.std.proofs.Common.{rules, ◌≡◌, ◌+◌, ◌==◌, arith, refl, take, drop, sym, ap, ◌∙◌, Ok, Err, subst}
+use Rattle.std.proofs.Common.{rules, ◌≡◌, ◌+◌, ◌==◌, arith, drop, sym, ap, ◌∙◌, Ok, Err, subst}
 use Rattle.std.proofs.lemmas.List.{drop-drop}
 use Rattle.std.specs.List.{slice_split}
 use Rattle.mem_base.specs.script.Lines.{without_return}

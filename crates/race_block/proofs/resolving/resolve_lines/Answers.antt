@@ -1,5 +1,5 @@
-use Rattle.std.proofs.Common.{rules, ◌≡◌, ℕ, ◌<◌, ◌≤◌, List, [], ◌∷◌, ◌++◌, All, length, take, slice_index_or, refl, sym, subst}
-use Rattle.std.proofs.lemmas.List.Elements.{All-nil, All-push}
+use Rattle.std.proofs.Common.{rules, ◌≡◌, ℕ, ◌<◌, ◌≤◌, List, [], ◌∷◌, ◌++◌, All, length, slice_index_or, sym, subst}
+use Rattle.std.proofs.lemmas.List.Elements.{All-nil}
 use Rattle.race_block.specs.declared.tasks.BlockLine.{BlockLine}
 use Rattle.race_block.specs.declared.tasks.OwnLine.{OwnLine}
 use Rattle.race_block.specs.Desks.{lines_meant}

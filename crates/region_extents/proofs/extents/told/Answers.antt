@@ -1,8 +1,7 @@
-use Rattle.std.proofs.Common.{◌∙◌, sym, ap, get_or}
+use Rattle.std.proofs.Common.{sym, ap, get_or}
 use Rattle.mem_base.specs.declared.map.ids.RegionId.{RegionId}
 use Rattle.mem_base.proofs.ForestLaws.{id_of}
 use Rattle.region_slots.specs.Slots.{nodes_of}
-use Rattle.region_extents.specs.Extents.{alone}
 use Rattle.region_extents.proofs.SettledLaws.{told_there, told_missing}
 use Rattle.region_extents.proofs.extents.told.Goals as goal
 use Rattle.region_slots.proofs.SlotsLaws.{some_element}

@@ -1,4 +1,4 @@
-use Rattle.std.proofs.Common.{◌≡◌, ◌∙◌, sym, ap, refl, set}
+use Rattle.std.proofs.Common.{◌∙◌, ap, refl, set}
 use Rattle.region_extents.specs.declared.extents.Extent.{Extent}
 use Rattle.region_extents.specs.Kept.{undone}
 use Rattle.region_extents.proofs.RaiseLaws.{undone_replaced, set_same}

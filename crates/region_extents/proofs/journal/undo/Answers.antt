@@ -1,4 +1,4 @@
-use Rattle.std.proofs.Common.{◌≡◌, ◌∙◌, ◌-◌, ◌<◌, ◌≤◌, sym, ap, get_or, take, arith}
+use Rattle.std.proofs.Common.{◌∙◌, ◌-◌, sym, ap, get_or, take, arith}
 use Rattle.std.proofs.lemmas.List.{set_past}
 use Rattle.region_extents.specs.declared.journal.Before.{Before}
 use Rattle.region_extents.specs.Kept.{undone}

@@ -1,10 +1,9 @@
-use Rattle.std.proofs.Common.{◌≡◌, ◌∙◌, sym, ap, subst, true, false, drop, length, replicate, arith, List}
+use Rattle.std.proofs.Common.{◌≡◌, ◌∙◌, sym, ap, subst, false, drop, length, arith, List}
 use Rattle.std.proofs.lemmas.List.{length-replicate}
 use Rattle.mem_base.specs.declared.map.ids.RegionId.{RegionId}
 use Rattle.mem_base.specs.lists.Every.{Every}
 use Rattle.mem_base.specs.map.Steps.{steps_from}
 use Rattle.region_slots.specs.Slots.{nodes_of}
-use Rattle.region_extents.specs.declared.extents.Extent.{Extent}
 use Rattle.region_extents.specs.Extents.{told_of, stepped, alone}
 use Rattle.region_extents.specs.Kept.{listed, IsShort}
 use Rattle.region_extents.proofs.SettledLaws.{told_missing}

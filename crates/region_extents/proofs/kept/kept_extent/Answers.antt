@@ -1,4 +1,4 @@
-use Rattle.std.proofs.Common.{◌≡◌, ◌∙◌, ap}
+use Rattle.std.proofs.Common.{◌∙◌, ap}
 use Rattle.region_extents.specs.Extents.{told_of}
 use Rattle.region_extents.proofs.JoinedLaws.{told_kept}
 use Rattle.region_extents.proofs.kept.kept_extent.Goals as goal

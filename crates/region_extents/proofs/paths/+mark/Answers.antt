@@ -1,10 +1,8 @@
-use Rattle.std.proofs.Common.{◌≡◌, ◌≢◌, ◌∙◌, ◌-◌, ◌==◌, sym, ap, Bool, List, [], ◌∷◌, arith}
+use Rattle.std.proofs.Common.{◌∙◌, ◌-◌, ◌==◌, sym, ap, Bool, List, [], ◌∷◌, arith}
 use Rattle.std.specs.List.{list_any}
-use Rattle.mem_base.specs.declared.map.ids.RegionId.{RegionId}
 use Rattle.mem_base.specs.map.Steps.{steps_of, reaches_by}
 use Rattle.mem_base.specs.map.Order.{children_of, ids_of}
 use Rattle.mem_base.proofs.StepLaws.{every_of}
-use Rattle.region_slots.specs.Slots.{nodes_of}
 use Rattle.region_extents.specs.Marks.{marked}
 use Rattle.region_extents.proofs.ReachLaws.{steps_target, steps_below, reaches_zero, reaches_nowhere, marked_none, marked_further, marked_step, marked_last}
 use Rattle.region_extents.proofs.paths.+mark.Goals as goal

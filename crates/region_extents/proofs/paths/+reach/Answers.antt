@@ -1,6 +1,5 @@
-use Rattle.std.proofs.Common.{◌≡◌, ◌≢◌, ◌∙◌, ◌-◌, ap, sym, [], ◌∷◌, List, arith}
+use Rattle.std.proofs.Common.{◌∙◌, ◌-◌, ap, sym, [], ◌∷◌}
 use Rattle.std.specs.List.{list_any}
-use Rattle.mem_base.specs.declared.map.ids.RegionId.{RegionId}
 use Rattle.mem_base.specs.map.Steps.{steps_of, reaches_by}
 use Rattle.mem_base.specs.map.Order.{children_of}
 use Rattle.mem_base.specs.map.Order.{ids_of}

@@ -1,4 +1,4 @@
-use Rattle.std.proofs.Common.{◌≡◌, ◌∙◌, ◌-◌, ◌+◌, ◌<◌, ap, sym, subst, [], ◌∷◌, map, arith, rules}
+use Rattle.std.proofs.Common.{◌∙◌, ◌-◌, ◌+◌, ap, sym, [], ◌∷◌, map, arith, rules}
 use Rattle.mem_base.specs.map.Steps.{steps_of, weight_by, total}
 use Rattle.mem_base.specs.map.Order.{children_of}
 use Rattle.mem_base.specs.map.Order.{ids_of}

@@ -1,4 +1,4 @@
-use Rattle.std.proofs.Common.{◌≡◌, ◌∙◌, ◌==◌, sym, ap, get_or, arith}
+use Rattle.std.proofs.Common.{◌∙◌, ◌==◌, sym, ap, get_or, arith}
 use Rattle.std.proofs.lemmas.List.{get_or-map}
 use Rattle.mem_base.specs.declared.map.forests.Node.{Node}
 use Rattle.mem_base.proofs.ForestLaws.{id_of}

@@ -1,5 +1,4 @@
-use Rattle.std.proofs.Common.{◌≡◌, ◌≢◌, ◌≤◌, length, refl, sym, ap, subst, ◌∙◌, true, false, arith}
-use Rattle.mem_base.specs.declared.map.ids.RegionId.{RegionId}
+use Rattle.std.proofs.Common.{◌≡◌, ◌≤◌, length, subst, false}
 use Rattle.region_extents.specs.Kept.{listed}
 use Rattle.region_extents.proofs.RaiseLaws.{listed_insert}
 use Rattle.region_extents.proofs.raising.await_one.Goals as goal

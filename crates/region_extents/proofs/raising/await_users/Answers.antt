@@ -1,5 +1,4 @@
-use Rattle.std.proofs.Common.{◌≡◌, ◌∙◌, subst, true, false, get_or}
-use Rattle.region_slots.specs.declared.slots.Slot.{Slot}
+use Rattle.std.proofs.Common.{◌≡◌, ◌∙◌, subst, false, get_or}
 use Rattle.region_slots.specs.Slots.{nodes_of}
 use Rattle.region_extents.specs.Kept.{listed}
 use Rattle.region_extents.proofs.UsersLaws.{apart_plus, aliases_at}

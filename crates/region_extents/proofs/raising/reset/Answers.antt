@@ -1,4 +1,4 @@
-use Rattle.std.proofs.Common.{◌≡◌, ◌∙◌, sym, ap, refl, get_or}
+use Rattle.std.proofs.Common.{◌∙◌, ap}
 use Rattle.mem_base.specs.declared.map.ids.RegionId.{RegionId}
 use Rattle.region_slots.specs.declared.slots.Slot.{Slot}
 use Rattle.region_slots.specs.Slots.{nodes_of}

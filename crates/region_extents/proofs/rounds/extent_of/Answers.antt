@@ -1,4 +1,4 @@
-use Rattle.std.proofs.Common.{arith, sym}
+use Rattle.std.proofs.Common.{arith}
 use Rattle.region_slots.specs.Slots.{nodes_of}
 use Rattle.region_extents.specs.Extents.{steps_with}
 use Rattle.region_extents.proofs.ExtentsLaws.{extent_elsewhere, extent_here, greatest_within, extent_by-depth, extent_by-weight, total_within, total_here}

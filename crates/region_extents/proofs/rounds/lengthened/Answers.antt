@@ -1,4 +1,4 @@
-use Rattle.std.proofs.Common.{◌≡◌, ◌∙◌, sym, ap, refl, arith, length}
+use Rattle.std.proofs.Common.{◌≡◌, ◌∙◌, sym, refl, arith, length}
 use Rattle.region_slots.specs.Slots.{nodes_of}
 use Rattle.region_extents.specs.Extents.{extents_by}
 use Rattle.region_extents.proofs.ExtentsLaws.{extents_one, extents_settled, same_pointwise, extent_eq}

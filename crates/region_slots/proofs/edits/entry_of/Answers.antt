@@ -1,4 +1,4 @@
-use Rattle.std.proofs.Common.{rules, ◌≡◌, ◌+◌, ◌-◌, ◌<◌, ◌≤◌, ◌^◌, ℕ, subst, sym, arith}
+use Rattle.std.proofs.Common.{rules, ◌-◌, ◌<◌, ◌≤◌, ◌^◌, ℕ, subst}
 use Rattle.map_laws.proofs.PageLaws.{bad_page-none}
 use Rattle.region_slots.proofs.edits.entry_of.Goals as goal
 

@@ -1,4 +1,4 @@
-use Rattle.std.proofs.Common.{◌∙◌, rules, sym, ap}
+use Rattle.std.proofs.Common.{◌∙◌, rules, ap}
 use Rattle.std.proofs.lemmas.List.Sorted.{answers_always}
 use Rattle.region_slots.specs.declared.slots.Slot.{Slot}
 use Rattle.region_slots.proofs.PlaceLaws.{found_there, search_found, search_missing}

@@ -1,4 +1,4 @@
-use Rattle.std.proofs.Common.{◌≡◌, ◌∙◌, List, Option, None, filter, sym, ap}
+use Rattle.std.proofs.Common.{◌≡◌, ◌∙◌, List, Option, filter, ap}
 use Rattle.std.specs.Prelude.{find, option_map}
 use Rattle.std.specs.Option.{option_or}
 use Rattle.mem_base.specs.declared.map.forests.Node.{Node}

@@ -1,4 +1,4 @@
-use Rattle.std.proofs.Common.{◌≡◌, ◌∙◌, sym, ap, drop, replicate, length, false, arith}
+use Rattle.std.proofs.Common.{◌≡◌, ◌∙◌, ap, drop, replicate, length, false, arith}
 use Rattle.mem_base.specs.declared.map.ids.RegionId.{RegionId}
 use Rattle.mem_base.specs.map.Steps.{reaches}
 use Rattle.region_extents.specs.Marks.{marked}

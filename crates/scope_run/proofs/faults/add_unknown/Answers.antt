@@ -1,4 +1,4 @@
-use Rattle.std.proofs.Common.{◌≡◌, ◌++◌, ◌∙◌, List, ℕ, Result, Ok, Err, OnOk, ap, append_assoc, codes}
+use Rattle.std.proofs.Common.{◌≡◌, ◌++◌, ◌∙◌, Result, Ok, Err, OnOk, ap, append_assoc, codes}
 use Rattle.mem_base.specs.script.Spelling.{Text}
 use Rattle.scope_words.specs.Requests.{first_file}
 use Rattle.scope_run.specs.Said.{spaces_word, word_at}

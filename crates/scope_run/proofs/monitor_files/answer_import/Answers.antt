@@ -1,6 +1,5 @@
-use Rattle.std.proofs.Common.{subst, option_map, List, ◌≡◌, sym, ◌∙◌}
+use Rattle.std.proofs.Common.{subst, option_map, List, sym, ◌∙◌}
 use Rattle.mem_base.specs.script.Spelling.{Text}
-use Rattle.scope_run.specs.Files.{Tells}
 use Rattle.scope_run.specs.Imports.{FailsImport}
 use Rattle.scope_run.specs.Requests.{Holding, TellsIfNamed}
 use Rattle.scope_run.proofs.FileLaws.{told_as}

@@ -1,4 +1,4 @@
-use Rattle.std.proofs.Common.{[], ◌<◌, ap, sym, subst, ◌∙◌, length}
+use Rattle.std.proofs.Common.{[], ◌<◌, ap, subst, ◌∙◌, length}
 use Rattle.mem_base.specs.script.Named.{Names, name_at}
 use Rattle.mem_base.specs.script.States.{space_named}
 use Rattle.script_map.specs.Left.{all_shown}

@@ -1,6 +1,5 @@
 use Rattle.std.proofs.Common.{Some, option_map}
 use Rattle.std.proofs.lemmas.Result.{IfOk-weaker}
-use Rattle.scope_run.specs.Scripts.{FailsIn, FailsOn}
 use Rattle.scope_run.specs.Whys.{TellsWhy}
 use Rattle.scope_run.proofs.Facts.{fails_on, of_state, stops_on}
 use Rattle.scope_run.proofs.whys.why.Goals as goal

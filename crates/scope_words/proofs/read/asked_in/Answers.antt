@@ -1,7 +1,7 @@
 use Rattle.std.proofs.Common.{ap, sym, ◌∙◌, option_map, subst}
 use Rattle.std.specs.Box.{box_value}
 use Rattle.std.specs.Prelude.{IfSome}
-use Rattle.clap.specs.Words.{found_of, rows_of, subcommand_rows_of}
+use Rattle.clap.specs.Words.{found_of, rows_of}
 use Rattle.clap.specs.declared.ArgMatches.TheViews.{out-ArgMatches, out-SubCommand}
 use Rattle.scope_words.specs.Asks.{IsAskedBy}
 use Rattle.scope_words.proofs.Viewed.{both_views, pair_by}

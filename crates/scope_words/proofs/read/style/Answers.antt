@@ -1,4 +1,4 @@
-use Rattle.std.proofs.Common.{codes, ap, sym, subst, ◌∙◌}
+use Rattle.std.proofs.Common.{codes, ap, ◌∙◌}
 use Rattle.clap.specs.Words.{found_of}
 use Rattle.clap.proofs.WalkLemmas.{one_text-rows}
 use Rattle.scope_words.specs.Asks.{style_by}

@@ -1,5 +1,3 @@
-use Rattle.std.proofs.Common.{◌≡◌, ◌∙◌, ◌++◌, ◌∷◌, [], ap, subst, sym}
-use Rattle.script_check.specs.Blocks.{Printed, behind, printed, put}
 use Rattle.script_check.proofs.BlockLaws.{view_line}
 use Rattle.script_check.proofs.blocks.add_line.Goals as goal
 

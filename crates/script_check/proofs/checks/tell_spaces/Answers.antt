@@ -1,4 +1,4 @@
-use Rattle.std.proofs.Common.{◌≡◌, ◌∙◌, ap}
+use Rattle.std.proofs.Common.{◌∙◌, ap}
 use Rattle.script_memory.proofs.HandedOn.{Shown}
 use Rattle.script_check.specs.Checks.{Compared, compared_with}
 use Rattle.script_check.proofs.CheckLaws.{differs_of_all, text_of_all}

@@ -1,4 +1,4 @@
-use Rattle.std.proofs.Common.{◌≡◌, ◌≤◌, ◌∙◌, arith, length, sym}
+use Rattle.std.proofs.Common.{◌≤◌, ◌∙◌, arith, length, sym}
 use Rattle.script_names.specs.Tables.{printed_names}
 use Rattle.script_check.specs.Verdicts.{verdict_from}
 use Rattle.script_check.proofs.VerdictLaws.{at_end, same_is_printed}

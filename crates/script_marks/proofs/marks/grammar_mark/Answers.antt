@@ -1,6 +1,6 @@
-use Rattle.std.proofs.Common.{rules, ◌≡◌, ◌+◌, ◌∙◌, Bool, true, false, Some, None, take, length, position, arith, refl, sym, subst}
+use Rattle.std.proofs.Common.{rules, ◌≡◌, ◌+◌, ◌∙◌, Bool, true, false, take, length, arith, refl, sym, subst}
 use Rattle.std.specs.Prelude.{MatchBool}
-use Rattle.mem_base.specs.script.Lines.{is_gap, tokens_of}
+use Rattle.mem_base.specs.script.Lines.{tokens_of}
 use Rattle.mem_base.specs.script.Spelling.{Text}
 use Rattle.script_text.proofs.Parts.{none_from_not_some}
 use Rattle.script_marks.specs.Marks.{IsShort, Opens, OpensNone}

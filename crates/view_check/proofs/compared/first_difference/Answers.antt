@@ -1,7 +1,6 @@
-use Rattle.std.proofs.Common.{rules, ◌≡◌, ◌<◌, ◌≤◌, length, sym, ◌∙◌, arith, true, false, get_or}
+use Rattle.std.proofs.Common.{rules, ◌≡◌, ◌≤◌, length, sym, arith}
 use Rattle.std.proofs.lemmas.Option.{get_or_from_slice_get}
 use Rattle.script_names.specs.Tables.{printed_names}
-use Rattle.view_check.specs.Shown.{is_shown}
 use Rattle.view_check.proofs.ShownLaws.{found_here, next_shown, rows_differ, same_at_end, view_differs}
 use Rattle.view_check.proofs.compared.first_difference.Goals as goal
 use Rattle.view_check.proofs.compared.first_difference.Goals.{then-loop-at-test+else-at-view, else-loop-at-test}

@@ -1,4 +1,4 @@
-use Rattle.std.proofs.Common.{◌≡◌, List, ◌^◌, take, subst, sym, refl, rules, arith}
+use Rattle.std.proofs.Common.{◌≡◌, List, ◌^◌, take, subst, rules, arith}
 use Rattle.std.proofs.lemmas.List.{take_all}
 use Rattle.mem_base.specs.declared.views.flat.FlatRange.{FlatRange}
 use Rattle.script_names.specs.Tables.{printed_names}

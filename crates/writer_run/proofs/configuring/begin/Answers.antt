@@ -1,18 +1,18 @@
-use Rattle.std.proofs.Common.{rules, ◌≡◌, ℕ, List, Ok, Err, refl, sym, ap, subst}
+use Rattle.std.proofs.Common.{rules, ◌≡◌, List, Err, refl, sym, ap, subst}
 use Rattle.std.specs.Prelude.{Result}
 use Rattle.mem_base.specs.declared.map.calls.Applied.{Applied}
 use Rattle.mem_base.specs.declared.map.calls.Config.TheVariants.{Begin}
 use Rattle.mem_base.specs.declared.map.refusals.Refusal.{Refusal}
 use Rattle.mem_base.specs.declared.machine.events.HistoryEntry.{HistoryEntry}
 use Rattle.mem_base.specs.machine.Actors.{generations_after_all}
-use Rattle.mem_base.specs.machine.Answers.{answer_of_config, plain_answer}
+use Rattle.mem_base.specs.machine.Answers.{plain_answer}
 use Rattle.mem_base.specs.machine.Generations.{Generations}
 use Rattle.mem_base.specs.machine.Orders.{configure}
 use Rattle.writer_desk.specs.Listened.{ListenedState, IsDone, IsRefused}
 use Rattle.writer_desk.specs.Writers.{made_place}
 use Rattle.writer_run.specs.Parts.{BelongTogether, part_of, part_with}
 use Rattle.writer_run.specs.Turns.{IsTurn, cleared_at}
-use Rattle.writer_run.proofs.TurnLaws.{Leaves, done, refused}
+use Rattle.writer_run.proofs.TurnLaws.{done, refused}
 use Rattle.writer_run.proofs.configuring.begin.Goals as goal
 
 pub returns-in_err-begun-clause-turn : goal.returns-in_err-begun-clause-turn

@@ -1,4 +1,4 @@
-use Rattle.std.proofs.Common.{◌≡◌, ◌<◌, ◌≤◌, ◌+◌, ◌-◌, true, false, List, None, Some, sym, subst, ap, ◌∙◌, length, arith}
+use Rattle.std.proofs.Common.{◌≡◌, ◌≤◌, ◌+◌, ◌-◌, true, false, List, None, Some, sym, subst, ap, ◌∙◌, length, arith}
 use Rattle.std.specs.Prelude.{min, find}
 use Rattle.mem_base.specs.lists.Sorting.{put_by}
 use Rattle.reclaim.specs.declared.notes.Note.{Note}

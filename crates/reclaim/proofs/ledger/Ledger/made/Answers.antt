@@ -1,4 +1,4 @@
-use Rattle.std.proofs.Common.{◌≡◌, ◌<◌, ◌≤◌, ◌+◌, ◌-◌, false, None, sym, subst, ap, ◌∙◌, length, arith}
+use Rattle.std.proofs.Common.{◌≡◌, ◌<◌, ◌≤◌, ◌+◌, ◌-◌, false, None, sym, subst, ap, ◌∙◌, length}
 use Rattle.std.specs.Prelude.{min}
 use Rattle.reclaim.specs.Notes.{note, is_noted}
 use Rattle.reclaim.specs.Ledgers.{LedgerState, AreApart}

@@ -1,4 +1,4 @@
-use Rattle.std.proofs.Common.{◌≡◌, ◌≤◌, sym, subst, arith}
+use Rattle.std.proofs.Common.{sym, subst, arith}
 use Rattle.reclaim.specs.Ledgers.{AreApart}
 use Rattle.reclaim.proofs.LedgerLaws.{apart_released}
 use Rattle.reclaim.proofs.ledger.Ledger.next_released.Goals as goal

@@ -1,4 +1,4 @@
-use Rattle.std.proofs.Common.{◌≡◌, ◌∙◌, ap, sym}
+use Rattle.std.proofs.Common.{◌∙◌, ap, sym}
 use Rattle.std.specs.Prelude.{insert}
 use Rattle.region_slots.specs.Slots.{ids_in}
 use Rattle.region_slots.proofs.SlotsLaws.{ids_insert}

@@ -1,4 +1,4 @@
-use Rattle.std.proofs.Common.{rules, ◌≡◌, ◌≤◌, ◌∙◌, ◌==◌, List, length, sym, ap, subst, w32, arith}
+use Rattle.std.proofs.Common.{rules, ◌∙◌, ◌==◌, length, sym, ap, subst, w32, arith}
 use mir.Val.{SFits}
 use Rattle.std.proofs.lemmas.Int.{to_z-of_z}
 use Rattle.std.specs.Prelude.{not, filter, insert}

@@ -1,15 +1,13 @@
 use Rattle.std.specs.Prelude.{insert}
-use Rattle.std.proofs.Common.{◌≡◌, ◌≢◌, ◌∙◌, ◌-◌, refl, sym, ap, subst, None, Some, get_or, w32}
+use Rattle.std.proofs.Common.{◌≡◌, ◌∙◌, ◌-◌, refl, sym, ap, subst, w32}
 use Rattle.std.proofs.lemmas.Int.{to_z-of_z}
-use Rattle.mem_base.specs.declared.map.ids.RegionId.{RegionId}
 use Rattle.mem_base.specs.declared.map.forests.Node.{Node}
-use Rattle.mem_base.specs.map.Region.{node_of, is_child_of}
-use Rattle.mem_base.specs.lists.Sorting.{sorted_by}
+use Rattle.mem_base.specs.map.Region.{node_of}
 use Rattle.mem_base.specs.map.Order.{children_of}
 use Rattle.mem_base.specs.map.Changes.{changed_at, placed}
 use Rattle.region_slots.specs.declared.slots.Slot.{Slot}
 use Rattle.region_slots.specs.declared.children.Child.{Child}
-use Rattle.region_slots.specs.Slots.{nodes_of, placed_of, rank_in, AreKept, AreIn, AreByPriority}
+use Rattle.region_slots.specs.Slots.{nodes_of, placed_of, rank_in, AreIn, AreByPriority}
 use Rattle.region_slots.proofs.SlotsLaws.{found_node, children_at, pair_kept, pair_nodes, placed_here, placed_elsewhere, children_by_priority}
 use Rattle.region_slots.proofs.slots.Slots.place.Goals as goal
 

@@ -1,5 +1,5 @@
 use Rattle.std.specs.Prelude.{insert}
-use Rattle.std.proofs.Common.{◌≡◌, ◌≢◌, ◌∙◌, ◌-◌, ◌<◌, ℕ, List, length, Bool, true, false, cond, eqb, refl, sym, ap, subst, Some, set}
+use Rattle.std.proofs.Common.{◌≡◌, ◌≢◌, ◌∙◌, ◌-◌, ◌<◌, ℕ, List, length, false, cond, eqb, refl, sym, ap, subst, Some, set}
 use Rattle.std.proofs.Common.{get_or, w32, arith, rules}
 use mir.Val.{SFits}
 use Rattle.std.proofs.lemmas.Int.{to_z-of_z}
@@ -9,12 +9,11 @@ use Rattle.mem_base.specs.declared.map.forests.Node.{Node}
 use Rattle.mem_base.specs.map.Region.{node_of}
 use Rattle.mem_base.specs.map.Order.{children_of}
 use Rattle.mem_base.specs.map.Changes.{changed_at, moved}
-use Rattle.mem_base.specs.declared.map.forests.Forest.{Forest}
 use Rattle.region_slots.specs.declared.slots.Slot.{Slot}
 use Rattle.region_slots.specs.declared.children.Child.{Child}
 use Rattle.region_slots.specs.Slots.{nodes_of, placed_of, rank_in, others, AreKept, AreByPriority}
 use Rattle.region_slots.proofs.SlotsLaws.{found_node, children_at, pair_kept, pair_nodes, pair_read, moved_nowhere, moved_here}
-use Rattle.region_slots.proofs.SlotsLaws.{moved_elsewhere, children_by_priority, others_by_priority}
+use Rattle.region_slots.proofs.SlotsLaws.{moved_elsewhere, children_by_priority}
 use Rattle.region_slots.proofs.slots.Slots.shift.Goals as goal
 use Rattle.std.proofs.lemmas.Bool.{eq-eqb}
 use Rattle.map_laws.proofs.MoveLaws.{moved_id}

@@ -1,4 +1,4 @@
-use Rattle.std.proofs.Common.{◌≡◌, ◌∙◌, take, sym, ap, subst}
+use Rattle.std.proofs.Common.{◌∙◌, sym, subst}
 use Rattle.std.proofs.lemmas.List.{take_all}
 use Rattle.region_slots.specs.Slots.{AreKept}
 use Rattle.region_slots.proofs.slots.Slots.try_copy.Goals as goal

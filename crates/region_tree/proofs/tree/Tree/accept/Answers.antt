@@ -1,10 +1,8 @@
-use Rattle.std.proofs.Common.{◌≡◌, ◌∙◌, refl, w32, rules, sym, ap, subst, None, ℤ}
+use Rattle.std.proofs.Common.{◌≡◌, ◌∙◌, w32, rules, sym, ap, subst, None, ℤ}
 use mir.Val.{SFits}
 use Rattle.std.proofs.lemmas.Int.{to_z-of_z}
-use Rattle.mem_base.specs.declared.map.forests.Forest.{Forest}
 use Rattle.mem_base.specs.declared.map.calls.Call.{Call}
 use Rattle.mem_base.specs.declared.map.calls.Call.TheVariants.{Add}
-use Rattle.mem_base.specs.declared.map.calls.Applied.TheVariants.{Done}
 use Rattle.mem_base.specs.map.Changes.{changed}
 use Rattle.mem_base.specs.map.Calls.{counted, refusal_of, answer_of}
 use Rattle.region_tree.proofs.tree.Tree.accept.Goals as goal

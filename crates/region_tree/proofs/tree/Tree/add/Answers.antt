@@ -1,9 +1,9 @@
-use Rattle.std.proofs.Common.{◌≡◌, refl, ◌∙◌, ◌+◌, sym, ap, subst, None, List, w32}
+use Rattle.std.proofs.Common.{◌≡◌, ◌∙◌, ◌+◌, sym, ap, subst, None, List, w32}
 use Rattle.std.proofs.lemmas.Int.{to_z-of_z}
 use Rattle.mem_base.specs.declared.map.forests.Forest.{Forest}
 use Rattle.mem_base.specs.declared.map.forests.Node.{Node}
 use Rattle.mem_base.specs.declared.map.calls.Call.TheVariants.{Add}
-use Rattle.mem_base.specs.map.Changes.{changed, changed_at, placed}
+use Rattle.mem_base.specs.map.Changes.{changed}
 use Rattle.mem_base.specs.map.Calls.{counted, refusal_of}
 use Rattle.region_tree.specs.Tree.{forest_of, IsWhole}
 use Rattle.region_tree.proofs.AddLaws.{allowed_of, apart_of}

@@ -10,7 +10,7 @@ use Rattle.region_extents.specs.Kept.{extents_in, aliases_in}
 use Rattle.region_extents.proofs.StretchLaws.{slots_show_steps}
 use Rattle.region_extents.proofs.BesideLaws.{aliases_changed}
 use Rattle.region_tree.specs.Tree.{forest_of, IsWhole}
-use Rattle.region_tree.proofs.AddLaws.{early, refused_early, joined_add, after_free, IsJoinedAdd}
+use Rattle.region_tree.proofs.AddLaws.{early, refused_early, joined_add, after_free}
 use Rattle.region_tree.proofs.WholeLaws.{whole_accepted}
 use Rattle.region_tree.proofs.tree.Tree.apply_add.Goals as goal
 use Rattle.mem_base.proofs.OptionLaws.{none_of}

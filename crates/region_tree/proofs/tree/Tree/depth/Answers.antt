@@ -1,6 +1,6 @@
-use Rattle.std.proofs.Common.{◌≡◌, ◌∙◌, ◌≤◌, ap, sym, subst}
+use Rattle.std.proofs.Common.{◌∙◌, ◌≤◌, ap, sym, subst}
 use Rattle.mem_base.specs.declared.map.forests.Forest.{Forest}
-use Rattle.mem_base.specs.map.Steps.{steps_of, depth_by, depth_of}
+use Rattle.mem_base.specs.map.Steps.{depth_of}
 use Rattle.mem_base.proofs.JoinLaws.{depth_at_most}
 use Rattle.region_tree.specs.Tree.{forest_of}
 use Rattle.region_slots.specs.Slots.{nodes_of}

@@ -1,16 +1,12 @@
-use Rattle.std.proofs.Common.{◌≡◌, ◌∙◌, ◌+◌, List, None, Some, get_or, sym, ap, subst}
-use Rattle.std.specs.Prelude.{is_some}
-use Rattle.mem_base.specs.declared.map.ids.RegionId.{RegionId}
+use Rattle.std.proofs.Common.{◌≡◌, ◌∙◌, ◌+◌, List, None, get_or, sym, ap, subst}
 use Rattle.mem_base.specs.declared.map.forests.Node.{Node}
 use Rattle.mem_base.specs.declared.map.forests.Forest.{Forest}
 use Rattle.mem_base.specs.declared.map.calls.Call.TheVariants.{Drop}
-use Rattle.mem_base.specs.map.Region.{node_of, has_id}
+use Rattle.mem_base.specs.map.Region.{node_of}
 use Rattle.mem_base.specs.map.Kinds.{target_of}
 use Rattle.mem_base.specs.map.Calls.{refusal_of}
 use Rattle.mem_base.proofs.ForestLaws.{id_of}
-use Rattle.region_slots.proofs.HandedOn.{in_use-none}
 use Rattle.region_slots.specs.declared.slots.Slot.{Slot}
-use Rattle.region_slots.specs.Slots.{nodes_of}
 use Rattle.region_extents.specs.Kept.{IsBeside}
 use Rattle.region_extents.proofs.BesideLaws.{IsTargetPlace}
 use Rattle.region_extents.proofs.DroppedLaws.{dropped_beside, found_node_at, has_itself}

@@ -1,7 +1,6 @@
 use Rattle.std.proofs.Common.{◌≡◌, refl, ◌∙◌, ◌+◌, ◌++◌, ◌∷◌, [], sym, ap, subst, None, List, arith}
 use Rattle.mem_base.specs.declared.map.forests.Forest.{Forest}
 use Rattle.mem_base.specs.declared.map.forests.Node.{Node}
-use Rattle.mem_base.specs.declared.map.ids.RegionId.{RegionId}
 use Rattle.mem_base.specs.declared.map.calls.Call.TheVariants.{Region}
 use Rattle.mem_base.specs.map.Order.{children_of}
 use Rattle.mem_base.specs.map.Kinds.{target_of}

@@ -6,7 +6,6 @@ use Rattle.mem_base.specs.declared.map.calls.Call.TheVariants.{Space}
 use Rattle.mem_base.specs.map.Calls.{refusal_of}
 use Rattle.region_tree.specs.Tree.{forest_of, IsWhole}
 use Rattle.region_tree.proofs.WholeLaws.{whole_accepted}
-use Rattle.region_extents.specs.Kept.{IsBeside}
 use Rattle.region_tree.proofs.tree.Tree.open.Goals as goal
 
 pub invariant_of-self-2 : goal.invariant_of-self-2

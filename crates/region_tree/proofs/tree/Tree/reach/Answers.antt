@@ -1,4 +1,4 @@
-use Rattle.std.proofs.Common.{◌≡◌, ◌∙◌, sym, ap, filter}
+use Rattle.std.proofs.Common.{◌∙◌, sym, ap, filter}
 use Rattle.mem_base.specs.map.Order.{ids_of}
 use Rattle.mem_base.specs.map.Touched.{is_reached_from}
 use Rattle.region_tree.proofs.PickedLaws.{none_reached}

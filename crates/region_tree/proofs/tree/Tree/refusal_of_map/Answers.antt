@@ -1,4 +1,3 @@
-use Rattle.std.proofs.Common.{◌≡◌, ◌∙◌, sym, ap}
 use Rattle.mem_base.specs.map.Kinds.{is_iommu}
 use Rattle.mem_base.specs.map.Refusals.{unknown_region, unknown_space, wrong_kind}
 use Rattle.mem_base.specs.map.TableRefusals.{bad_page, page_overlap, no_more_entries, no_more_calls}

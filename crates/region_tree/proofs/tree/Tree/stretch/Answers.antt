@@ -1,4 +1,4 @@
-use Rattle.std.proofs.Common.{◌≡◌, ◌∙◌, sym, ap, refl, subst, false, true, None, map, List}
+use Rattle.std.proofs.Common.{◌≡◌, ◌∙◌, sym, ap, subst, false, true, None, map, List}
 use Rattle.std.specs.Prelude.{is_some}
 use Rattle.mem_base.specs.declared.map.forests.Forest.{Forest}
 use Rattle.mem_base.specs.declared.map.calls.Call.TheVariants.{Add}
@@ -8,10 +8,7 @@ use Rattle.mem_base.specs.map.Refusals.{alias_parent, has_container}
 use Rattle.mem_base.specs.map.Steps.{reaches, greatest, greatest_depth, greatest_weight}
 use Rattle.mem_base.proofs.JoinLaws.{weight_joined_bound}
 use Rattle.region_extents.specs.declared.extents.Extent.{Extent}
-use Rattle.region_slots.specs.declared.slots.Slot.{Slot}
 use Rattle.region_tree.specs.Tree.{forest_of}
-use Rattle.region_slots.specs.Slots.{nodes_of}
-use Rattle.region_extents.specs.Extents.{extents_by}
 use Rattle.region_extents.proofs.StretchLaws.{stretched, slots_show_steps}
 use Rattle.region_tree.proofs.tree.Tree.stretch.Goals as goal
 

@@ -1,8 +1,7 @@
-use Rattle.std.proofs.Common.{◌≡◌, ◌∙◌, sym, ap, subst, true, List}
+use Rattle.std.proofs.Common.{◌∙◌, sym, ap, subst, List}
 use Rattle.mem_base.specs.declared.map.ids.RegionId.{RegionId}
 use Rattle.mem_base.specs.declared.map.ids.SpaceId.{SpaceId}
 use Rattle.mem_base.specs.declared.map.forests.Node.{Node}
-use Rattle.mem_base.specs.declared.map.forests.Forest.{Forest}
 use Rattle.region_tree.specs.Tree.{forest_of, IsWhole}
 use Rattle.region_extents.specs.Kept.{extents_in, aliases_in}
 use Rattle.region_tree.proofs.tree.Tree.try_copy.Goals as goal

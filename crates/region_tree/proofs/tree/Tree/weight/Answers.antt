@@ -1,6 +1,6 @@
-use Rattle.std.proofs.Common.{◌≡◌, ◌∙◌, ◌<◌, ◌≤◌, ap, subst, arith, sym}
+use Rattle.std.proofs.Common.{◌∙◌, ◌≤◌, ap, subst, arith, sym}
 use Rattle.mem_base.specs.declared.map.forests.Forest.{Forest}
-use Rattle.mem_base.specs.map.Steps.{steps_of, weight_by, weight_of}
+use Rattle.mem_base.specs.map.Steps.{weight_of}
 use Rattle.mem_base.proofs.JoinLaws.{weight_at_most}
 use Rattle.region_tree.specs.Tree.{forest_of}
 use Rattle.region_slots.specs.Slots.{nodes_of}

@@ -1,4 +1,4 @@
-use Rattle.std.proofs.Common.{◌≡◌, ◌<◌}
+use Rattle.std.proofs.Common.{◌≡◌}
 use Rattle.running_tests.proofs.cabinet.holding.publish_from.Given as goal
 
 abbrev pub invariant-loop-number : goal.invariant-loop-number

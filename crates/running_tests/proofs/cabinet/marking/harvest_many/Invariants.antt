@@ -1,4 +1,4 @@
-use Rattle.std.proofs.Common.{◌≡◌, ◌<◌}
+use Rattle.std.proofs.Common.{◌≡◌}
 use Rattle.running_tests.proofs.cabinet.marking.harvest_many.Given as goal
 
 abbrev pub invariant-loop : goal.invariant-loop

@@ -1,4 +1,4 @@
-use Rattle.std.proofs.Common.{rules, ◌≡◌, ◌==◌, true, false, Ok, None, subst}
+use Rattle.std.proofs.Common.{rules, ◌≡◌, ◌==◌, true, false, Ok, subst}
 use Rattle.mem_base.specs.declared.map.calls.Config.TheVariants.{Call}
 use Rattle.mem_base.specs.map.Calls.{after, is_quiet}
 use Rattle.mem_base.specs.views.Listening.{ascending, changes_between}

@@ -1,4 +1,4 @@
-use Rattle.std.proofs.Common.{rules, ◌≡◌, true, None, subst}
+use Rattle.std.proofs.Common.{rules, ◌≡◌, true, subst}
 use Rattle.mem_base.specs.declared.map.calls.Config.TheVariants.{Commit}
 use Rattle.mem_base.specs.views.Listening.{ascending, changes_between}
 use Rattle.transact.specs.Preparing.{Readied, heard_by}
