@@ -1,7 +1,6 @@
 -- Who makes an event of the running machine, what an actor's own entries are, and what it has seen of the history.
 -- This project's own rule: the actors are the writer and the passes.
 use Rattle.std.specs.Prelude.{ℕ, ◌+◌, ◌-◌, ◌==◌, if◌then◌else◌, List, [], ◌∷◌, ◌++◌, length, slice_index_or}
-use Rattle.mem_base.specs.map.PassIds.{PassId}
 use Rattle.mem_base.specs.declared.machine.events.Hand.{Hand}
 use Rattle.mem_base.specs.declared.machine.events.Hand.TheVariants as hands
 use Rattle.mem_base.specs.declared.machine.events.Event.{Event}

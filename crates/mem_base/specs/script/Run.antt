@@ -4,7 +4,6 @@ use Rattle.std.specs.Prelude.{if◌then◌else◌, ℕ, ◌+◌, ◌/◌, Bool, 
 use Rattle.mem_base.specs.map.PassIds.{PassId}
 use Rattle.mem_base.specs.declared.map.kinds.Kind.{Kind}
 use Rattle.mem_base.specs.declared.map.kinds.Kind.TheVariants as kinds
-use Rattle.mem_base.specs.declared.map.calls.Call.{Call}
 use Rattle.mem_base.specs.declared.map.calls.Call.TheVariants as calls
 use Rattle.mem_base.specs.declared.map.calls.Config.TheVariants as configs
 use Rattle.mem_base.specs.declared.script.commands.Command.{Command}

@@ -10,7 +10,6 @@ use Rattle.mem_base.specs.declared.map.refusals.Refusal.{Refusal}
 use Rattle.mem_base.specs.map.Search.{look}
 use Rattle.mem_base.specs.views.Flattened.{view_of}
 use Rattle.mem_base.specs.machine.Publishing.{current_forest}
-use Rattle.mem_base.specs.machine.Composites.{leaves}
 use Rattle.mem_base.specs.script.Spelling.{Text}
 use Rattle.mem_base.specs.script.Watching.{Watcher, watch_refusal, parts_shown, with_parts, notices_of, caught_up, notices_all, with_number, without_number}
 use Rattle.mem_base.specs.script.RefusalLines.{refusal_text, refused_line}

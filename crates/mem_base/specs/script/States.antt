@@ -10,7 +10,6 @@ use Rattle.mem_base.specs.declared.map.ids.WatcherId.{WatcherId}
 use Rattle.mem_base.specs.map.Region.{node_of}
 use Rattle.mem_base.specs.views.Listening.{Delivery, listens}
 use Rattle.mem_base.specs.machine.World.{World}
-use Rattle.mem_base.specs.machine.Composites.{leaves}
 use Rattle.mem_base.specs.script.Spelling.{Text}
 use Rattle.mem_base.specs.script.Watching.{Watcher, is_watcher}
 use Rattle.mem_base.specs.script.Named.{Names}

@@ -21,7 +21,7 @@ use Rattle.mem_base.specs.script.Spelling.{Text}
 use Rattle.mem_base.specs.script.Named.{Names}
 use Rattle.mem_base.specs.script.RefusalLines.{refusal_text, refused_line}
 use Rattle.mem_base.specs.script.Output.{dirty_line, do_line, notified_line, released_lines}
-use Rattle.mem_base.specs.script.States.{Outcome, region_named, space_named, listener_named, outcome, writes, with_region, with_space, where_new, State}
+use Rattle.mem_base.specs.script.States.{Outcome, region_named, space_named, listener_named, outcome, with_region, with_space, where_new, State}
 
 -- why a call was refused, if it was
 abbrev pub refusal_in : Answer → Option Refusal

@@ -1,4 +1,4 @@
-use Rattle.std.proofs.Common.{ap, ◌∙◌, ℕ, length, nat_lt}
+use Rattle.std.proofs.Common.{ap, ◌∙◌, length, nat_lt}
 use Rattle.std.specs.Arc.{arc_value}
 use Rattle.mem_base.specs.declared.map.forests.Node.{Node}
 use Rattle.mem_base.specs.map.Chunks.{any_events}
