@@ -22,6 +22,7 @@ use Rattle.generation.specs.Published.{Published}
 use Rattle.access_base.proofs.LeafLaws.{region, bytes_words, good, leaf_has_place, leaf_place, notifiers_found}
 use Rattle.access_run.specs.RegionPlaces.{AreNotifiersOf, AreRegistersOf, IsMemoryOf}
 use Rattle.mem_base.proofs.NodeLaws.{whole_bytes}
+use Rattle.mem_base.specs.map.Limits.{most_bytes}
 
 register_words : (kind : Kind) (device : Device) (size : ℕ) → device_of kind ≡ Some device → 1 ≤ device.regs → 0 < words_of (extent_of kind size)
 register_words (RomDevice d) device size e some =
@@ -49,7 +50,7 @@ module _ (g : Published) (k : IsEdition g.forest g.places) (r : RegionId) (n : N
         placed = ap (place_in g.places) (leaf_place g k r n is p found).0 ∙ found;
         region = (leaf_place g k r n is p found).0;
         words = let w : n.size % 4096 ≡ 0 = t.1 in omega (arith, w, size);
-        few = let l : n.size ≤ 536870912 = t.2 in omega (arith, l, size);
+        few = let l : n.size ≤ most_bytes = t.2 in omega (arith, l, size);
         pages = λ page h. subst (λ m. page < m / 4096) (sym size) (subst (λ o. IfSome o (λ (n : Node). page < n.size / 4096)) is h);
         within = λ offset bytes h.
             subst (λ m. offset + bytes ≤ m) (sym size) (subst (λ o. IfSome o (λ (n : Node). offset + bytes ≤ n.size)) is h);

@@ -1,6 +1,6 @@
 // How long what holds words takes: places of a pool, and a cabinet with its writer's desk and a pass in it.
-ghost use Rattle.std.specs.Prelude.{◌≡◌, ◌%◌, ◌≤◌, ◌^◌, None};
-ghost use Rattle.mem_base.specs.map.Limits.{page_size, most_bytes};
+ghost use Rattle.std.specs.Prelude.{◌≡◌, ◌%◌, ◌≤◌, None};
+ghost use Rattle.mem_base.specs.map.Limits.{most_bytes, most_words, page_size};
 
 use crate::times::{Clock, Failed, Lcg64Xsh32, MICRO, NextWord, Result, drawn};
 use backing_pool::Pool;
@@ -29,7 +29,7 @@ impl Clock {
 
     /// Makes a cabinet, enters and leaves by one pass, and loads as many drawn words of memory that a generation shows.
     pub fn run_cabinet(self, words: usize, count: u32) -> Result<()>
-        requires { words ≤ 2 ^ 26 }
+        requires { words ≤ most_words }
     {
         let drawn = drawn(self.rt, 5, count, BYTES / 8)?;
         let size = Size::new(u128::from(BYTES)).ok_or(Failed)?;

@@ -2,7 +2,7 @@
 ghost use Rattle.std.specs.Prelude.{◌≡◌, ◌≢◌, ◌+◌, ◌<◌, ◌≤◌, ◌^◌, [], Some, Err, IfOk, IfErr, OnErr, true, false, drop, replicate};
 ghost use Rattle.std.specs.Arc.{arc_value};
 ghost use Rattle.mem_base.specs.declared.map.calls.Config.TheVariants as configs;
-ghost use Rattle.mem_base.specs.map.Limits.{most_passes, notifier_count};
+ghost use Rattle.mem_base.specs.map.Limits.{most_passes, most_words, notifier_count};
 ghost use Rattle.mem_base.specs.machine.Desk.{places_of};
 ghost use Rattle.mem_base.specs.machine.Answers.{answer_with, call_answer, commit_answer, harvest_answer, notifier_answer, plain_answer, reap_answer};
 ghost use Rattle.mem_base.specs.machine.Orders.{configure, harvest, load, notified, reap};
@@ -97,7 +97,7 @@ fn open(
     AllocError,
 >
     requires desk { resting desk.now.listened ≡ first_state words }
-    requires words { words ≤ 2 ^ 26 }
+    requires words { words ≤ most_words }
     requires some { 0 < passes }
     requires few { passes ≤ most_passes }
     ensures own { IfOk result (λ r. (r.2.cabinet ≡ (arc_value r.0).id) × (r.2.cabinet ≡ (arc_value r.1).id)) }
@@ -126,7 +126,7 @@ impl Config {
         words: usize,
         passes: u32,
     ) -> Result<(Arc<Cabinet<Generation>, Global>, Config), AllocError>
-        requires words { words ≤ 2 ^ 26 }
+        requires words { words ≤ most_words }
         requires some { 0 < passes }
         requires few { passes ≤ most_passes }
         ensures own { IfOk result (λ r. r.1.seat.cabinet ≡ (arc_value r.0).id) }

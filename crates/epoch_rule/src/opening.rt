@@ -3,7 +3,7 @@ ghost use Rattle.std.specs.Prelude.{◌≡◌, ◌+◌, ◌*◌, ◌^◌, ◌<�
 ghost use Rattle.std.specs.Arc.{arc_value};
 ghost use Rattle.std.specs.declared.sync.Arc.{Arc};
 ghost use Rattle.mem_base.specs.map.Calls.{empty};
-ghost use Rattle.mem_base.specs.map.Limits.{most_passes};
+ghost use Rattle.mem_base.specs.map.Limits.{most_passes, most_words, notifier_count};
 ghost use Rattle.epoch_rule.specs.Opening.{AddsSlots, AreFirstSlots};
 
 use crate::board::{LINE_WORDS, Law, PASS_SLOTS, Slot};
@@ -68,7 +68,7 @@ impl<E: Edition + Drop> Cabinet<E> {
         words: usize,
         first: Arc<E, Global>,
     ) -> Result<(Cabinet<E>, WriterSeat<E>), AllocError>
-        requires count { (0 < passes) × (passes ≤ most_passes) × (words ≤ 2 ^ 26 + 64) }
+        requires count { (0 < passes) × (passes ≤ most_passes) × (words ≤ most_words + notifier_count) }
         requires first { (E.counted (arc_value first) ≡ 0) × (E.forest (arc_value first) ≡ empty) × (E.places (arc_value first) ≡ []) }
         ensures { IfOk result (λ r. (r.1.cabinet ≡ r.0.id) × (r.0.sizes ≡ r.1.sizes) × (r.1.sizes.passes ≡ passes)
             × (r.1.sizes.words ≡ words) × (r.1.seen ≡ []) × (r.1.out ≡ replicate passes false)) }

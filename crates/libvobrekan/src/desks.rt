@@ -1,6 +1,6 @@
 // The desk of a machine that virtual CPUs share: the writer's calls, beside what the virtual CPUs do.
 ghost use Rattle.std.specs.Prelude.{◌≡◌, ◌<◌, ◌≤◌, ◌^◌, IfNone, IfOk, IfSome, None, []};
-ghost use Rattle.mem_base.specs.map.Limits.{most_passes};
+ghost use Rattle.mem_base.specs.map.Limits.{most_passes, most_words};
 ghost use Rattle.mem_base.specs.machine.Orders.{configure, notified, reap};
 ghost use Rattle.mem_base.specs.machine.Reaps.{first_writer};
 ghost use Rattle.writer_run.specs.Turns.{answer_by};
@@ -21,14 +21,16 @@ use crate::desk_handle::DeskHandle;
 use crate::marks::{mark_words, told as marks_told};
 use crate::orders::{OrderNumbers, order_in};
 use crate::shown::{FoundNumbers, RangeNumbers, found_in, range_in};
-use crate::writer::{MOST_WORDS, released_told};
-use mem_base::{Applied, Client, Config, Edition, NotifierId, Refusal, RegionId, SpaceId};
+use crate::writer::released_told;
+use mem_base::{
+    Applied, Client, Config, Edition, MOST_WORDS, NotifierId, Refusal, RegionId, SpaceId,
+};
 use shared_machine::Desk;
 use std::alloc::{AllocError, Global};
 
 // The box of a new desk.
 fn opened(alloc: Global, words: usize) -> Result<Box<Desk, Global>, AllocError>
-    requires { words ≤ 2 ^ 26 }
+    requires { words ≤ most_words }
     ensures part { IfOk result (λ desk. desk.value.part ≡ first_writer words most_passes) }
     ensures fresh { IfOk result (λ desk. desk.value.seat.seen ≡ []) }
 {
@@ -41,9 +43,9 @@ fn opened(alloc: Global, words: usize) -> Result<Box<Desk, Global>, AllocError>
 /// none.
 #[unsafe(no_mangle)]
 pub extern "C" fn vb_desk_new(alloc: Global, handle: &mut DeskHandle, words: usize) -> Answer
-    ensures argument { 2 ^ 26 < words → (result ≡ bad_argument words) × (handle.new.desk ≡ handle.old.desk) }
-    ensures there { words ≤ 2 ^ 26 → IfSome handle.old.desk (λ d. (result ≡ has_machine) × (handle.new.desk ≡ handle.old.desk)) }
-    ensures made { words ≤ 2 ^ 26 → handle.old.desk ≡ None → (result.code ≡ code_memory → ⊥)
+    ensures argument { most_words < words → (result ≡ bad_argument words) × (handle.new.desk ≡ handle.old.desk) }
+    ensures there { words ≤ most_words → IfSome handle.old.desk (λ d. (result ≡ has_machine) × (handle.new.desk ≡ handle.old.desk)) }
+    ensures made { words ≤ most_words → handle.old.desk ≡ None → (result.code ≡ code_memory → ⊥)
         → (result ≡ done 0 0) × IsFirstDesk words handle.new.desk }
     ensures memory { result.code ≡ code_memory → handle.new.desk ≡ handle.old.desk }
 {

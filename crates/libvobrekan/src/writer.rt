@@ -1,7 +1,7 @@
 // Machines, transactions and listeners.
 ghost use Rattle.std.specs.Prelude.{◌≡◌, ◌<◌, ◌≤◌, ◌^◌, IfOk, IfSome, None, Some};
 ghost use Rattle.mem_base.specs.declared.map.calls.Config.TheVariants as configs;
-ghost use Rattle.mem_base.specs.map.Limits.{most_passes};
+ghost use Rattle.mem_base.specs.map.Limits.{most_passes, most_words};
 ghost use Rattle.mem_base.specs.machine.Answers.{answer_with, reap_answer};
 ghost use Rattle.mem_base.specs.machine.Orders.{configure, load, notified, reap};
 ghost use Rattle.mem_base.specs.machine.World.{opening};
@@ -15,16 +15,13 @@ use crate::answers::{
 };
 use crate::buffers::put_regions;
 use crate::handle::Handle;
-use mem_base::{ListenerId, NotifierId, Refusal, RegionId, SpaceId};
+use mem_base::{ListenerId, MOST_WORDS, NotifierId, Refusal, RegionId, SpaceId};
 use pure_machine::PureMachine;
 use std::alloc::{AllocError, Global};
 
-/// The words of 8 bytes that a machine's pool may have.
-pub(crate) const MOST_WORDS: usize = 67_108_864;
-
 // The box of a new machine.
 fn opened(alloc: Global, words: usize) -> Result<Box<PureMachine, Global>, AllocError>
-    requires { words ≤ 2 ^ 26 }
+    requires { words ≤ most_words }
     ensures { IfOk result (λ machine. machine.value ≡ opening words most_passes) }
 {
     let machine = PureMachine::new(alloc, words)?;
@@ -37,9 +34,9 @@ fn opened(alloc: Global, words: usize) -> Result<Box<PureMachine, Global>, Alloc
 /// The memory of RAM, ROM and ROM devices, their marks, and the registers of devices are in the pool.
 #[unsafe(no_mangle)]
 pub extern "C" fn vb_new(alloc: Global, handle: &mut Handle, words: usize) -> Answer
-    ensures argument { 2 ^ 26 < words → IsRefused handle.old.machine (bad_argument words) result handle.new.machine }
-    ensures there { words ≤ 2 ^ 26 → IfSome handle.old.machine (λ w. IsRefused handle.old.machine has_machine result handle.new.machine) }
-    ensures made { words ≤ 2 ^ 26 → handle.old.machine ≡ None → (result.code ≡ code_memory → ⊥)
+    ensures argument { most_words < words → IsRefused handle.old.machine (bad_argument words) result handle.new.machine }
+    ensures there { words ≤ most_words → IfSome handle.old.machine (λ w. IsRefused handle.old.machine has_machine result handle.new.machine) }
+    ensures made { words ≤ most_words → handle.old.machine ≡ None → (result.code ≡ code_memory → ⊥)
         → (result ≡ done 0 0) × (handle.new.machine ≡ Some (opening words most_passes)) }
     ensures memory { result.code ≡ code_memory → handle.new.machine ≡ handle.old.machine }
 {

@@ -1,7 +1,7 @@
 // The machine, and what it shows of itself.
 ghost use Rattle.std.specs.Prelude.{◌≡◌, ◌≤◌, ◌^◌, [], drop, IfOk, Some};
 ghost use Rattle.std.specs.Arc.{arc_value};
-ghost use Rattle.mem_base.specs.map.Limits.{most_passes};
+ghost use Rattle.mem_base.specs.map.Limits.{most_passes, most_words};
 ghost use Rattle.mem_base.specs.machine.Generations.{generation, generation_of};
 ghost use Rattle.mem_base.specs.machine.Passes.{pass_of};
 ghost use Rattle.mem_base.specs.machine.World.{opening};
@@ -37,7 +37,7 @@ impl PureMachine {
     ///
     /// It fails only where memory runs out.
     pub fn new(alloc: Global, words: usize) -> Result<PureMachine, AllocError>
-        requires words { words ≤ 2 ^ 26 }
+        requires words { words ≤ most_words }
         ensures { IfOk result (λ machine. machine ≡ opening words most_passes) }
     {
         let world = World::new(alloc, words, MOST_PASSES)?;

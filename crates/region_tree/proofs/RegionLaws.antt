@@ -22,7 +22,7 @@ use Rattle.mem_base.proofs.ForestLaws.{known_below}
 use Rattle.region_slots.proofs.HandedOn.{greatest_depth_made, greatest_weight_made, depth_alias, weight_alias, shallow_made, narrow_made, first_none, refuse_if-none, is_known}
 use Rattle.region_tree.proofs.AddLaws.{or_none}
 use Rattle.std.proofs.lemmas.Bool.{leb-false, ltb-false}
-use Rattle.mem_base.specs.map.Limits.{most_depth, most_weight}
+use Rattle.mem_base.specs.map.Limits.{most_depth, most_made, most_regions, most_weight}
 
 limit_of : (most g d : ℕ) (why : ℕ → Refusal) → g ≤ most → refuse_if (leb most d) (why (d + 1)) ≡ refuse_if (ltb most (max g (d + 1))) (why (max g (d + 1)))
 limit_of most g d why l =
@@ -62,7 +62,7 @@ pub record IsMakeable (f : Forest) (kind : Kind) (size : ℕ) : Type 0 where
   pub target : IsTargetBefore f.made kind
   pub shallow : greatest_depth (changed f (calls.Region kind size)).nodes ≤ most_depth
   pub narrow : greatest_weight (changed f (calls.Region kind size)).nodes ≤ most_weight
-  pub room : f.made < 4294967294
+  pub room : f.made < most_made
   pub few : f.calls < 4611686018427387904
 
 target_made : (f : Forest) → IsOrderedForest f → (kind : Kind) → unknown_target f kind ≡ None → IsTargetBefore f.made kind
@@ -91,7 +91,7 @@ makeable_of f h kind size e =
     let d = first_none (alias_too_long f kind size) (first_refusal (no_more_regions f ∷ no_more_calls f ∷ [])) c.1 in
     let k = first_none (no_more_regions f) (first_refusal (no_more_calls f ∷ [])) d.1 in
     let l = first_none (no_more_calls f) None k.1 in
-    let m = first_none (at_limit which.Made 4294967294 f.made) (at_limit which.Regions 4096 (length f.nodes)) k.0 in
+    let m = first_none (at_limit which.Made most_made f.made) (at_limit which.Regions most_regions (length f.nodes)) k.0 in
     let long = lengths_made f h kind size d.0 in
     record {
       target = target_made f h kind a.0;

@@ -14,7 +14,7 @@ use Rattle.mem_base.specs.declared.script.commands.PassCommand.TheVariants as pa
 use Rattle.mem_base.specs.declared.script.commands.RegionKind.TheVariants as region_kinds
 use Rattle.mem_base.specs.declared.script.places.Section.{Section}
 use Rattle.mem_base.specs.declared.script.places.Section.TheVariants.{Start}
-use Rattle.mem_base.specs.map.Limits.{most_passes}
+use Rattle.mem_base.specs.map.Limits.{most_bytes, most_passes, most_words, page_size}
 use Rattle.mem_base.specs.script.Spelling.{Text, digits, leads_with_no_zero, length_of, machine_size, name_of, nonzero, number_of, most_address, most_size}
 use Rattle.mem_base.specs.script.Spelling.{pass_of, whole_pages}
 use Rattle.mem_base.specs.script.Scripts.{Line, script_of}
@@ -64,16 +64,16 @@ length_fits text n e = go (number_of 64 text) refl e
     go None is e = none_is_not_some n e
     go (Some m) is e = let most = number_fits 64 text m is in let same = not_zero m (m == 0) e in omega arith
 
-machine_small : (text : Text) (n : ℕ) → machine_size text ≡ Some n → n ≤ 2 ^ 29
-machine_small text n e = go (number_of (2 ^ 29) text) refl e
+machine_small : (text : Text) (n : ℕ) → machine_size text ≡ Some n → n ≤ most_bytes
+machine_small text n e = go (number_of most_bytes text) refl e
   where
     whole : (m : ℕ) (b : Bool) → (if b then Some m else None) ≡ Some n → m ≡ n
     whole m true e = same_Some m n e
     whole m false e = none_is_not_some n e
 
-    go : (o : Option ℕ) → number_of (2 ^ 29) text ≡ o → option_and_then whole_pages o ≡ Some n → n ≤ 2 ^ 29
+    go : (o : Option ℕ) → number_of most_bytes text ≡ o → option_and_then whole_pages o ≡ Some n → n ≤ most_bytes
     go None is e = none_is_not_some n e
-    go (Some m) is e = let most = number_fits (2 ^ 29) text m is in let same = whole m ((m % 4096 == 0) && nat_le 4096 m) e in
+    go (Some m) is e = let most = number_fits most_bytes text m is in let same = whole m ((m % page_size == 0) && nat_le page_size m) e in
         omega arith
 
 size_fits : (text : Text) (n : ℕ) → number_of most_size text ≡ Some n → n ≤ 2 ^ 64
@@ -496,11 +496,11 @@ pub lines_fit : (text : Text) (lines : List Line) → script_of text ≡ Ok line
 lines_fit text lines e = sound_fits Start lines (script_sound text lines e)
 
 -- the words of a pool are no more than the largest one has
-words_fit : (c : Command) → FitsCommand c → words_named c ≤ 2 ^ 26
+words_fit : (c : Command) → FitsCommand c → words_named c ≤ most_words
 words_fit (commands.Machine size) b = omega (arith, b)
 words_fit _ b = omega arith
 
-pub pool_fits : (lines : List Line) → AreFitting lines → pool_words lines ≤ 2 ^ 26
+pub pool_fits : (lines : List Line) → AreFitting lines → pool_words lines ≤ most_words
 pool_fits [] h = omega arith
 pool_fits (line ∷ lines) h = words_fit line.1 h.0
 

@@ -2,7 +2,7 @@
 use Rattle.std.proofs.Common.{◌≡◌, ◌==◌, ◌<◌, ◌≤◌, ◌+◌, ◌-◌, ◌*◌, ◌/◌, ◌%◌, ◌^◌, ◌++◌, ◌&&◌, ℕ, zero, suc, List, [], ◌∷◌, Bool, true, false}
 use Rattle.std.proofs.Common.{not, cond, nat_lt, nat_le, None, Some, Option, refl, sym, ap, ap₂, subst, ◌∙◌, arith, length, take, drop}
 use Rattle.std.proofs.Common.{codes, decimal, bytes_eq, ℤ, pos, negsuc, neg_ℤ, option_map, option_and_then, position, true≢false, eqb-true}
-use Rattle.mem_base.specs.map.Limits.{most_passes, page_size}
+use Rattle.mem_base.specs.map.Limits.{most_bytes, most_passes, page_size}
 use Rattle.std.proofs.lemmas.Bool.{eqb-false, lt-ltb, and_parts, and_from}
 use Rattle.std.proofs.lemmas.List.{drop-drop, length-append}
 use Rattle.std.proofs.lemmas.List.Folds.{list_all-append}
@@ -47,13 +47,13 @@ decimal_law limit small token n e =
 
 pub machine_law : Law machine_size number_text
 machine_law token n e =
-    option_and_then_some whole_pages (number_of (2 ^ 29) token) n e λ k is e.
+    option_and_then_some whole_pages (number_of most_bytes token) n e λ k is e.
     let pages = cond_some ((k % page_size == 0) && nat_le page_size k) k n e in
-    let fits : k ≤ 2 ^ 29 = number_fits (2 ^ 29) token k is in
+    let fits : k ≤ most_bytes = number_fits most_bytes token k is in
     subst (λ m. Spelled machine_size (number_text m) m) pages.1
     (record {
       token = number_token k (omega (arith, fits));
-      reads = ap (option_and_then whole_pages) (number_reads (2 ^ 29) k (omega (arith, fits)) fits) ∙ ap (λ b. cond b (Some k) None) pages.0;
+      reads = ap (option_and_then whole_pages) (number_reads most_bytes k (omega (arith, fits)) fits) ∙ ap (λ b. cond b (Some k) None) pages.0;
     })
 
 none_or : {X : Type 0} (b : Bool) (o : Option X) (x : X) → cond b None o ≡ Some x → (b ≡ false) × (o ≡ Some x)

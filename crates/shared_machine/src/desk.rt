@@ -1,7 +1,7 @@
 // The writer's desk with its share of the cabinet.
 ghost use Rattle.std.specs.Prelude.{◌≡◌, ◌≢◌, ◌≤◌, ◌^◌, Err, IfOk, None, [], drop};
 ghost use Rattle.std.specs.Arc.{arc_value};
-ghost use Rattle.mem_base.specs.map.Limits.{most_passes};
+ghost use Rattle.mem_base.specs.map.Limits.{most_passes, most_words};
 ghost use Rattle.mem_base.specs.machine.Answers.{answer_with, harvest_answer, notifier_answer, reap_answer};
 ghost use Rattle.mem_base.specs.machine.Orders.{configure, harvest, notified, reap};
 ghost use Rattle.mem_base.specs.machine.Publishing.{current_forest};
@@ -46,7 +46,7 @@ impl Desk {
     ///
     /// It fails only where memory runs out.
     pub fn new(alloc: Global, words: usize) -> Result<Desk, AllocError>
-        requires words { words ≤ 2 ^ 26 }
+        requires words { words ≤ most_words }
         ensures part { IfOk result (λ desk. desk.part ≡ first_writer words most_passes) }
         ensures fresh { IfOk result (λ desk. desk.seat.seen ≡ []) }
     {

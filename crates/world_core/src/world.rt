@@ -2,7 +2,7 @@
 ghost use Rattle.std.specs.Prelude.{◌≡◌, ◌+◌, ◌≤◌, ◌<◌, ◌^◌, [], drop, replicate, Some, IfOk};
 ghost use Rattle.std.specs.Arc.{arc_value};
 ghost use Rattle.mem_base.specs.map.Calls.{empty};
-ghost use Rattle.mem_base.specs.map.Limits.{most_passes, notifier_count};
+ghost use Rattle.mem_base.specs.map.Limits.{most_passes, most_words, notifier_count};
 ghost use Rattle.mem_base.specs.machine.World.{opening};
 ghost use Rattle.mem_base.specs.machine.Passes.{pass_of};
 ghost use Rattle.mem_base.specs.machine.Generations.{generation, generation_of};
@@ -56,7 +56,7 @@ fn hand_of(
     passes: u32,
 ) -> Result<PureHand, AllocError>
     requires desk { resting desk.now.listened ≡ first_state words }
-    requires words { words ≤ 2 ^ 26 }
+    requires words { words ≤ most_words }
     requires some { 0 < passes }
     requires few { passes ≤ most_passes }
     ensures kept { IfOk result (λ hand. hand.kept ≡ first_kept passes (published 0 empty [])) }
@@ -77,7 +77,7 @@ impl World {
     /// The world at first: an empty map over a pool of this many words, at most 2^26, and 1 to 16 passes. It fails only where memory
     /// runs out.
     pub fn new(alloc: Global, words: usize, passes: u32) -> Result<World, AllocError>
-        requires words { words ≤ 2 ^ 26 }
+        requires words { words ≤ most_words }
         requires some { 0 < passes }
         requires few { passes ≤ most_passes }
         ensures { IfOk result (λ world. world ≡ opening words passes) }

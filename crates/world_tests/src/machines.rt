@@ -1,7 +1,8 @@
 // A machine between the calls of its user.
-ghost use Rattle.std.specs.Prelude.{◌≡◌, ◌^◌, ◌≤◌, ◌<◌, true};
+ghost use Rattle.std.specs.Prelude.{◌≡◌, ◌≤◌, ◌<◌, true};
 ghost use Rattle.mem_base.specs.declared.machine.events.Event.TheVariants as events;
 ghost use Rattle.mem_base.specs.machine.World.{possible};
+ghost use Rattle.mem_base.specs.map.Limits.{most_words};
 ghost use Rattle.world_tests.specs.Ready.{IsReady};
 
 use generation::Generation;
@@ -57,7 +58,7 @@ fn leave_first(world: &mut World, pass: PassId)
 impl Machine {
     /// An empty map over a pool of this many words.
     pub(crate) fn new(alloc: Global, words: usize) -> Result<Machine, AllocError>
-        requires { words ≤ 2 ^ 26 }
+        requires { words ≤ most_words }
     {
         let world = World::new(alloc, words, MOST_PASSES)?;
         Ok(Machine { world })

@@ -78,6 +78,10 @@ most_bytes = limits.MOST_BYTES
 abbrev pub word_size : ℕ
 word_size = limits.WORD_SIZE
 
+-- 2^26: the words of the largest pool, 512 MiB
+abbrev pub most_words : ℕ
+most_words = limits.MOST_WORDS
+
 -- 64: the pages whose marks share a word
 abbrev pub pages_per_word : ℕ
 pages_per_word = limits.PAGES_PER_WORD

@@ -58,5 +58,8 @@ pub const MOST_BYTES: u64 = 0x2000_0000;
 /// The bytes of a word of the pool.
 pub const WORD_SIZE: u64 = 8;
 
+/// The words of the largest pool: `MOST_BYTES` of memory.
+pub const MOST_WORDS: usize = 0x400_0000;
+
 /// The pages whose marks share a word.
 pub const PAGES_PER_WORD: u64 = 64;
