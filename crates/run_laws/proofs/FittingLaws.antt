@@ -14,7 +14,7 @@ use Rattle.mem_base.specs.declared.script.commands.PassCommand.TheVariants as pa
 use Rattle.mem_base.specs.declared.script.commands.RegionKind.TheVariants as region_kinds
 use Rattle.mem_base.specs.declared.script.places.Section.{Section}
 use Rattle.mem_base.specs.declared.script.places.Section.TheVariants.{Start}
-use Rattle.mem_base.specs.map.Limits.{most_bytes, most_passes, most_words, page_size}
+use Rattle.mem_base.specs.map.Limits.{most_bytes, most_passes, most_words, notifier_count, page_size}
 use Rattle.mem_base.specs.script.Spelling.{Text, digits, leads_with_no_zero, length_of, machine_size, name_of, nonzero, number_of, most_address, most_size}
 use Rattle.mem_base.specs.script.Spelling.{pass_of, whole_pages}
 use Rattle.mem_base.specs.script.Scripts.{Line, script_of}
@@ -328,7 +328,7 @@ at_fits t y e =
 notified_fits : Fits notified
 notified_fits t y e =
     took notifier_law t _ _ _ e λ number n t e.
-    ended FitsCommand (commands.Notified number) t _ e (let most = number_fits 63 (decimal number) number n.reads in omega arith)
+    ended FitsCommand (commands.Notified number) t _ e (let most = number_fits (notifier_count - 1) (decimal number) number n.reads in omega arith)
 
 dirty_fits : Fits dirty
 dirty_fits t y e =

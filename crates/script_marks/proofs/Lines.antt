@@ -1,7 +1,8 @@
 -- Each form of the language is good.
-use Rattle.std.proofs.Common.{◌≡◌, ℕ, Bool, true, false, List, [], ◌∷◌, Option, Some, None, refl, codes, is_ok, option_map, pos, ℤ}
+use Rattle.std.proofs.Common.{◌≡◌, ℕ, ◌-◌, Bool, true, false, List, [], ◌∷◌, Option, Some, None, refl, codes, is_ok, option_map, pos, ℤ}
 use Rattle.std.specs.Option.{option_or}
 use Rattle.mem_base.specs.map.PassIds.{PassId}
+use Rattle.mem_base.specs.map.Limits.{notifier_count}
 use Rattle.mem_base.specs.declared.map.kinds.Device.{Device}
 use Rattle.mem_base.specs.declared.map.kinds.Client.{Client}
 use Rattle.mem_base.specs.declared.map.kinds.Client.TheVariants.{Vga}
@@ -45,7 +46,7 @@ len_then : {Y : Type 0} (rest : ℕ → Form Y) → ((x : ℕ) → Good (rest x)
 len_then rest good = good_token causes.Number length_of (codes "1") 1 refl refl refl rest good
 
 notifier_then : {Y : Type 0} (rest : ℕ → Form Y) → ((x : ℕ) → Good (rest x)) → Good (notifier >>= rest)
-notifier_then rest good = good_token causes.Number (number_of 63) (codes "0") 0 refl refl refl rest good
+notifier_then rest good = good_token causes.Number (number_of (notifier_count - 1)) (codes "0") 0 refl refl refl rest good
 
 decimal_then : {Y : Type 0} (rest : ℕ → Form Y) → ((x : ℕ) → Good (rest x)) → Good (decimal_number 255 >>= rest)
 decimal_then rest good = good_token causes.Number (digits 10 255) (codes "1") 1 refl refl refl rest good
