@@ -85,7 +85,7 @@ module _ (g : Published) (k : IsEdition g.forest g.places) where
       go : IsRegionPlace k.pool_words f p ⊎ IsNotifiersPlace k.pool_words f p → p.region ≡ notifiers
           → (number : ℕ) → number < notifier_count → is_data_or_register p number ≡ true
       go (inl h) is number l = absurd (no_region (node_of f.nodes p.region) refl is h.fits)
-      go (inr h) is number l = ap (λ (x : Place). is_data_or_register x number) h.1 ∙ lt-ltb number 64 l
+      go (inr h) is number l = ap (λ (x : Place). is_data_or_register x number) h.1 ∙ lt-ltb number notifier_count l
 
   -- a place without registers is of a region
   pub region_there : (r : RegionId) (p : Place) → place_in places r ≡ Some p → p.regs ≡ 0 → node_of f.nodes r ≡ None → ⊥

@@ -36,24 +36,25 @@ starts_below with_next a (suc n) = put (with_next a) (runs with_next (a + 1) n) 
     put false rs h = (omega arith, wider rs h)
 
 -- each page that is marked lies in the region
-pub marks_inside : (log offset n bytes : ℕ) → offset + n ≤ bytes → bytes % 4096 ≡ 0 → Every {A = ℕ × Client} (λ m. m.0 < bytes / 4096) (marks_of log offset n)
+pub marks_inside : (log offset n bytes : ℕ) → offset + n ≤ bytes → bytes % page_size ≡ 0 →
+    Every {A = ℕ × Client} (λ m. m.0 < bytes / page_size) (marks_of log offset n)
 marks_inside log offset n bytes most whole =
-    every_flat {B = ℕ × Client} (λ m. m.0 < bytes / 4096) on_page (touched page_size offset n)
+    every_flat {B = ℕ × Client} (λ m. m.0 < bytes / page_size) on_page (touched page_size offset n)
     (each (touched page_size offset n) (starts_below (is_in_unit page_size) offset n))
   where
     on_page : Run → List (ℕ × Client)
     on_page r = map (λ c. (r.start / page_size, c)) (clients_of log)
 
-    all : (page : ℕ) (cs : List Client) → page < bytes / 4096 → Every {A = ℕ × Client} (λ m. m.0 < bytes / 4096) (map (λ c. (page, c)) cs)
+    all : (page : ℕ) (cs : List Client) → page < bytes / page_size → Every {A = ℕ × Client} (λ m. m.0 < bytes / page_size) (map (λ c. (page, c)) cs)
     all page [] l = tt
     all page (c ∷ cs) l = (l, all page cs l)
 
-    page_below : (start : ℕ) → start < offset + n → start / 4096 < bytes / 4096
+    page_below : (start : ℕ) → start < offset + n → start / page_size < bytes / page_size
     page_below start l = omega (arith, l, most, whole)
 
-    each : (rs : List Run) → Every (λ r. r.start < offset + n) rs → Every (λ r. Every {A = ℕ × Client} (λ m. m.0 < bytes / 4096) (on_page r)) rs
+    each : (rs : List Run) → Every (λ r. r.start < offset + n) rs → Every (λ r. Every {A = ℕ × Client} (λ m. m.0 < bytes / page_size) (on_page r)) rs
     each [] h = tt
-    each (r ∷ rs) h = (all (r.start / 4096) (clients_of log) (page_below r.start h.0), each rs h.1)
+    each (r ∷ rs) h = (all (r.start / page_size) (clients_of log) (page_below r.start h.0), each rs h.1)
 
 -- a list of which the first element is known
 pub first_and_rest : {A : Type 0} (xs ys : List A) (x : A) → Some x ≡ first_of xs → ys ≡ drop 1 xs → xs ≡ x ∷ ys

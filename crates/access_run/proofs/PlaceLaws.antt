@@ -22,7 +22,7 @@ use Rattle.generation.specs.Published.{Published}
 use Rattle.access_base.proofs.LeafLaws.{region, bytes_words, good, leaf_has_place, leaf_place, notifiers_found}
 use Rattle.access_run.specs.RegionPlaces.{AreNotifiersOf, AreRegistersOf, IsMemoryOf}
 use Rattle.mem_base.proofs.NodeLaws.{whole_bytes}
-use Rattle.mem_base.specs.map.Limits.{most_bytes}
+use Rattle.mem_base.specs.map.Limits.{most_bytes, page_size}
 
 register_words : (kind : Kind) (device : Device) (size : ℕ) → device_of kind ≡ Some device → 1 ≤ device.regs → 0 < words_of (extent_of kind size)
 register_words (RomDevice d) device size e some =
@@ -49,9 +49,9 @@ module _ (g : Published) (k : IsEdition g.forest g.places) (r : RegionId) (n : N
       let t = size_whole n.kind n.size (region g k r n is).sized bytes in record {
         placed = ap (place_in g.places) (leaf_place g k r n is p found).0 ∙ found;
         region = (leaf_place g k r n is p found).0;
-        words = let w : n.size % 4096 ≡ 0 = t.1 in omega (arith, w, size);
+        words = let w : n.size % page_size ≡ 0 = t.1 in omega (arith, w, size);
         few = let l : n.size ≤ most_bytes = t.2 in omega (arith, l, size);
-        pages = λ page h. subst (λ m. page < m / 4096) (sym size) (subst (λ o. IfSome o (λ (n : Node). page < n.size / 4096)) is h);
+        pages = λ page h. subst (λ m. page < m / page_size) (sym size) (subst (λ o. IfSome o (λ (n : Node). page < n.size / page_size)) is h);
         within = λ offset bytes h.
             subst (λ m. offset + bytes ≤ m) (sym size) (subst (λ o. IfSome o (λ (n : Node). offset + bytes ≤ n.size)) is h);
       }

@@ -161,8 +161,8 @@ module _ (pool_words : ℕ) (places : List Place) (hs : List (ℕ × ℕ)) (are 
 -- a region with bytes or registers has words
 pub some_words : (bytes regs : ℕ) → bytes % page_size ≡ 0 → 0 < bytes + regs → 0 < words_of (extent bytes regs)
 some_words bytes regs pages some =
-    let p : bytes % 4096 ≡ 0 = pages in
-    omega (arith, div-add-mod' bytes 4096, div-add-mod' bytes 8, mod_below bytes 8 (omega arith), p, some)
+    let p : bytes % page_size ≡ 0 = pages in
+    omega (arith, div-add-mod' bytes page_size, div-add-mod' bytes 8, mod_below bytes 8 (omega arith), p, some)
 
 pub no_backing : {A : Type 0} (n m : ℕ) (why : Refusal) → n ≡ m → (let r : Result A Refusal = Err (NoBacking n) in r) ≡ Err why → why ≡ NoBacking m
 no_backing n m why words e = let same : NoBacking n ≡ why = cc in sym same ∙ ap NoBacking words

@@ -4,6 +4,7 @@ ghost use Rattle.mem_base.specs.access.AccessSteps.{writing};
 ghost use Rattle.mem_base.specs.access.MemoryAccess.{marked, on_word, on_words};
 ghost use Rattle.mem_base.specs.lists.Runs.{run};
 ghost use Rattle.mem_base.specs.machine.Passes.{pass_id};
+ghost use Rattle.mem_base.specs.map.Limits.{page_size};
 ghost use Rattle.access_run.specs.Hands.{IsPlaceOf};
 ghost use Rattle.access_run.specs.Runs.{HasDone};
 ghost use Rattle.vcpu_pass.specs.Steps.{HasMade, generation_in};
@@ -96,7 +97,7 @@ pub(crate) fn write_direct(
     requires placed { IsPlaceOf (generation_in pass.old) memory.now.place }
     requires within { memory.now.offset + length bytes.now ≤ memory.now.place.bytes }
     requires few { memory.now.place.bytes < 2 ^ 64 }
-    requires pages { memory.now.place.bytes % 4096 ≡ 0 }
+    requires pages { memory.now.place.bytes % page_size ≡ 0 }
     ensures most { result ≤ length bytes.now }
     ensures done { HasDone HasMade (pass_id pass.old.number) pass.old
         (on_words memory.now.place.region memory.now.offset (writing (take result bytes.now))

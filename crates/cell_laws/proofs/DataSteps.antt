@@ -17,7 +17,7 @@ use Rattle.mem_base.specs.declared.machine.events.HistoryEntry.{HistoryEntry}
 use Rattle.mem_base.specs.declared.machine.events.Carried.{Carried}
 use Rattle.mem_base.specs.lists.Every.{Every}
 use Rattle.mem_base.specs.lists.Runs.{is_in_unit, touched}
-use Rattle.mem_base.specs.map.Limits.{word_size}
+use Rattle.mem_base.specs.map.Limits.{page_size, word_size}
 use Rattle.mem_base.specs.map.Kinds.{has_bytes}
 use Rattle.mem_base.specs.map.Region.{node_of}
 use Rattle.mem_base.specs.map.Forest.{IsMade, IsRegion, IsClosedForest}
@@ -103,7 +103,7 @@ module _ (f : Forest) (made : IsMade f) (region : RegionId) (offset : ℕ) (byte
       within : (n : Node) → nat_lt n.size (offset + length bytes) ≡ false → offset + length bytes ≤ n.size
       within n e = grind (arith, nat_tests, e)
 
-      inside : (start size : ℕ) → start < size → size % 4096 ≡ 0 → start / 8 < size / 8
+      inside : (start size : ℕ) → start < size → size % page_size ≡ 0 → start / 8 < size / 8
       inside start size l pages = omega (arith, l, pages)
 
   unless_good : (o : Option Refusal) → load_refusal f region offset (length bytes) ≡ o → AllGood f (unless o (loads region offset bytes))

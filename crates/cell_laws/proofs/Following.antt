@@ -1,7 +1,7 @@
 -- Each event of a turn that the pure machine makes is possible on the running one, with its place and the same reply.
 use Rattle.std.proofs.Common.{◌≡◌, ⊎_elim, ℕ, zero, suc, ◌+◌, ◌<◌, ◌≤◌, Bool, true, false, List, [], ◌∷◌, ◌++◌, length, map}
 use Rattle.std.proofs.Common.{refl, sym, ap, subst, ◌∙◌, arith, eq-eqb, if◌then◌else◌, Option, Some, None}
-use Rattle.std.specs.Prelude.{◌==◌, ◌&&◌, ◌/◌, ◌*◌, flat_map, nat_lt}
+use Rattle.std.specs.Prelude.{◌==◌, ◌&&◌, ◌-◌, ◌/◌, ◌*◌, flat_map, nat_lt}
 use Rattle.std.specs.List.{range_with_len}
 use Rattle.std.proofs.lemmas.Bool.{le-leb, lt-ltb, ltb-true, eqb-true, and_from, and_parts}
 use Rattle.mem_base.specs.declared.map.ids.RegionId.{RegionId}
@@ -15,7 +15,7 @@ use Rattle.mem_base.specs.declared.machine.events.Event.{Event}
 use Rattle.mem_base.specs.declared.machine.events.Event.TheVariants as events
 use Rattle.mem_base.specs.declared.machine.events.Hand.TheVariants as hands
 use Rattle.mem_base.specs.lists.Every.{Every}
-use Rattle.mem_base.specs.map.Limits.{notifier_count, word_size}
+use Rattle.mem_base.specs.map.Limits.{notifier_count, pages_per_word, word_size}
 use Rattle.mem_base.specs.access.PlacesByRegion.{place_in}
 use Rattle.mem_base.specs.access.Places.{mark_word, mark_words, pages_in, past, notifiers_place}
 use Rattle.mem_base.specs.access.Cells.{cell}
@@ -74,7 +74,8 @@ module _ (w : World) (words : List ℕ) (k : Coupled w words) where
       and_from _ _ (eq-eqb p.region.0 r.0 (its_region (places_of w.writer.desk) r p here))
       (and_from _ _ (lt-ltb word p.words near) (le-leb (past p) (length words) inside))
 
-  first_page : (index n : ℕ) → index < (n + 63) / 64 → (64 * index < n) × (64 * index / 64 ≡ index)
+  first_page : (index n : ℕ) → index < (n + (pages_per_word - 1)) / pages_per_word →
+      (pages_per_word * index < n) × (pages_per_word * index / pages_per_word ≡ index)
   first_page index n l = (omega (arith, l), omega arith)
 
   by_word : (c : Cell) (step : WordStep) (o : Option Place) → place_in (places_of w.writer.desk) c.region ≡ o
@@ -91,7 +92,7 @@ module _ (w : World) (words : List ℕ) (k : Coupled w words) where
       let whole = found_has (IsWhole (places_of w.writer.desk)) (places_of w.writer.desk) r p k.whole is in
       let page = first_page index (pages_in p) (ltb-true _ _ may) in
       within p r (mark_word p client index) is
-      (subst (λ (z : ℕ). mark_word p client z < p.words) page.1 (whole.marks client (64 * index) page.0))
+      (subst (λ (z : ℕ). mark_word p client z < p.words) page.1 (whole.marks client (pages_per_word * index) page.0))
 
   by_fill : (c : Cell) (p : Place) → place_in (places_of w.writer.desk) c.region ≡ Some p → c.word < p.words
       → running.shared_possible (seen w words) (events.Fill c) (carried_by w.writer.desk (events.Fill c)) ≡ true

@@ -95,8 +95,8 @@ module _ (r : RegionId) (i : ℕ) where
       zero_at (suc n) zero = refl
       zero_at (suc n) (suc j) = zero_at n j
 
-      first_zero : (p : Place) (b : Bool) → slice_index (if b then replicate 64 0 else []) i ≡ 0
-      first_zero p true = zero_at 64 i
+      first_zero : (p : Place) (b : Bool) → slice_index (if b then replicate notifier_count 0 else []) i ≡ 0
+      first_zero p true = zero_at notifier_count i
       first_zero p false = refl
 
 pub cells_hold_last : (pool_words passes : ℕ) (xs : List PureEntry) → IsLegal pool_words passes xs

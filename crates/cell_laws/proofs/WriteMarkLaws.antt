@@ -27,13 +27,14 @@ use Rattle.mem_base.proofs.EveryLaws.{every_append, every_flat, every_map, every
 use Rattle.cell_laws.specs.WriteMarks.{HasMarkedChunk, IsBefore, IsMarked, IsOnRegion, IsTouchedPage, Mark, is_logging}
 use Rattle.mem_base.proofs.BoolLaws.{true_is_not_false}
 use Rattle.mem_base.proofs.SortingLaws.{pairs_filter}
+use Rattle.mem_base.specs.map.Limits.{page_size}
 
 -- Pages that are touched
 
 -- one of these runs begins in this page
 abbrev HasPage : List Run → ℕ → Type 0
 HasPage [] page = ⊥
-HasPage (r ∷ rs) page = (r.start / 4096 ≡ page) ⊎ HasPage rs page
+HasPage (r ∷ rs) page = (r.start / page_size ≡ page) ⊎ HasPage rs page
 
 -- the first run begins here
 abbrev BeginsAt : ℕ → List Run → Type 0
@@ -41,63 +42,63 @@ BeginsAt a [] = Unit {0}
 BeginsAt a (r ∷ rs) = r.start ≡ a
 
 abbrev InOrder : Run → Run → Type 0
-InOrder r s = r.start / 4096 < s.start / 4096
+InOrder r s = r.start / page_size < s.start / page_size
 
 record ArePages (a n : ℕ) (rs : List Run) : Type 0 where
   begins : BeginsAt a rs
   within : Every (λ r. (a ≤ r.start) × (r.start < a + n)) rs
   rising : EveryPair InOrder rs
-  all : (i : ℕ) → i < n → HasPage rs ((a + i) / 4096)
+  all : (i : ℕ) → i < n → HasPage rs ((a + i) / page_size)
 
 above_zero : (n : ℕ) → (n ≡ 0 → ⊥) → 0 < n
 above_zero zero h = absurd (h refl)
 above_zero (suc n) h = omega arith
 
-same_page : (a : ℕ) → is_in_unit 4096 a ≡ true → (a + 1) / 4096 ≡ a / 4096
+same_page : (a : ℕ) → is_in_unit page_size a ≡ true → (a + 1) / page_size ≡ a / page_size
 same_page a e =
-    let some : 0 < (a + 1) % 4096 =
-    above_zero ((a + 1) % 4096) (λ z. true_is_not_false (is_in_unit 4096 a) e (ap (λ (r : ℕ). not (r == 0)) z)) in
+    let some : 0 < (a + 1) % page_size =
+    above_zero ((a + 1) % page_size) (λ z. true_is_not_false (is_in_unit page_size a) e (ap (λ (r : ℕ). not (r == 0)) z)) in
     omega (arith, some)
 
-next_page : (a : ℕ) → is_in_unit 4096 a ≡ false → (a + 1) % 4096 ≡ 0
-next_page a e = go ((a + 1) % 4096 == 0) refl e
+next_page : (a : ℕ) → is_in_unit page_size a ≡ false → (a + 1) % page_size ≡ 0
+next_page a e = go ((a + 1) % page_size == 0) refl e
   where
-    go : (b : Bool) → ((a + 1) % 4096 == 0) ≡ b → not b ≡ false → (a + 1) % 4096 ≡ 0
-    go true is e = eqb-true ((a + 1) % 4096) 0 is
+    go : (b : Bool) → ((a + 1) % page_size == 0) ≡ b → not b ≡ false → (a + 1) % page_size ≡ 0
+    go true is e = eqb-true ((a + 1) % page_size) 0 is
     go false is e = absurd (true_is_not_false true refl e)
 
-first_page : (a count : ℕ) (rs : List Run) → HasPage (run a count ∷ rs) ((a + 0) / 4096)
-first_page a count rs = let here : a ≡ a + 0 = omega arith in inl (ap (λ (m : ℕ). m / 4096) here)
+first_page : (a count : ℕ) (rs : List Run) → HasPage (run a count ∷ rs) ((a + 0) / page_size)
+first_page a count rs = let here : a ≡ a + 0 = omega arith in inl (ap (λ (m : ℕ). m / page_size) here)
 
-later_page : (a j : ℕ) (rs : List Run) → HasPage rs ((a + 1 + j) / 4096) → HasPage rs ((a + suc j) / 4096)
-later_page a j rs h = let at : a + 1 + j ≡ a + suc j = omega arith in subst (λ (m : ℕ). HasPage rs (m / 4096)) at h
+later_page : (a j : ℕ) (rs : List Run) → HasPage rs ((a + 1 + j) / page_size) → HasPage rs ((a + suc j) / page_size)
+later_page a j rs h = let at : a + 1 + j ≡ a + suc j = omega arith in subst (λ (m : ℕ). HasPage rs (m / page_size)) at h
 
 wider : (a n : ℕ) (rs : List Run) → Every (λ r. (a + 1 ≤ r.start) × (r.start < a + 1 + n)) rs → Every (λ r. (a ≤ r.start) × (r.start < a + suc n)) rs
 wider a n rs h = weaker (λ r. (a + 1 ≤ r.start) × (r.start < a + 1 + n)) (λ r. (a ≤ r.start) × (r.start < a + suc n))
     (λ r k. let low = k.0 in let high = k.1 in (omega (arith, low), omega (arith, high))) rs h
 
-pages : (a n : ℕ) → ArePages a n (touched 4096 a n)
+pages : (a n : ℕ) → ArePages a n (touched page_size a n)
 pages a zero = record { begins = tt; within = tt; rising = tt; all = λ i l. absurd (omega (arith, l)) }
-pages a (suc n) = put (is_in_unit 4096 a) refl (touched 4096 (a + 1) n) (pages (a + 1) n)
+pages a (suc n) = put (is_in_unit page_size a) refl (touched page_size (a + 1) n) (pages (a + 1) n)
   where
-    joined : (r : Run) (rs : List Run) → is_in_unit 4096 a ≡ true → ArePages (a + 1) n (r ∷ rs) → (i : ℕ) → i < suc n
-        → HasPage (run a (r.length + 1) ∷ rs) ((a + i) / 4096)
+    joined : (r : Run) (rs : List Run) → is_in_unit page_size a ≡ true → ArePages (a + 1) n (r ∷ rs) → (i : ℕ) → i < suc n
+        → HasPage (run a (r.length + 1) ∷ rs) ((a + i) / page_size)
     joined r rs e k zero l = first_page a (r.length + 1) rs
     joined r rs e k (suc j) l = later_page a j (run a (r.length + 1) ∷ rs) (go (k.all j (omega (arith, l))))
       where
-        go : HasPage (r ∷ rs) ((a + 1 + j) / 4096) → HasPage (run a (r.length + 1) ∷ rs) ((a + 1 + j) / 4096)
-        go (inl h) = inl (sym (same_page a e) ∙ ap (λ (m : ℕ). m / 4096) (sym k.begins) ∙ h)
+        go : HasPage (r ∷ rs) ((a + 1 + j) / page_size) → HasPage (run a (r.length + 1) ∷ rs) ((a + 1 + j) / page_size)
+        go (inl h) = inl (sym (same_page a e) ∙ ap (λ (m : ℕ). m / page_size) (sym k.begins) ∙ h)
         go (inr h) = inr h
 
-    apart : (rs : List Run) → ArePages (a + 1) n rs → (i : ℕ) → i < suc n → HasPage (run a 1 ∷ rs) ((a + i) / 4096)
+    apart : (rs : List Run) → ArePages (a + 1) n rs → (i : ℕ) → i < suc n → HasPage (run a 1 ∷ rs) ((a + i) / page_size)
     apart rs k zero l = first_page a 1 rs
     apart rs k (suc j) l = later_page a j (run a 1 ∷ rs) (inr (k.all j (omega (arith, l))))
 
-    none : (k : ArePages (a + 1) n []) → (i : ℕ) → i < suc n → HasPage (run a 1 ∷ []) ((a + i) / 4096)
+    none : (k : ArePages (a + 1) n []) → (i : ℕ) → i < suc n → HasPage (run a 1 ∷ []) ((a + i) / page_size)
     none k zero l = first_page a 1 []
     none k (suc j) l = absurd (k.all j (omega (arith, l)))
 
-    put : (b : Bool) → is_in_unit 4096 a ≡ b → (rs : List Run) → ArePages (a + 1) n rs → ArePages a (suc n) (put_before b a rs)
+    put : (b : Bool) → is_in_unit page_size a ≡ b → (rs : List Run) → ArePages (a + 1) n rs → ArePages a (suc n) (put_before b a rs)
     put true e [] k = record {
       begins = refl;
       within = ((omega arith, omega arith), tt);
@@ -109,7 +110,7 @@ pages a (suc n) = put (is_in_unit 4096 a) refl (touched 4096 (a + 1) n) (pages (
       within = ((omega arith, omega arith), wider a n rs k.within.1);
       rising = (
         weaker (InOrder r) (InOrder (run a (r.length + 1)))
-            (λ s h. subst (λ (m : ℕ). m < s.start / 4096) (ap (λ (m : ℕ). m / 4096) k.begins ∙ same_page a e) h) rs k.rising.0,
+            (λ s h. subst (λ (m : ℕ). m < s.start / page_size) (ap (λ (m : ℕ). m / page_size) k.begins ∙ same_page a e) h) rs k.rising.0,
         k.rising.1,
       );
       all = joined r rs e k;
@@ -161,7 +162,7 @@ pairs_append R (x ∷ xs) ys h k c = (every_append (R x) xs ys h.0 c.0, pairs_ap
 -- Marks of touched pages
 
 abbrev marks_at : List Client → Run → List Mark
-marks_at cs r = map (λ c. (r.start / 4096, c)) cs
+marks_at cs r = map (λ c. (r.start / page_size, c)) cs
 
 abbrev Earlier : Client → Client → Type 0
 Earlier c d = number_of_client c < number_of_client d
@@ -175,7 +176,7 @@ each_client Vga = inl refl
 each_client Code = inr (inl refl)
 each_client Migration = inr (inr (inl refl))
 
-marked_at : (cs : List Client) (r : Run) (page : ℕ) (c : Client) → r.start / 4096 ≡ page → HasElement cs c → HasElement (marks_at cs r) (page, c)
+marked_at : (cs : List Client) (r : Run) (page : ℕ) (c : Client) → r.start / page_size ≡ page → HasElement cs c → HasElement (marks_at cs r) (page, c)
 marked_at [] r page c e h = absurd h
 marked_at (d ∷ cs) r page c e (inl same) = inl (λ i. (e i, same i))
 marked_at (d ∷ cs) r page c e (inr h) = inr (marked_at cs r page c e h)
@@ -188,24 +189,24 @@ all_marked cs (r ∷ rs) page c (inr p) h = element_right (marks_at cs r) (flat_
 block_in_order : (cs : List Client) (r : Run) → EveryPair Earlier cs → EveryPair IsBefore (marks_at cs r)
 block_in_order [] r h = tt
 block_in_order (c ∷ cs) r h = (
-  every_map (IsBefore (r.start / 4096, c)) (λ d. (r.start / 4096, d)) cs
-      (weaker (Earlier c) (λ d. IsBefore (r.start / 4096, c) (r.start / 4096, d)) (λ d k. inr (refl, k)) cs h.0),
+  every_map (IsBefore (r.start / page_size, c)) (λ d. (r.start / page_size, d)) cs
+      (weaker (Earlier c) (λ d. IsBefore (r.start / page_size, c) (r.start / page_size, d)) (λ d k. inr (refl, k)) cs h.0),
   block_in_order cs r h.1,
 )
 
-later_marks : (cs : List Client) (rs : List Run) (page : ℕ) → Every (λ s. page < s.start / 4096) rs → Every (λ m. page < m.0) (flat_map (marks_at cs) rs)
+later_marks : (cs : List Client) (rs : List Run) (page : ℕ) → Every (λ s. page < s.start / page_size) rs → Every (λ m. page < m.0) (flat_map (marks_at cs) rs)
 later_marks cs rs page h = every_flat (λ (m : Mark). page < m.0) (marks_at cs) rs
-    (weaker (λ (s : Run). page < s.start / 4096) (λ s. Every (λ (m : Mark). page < m.0) (marks_at cs s))
-    (λ s l. every_map (λ (m : Mark). page < m.0) (λ c. (s.start / 4096, c)) cs (every_one (λ c. page < s.start / 4096) cs (λ c. l))) rs h)
+    (weaker (λ (s : Run). page < s.start / page_size) (λ s. Every (λ (m : Mark). page < m.0) (marks_at cs s))
+    (λ s l. every_map (λ (m : Mark). page < m.0) (λ c. (s.start / page_size, c)) cs (every_one (λ c. page < s.start / page_size) cs (λ c. l))) rs h)
 
 all_in_order : (cs : List Client) (rs : List Run) → EveryPair Earlier cs → EveryPair InOrder rs → EveryPair IsBefore (flat_map (marks_at cs) rs)
 all_in_order cs [] h k = tt
 all_in_order cs (r ∷ rs) h k =
     pairs_append IsBefore (marks_at cs r) (flat_map (marks_at cs) rs) (block_in_order cs r h) (all_in_order cs rs h k.1)
-    (every_map (λ m. Every (IsBefore m) (flat_map (marks_at cs) rs)) (λ c. (r.start / 4096, c)) cs
-    (every_one (λ c. Every (IsBefore (r.start / 4096, c)) (flat_map (marks_at cs) rs)) cs
-    (λ c. weaker (λ (m : Mark). r.start / 4096 < m.0) (IsBefore (r.start / 4096, c)) (λ m l. inl l) (flat_map (marks_at cs) rs)
-    (later_marks cs rs (r.start / 4096) k.0))))
+    (every_map (λ m. Every (IsBefore m) (flat_map (marks_at cs) rs)) (λ c. (r.start / page_size, c)) cs
+    (every_one (λ c. Every (IsBefore (r.start / page_size, c)) (flat_map (marks_at cs) rs)) cs
+    (λ c. weaker (λ (m : Mark). r.start / page_size < m.0) (IsBefore (r.start / page_size, c)) (λ m l. inl l) (flat_map (marks_at cs) rs)
+    (later_marks cs rs (r.start / page_size) k.0))))
 
 only_touched : (log offset bytes : ℕ) (rs : List Run) → Every (λ r. (offset ≤ r.start) × (r.start < offset + bytes)) rs
     → Every (λ m. IsTouchedPage offset bytes m.0 × (is_logging log m.1 ≡ true)) (flat_map (marks_at (clients_of log)) rs)
@@ -215,9 +216,9 @@ only_touched log offset bytes rs h =
     (λ r. Every (λ (m : Mark). IsTouchedPage offset bytes m.0 × (is_logging log m.1 ≡ true)) (marks_at (clients_of log) r))
     (λ r k. let low = k.0 in let high = k.1 in
     let at : offset + (r.start - offset) ≡ r.start = omega (arith, low) in
-    let page : IsTouchedPage offset bytes (r.start / 4096) = (r.start - offset, omega (arith, low, high), ap (λ (m : ℕ). m / 4096) at) in
-    every_map (λ (m : Mark). IsTouchedPage offset bytes m.0 × (is_logging log m.1 ≡ true)) (λ c. (r.start / 4096, c)) (clients_of log)
-    (weaker (λ c. is_logging log c ≡ true) (λ c. IsTouchedPage offset bytes (r.start / 4096) × (is_logging log c ≡ true)) (λ c t. (page, t))
+    let page : IsTouchedPage offset bytes (r.start / page_size) = (r.start - offset, omega (arith, low, high), ap (λ (m : ℕ). m / page_size) at) in
+    every_map (λ (m : Mark). IsTouchedPage offset bytes m.0 × (is_logging log m.1 ≡ true)) (λ c. (r.start / page_size, c)) (clients_of log)
+    (weaker (λ c. is_logging log c ≡ true) (λ c. IsTouchedPage offset bytes (r.start / page_size) × (is_logging log c ≡ true)) (λ c t. (page, t))
     (clients_of log) (all_kept (is_logging log) (Vga ∷ Code ∷ Migration ∷ [])))) rs h)
 
 -- Chunks
@@ -244,7 +245,7 @@ runs_within with_next a (suc n) = put (with_next a) (runs with_next (a + 1) n) (
 -- what is done for a chunk in RAM
 in_ram : (spot : Spot) (bytes : List ℕ) → spot.attrs.readonly ≡ false → IsMarked spot (length bytes) (in_memory spot (writing bytes))
 in_ram spot bytes writable =
-    let rs : List Run = touched 4096 spot.offset (length bytes) in
+    let rs : List Run = touched page_size spot.offset (length bytes) in
     let k : ArePages spot.offset (length bytes) rs = pages spot.offset (length bytes) in record {
       words = on_words spot.leaf spot.offset (writing bytes);
       marked = marks_of spot.attrs.log spot.offset (length bytes);

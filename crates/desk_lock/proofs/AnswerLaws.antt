@@ -47,6 +47,7 @@ use Rattle.desk_lock.specs.Receipts.{IsAnswerTo, IsAppliedTo, IsNew, MayBeRefuse
 use Rattle.desk_lock.specs.Turned.{turn_of}
 use Rattle.desk_lock.proofs.PublishedLaws.{sweeps_keep}
 use Rattle.std.proofs.lemmas.Option.{same_Some}
+use Rattle.mem_base.specs.map.Limits.{pages_per_word}
 
 -- what a call answers
 
@@ -211,13 +212,14 @@ no_pages (notifier_answer x) h = refl
 no_pages (journal_answer x) h = refl
 no_pages (current_answer n g) h = refl
 
-pages_bound : (base : ℕ) (words : List ℕ) → length (pages_from base words) ≤ length words * 64
+pages_bound : (base : ℕ) (words : List ℕ) → length (pages_from base words) ≤ length words * pages_per_word
 pages_bound base [] = omega arith
 pages_bound base (bits ∷ words) =
     let first = pages_few base bits in
-    let rest = pages_bound (base + 64) words in
-    let both : length (pages_of base bits ++ pages_from (base + 64) words) ≡ length (pages_of base bits) + length (pages_from (base + 64) words) =
-    length-append (pages_of base bits) (pages_from (base + 64) words) in omega (arith, first, rest, both)
+    let rest = pages_bound (base + pages_per_word) words in
+    let both : length (pages_of base bits ++ pages_from (base + pages_per_word) words) ≡
+    length (pages_of base bits) + length (pages_from (base + pages_per_word) words) =
+    length-append (pages_of base bits) (pages_from (base + pages_per_word) words) in omega (arith, first, rest, both)
 
 played_length : (es : List Event) (w : Writer) (ns : List ℕ) → length (replies_of (played w es ns).entries) ≡ length es
 played_length [] w ns = refl

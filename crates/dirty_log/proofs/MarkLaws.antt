@@ -90,8 +90,15 @@ same_unit a e = go ((a + 1) % page_size == 0) refl e
     go true q e = cc
     go false q e =
         let ne = eqb-false _ _ q in
-        let f : ((a + 1) % 4096 ≡ 0 → ⊥) = ne in
-        omega (arith, div-add-mod' (a + 1) 4096, div-add-mod' a 4096, mod_below (a + 1) 4096 (omega arith), mod_below a 4096 (omega arith), f)
+        let f : ((a + 1) % page_size ≡ 0 → ⊥) = ne in
+        omega (
+          arith,
+          div-add-mod' (a + 1) page_size,
+          div-add-mod' a page_size,
+          mod_below (a + 1) page_size (omega arith),
+          mod_below a page_size (omega arith),
+          f,
+        )
 
 pub next_unit : (a : ℕ) → is_in_unit page_size a ≡ false → (a + 1) / page_size ≡ a / page_size + 1
 next_unit a e = go ((a + 1) % page_size == 0) refl e
@@ -99,14 +106,14 @@ next_unit a e = go ((a + 1) % page_size == 0) refl e
     go : (b : Bool) → ((a + 1) % page_size == 0) ≡ b → not b ≡ false → (a + 1) / page_size ≡ a / page_size + 1
     go false q e = cc
     go true q e =
-        let f : (a + 1) % 4096 ≡ 0 = eqb-true _ _ q in
-        omega (arith, div-add-mod' (a + 1) 4096, div-add-mod' a 4096, mod_below a 4096 (omega arith), f)
+        let f : (a + 1) % page_size ≡ 0 = eqb-true _ _ q in
+        omega (arith, div-add-mod' (a + 1) page_size, div-add-mod' a page_size, mod_below a page_size (omega arith), f)
 
 -- the bytes after a page's last one lie on later pages
 next_below : (a count : ℕ) → is_in_unit page_size a ≡ false → a / page_size + 1 ≤ (a + suc count) / page_size
 next_below a count e =
-    let f : (a + 1) / 4096 ≡ a / 4096 + 1 = next_unit a e in
-    omega (arith, f, div-add-mod' (a + 1) 4096, div-add-mod' (a + suc count) 4096, mod_below (a + suc count) 4096 (omega arith))
+    let f : (a + 1) / page_size ≡ a / page_size + 1 = next_unit a e in
+    omega (arith, f, div-add-mod' (a + 1) page_size, div-add-mod' (a + suc count) page_size, mod_below (a + suc count) page_size (omega arith))
 
 module _ (clients : List Client) where
   abbrev marked : List Run → List (ℕ × Client)
@@ -160,8 +167,8 @@ marks_of_pages log offset count = pages_of_touched (clients_of log) offset count
 
 pub page_rises : (offset count : ℕ) → offset / page_size ≤ (offset + count) / page_size
 page_rises offset count =
-    let l : offset / 4096 ≤ (offset + count) / 4096 =
-    omega (arith, div-add-mod' offset 4096, div-add-mod' (offset + count) 4096, mod_below (offset + count) 4096 (omega arith)) in l
+    let l : offset / page_size ≤ (offset + count) / page_size =
+    omega (arith, div-add-mod' offset page_size, div-add-mod' (offset + count) page_size, mod_below (offset + count) page_size (omega arith)) in l
 
 pub marks_at_first : (log offset len last : ℕ) → 0 < len → last ≡ (offset + (len - 1)) / page_size
     → marks_left log last (option_map (λ c. (offset / page_size, c)) (first_of (all_clients log))) ≡ marks_of log offset len

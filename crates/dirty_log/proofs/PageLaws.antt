@@ -10,6 +10,7 @@ use Rattle.mem_base.specs.declared.map.kinds.Client.TheVariants.{Vga, Code, Migr
 use Rattle.mem_base.specs.access.Marks.{is_marked, pages_of}
 use Rattle.mem_base.specs.access.Places.{mark_words, number_of_client}
 use Rattle.dirty_log.specs.Apart.{MarksAreApart}
+use Rattle.mem_base.specs.map.Limits.{page_size, pages_per_word}
 
 -- the pages that the lowest `count` bits of a number tell, the first of which stands for `base`
 unfoldable pub told : ℕ → ℕ → ℕ → List ℕ
@@ -49,29 +50,30 @@ told_from base bits bit (suc count) = go (bits / (2 ^ bit) % 2 == 1) (told_from 
     go true ih = ap (λ xs. (base + bit) ∷ xs) (ih ∙ (λ i. told count (next i) (half i)))
     go false ih = ih ∙ (λ i. told count (next i) (half i))
 
-pub told_all : (base bits : ℕ) → told (64 - 0) (base + 0) bits ≡ pages_of base bits
-told_all base bits = sym (told_from base bits 0 64 ∙ ap (told 64 (base + 0)) whole)
+pub told_all : (base bits : ℕ) → told (pages_per_word - 0) (base + 0) bits ≡ pages_of base bits
+told_all base bits = sym (told_from base bits 0 pages_per_word ∙ ap (told pages_per_word (base + 0)) whole)
   where
     whole : bits / (2 ^ 0) ≡ bits
     whole = omega (arith, div-add-mod' bits 1, mod_below bits 1 (omega arith))
 
-told_next : (count bit base rest : ℕ) (b : Bool) → (rest % 2 == 1) ≡ b → bit < 64 → count ≡ 64 - bit → told count (base + bit) rest
-    ≡ (if b then (base + bit) ∷ told (64 - (bit + 1)) (base + (bit + 1)) (rest / 2) else told (64 - (bit + 1)) (base + (bit + 1)) (rest / 2))
+told_next : (count bit base rest : ℕ) (b : Bool) → (rest % 2 == 1) ≡ b → bit < pages_per_word → count ≡ pages_per_word - bit → told count (base + bit) rest
+    ≡ (if b then (base + bit) ∷ told (pages_per_word - (bit + 1)) (base + (bit + 1)) (rest / 2)
+    else told (pages_per_word - (bit + 1)) (base + (bit + 1)) (rest / 2))
 unfolding told
 told_next count bit base rest b t l e =
-    let is : count ≡ suc (64 - (bit + 1)) = omega arith in
+    let is : count ≡ suc (pages_per_word - (bit + 1)) = omega arith in
     let next : base + bit + 1 ≡ base + (bit + 1) = omega arith in
     ap (λ n. told n (base + bit) rest) is
-    ∙ (λ i. if t i then (base + bit) ∷ told (64 - (bit + 1)) (next i) (rest / 2) else told (64 - (bit + 1)) (next i) (rest / 2))
+    ∙ (λ i. if t i then (base + bit) ∷ told (pages_per_word - (bit + 1)) (next i) (rest / 2) else told (pages_per_word - (bit + 1)) (next i) (rest / 2))
 
 -- one bit more, which is set, or is not
-pub told_set : (bit base rest : ℕ) → rest % 2 ≡ 1 → bit < 64
-    → told (64 - bit) (base + bit) rest ≡ (base + bit) ∷ told (64 - (bit + 1)) (base + (bit + 1)) (rest / 2)
-told_set bit base rest e l = told_next (64 - bit) bit base rest true (eq-eqb _ _ e) l refl
+pub told_set : (bit base rest : ℕ) → rest % 2 ≡ 1 → bit < pages_per_word
+    → told (pages_per_word - bit) (base + bit) rest ≡ (base + bit) ∷ told (pages_per_word - (bit + 1)) (base + (bit + 1)) (rest / 2)
+told_set bit base rest e l = told_next (pages_per_word - bit) bit base rest true (eq-eqb _ _ e) l refl
 
-pub told_clear : (bit base rest : ℕ) → rest % 2 ≢ 1 → bit < 64
-    → told (64 - bit) (base + bit) rest ≡ told (64 - (bit + 1)) (base + (bit + 1)) (rest / 2)
-told_clear bit base rest e l = told_next (64 - bit) bit base rest false (ne_eqb _ _ e) l refl
+pub told_clear : (bit base rest : ℕ) → rest % 2 ≢ 1 → bit < pages_per_word
+    → told (pages_per_word - bit) (base + bit) rest ≡ told (pages_per_word - (bit + 1)) (base + (bit + 1)) (rest / 2)
+told_clear bit base rest e l = told_next (pages_per_word - bit) bit base rest false (ne_eqb _ _ e) l refl
 
 -- where nothing is left to tell, all was appended
 pub all_told : (items rest whole : List ℕ) → rest ≡ [] → items ++ rest ≡ whole → items ≡ whole
@@ -105,19 +107,26 @@ same_client Code Migration e = absurd (omega arith)
 same_client Migration Vga e = absurd (omega arith)
 same_client Migration Code e = absurd (omega arith)
 
-page_in_words : (bytes page : ℕ) → page < bytes / 4096 → page / 64 < mark_words bytes
+page_in_words : (bytes page : ℕ) → page < bytes / page_size → page / pages_per_word < mark_words bytes
 page_in_words bytes page h =
-    omega (arith, h, div-add-mod' page 64, mod_below page 64 (omega arith), div-add-mod' (bytes / 4096 + 63) 64, mod_below (bytes / 4096 + 63) 64 (omega arith))
+    omega (
+      arith,
+      h,
+      div-add-mod' page pages_per_word,
+      mod_below page pages_per_word (omega arith),
+      div-add-mod' (bytes / page_size + (pages_per_word - 1)) pages_per_word,
+      mod_below (bytes / page_size + (pages_per_word - 1)) pages_per_word (omega arith),
+    )
 
 same_rows : (before words a b x y : ℕ) → x < words → y < words → before + words * a + x ≡ before + words * b + y → (a ≡ b) × (x ≡ y)
 same_rows before words a b x y l m e =
     same_from_place a x b y words l m (let p : a * words + x ≡ b * words + y = grind arith in p)
 
-same_page : (p q : ℕ) → p / 64 ≡ q / 64 → p % 64 ≡ q % 64 → p ≡ q
-same_page p q e f = omega (arith, e, f, div-add-mod' p 64, div-add-mod' q 64)
+same_page : (p q : ℕ) → p / pages_per_word ≡ q / pages_per_word → p % pages_per_word ≡ q % pages_per_word → p ≡ q
+same_page p q e f = omega (arith, e, f, div-add-mod' p pages_per_word, div-add-mod' q pages_per_word)
 
 pub apart : MarksAreApart
 apart place c d p q hp hq word bit =
-    let rows = same_rows _ (mark_words place.bytes) (number_of_client c) (number_of_client d) (p / 64) (q / 64)
+    let rows = same_rows _ (mark_words place.bytes) (number_of_client c) (number_of_client d) (p / pages_per_word) (q / pages_per_word)
     (page_in_words place.bytes p hp) (page_in_words place.bytes q hq) word in
-    (same_client c d rows.0, same_page p q rows.1 (same_power (p % 64) (q % 64) bit))
+    (same_client c d rows.0, same_page p q rows.1 (same_power (p % pages_per_word) (q % pages_per_word) bit))

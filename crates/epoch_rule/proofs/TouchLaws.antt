@@ -23,6 +23,7 @@ use Rattle.epoch_rule.specs.declared.touches.Touch.TheVariants as touches
 use Rattle.epoch_rule.proofs.PassLaws.{own_added, begins_added, ends_added, pass_added, generations_added, pass_known}
 use Rattle.epoch_rule.proofs.WordSteps.{entered_is}
 use Rattle.mem_base.proofs.PlaceLaws.{one_of}
+use Rattle.mem_base.specs.map.Limits.{notifier_count}
 
 -- a pass that is entered in a generation may reach the words of the places that it carries
 reaches : (f : Forest) (ps : List Place) (p : Place) (word : ℕ) → IsEdition f ps → list_any (is_same_place p) ps ≡ true → is_data_or_register p word ≡ true
@@ -34,7 +35,7 @@ reaches f ps p word k there inside = ⊎_elim
     (and_from _ _ (ap (λ (q : Place). is_notifiers q.region) h.1) (notified h.1)))
     (one_of (λ q. IsRegionPlace k.pool_words f q ⊎ IsNotifiersPlace k.pool_words f q) p ps k.places_of.each there)
   where
-    notified : p ≡ notifiers_place k.pool_words → nat_lt word 64 ≡ true
+    notified : p ≡ notifiers_place k.pool_words → nat_lt word notifier_count ≡ true
     notified e = ap (λ (q : Place). is_data_or_register q word) (sym e) ∙ inside
 
 marks : (f : Forest) (ps : List Place) (p : Place) (page : ℕ) → IsEdition f ps → list_any (is_same_place p) ps ≡ true → page < pages_in p

@@ -7,6 +7,7 @@ use Rattle.mem_base.specs.machine.Answers as machine
 use Rattle.mem_base.specs.machine.Composites.{completed}
 use Rattle.libvobrekan.specs.declared.answers.Answer.{Answer}
 use Rattle.libvobrekan.specs.Answers.{code_memory}
+use Rattle.mem_base.specs.map.Limits.{pages_per_word}
 
 -- bytes in the places of a buffer; what is left of it stays as it was
 abbrev pub put_bytes : List ℕ → List ℕ → List ℕ
@@ -25,10 +26,10 @@ put_regions regions places = put_each (λ r. r.0) regions places
 -- page 64 i + b is bit b of word i; a page whose word is none of these is left out
 abbrev pub page_in : Option ℕ → ℕ → List ℕ → List ℕ
 page_in None page words = words
-page_in (Some word) page words = slice_set words (page / 64) (bit_or word (2 ^ (page % 64)))
+page_in (Some word) page words = slice_set words (page / pages_per_word) (bit_or word (2 ^ (page % pages_per_word)))
 
 abbrev pub with_page : ℕ → List ℕ → List ℕ
-with_page page words = page_in (slice_get words (page / 64)) page words
+with_page page words = page_in (slice_get words (page / pages_per_word)) page words
 
 -- words with the bits of these pages set too
 abbrev pub with_pages : List ℕ → List ℕ → List ℕ

@@ -1,6 +1,7 @@
 // Accesses by passes.
 ghost use Rattle.std.specs.Prelude.{◌≡◌, ◌<◌, ◌≤◌};
 ghost use Rattle.mem_base.specs.access.AccessSteps.{writing};
+ghost use Rattle.mem_base.specs.map.Limits.{most_passes};
 ghost use Rattle.libvobrekan.specs.Accesses.{HasAccessed, HasRead, access_told, ended_so};
 ghost use Rattle.libvobrekan.specs.Answers.{bad_argument};
 ghost use Rattle.libvobrekan.specs.Arguments.{pass_at, space_at};
@@ -66,8 +67,8 @@ pub extern "C" fn vb_read(
     addr: u64,
     out: &mut [u8],
 ) -> Answer
-    ensures read { pass < 16 → HasRead handle.old.machine (pass_at pass) (space_at space) addr out.old result out.new handle.new.machine }
-    ensures argument { 16 ≤ pass → IsRefused handle.old.machine (bad_argument pass) result handle.new.machine × (out.new ≡ out.old) }
+    ensures read { pass < most_passes → HasRead handle.old.machine (pass_at pass) (space_at space) addr out.old result out.new handle.new.machine }
+    ensures argument { most_passes ≤ pass → IsRefused handle.old.machine (bad_argument pass) result handle.new.machine × (out.new ≡ out.old) }
 {
     match PassId::new(pass) {
         Some(pass) => read(alloc, handle, pass, SpaceId(space), addr, out),
@@ -104,8 +105,8 @@ pub extern "C" fn vb_write(
     addr: u64,
     bytes: &[u8],
 ) -> Answer
-    ensures written { pass < 16 → HasAccessed handle.old.machine (pass_at pass) (space_at space) addr (writing bytes.now) result handle.new.machine }
-    ensures argument { 16 ≤ pass → IsRefused handle.old.machine (bad_argument pass) result handle.new.machine }
+    ensures written { pass < most_passes → HasAccessed handle.old.machine (pass_at pass) (space_at space) addr (writing bytes.now) result handle.new.machine }
+    ensures argument { most_passes ≤ pass → IsRefused handle.old.machine (bad_argument pass) result handle.new.machine }
 {
     match PassId::new(pass) {
         Some(pass) => write(alloc, handle, pass, SpaceId(space), addr, bytes),

@@ -1,6 +1,6 @@
 // The desk of a machine that virtual CPUs share: the writer's calls, beside what the virtual CPUs do.
 ghost use Rattle.std.specs.Prelude.{◌≡◌, ◌<◌, ◌≤◌, ◌^◌, IfNone, IfOk, IfSome, None, []};
-ghost use Rattle.mem_base.specs.map.Limits.{most_passes, most_words};
+ghost use Rattle.mem_base.specs.map.Limits.{most_passes, most_words, notifier_count};
 ghost use Rattle.mem_base.specs.machine.Orders.{configure, notified, reap};
 ghost use Rattle.mem_base.specs.machine.Reaps.{first_writer};
 ghost use Rattle.writer_run.specs.Turns.{answer_by};
@@ -141,8 +141,8 @@ pub extern "C" fn vb_desk_cpu(alloc: Global, handle: &mut DeskHandle, cpu: &mut 
 /// Takes a notifier, as `vb_notified` does.
 #[unsafe(no_mangle)]
 pub extern "C" fn vb_desk_notified(alloc: Global, handle: &mut DeskHandle, number: u32) -> Answer
-    ensures taken { number < 64 → IsTurned handle.old.desk (notified number) result handle.new.desk }
-    ensures argument { 64 ≤ number → (result ≡ bad_argument number) × (handle.new.desk ≡ handle.old.desk) }
+    ensures taken { number < notifier_count → IsTurned handle.old.desk (notified number) result handle.new.desk }
+    ensures argument { notifier_count ≤ number → (result ≡ bad_argument number) × (handle.new.desk ≡ handle.old.desk) }
 {
     let Some(known) = NotifierId::new(number) else {
         return bad_argument(u64::from(number));

@@ -1,7 +1,7 @@
 // Machines, transactions and listeners.
 ghost use Rattle.std.specs.Prelude.{◌≡◌, ◌<◌, ◌≤◌, ◌^◌, IfOk, IfSome, None, Some};
 ghost use Rattle.mem_base.specs.declared.map.calls.Config.TheVariants as configs;
-ghost use Rattle.mem_base.specs.map.Limits.{most_passes, most_words};
+ghost use Rattle.mem_base.specs.map.Limits.{most_passes, most_words, notifier_count};
 ghost use Rattle.mem_base.specs.machine.Answers.{answer_with, reap_answer};
 ghost use Rattle.mem_base.specs.machine.Orders.{configure, load, notified, reap};
 ghost use Rattle.mem_base.specs.machine.World.{opening};
@@ -157,8 +157,8 @@ fn notified(alloc: Global, handle: &mut Handle, number: NotifierId) -> Answer
 /// refused.
 #[unsafe(no_mangle)]
 pub extern "C" fn vb_notified(alloc: Global, handle: &mut Handle, number: u32) -> Answer
-    ensures taken { number < 64 → IsDone handle.old.machine (notified number) result handle.new.machine }
-    ensures argument { 64 ≤ number → IsRefused handle.old.machine (bad_argument number) result handle.new.machine }
+    ensures taken { number < notifier_count → IsDone handle.old.machine (notified number) result handle.new.machine }
+    ensures argument { notifier_count ≤ number → IsRefused handle.old.machine (bad_argument number) result handle.new.machine }
 {
     match NotifierId::new(number) {
         Some(notifier) => notified(alloc, handle, notifier),

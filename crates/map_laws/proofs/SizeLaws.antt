@@ -5,7 +5,7 @@ use Rattle.std.proofs.lemmas.Bool.{eqb-false}
 use Rattle.std.proofs.lemmas.Bool.Decides.{nat_tests}
 use Rattle.mem_base.specs.declared.map.kinds.Kind.{Kind}
 use Rattle.mem_base.specs.declared.map.kinds.Kind.TheVariants.{Ram, Rom, RomDevice, Host}
-use Rattle.mem_base.specs.map.Limits.{page_size, most_bytes}
+use Rattle.mem_base.specs.map.Limits.{most_bytes, page_size}
 use Rattle.mem_base.specs.map.Kinds.{has_bytes, is_memory}
 use Rattle.mem_base.specs.map.Refusals.{bad_size}
 use Rattle.map_laws.proofs.RefusalLaws.{refuse_if-none}
@@ -26,7 +26,7 @@ plain_bytes (RomDevice device) e = e
 plain_bytes _ e = refl
 
 -- what has bytes is whole pages, and not too large
-pub size_whole : (k : Kind) (size : ℕ) → bad_size k size ≡ None → has_bytes k ≡ true → (0 < size) × (size % 4096 ≡ 0) × (size ≤ most_bytes)
+pub size_whole : (k : Kind) (size : ℕ) → bad_size k size ≡ None → has_bytes k ≡ true → (0 < size) × (size % page_size ≡ 0) × (size ≤ most_bytes)
 size_whole k size none bytes =
     let test : ((size == 0) || is_memory k && not (size % page_size == 0) || has_bytes k && nat_lt most_bytes size) ≡ false = refuse_if-none _ _ none in
     let memory = bytes_memory k bytes in
@@ -34,9 +34,9 @@ size_whole k size none bytes =
     (sym (λ i. (size == 0) || memory i && not (size % page_size == 0) || bytes i && nat_lt most_bytes size) ∙ test)
   where
     go : (zero whole more : Bool) → (size == 0) ≡ zero → (size % page_size == 0) ≡ whole → nat_lt most_bytes size ≡ more
-        → (zero || true && not whole || true && more) ≡ false → (0 < size) × (size % 4096 ≡ 0) × (size ≤ most_bytes)
+        → (zero || true && not whole || true && more) ≡ false → (0 < size) × (size % page_size ≡ 0) × (size ≤ most_bytes)
     go true whole more z w m e = cc
     go false false more z w m e = cc
     go false true true z w m e = cc
     go false true false z w m e = let some : size ≡ 0 → ⊥ = eqb-false size 0 z in
-        (omega (arith, some), eqb-true (size % 4096) 0 w, grind (arith, nat_tests, m))
+        (omega (arith, some), eqb-true (size % page_size) 0 w, grind (arith, nat_tests, m))

@@ -11,6 +11,7 @@ use Rattle.mem_base.specs.machine.Records.{Clerk, got_by}
 use Rattle.mem_base.specs.script.Scripts.{Line}
 use Rattle.mem_base.specs.script.Race.{Phase, actors_in, desk_number, lines_by}
 use Rattle.mem_base.proofs.BoolLaws.{neither_first, neither_second, and_always, true_is_not_false}
+use Rattle.mem_base.specs.map.Limits.{most_passes}
 
 -- Numbers
 
@@ -62,22 +63,24 @@ apart_filter p (x ∷ xs) h = go (p x) (fewer p x xs h.0) (apart_filter p xs h.1
 -- those of a phase stand apart
 pub actors_apart : (phase : Phase) → Apart (actors_in phase)
 actors_apart phase =
-    apart_filter (λ who. nat_le 1 (length (lines_by who phase))) (16 ∷ range_with_len 0 16) (out_above 16 0 16 (omega arith), apart_range 0 16)
+    apart_filter (λ who. nat_le 1 (length (lines_by who phase))) (desk_number ∷ range_with_len 0 most_passes)
+    (out_above desk_number 0 most_passes (omega arith), apart_range 0 most_passes)
 
 abbrev pub has_lines : Phase → ℕ → Bool
 has_lines phase who = nat_le 1 (length (lines_by who phase))
 
-all_in : (who : ℕ) → who ≤ 16 → is_in who (16 ∷ range_with_len 0 16) ≡ true
-all_in who l = go (16 == who) refl
+all_in : (who : ℕ) → who ≤ desk_number → is_in who (desk_number ∷ range_with_len 0 most_passes) ≡ true
+all_in who l = go (desk_number == who) refl
   where
-    go : (b : Bool) → (16 == who) ≡ b → (b || is_in who (range_with_len 0 16)) ≡ true
+    go : (b : Bool) → (desk_number == who) ≡ b → (b || is_in who (range_with_len 0 most_passes)) ≡ true
     go true e = refl
-    go false e = let other : 16 ≡ who → ⊥ = eqb-false 16 who e in inside who 0 16 (omega arith) (omega (arith, l, other))
+    go false e = let other : desk_number ≡ who → ⊥ = eqb-false desk_number who e in inside who 0 most_passes (omega arith) (omega (arith, l, other))
 
 -- an actor is among them where it has a line
-pub in_actors : (phase : Phase) (who : ℕ) → who ≤ 16 → is_in who (actors_in phase) ≡ has_lines phase who
+pub in_actors : (phase : Phase) (who : ℕ) → who ≤ desk_number → is_in who (actors_in phase) ≡ has_lines phase who
 in_actors phase who l =
-    any-filter_same (λ m. m == who) (has_lines phase) (has_lines phase who) (λ k e. ap (has_lines phase) (eqb-true k who e)) (16 ∷ range_with_len 0 16)
+    any-filter_same (λ m. m == who) (has_lines phase) (has_lines phase who) (λ k e. ap (has_lines phase) (eqb-true k who e))
+    (desk_number ∷ range_with_len 0 most_passes)
     ∙ ap (λ (b : Bool). has_lines phase who && b) (all_in who l) ∙ and_always (has_lines phase who)
 
 pub no_lines : (phase : Phase) (who : ℕ) → has_lines phase who ≡ false → lines_by who phase ≡ []
@@ -99,8 +102,8 @@ flat_filter {A} T p none (x ∷ xs) = go (p x) refl (flat_filter T p none xs)
     go false e ih = ih ∙ ap (λ (t : List A). t ++ flat_map T xs) (sym (none x e))
 
 pub flat_actors : {A : Type 0} (T : ℕ → List A) (phase : Phase) → ((n : ℕ) → has_lines phase n ≡ false → T n ≡ [])
-    → flat_map T (actors_in phase) ≡ T desk_number ++ flat_map T (range_with_len 0 16)
-flat_actors T phase none = flat_filter T (has_lines phase) none (16 ∷ range_with_len 0 16)
+    → flat_map T (actors_in phase) ≡ T desk_number ++ flat_map T (range_with_len 0 most_passes)
+flat_actors T phase none = flat_filter T (has_lines phase) none (desk_number ∷ range_with_len 0 most_passes)
 
 -- One for one
 

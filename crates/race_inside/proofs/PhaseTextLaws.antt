@@ -81,7 +81,7 @@ module _ (desk : Text) (pass : PassId → Text) where
       → flat_map (text_of desk pass) (actors_in phase) ≡ desk ++ flat_map pass passes
   all_texts phase no_desk no_pass =
       flat_actors (text_of desk pass) phase (of_idle phase no_desk no_pass)
-      ∙ ap (λ (t : Text). desk ++ t) (of_passes 0 16 (omega arith))
+      ∙ ap (λ (t : Text). desk ++ t) (of_passes 0 most_passes (omega arith))
 
 -- one after another
 texts_each : (k : Known) (lines : List Line) (names : Names) (journal : List Delivery) (T : ℕ → Text) (ns : List ℕ) (xs : List BlockActor) (cs : List Clerk)

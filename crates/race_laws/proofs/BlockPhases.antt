@@ -104,9 +104,10 @@ actor_is : (phase : Phase) (who : ℕ) → list_any (λ w. w == who) (actors_in 
 actor_is phase who h = go (desk_number == who) refl
     (among_kept (λ w. nat_le 1 (length (lines_by w phase))) (desk_number ∷ range_with_len 0 most_passes) who h)
   where
-    go : (b : Bool) → (desk_number == who) ≡ b → (b || list_any (λ w. w == who) (range_with_len 0 16)) ≡ true → (who ≡ desk_number) ⊎ (who < most_passes)
+    go : (b : Bool) → (desk_number == who) ≡ b → (b || list_any (λ w. w == who) (range_with_len 0 most_passes)) ≡ true →
+        (who ≡ desk_number) ⊎ (who < most_passes)
     go true e h = inl (sym (eqb-true desk_number who e))
-    go false e h = inr (in_range 0 16 who h)
+    go false e h = inr (in_range 0 most_passes who h)
 
 -- where the desk is none of them, it has no line
 no_desk_line : (phase : Phase) → list_any (λ w. w == desk_number) (actors_in phase) ≡ false → lines_by desk_number phase ≡ []
@@ -117,8 +118,8 @@ no_desk_line phase h = go (nat_le 1 (length (lines_by desk_number phase))) refl 
     none (l ∷ ls) e = true_is_not_false (nat_le 1 (suc (length ls))) (le-leb 1 (suc (length ls)) (omega arith)) e
 
     go : (b : Bool) → nat_le 1 (length (lines_by desk_number phase)) ≡ b
-        → list_any (λ w. w == desk_number) (if b then desk_number ∷ filter (λ w. nat_le 1 (length (lines_by w phase))) (range_with_len 0 16)
-        else filter (λ w. nat_le 1 (length (lines_by w phase))) (range_with_len 0 16)) ≡ false → lines_by desk_number phase ≡ []
+        → list_any (λ w. w == desk_number) (if b then desk_number ∷ filter (λ w. nat_le 1 (length (lines_by w phase))) (range_with_len 0 most_passes)
+        else filter (λ w. nat_le 1 (length (lines_by w phase))) (range_with_len 0 most_passes)) ≡ false → lines_by desk_number phase ≡ []
     go true e h = true_is_not_false true refl h
     go false e h = none (lines_by desk_number phase) e
 

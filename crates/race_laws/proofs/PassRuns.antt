@@ -32,7 +32,7 @@ use Rattle.history_laws.proofs.AppendLaws.{own_append, pass_by_append, pass_owns
 
 pub pass_is : (pool : ℕ) (seen : List HistoryEntry) (pass : PassId) → pass.0 < most_passes → pass_of (shared_after pool seen).passes pass ≡ pass_state pass seen
 pass_is pool seen pass l = pass_owns seen (opening pool) pass.0 l
-    ∙ ap (λ (p : PassState). pass_after_all p (own_entries (pass.0 + 1) seen)) (get_or-replicate 16 pass.0 idle idle l)
+    ∙ ap (λ (p : PassState). pass_after_all p (own_entries (pass.0 + 1) seen)) (get_or-replicate most_passes pass.0 idle idle l)
 
 -- Entries of a list of events
 
@@ -111,7 +111,7 @@ module _ (pool : ℕ) (h : Writer) (pass : PassId) (near : pass.0 < most_passes)
       let order = k.each pass.0 near in
       let t = order.entered n now in
       let low = t.3 in let high = t.4 in let far = order.near in
-      let many : length s.passes ≡ 16 = k.many in
+      let many : length s.passes ≡ most_passes = k.many in
       ap (λ g. entered_generation g s.passes pass) (sym (same_generations pool h zs r legal))
       ∙ ap (λ (b : Bool). if b then generation_at s.generations (pass_of s.passes pass).entered else None)
       (lt-ltb pass.0 (length s.passes) (omega (arith, many, near)))

@@ -28,9 +28,9 @@ use Rattle.run_laws.proofs.Lawful.{lawful}
 
 pub may_first : (pool : ℕ) (pass : PassId) → pass.0 < most_passes → may_access (opening pool most_passes) pass ≡ true
 may_first pool pass l =
-    let same : get_or (replicate 16 idle) pass.0 idle ≡ idle = get_or-replicate 16 pass.0 idle idle l in
-    let there : nat_lt pass.0 16 ≡ true = grind (arith, nat_tests) in
-    (λ i. is_some (same i).entered || (nat_lt pass.0 16 && is_none (same i).announced)) ∙ (λ i. there i && true)
+    let same : get_or (replicate most_passes idle) pass.0 idle ≡ idle = get_or-replicate most_passes pass.0 idle idle l in
+    let there : nat_lt pass.0 most_passes ≡ true = grind (arith, nat_tests) in
+    (λ i. is_some (same i).entered || (nat_lt pass.0 most_passes && is_none (same i).announced)) ∙ (λ i. there i && true)
 
 settled_first : (pool : ℕ) → Settled pool [] (start pool).world
 settled_first pool = record {

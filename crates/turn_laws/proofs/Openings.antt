@@ -37,19 +37,22 @@ first_taken P x (suc zero) p = (p, tt)
 first_taken P x (suc (suc k)) p = (p, tt)
 
 abbrev its_words : Bool → List ℕ
-its_words b = if b then replicate 64 0 else []
+its_words b = if b then replicate notifier_count 0 else []
 
 its_zeros : (b : Bool) (i : ℕ) → slice_index (its_words b) i ≡ 0
-its_zeros true i = zeros 64 i
+its_zeros true i = zeros notifier_count i
 its_zeros false i = refl
 
 pub opens : (pool_words passes : ℕ) → Coupled (opening pool_words passes) (replicate (pool_words + notifier_count) 0)
 opens pool_words passes = record {
   backed = record {
-    same = λ r p i is l filled. its_zeros (eqb (2 ^ 32 - 1) r.0) i ∙ sym (zeros (pool_words + 64) (p.start + i));
+    same = λ r p i is l filled. its_zeros (eqb (2 ^ 32 - 1) r.0) i ∙ sym (zeros (pool_words + notifier_count) (p.start + i));
     long = λ r p is. let x = only pool_words r p is in ap (λ (b : Bool). length (its_words b)) (eq-eqb (2 ^ 32 - 1) r.0 x.1) ∙ ap (λ (q : Place). q.words) x.0;
-    inside = λ r p is. let x = only pool_words r p is in subst (λ (q : Place). q.start + q.words ≤ length {A = ℕ} (replicate (pool_words + 64) 0)) x.0
-        (let z : ℕ = 0 in let e : length (replicate (pool_words + 64) z) ≡ pool_words + 64 = length-replicate (pool_words + 64) z in omega arith);
+    inside = λ r p is. let x = only pool_words r p is in
+        subst (λ (q : Place). q.start + q.words ≤ length {A = ℕ} (replicate (pool_words + notifier_count) 0)) x.0
+        (let z : ℕ = 0 in
+        let e : length (replicate (pool_words + notifier_count) z) ≡ pool_words + notifier_count =
+        length-replicate (pool_words + notifier_count) z in omega arith);
     apart = λ r s p q a b ne. absurd (ne (sym (only pool_words r p a).1 ∙ (only pool_words s q b).1));
   };
   held = first_taken (AllStand (notifiers_place pool_words ∷ []) []) _ (0 + 1 - least_lowest 0 (replicate passes nothing_known)) tt;

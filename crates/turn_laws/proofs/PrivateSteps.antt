@@ -20,7 +20,7 @@ use Rattle.mem_base.specs.declared.map.calls.Config.TheVariants as configs
 use Rattle.mem_base.specs.declared.access.cells.Place.{Place}
 use Rattle.mem_base.specs.declared.access.cells.Cell.{Cell}
 use Rattle.mem_base.specs.declared.machine.events.Event.TheVariants as events
-use Rattle.mem_base.specs.map.Limits.{most_nested}
+use Rattle.mem_base.specs.map.Limits.{most_nested, notifier_count, page_size, pages_per_word}
 use Rattle.mem_base.specs.lists.Every.{Every}
 use Rattle.mem_base.specs.access.PlacesByRegion.{place_in}
 use Rattle.mem_base.specs.map.Calls.{after as forest_after, answer_of, is_quiet}
@@ -99,14 +99,14 @@ module _ (w : World) (words : List ℕ) (k : Coupled w words) (rest : is_at_rest
       (quietly (readied w.writer.generations d f) (leaves d _ refl refl refl refl))
 
 -- a page's mark word is one of the place's
-marks_fit : (q page : ℕ) → page < q → page / 64 < (q + 63) / 64
+marks_fit : (q page : ℕ) → page < q → page / pages_per_word < (q + (pages_per_word - 1)) / pages_per_word
 marks_fit q page l = omega arith
 
 place_marks : (r : RegionId) (s : ℕ) (x : Extent) (client : Client) (page : ℕ) → page < pages_in (place_from r s x)
     → word_of_page (place_from r s x) client page < (place_from r s x).words
-place_marks r s x Vga page l = let a = marks_fit (x.bytes / 4096) page l in omega arith
-place_marks r s x Code page l = let a = marks_fit (x.bytes / 4096) page l in omega arith
-place_marks r s x Migration page l = let a = marks_fit (x.bytes / 4096) page l in omega arith
+place_marks r s x Vga page l = let a = marks_fit (x.bytes / page_size) page l in omega arith
+place_marks r s x Code page l = let a = marks_fit (x.bytes / page_size) page l in omega arith
+place_marks r s x Migration page l = let a = marks_fit (x.bytes / page_size) page l in omega arith
 
 module _ (w : World) (words : List ℕ) (k : Coupled w words) (rest : is_at_rest w.writer.desk ≡ true) (r : RegionId)
     (placeless : place_in (places_of w.writer.desk) r ≡ None) where
@@ -142,7 +142,7 @@ module _ (w : World) (words : List ℕ) (k : Coupled w words) (rest : is_at_rest
       let p = place_from r start x in
       let empty = none w words k rest in
       let last = last_of (IsWhole (places_of e)) e.places np k.whole in
-      let wide : e.pool_words + 64 ≤ length words = k.backed.inside np.region np last.stands in
+      let wide : e.pool_words + notifier_count ≤ length words = k.backed.inside np.region np last.stands in
       let fitting = fits e.pool_words (words_of x) start e.places fit in
       let inside = fitting.inside in
       let cells : cells_of p ≡ e.unfilled ++ cells_of p = ap (λ (cs : List Cell). cs ++ cells_of p) (sym empty) in record {

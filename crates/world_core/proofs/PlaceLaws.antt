@@ -8,7 +8,7 @@ use Rattle.mem_base.specs.declared.access.cells.Place.{Place}
 use Rattle.mem_base.specs.declared.access.cells.WordStep.TheVariants.{Take}
 use Rattle.mem_base.specs.declared.machine.events.Event.TheVariants as events
 use Rattle.mem_base.specs.lists.Every.{Every}
-use Rattle.mem_base.specs.map.Limits.{notifier_count}
+use Rattle.mem_base.specs.map.Limits.{notifier_count, pages_per_word}
 use Rattle.mem_base.specs.access.PlacesByRegion.{notifiers, place_in}
 use Rattle.mem_base.specs.access.Places.{notifiers_place, is_notifiers, past, mark_word, mark_words, pages_in, word_of_page}
 use Rattle.mem_base.specs.access.Cells.{touch, words_after, Block}
@@ -62,9 +62,9 @@ module _ (d : WriterState) (k : KeptState) (ws : List ℕ) (x : Aside) (h : IsWo
         let w : World = here in
         let whole : IsWhole (places_of w.writer.desk) p = found_has (IsWhole (places_of w.writer.desk)) (places_of w.writer.desk) r p
         (reached_holds w h.reached).kept.coupled.whole placed in
-        let first : index * 64 < pages_in p = omega (arith, inside) in
-        let same : index * 64 / 64 ≡ index = omega arith in
-        subst (λ (n : ℕ). mark_word p client n < p.words) same (whole.marks client (index * 64) first)
+        let first : index * pages_per_word < pages_in p = omega (arith, inside) in
+        let same : index * pages_per_word / pages_per_word ≡ index = omega arith in
+        subst (λ (n : ℕ). mark_word p client n < p.words) same (whole.marks client (index * pages_per_word) first)
 
     pub mark_far : p.start + mark_word p client index < length ws
     mark_far = far d k ws x h r p (mark_word p client index) placed mark_within
@@ -82,6 +82,7 @@ module _ (d : WriterState) (k : KeptState) (ws : List ℕ) (x : Aside) (h : IsWo
         ∙ word_before d k ws x h r p placed (events.Harvest r client index) (touch (mark_word p client index) Take true) refl mark_within
 
 -- the mark word of its first page is the mark word
-pub mark_is_at : (p : Place) (client : Client) (index page word : ℕ) → page ≡ index * 64 → word ≡ word_of_page p client page → word ≡ mark_word p client index
+pub mark_is_at : (p : Place) (client : Client) (index page word : ℕ) → page ≡ index * pages_per_word →
+    word ≡ word_of_page p client page → word ≡ mark_word p client index
 mark_is_at p client index page word first is =
-    let same : page / 64 ≡ index = omega (arith, first) in is ∙ ap (λ (n : ℕ). mark_word p client n) same
+    let same : page / pages_per_word ≡ index = omega (arith, first) in is ∙ ap (λ (n : ℕ). mark_word p client n) same

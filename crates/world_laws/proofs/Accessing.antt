@@ -24,7 +24,7 @@ use Rattle.mem_base.specs.declared.machine.events.Event.TheVariants as events
 use Rattle.mem_base.specs.declared.machine.events.Hand.TheVariants as hands
 use Rattle.mem_base.specs.lists.Every.{Every}
 use Rattle.mem_base.specs.lists.Runs.{Run, run, put_before, is_in_unit, touched}
-use Rattle.mem_base.specs.map.Limits.{word_size, notifier_count}
+use Rattle.mem_base.specs.map.Limits.{notifier_count, page_size, word_size}
 use Rattle.mem_base.specs.map.Region.{node_of, of_region}
 use Rattle.mem_base.specs.map.Devices.{is_good_device}
 use Rattle.mem_base.specs.map.Kinds.{has_bytes, device_of}
@@ -155,10 +155,10 @@ module _ (g : Published) (k : IsEdition g.forest g.places) where
 
   -- memory
 
-  word_in : (start n bytes regs : ℕ) → start < n → n ≤ bytes → bytes % 4096 ≡ 0 → start / 8 < bytes / 8 + regs
+  word_in : (start n bytes regs : ℕ) → start < n → n ≤ bytes → bytes % page_size ≡ 0 → start / 8 < bytes / 8 + regs
   word_in start n bytes regs l m pages = omega (arith, l, m, pages)
 
-  module _ (spot : Spot) (p : Place) (here : place_in g.places spot.leaf ≡ Some p) (pages : p.bytes % 4096 ≡ 0) where
+  module _ (spot : Spot) (p : Place) (here : place_in g.places spot.leaf ≡ Some p) (pages : p.bytes % page_size ≡ 0) where
     words_reached : (t : Transfer) → spot.offset + length_of t ≤ p.bytes → AllReached (on_words spot.leaf spot.offset t)
     words_reached (reading n) l =
         every_map (Reached g.places) (on_word spot.leaf spot.offset (reading n)) (touched word_size spot.offset n)
@@ -178,7 +178,7 @@ module _ (g : Published) (k : IsEdition g.forest g.places) where
         all : AllReached (on_words spot.leaf spot.offset (writing bs) ++ marked spot.leaf spot.attrs.log spot.offset (length bs))
         all = every_append (Reached g.places) (on_words spot.leaf spot.offset (writing bs)) _ (words_reached (writing bs) l)
             (every_map (Reached g.places) (λ m. marks spot.leaf m.1 m.0) (marks_of spot.attrs.log spot.offset (length bs))
-            (weaker {A = ℕ × Client} (λ m. m.0 < p.bytes / 4096) (λ m. Reached g.places (marks spot.leaf m.1 m.0)) (λ m less. (p, here, less))
+            (weaker {A = ℕ × Client} (λ m. m.0 < p.bytes / page_size) (λ m. Reached g.places (marks spot.leaf m.1 m.0)) (λ m less. (p, here, less))
             (marks_of spot.attrs.log spot.offset (length bs)) (marks_inside spot.attrs.log spot.offset (length bs) p.bytes l pages)))
 
         go : (b : Bool) → AllReached (if b then unanswered (writing bs)
@@ -256,7 +256,7 @@ module _ (g : Published) (k : IsEdition g.forest g.places) where
     in_bytes : has_bytes n.kind ≡ true → p.bytes ≡ n.size → AllReached (in_memory spot t)
     in_bytes memory same =
         let whole = (size_whole n.kind n.size (leaves.region g k spot.leaf n is).sized memory).1 in
-        memory_reached spot p here (ap (λ m. m % 4096) same ∙ whole) t (subst (λ m. spot.offset + length_of t ≤ m) (sym same) ends)
+        memory_reached spot p here (ap (λ m. m % page_size) same ∙ whole) t (subst (λ m. spot.offset + length_of t ≤ m) (sym same) ends)
 
     kind_reached : (kind : Kind) → n.kind ≡ kind → AllReached (at_leaf kind n spot t)
     kind_reached Ram e = in_bytes (ap has_bytes e) (bytes_of_kind ∙ ap (λ x. (extent_of x n.size).bytes) e)

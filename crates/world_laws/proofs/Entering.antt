@@ -123,9 +123,9 @@ module _ (w : World) (k : Holds w) (v : PassId) (x : Generation) (is : IsEntered
       go : (b : Bool) → is_notifiers p.region ≡ b → (b || names x.forest p.region) ≡ true → may_reach (Some x) p (cell p.region word) ≡ true
       go true n named = let l : word < data_words p.bytes + p.regs = ltb-true word (data_words p.bytes + p.regs) h in
           let a : data_words p.bytes + p.regs ≤ p.words = s.whole.wide in
-          let b : p.words ≡ 64 = s.whole.notifiers n in
+          let b : p.words ≡ notifier_count = s.whole.notifiers n in
           or_right (names x.forest p.region && is_data_or_register p word) (is_notifier (cell p.region word))
-          (and_from (is_notifiers p.region) (nat_lt word notifier_count) n (lt-ltb word 64 (omega (arith, l, a, b))))
+          (and_from (is_notifiers p.region) (nat_lt word notifier_count) n (lt-ltb word notifier_count (omega (arith, l, a, b))))
       go false n named = or_left (names x.forest p.region && is_data_or_register p word) (is_notifier (cell p.region word))
           (and_from (names x.forest p.region) (is_data_or_register p word) named h)
 

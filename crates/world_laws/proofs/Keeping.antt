@@ -1,7 +1,7 @@
 -- Each possible event keeps the pure machine beside some words, so the places of held generations stand.
 use Rattle.std.proofs.Common.{◌≡◌, ℕ, zero, suc, ◌+◌, ◌<◌, ◌≤◌, Bool, true, false, ◌&&◌, ◌||◌, List, [], ◌∷◌, length}
 use Rattle.std.proofs.Common.{sym, refl, ap, ◌∙◌, subst, arith, ⊎_elim, if◌then◌else◌, Option, Some, None}
-use Rattle.std.specs.Prelude.{slice_set, option_and_then, ◌*◌, ◌/◌, nat_lt, ◌==◌}
+use Rattle.std.specs.Prelude.{slice_set, option_and_then, ◌-◌, ◌*◌, ◌/◌, nat_lt, ◌==◌}
 use Rattle.std.proofs.lemmas.Bool.{cases_lt, ltb-true, le-leb, and_parts, and_from}
 use mathlib.Core.Logic.{dite}
 use native.Mathlib.Decide.{ℕ_discrete}
@@ -15,7 +15,7 @@ use Rattle.mem_base.specs.declared.access.cells.WordStep.TheVariants.{Take}
 use Rattle.mem_base.specs.declared.machine.events.Event.{Event}
 use Rattle.mem_base.specs.declared.machine.events.Event.TheVariants as events
 use Rattle.mem_base.specs.declared.machine.events.Hand.TheVariants as hands
-use Rattle.mem_base.specs.map.Limits.{notifier_count}
+use Rattle.mem_base.specs.map.Limits.{notifier_count, pages_per_word}
 use Rattle.mem_base.specs.lists.Every.{Every}
 use Rattle.mem_base.specs.access.PlacesByRegion.{place_in}
 use Rattle.mem_base.specs.access.Places.{is_notifiers, is_data_or_register, data_words, mark_words, mark_word, pages_in}
@@ -113,7 +113,8 @@ module _ (w : World) (words : List ℕ) (k : Coupled w words) where
       (world_after w (events.Mark v r client page)) refl refl refl
 
   -- a mark word that may be taken is one of a page
-  first_page : (index n : ℕ) → index < (n + 63) / 64 → (64 * index < n) × (64 * index / 64 ≡ index)
+  first_page : (index n : ℕ) → index < (n + (pages_per_word - 1)) / pages_per_word →
+      (pages_per_word * index < n) × (pages_per_word * index / pages_per_word ≡ index)
   first_page index n l = (omega arith, omega arith)
 
   by_harvest : (r : RegionId) (client : Client) (index : ℕ) (o : Option Place) → place_in (places_of w.writer.desk) r ≡ o
@@ -123,7 +124,7 @@ module _ (w : World) (words : List ℕ) (k : Coupled w words) where
       let whole = found_has (IsWhole (places_of w.writer.desk)) (places_of w.writer.desk) r p k.whole here in
       let page = first_page index (pages_in p) (ltb-true _ _ may) in
       stepped (events.Harvest r client index) r p _ here refl
-      (subst (λ (z : ℕ). mark_word p client z < p.words) page.1 (whole.marks client (64 * index) page.0))
+      (subst (λ (z : ℕ). mark_word p client z < p.words) page.1 (whole.marks client (pages_per_word * index) page.0))
       (world_after w (events.Harvest r client index)) refl refl refl
 
 -- a cell is cleared

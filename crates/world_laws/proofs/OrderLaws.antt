@@ -19,7 +19,7 @@ use Rattle.mem_base.specs.declared.machine.events.Event.{Event}
 use Rattle.mem_base.specs.declared.machine.events.Event.TheVariants as events
 use Rattle.mem_base.specs.lists.Every.{Every}
 use Rattle.mem_base.specs.lists.Runs.{is_in_unit, touched}
-use Rattle.mem_base.specs.map.Limits.{word_size, notifier_count}
+use Rattle.mem_base.specs.map.Limits.{notifier_count, page_size, word_size}
 use Rattle.mem_base.specs.map.Kinds.{has_bytes}
 use Rattle.mem_base.specs.map.Region.{node_of}
 use Rattle.mem_base.specs.map.Refusals.{refuse_where, unknown_region, wrong_kind}
@@ -181,7 +181,7 @@ module _ (w : World) (k : Sound w) (rest : is_at_rest w.writer.desk ≡ true) wh
       let here : place_in (places_of d) notifiers ≡ Some (notifiers_place d.pool_words) =
       last_place d.forest.made d.places (notifiers_place d.pool_words) s.few s.places refl in
       as_call w (notified number) (alone _ (steadily _
-      (ap (λ (o : Option Place). if_placed o (λ p. nat_lt number p.words)) here ∙ lt-ltb number 64 l, tt) refl))
+      (ap (λ (o : Option Place). if_placed o (λ p. nat_lt number p.words)) here ∙ lt-ltb number notifier_count l, tt) refl))
 
   -- bytes into a region
 
@@ -208,7 +208,7 @@ module _ (w : World) (k : Sound w) (rest : is_at_rest w.writer.desk ≡ true) wh
     record HoldsBytes (region : RegionId) (n : Node) : Type 0 where
       place : Place
       here : place_in (places_of w.writer.desk) region ≡ Some place
-      pages : n.size % 4096 ≡ 0
+      pages : n.size % page_size ≡ 0
       room : n.size / 8 ≤ place.words
 
     holds_bytes : (region : RegionId) (n : Node) → node_of f.nodes region ≡ Some n → IsRegion f.nodes n → has_bytes n.kind ≡ true → HoldsBytes region n
@@ -226,7 +226,7 @@ module _ (w : World) (k : Sound w) (rest : is_at_rest w.writer.desk ≡ true) wh
           room = wide p.0 (words_of (extent_of n.kind n.size)) n.size (ap (λ (q : Place). q.words) fits) least;
         }
       where
-        above : (size words : ℕ) → 0 < size → size % 4096 ≡ 0 → size / 8 ≤ words → 0 < words
+        above : (size words : ℕ) → 0 < size → size % page_size ≡ 0 → size / 8 ≤ words → 0 < words
         above size words some pages room = omega (arith, some, pages, room)
 
         wide : (p : Place) (words size : ℕ) → p.words ≡ words → size / 8 ≤ words → size / 8 ≤ p.words
@@ -242,7 +242,7 @@ module _ (w : World) (k : Sound w) (rest : is_at_rest w.writer.desk ≡ true) wh
           (starts_below (is_in_unit word_size) offset (length bytes))))
           (loads_rest region (λ r. r.start / word_size) (replaces offset bytes) (touched word_size offset (length bytes)) w)
         where
-          inside : (start size words : ℕ) → start < size → size % 4096 ≡ 0 → size / 8 ≤ words → start / 8 < words
+          inside : (start size words : ℕ) → start < size → size % page_size ≡ 0 → size / 8 ≤ words → start / 8 < words
           inside start size words l pages room = omega (arith, l, pages, room)
 
       loads_run : Runs w (loads region offset bytes)

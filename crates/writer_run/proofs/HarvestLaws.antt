@@ -29,6 +29,7 @@ use Rattle.writer_run.specs.Turns.{IsTurn}
 use Rattle.writer_run.proofs.LoadLaws.{entries_both}
 use Rattle.map_laws.proofs.PairLaws.{length-filter, length-push}
 use Rattle.mem_base.proofs.ListLaws.{length_map}
+use Rattle.mem_base.specs.map.Limits.{pages_per_word}
 
 -- one mark word more
 
@@ -53,49 +54,51 @@ range_length a (suc n) = ap suc (range_length (a + 1) n)
 harvests_length : (region : RegionId) (client : Client) (n : ℕ) → length (harvests_below region client n) ≡ n
 harvests_length region client n = length_map (λ index. events.Harvest region client index) (range_with_len 0 n) ∙ range_length 0 n
 
-pages_next : (base bits : ℕ) (rs : List ℕ) → pages_from base (rs ++ bits ∷ []) ≡ pages_from base rs ++ pages_of (base + length rs * 64) bits
+pages_next : (base bits : ℕ) (rs : List ℕ) → pages_from base (rs ++ bits ∷ []) ≡ pages_from base rs ++ pages_of (base + length rs * pages_per_word) bits
 pages_next base bits [] =
-    let same : base ≡ base + 0 * 64 = omega arith in append-nil (pages_of base bits) ∙ ap (λ n. pages_of n bits) same
+    let same : base ≡ base + 0 * pages_per_word = omega arith in append-nil (pages_of base bits) ∙ ap (λ n. pages_of n bits) same
 pages_next base bits (r ∷ rs) =
-    let same : base + 64 + length rs * 64 ≡ base + suc (length rs) * 64 = omega arith in
-    ap (λ ns. pages_of base r ++ ns) (pages_next (base + 64) bits rs ∙ ap (λ n. pages_from (base + 64) rs ++ pages_of n bits) same)
-    ∙ sym (append_assoc (pages_of base r) (pages_from (base + 64) rs) (pages_of (base + suc (length rs) * 64) bits))
+    let same : base + pages_per_word + length rs * pages_per_word ≡ base + suc (length rs) * pages_per_word = omega arith in
+    ap (λ ns. pages_of base r ++ ns) (pages_next (base + pages_per_word) bits rs ∙ ap (λ n. pages_from (base + pages_per_word) rs ++ pages_of n bits) same)
+    ∙ sym (append_assoc (pages_of base r) (pages_from (base + pages_per_word) rs) (pages_of (base + suc (length rs) * pages_per_word) bits))
 
 pub begins_harvest : (p : Place) (client : Client) (makes : List HistoryEntry → Type 0) (pages : List ℕ) → makes [] → pages ≡ []
     → AreHarvested p client 0 makes pages
 begins_harvest p client makes pages made none = record { replies = []; each = refl; made = made; told = none }
 
 pub harvests_more : (p : Place) (client : Client) (index : ℕ) (makes makes_then : List HistoryEntry → Type 0) (pages pages_then : List ℕ) (bits : ℕ)
-    → AreHarvested p client index makes pages → pages_then ≡ pages ++ pages_of (index * 64) bits
+    → AreHarvested p client index makes pages → pages_then ≡ pages ++ pages_of (index * pages_per_word) bits
     → ((es : List HistoryEntry) → makes es
     → makes_then (es ++ history_entry (events.Harvest p.region client index) (at p (events.Harvest p.region client index)) bits ∷ []))
     → AreHarvested p client (index + 1) makes_then pages_then
 harvests_more p client index makes makes_then pages pages_then bits k more goes =
     let sizes : length k.replies ≡ index = k.each in
     let one : length (k.replies ++ bits ∷ []) ≡ length k.replies + 1 = length-push k.replies bits in
-    let base : 0 + length k.replies * 64 ≡ index * 64 = omega (arith, sizes) in record {
+    let base : 0 + length k.replies * pages_per_word ≡ index * pages_per_word = omega (arith, sizes) in record {
       replies = k.replies ++ bits ∷ [];
       each = omega (arith, sizes, one);
       made = subst makes_then (sym (ap (λ (es : List Event). entries_with (at p) es (k.replies ++ bits ∷ [])) (harvests_next p.region client index)
           ∙ entries_both (at p) (harvests_below p.region client index) (events.Harvest p.region client index ∷ []) k.replies (bits ∷ [])
           (k.each ∙ sym (harvests_length p.region client index)))) (goes _ k.made);
-      told = more ∙ ap (λ (ns : List ℕ). ns ++ pages_of (index * 64) bits) k.told
+      told = more ∙ ap (λ (ns : List ℕ). ns ++ pages_of (index * pages_per_word) bits) k.told
           ∙ ap (λ (n : ℕ). pages_from 0 k.replies ++ pages_of n bits) (sym base) ∙ sym (pages_next 0 bits k.replies);
     }
 
 -- room for the pages
 
 -- a mark word tells at most 64 pages
-pub pages_few : (base bits : ℕ) → length (pages_of base bits) ≤ 64
+pub pages_few : (base bits : ℕ) → length (pages_of base bits) ≤ pages_per_word
 pages_few base bits =
-    let few : length (filter (is_marked bits) (range_with_len 0 64)) ≤ length (range_with_len 0 64) = length-filter (is_marked bits) (range_with_len 0 64) in
-    let many : length (range_with_len 0 64) ≡ 64 = range_length 0 64 in
-    let same : length (pages_of base bits) ≡ length (filter (is_marked bits) (range_with_len 0 64)) =
-    length_map (λ bit. base + bit) (filter (is_marked bits) (range_with_len 0 64)) in
+    let few : length (filter (is_marked bits) (range_with_len 0 pages_per_word)) ≤ length (range_with_len 0 pages_per_word) =
+    length-filter (is_marked bits) (range_with_len 0 pages_per_word) in
+    let many : length (range_with_len 0 pages_per_word) ≡ pages_per_word = range_length 0 pages_per_word in
+    let same : length (pages_of base bits) ≡ length (filter (is_marked bits) (range_with_len 0 pages_per_word)) =
+    length_map (λ bit. base + bit) (filter (is_marked bits) (range_with_len 0 pages_per_word)) in
     omega (arith, few, many, same)
 
 -- room for the pages of the mark words that are left
-pub room_next : (n index room rest more : ℕ) → index < n → (n - index) * 64 ≤ room → room ≤ rest + more → more ≤ 64 → (n - (index + 1)) * 64 ≤ rest
+pub room_next : (n index room rest more : ℕ) → index < n → (n - index) * pages_per_word ≤ room →
+    room ≤ rest + more → more ≤ pages_per_word → (n - (index + 1)) * pages_per_word ≤ rest
 room_next n index room rest more near k told few = omega (arith, near, k, told, few)
 
 -- the entries of a harvest

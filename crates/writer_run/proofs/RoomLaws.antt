@@ -23,6 +23,7 @@ use Rattle.map_laws.proofs.SoundCallLaws.{IsClosedForest-made}
 use Rattle.history_laws.specs.BackedForests.{BacksForest}
 use Rattle.history_laws.proofs.PlaceLaws.{place_of_region, some_is}
 use Rattle.mem_base.proofs.PlaceLaws.{found_has}
+use Rattle.mem_base.specs.map.Limits.{page_size}
 
 module _ (f : Forest) (pool_words : ℕ) (ps : List Place) (backs : BacksForest pool_words f ps) where
   held_data : (kind : Kind) (size : ℕ) → has_bytes kind ≡ true → size / 8 ≤ words_of (extent_of kind size)
@@ -34,7 +35,7 @@ module _ (f : Forest) (pool_words : ℕ) (ps : List Place) (backs : BacksForest 
   record HoldsBytes (region : RegionId) (n : Node) : Type 0 where
     place : Place
     here : place_in ps region ≡ Some place
-    pages : n.size % 4096 ≡ 0
+    pages : n.size % page_size ≡ 0
     room : n.size / 8 ≤ place.words
     sized : place.words ≡ words_of (extent place.bytes place.regs)
 
@@ -54,7 +55,7 @@ module _ (f : Forest) (pool_words : ℕ) (ps : List Place) (backs : BacksForest 
         sized = subst (λ (q : Place). q.words ≡ words_of (extent q.bytes q.regs)) (sym fits) refl;
       }
     where
-      above : (size words : ℕ) → 0 < size → size % 4096 ≡ 0 → size / 8 ≤ words → 0 < words
+      above : (size words : ℕ) → 0 < size → size % page_size ≡ 0 → size / 8 ≤ words → 0 < words
       above size words some pages room = omega (arith, some, pages, room)
 
       wide : (p : Place) (words size : ℕ) → p.words ≡ words → size / 8 ≤ words → size / 8 ≤ p.words
@@ -113,5 +114,5 @@ module _ (f : Forest) (pool_words : ℕ) (ps : List Place) (backs : BacksForest 
       within : (n : Node) → nat_lt n.size (offset + count) ≡ false → offset + count ≤ n.size
       within n e = grind (arith, nat_tests, e)
 
-      inside : (start size words : ℕ) → start < size → size % 4096 ≡ 0 → size / 8 ≤ words → start / 8 < words
+      inside : (start size words : ℕ) → start < size → size % page_size ≡ 0 → size / 8 ≤ words → start / 8 < words
       inside start size words l pages room = omega (arith, l, pages, room)
