@@ -209,12 +209,9 @@ fn leads_with_no_zero(text: &[u8]) -> bool
 pub fn pass_of(text: &[u8]) -> Option<PassId>
     ensures { option_map (λ pass. pass.0) result ≡ pass_of text.now }
 {
+    let last = u128::from(MOST_PASSES) - 1;
     match text {
-        [b'v', rest @ ..] if leads_with_no_zero(rest) => match digits(
-            10,
-            u128::from(MOST_PASSES) - 1,
-            rest,
-        ) {
+        [b'v', rest @ ..] if leads_with_no_zero(rest) => match digits(10, last, rest) {
             Some(number) => PassId::new(number as u32),
             None => None,
         },

@@ -13,7 +13,7 @@ use crate::spellings::{
 };
 use crate::stops::LineStop;
 use crate::words::{client_of, device_kind_of, perm_of, switch_of};
-use mem_base::{Bytes, Cause, Client, DeviceKind, Name, NotifierId, Perm, Size};
+use mem_base::{Bytes, Cause, Client, DeviceKind, NOTIFIER_COUNT, Name, NotifierId, Perm, Size};
 use std::alloc::{AllocError, Global};
 use std::marker::Model;
 
