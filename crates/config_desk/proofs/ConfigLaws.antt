@@ -104,7 +104,14 @@ module _ (d : IdleDesk) (v : WriterValue) (pool_words passes : ℕ) (first : res
     };
   }
 
--- after a call it is a configuration still: the call was a turn, or nothing has happened
+-- after a turn it is a configuration still
+pub after_turn : (d : IdleDesk) (v : WriterValue) → IsConfig d v → (e : IdleDesk) (u : WriterValue)
+    → AreParts e (generations_in_seen u.sizes u.seen) u.sizes.words → (k : Order) (answer : Answer) → FitsOrder k
+    → IsTurn (part_at d v) k (λ xs. HasWritten v xs u) answer (part_at e u) → IsConfig e u
+after_turn d v h e u parts k answer fits t =
+    record { parts = parts; turns = one_more v u (part_at d v) (part_at e u) k answer fits h.turns t }
+
+-- the same after a call that was a turn, or where nothing has happened
 pub still_config : (d : IdleDesk) (v : WriterValue) → IsConfig d v → (e : IdleDesk) (u : WriterValue)
     → AreParts e (generations_in_seen u.sizes u.seen) u.sizes.words → (k : Order) (answer : Answer) → FitsOrder k → (P : Type 0)
     → (P → IsTurn (part_at d v) k (λ xs. HasWritten v xs u) answer (part_at e u))
@@ -114,13 +121,7 @@ still_config d v h e u parts k answer fits P turned Q unmoved (inl q) =
       parts = parts;
       turns = subst (λ (z : WriterValue × Writer). IsOfTurns z.0 z.1) (λ i. (sym same.1 i, sym same.0 i)) h.turns;
     }
-still_config d v h e u parts k answer fits P turned Q unmoved (inr p) =
-    record { parts = parts; turns = one_more v u (part_at d v) (part_at e u) k answer fits h.turns (turned p) }
-
--- the same of a call that always is a turn, and leaves the desk
-pub after_turn : (d : IdleDesk) (v : WriterValue) → IsConfig d v → (u : WriterValue) → AreParts d (generations_in_seen u.sizes u.seen) u.sizes.words
-    → (k : Order) (answer : Answer) → FitsOrder k → IsTurn (part_at d v) k (λ xs. HasWritten v xs u) answer (part_at d u) → IsConfig d u
-after_turn d v h u parts k answer fits t = record { parts = parts; turns = one_more v u (part_at d v) (part_at d u) k answer fits h.turns t }
+still_config d v h e u parts k answer fits P turned Q unmoved (inr p) = after_turn d v h e u parts k answer fits (turned p)
 
 -- the same where the writer made no entry
 
