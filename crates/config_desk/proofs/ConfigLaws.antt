@@ -10,7 +10,7 @@ use Rattle.mem_base.specs.views.Listening.{Delivery, calls_to}
 use Rattle.mem_base.specs.machine.Actors.{own_entries, generations_after_all}
 use Rattle.mem_base.specs.machine.Answers.{Answer}
 use Rattle.mem_base.specs.machine.Generations.{Generations, first_generations, nothing_known}
-use Rattle.mem_base.specs.machine.JoinedHistory.{TurnsJoin}
+use Rattle.mem_base.specs.machine.JoinedHistory.{IsJoined, TurnsJoin}
 use Rattle.mem_base.specs.machine.ListenerReplay.{listener_of, heard_of, told_forest}
 use Rattle.mem_base.specs.machine.Orders.{Order}
 use Rattle.mem_base.specs.machine.Publishing.{current_forest}
@@ -208,8 +208,11 @@ module _ (c : ConfigState) (legal : IsLegal c.seat.sizes c.seat.seen) where
   own_are : (t : IsOfTurns c.seat c.part) → writers_of c.seat.seen ≡ flat_map entries_of_turn (turns (first_writer t.pool_words t.passes) t.orders)
   own_are t = sym (own_writers c.seat.seen) ∙ t.entries
 
+  pub joined : TurnsJoin → (t : IsOfTurns c.seat c.part) → IsJoined t.pool_words t.passes (turns (first_writer t.pool_words t.passes) t.orders) c.seat.seen
+  joined law t = law t.pool_words t.passes t.orders c.seat.seen (seen_legal t) (own_are t)
+
   pub joins : TurnsJoin → IsSeenLegal c
-  joins law t = let j = law t.pool_words t.passes t.orders c.seat.seen (seen_legal t) (own_are t) in (j.legal, j.ends ∙ sym t.last)
+  joins law t = let j = joined law t in (j.legal, j.ends ∙ sym t.last)
 
   pub reuses : TurnsReuseReleased → ReusesWords c
   reuses law t = law t.pool_words t.passes t.orders c.seat.seen (seen_legal t) (own_are t)
