@@ -1,7 +1,7 @@
 """The memory map of a guest, as proved software: a thin wrapper of libvobrekan over ctypes, for notebooks and tests.
 
 VOBREKAN_LIB is the folder of libvobrekan.so, which bindings/build makes; without it, it is bindings/out beside this folder. Each
-method of Machine is one call of the library, by the same name without `vb_`; a refused call raises Refused, and changes nothing.
+method of Machine is one call of the library, by the same name without `vb_`; a refused call raises Refused, and changes nothing of the map.
 """
 import ctypes
 import os

@@ -137,7 +137,7 @@ class vb_answer(Structure):
     """What a call answers: a code, and what it names.
 
     The code is 0 where it is done. 1 to 20 are the refusals of the machine, numbered as the lines of a script number them, and
-    above these stand those of the library itself. A refused call changes nothing. The code 28 alone is no refusal: a write was given up
+    above these stand those of the library itself. A refused call changes nothing of the map. The code 28 alone is no refusal: a write was given up
     after its first bytes."""
 
     _fields_ = [

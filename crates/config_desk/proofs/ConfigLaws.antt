@@ -10,7 +10,7 @@ use Rattle.mem_base.specs.views.Listening.{Delivery, calls_to}
 use Rattle.mem_base.specs.machine.Actors.{own_entries, generations_after_all}
 use Rattle.mem_base.specs.machine.Answers.{Answer}
 use Rattle.mem_base.specs.machine.Generations.{Generations, first_generations, nothing_known}
-use Rattle.mem_base.specs.machine.JoinedHistory.{TurnsJoin}
+use Rattle.mem_base.specs.machine.JoinedHistory.{IsJoined, TurnsJoin}
 use Rattle.mem_base.specs.machine.ListenerReplay.{listener_of, heard_of, told_forest}
 use Rattle.mem_base.specs.machine.Orders.{Order}
 use Rattle.mem_base.specs.machine.Publishing.{current_forest}
@@ -104,7 +104,14 @@ module _ (d : IdleDesk) (v : WriterValue) (pool_words passes : ℕ) (first : res
     };
   }
 
--- after a call it is a configuration still: the call was a turn, or nothing has happened
+-- after a turn it is a configuration still
+pub after_turn : (d : IdleDesk) (v : WriterValue) → IsConfig d v → (e : IdleDesk) (u : WriterValue)
+    → AreParts e (generations_in_seen u.sizes u.seen) u.sizes.words → (k : Order) (answer : Answer) → FitsOrder k
+    → IsTurn (part_at d v) k (λ xs. HasWritten v xs u) answer (part_at e u) → IsConfig e u
+after_turn d v h e u parts k answer fits t =
+    record { parts = parts; turns = one_more v u (part_at d v) (part_at e u) k answer fits h.turns t }
+
+-- the same after a call that was a turn, or where nothing has happened
 pub still_config : (d : IdleDesk) (v : WriterValue) → IsConfig d v → (e : IdleDesk) (u : WriterValue)
     → AreParts e (generations_in_seen u.sizes u.seen) u.sizes.words → (k : Order) (answer : Answer) → FitsOrder k → (P : Type 0)
     → (P → IsTurn (part_at d v) k (λ xs. HasWritten v xs u) answer (part_at e u))
@@ -114,13 +121,7 @@ still_config d v h e u parts k answer fits P turned Q unmoved (inl q) =
       parts = parts;
       turns = subst (λ (z : WriterValue × Writer). IsOfTurns z.0 z.1) (λ i. (sym same.1 i, sym same.0 i)) h.turns;
     }
-still_config d v h e u parts k answer fits P turned Q unmoved (inr p) =
-    record { parts = parts; turns = one_more v u (part_at d v) (part_at e u) k answer fits h.turns (turned p) }
-
--- the same of a call that always is a turn, and leaves the desk
-pub after_turn : (d : IdleDesk) (v : WriterValue) → IsConfig d v → (u : WriterValue) → AreParts d (generations_in_seen u.sizes u.seen) u.sizes.words
-    → (k : Order) (answer : Answer) → FitsOrder k → IsTurn (part_at d v) k (λ xs. HasWritten v xs u) answer (part_at d u) → IsConfig d u
-after_turn d v h u parts k answer fits t = record { parts = parts; turns = one_more v u (part_at d v) (part_at d u) k answer fits h.turns t }
+still_config d v h e u parts k answer fits P turned Q unmoved (inr p) = after_turn d v h e u parts k answer fits (turned p)
 
 -- the same where the writer made no entry
 
@@ -207,8 +208,11 @@ module _ (c : ConfigState) (legal : IsLegal c.seat.sizes c.seat.seen) where
   own_are : (t : IsOfTurns c.seat c.part) → writers_of c.seat.seen ≡ flat_map entries_of_turn (turns (first_writer t.pool_words t.passes) t.orders)
   own_are t = sym (own_writers c.seat.seen) ∙ t.entries
 
+  pub joined : TurnsJoin → (t : IsOfTurns c.seat c.part) → IsJoined t.pool_words t.passes (turns (first_writer t.pool_words t.passes) t.orders) c.seat.seen
+  joined law t = law t.pool_words t.passes t.orders c.seat.seen (seen_legal t) (own_are t)
+
   pub joins : TurnsJoin → IsSeenLegal c
-  joins law t = let j = law t.pool_words t.passes t.orders c.seat.seen (seen_legal t) (own_are t) in (j.legal, j.ends ∙ sym t.last)
+  joins law t = let j = joined law t in (j.legal, j.ends ∙ sym t.last)
 
   pub reuses : TurnsReuseReleased → ReusesWords c
   reuses law t = law t.pool_words t.passes t.orders c.seat.seen (seen_legal t) (own_are t)

@@ -1,3 +1,4 @@
 pub mod Configs
 pub mod SeenLaws
+pub mod LawfulDesks
 pub mod HandedOn

@@ -25,7 +25,7 @@ use std::alloc::{AllocError, Global};
 use std::marker::Model;
 use std::sync::{Arc, Wait};
 use writer_desk::IdleDesk;
-use writer_run::{configure, harvest, notified, reap};
+use writer_run::{begin, configure, harvest, notified, reap};
 
 /// The writer's desk of the running machine. It is seen as what the writer's seat has seen of the one history, and the writer's
 /// part: the desk with the listeners, and the generations.
@@ -222,12 +222,11 @@ impl Config {
     ///
     /// It is refused with `TooNested` where 64 are open; the bound is this project's own. It takes no memory.
     pub fn begin(&mut self) -> Result<(), Refusal>
-        ensures turn { result ≢ Err Refusal.Memory → IsTurnOf self.old (configure configs.Begin) (plain_answer result) self.new }
+        ensures turn { IsTurnOf self.old (configure configs.Begin) (plain_answer result) self.new }
+        ensures nested { IfErr result (λ why. why ≡ Refusal.TooNested) }
         ensures left { OnErr result (self.new.part.desk ≡ self.old.part.desk) }
-        ensures unchanged { result ≡ Err Refusal.Memory → self.new ≡ self.old }
     {
-        self.configure(&Event::Begin)?;
-        Ok(())
+        begin(&mut self.desk, &self.hand)
     }
 
     /// Closes a transaction. The outermost one publishes what is pending, and answers the number of the generation that is current

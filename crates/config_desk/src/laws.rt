@@ -1,6 +1,7 @@
 // What the laws of turns say of a desk, whatever calls were made on it.
 ghost use Rattle.epoch_rule.specs.Rule.{IsLegal};
 ghost use Rattle.config_desk.specs.Configs.{IsOfTurns};
+ghost use Rattle.config_desk.specs.LawfulDesks.{IsLawfulDesk};
 ghost use Rattle.config_desk.specs.SeenLaws.{IsSeenLegal, KeepsMarks, ReplaysToListeners, ReusesWords};
 
 use crate::config::Config;
@@ -57,5 +58,18 @@ impl Config {
     {
         self.hand.seat.has_seen_legal();
         turns_replay();
+    }
+
+    /// A law: at every moment of that history, what is published shows what the search of QEMU's manual finds in the committed forest of its
+    /// number, what listeners were told replays to what they are to have, and a reap releases just what no held generation names; and no
+    /// step on a word and no mark is lost. It does nothing.
+    pub fn is_lawful(&self)
+        ensures { IsLawfulDesk self.now }
+    {
+        self.goes_by_turns();
+        self.hand.seat.has_seen_legal();
+        turns_join();
+        turns_reuse_released();
+        turns_keep_marks();
     }
 }

@@ -1,12 +1,17 @@
 // A virtual CPU that owns a share of its cabinet.
-ghost use Rattle.std.specs.Prelude.{◌≡◌, length, MatchResult};
+ghost use Rattle.std.specs.Prelude.{◌≡◌, [], length, Some, MatchResult};
 ghost use Rattle.std.specs.Arc.{arc_value};
+ghost use mathlib.Core.List.{IsPrefix};
 ghost use Rattle.mem_base.specs.access.AccessSteps.{reading};
+ghost use Rattle.mem_base.specs.machine.Actors.{generation_published};
+ghost use Rattle.generation.specs.Published.{Published};
+ghost use Rattle.epoch_rule.specs.Copies.{shown_by};
+ghost use Rattle.epoch_rule.specs.Wrote.{Made, longer};
 ghost use Rattle.vcpu_pass.specs.Calls.{HasAccessed, HasEntered, HasLeft, HasRefused, HasWritten8};
 ghost use Rattle.bounded_write.specs.Writes.{HasWritten};
 
 use bounded_write::{Written, write_bounded};
-use epoch_rule::{Cabinet, Pass};
+use epoch_rule::{Cabinet, Note, Pass};
 use generation::Generation;
 use mem_base::{Access, SpaceId};
 use std::alloc::Global;
@@ -65,6 +70,8 @@ impl Cpu {
     /// Enters the current generation, and answers its number. Where it was entered it leaves first.
     pub fn enter(&mut self) -> u64
         ensures entered { HasEntered self.old result self.new }
+        ensures edition { (g : Published) × (self.new.edition ≡ Some g) × (g.number ≡ result)
+            × (shown_by (λ x. x.forest) (λ x. x.places) g ≡ generation_published self.new.seen result) }
     {
         let Some(pass) = self.pass.take() else {
             unreachable!()
@@ -83,6 +90,37 @@ impl Cpu {
             unreachable!()
         };
         self.pass = Some(Vcpu::new(&self.cabinet, pass).into_pass());
+    }
+
+    /// A note of what it has seen, for the desk to hear. It may be entered. It takes no memory.
+    pub fn tell(&mut self) -> Note<Generation>
+        ensures same { self.new ≡ self.old }
+        ensures note { (result.cabinet ≡ self.old.cabinet) × (result.seen ≡ self.old.seen) }
+    {
+        let Some(pass) = self.pass.take() else {
+            unreachable!()
+        };
+        let mut vcpu = Vcpu::new(&self.cabinet, pass);
+        let note = vcpu.tell();
+        self.pass = Some(vcpu.into_parts().1);
+        note
+    }
+
+    /// It has then seen all that a note of its machine tells of: a thread hands the note on with whatever it tells another, so that who was
+    /// told that the map has changed enters no generation from before the change. It may be entered, and then stays in its generation.
+    pub fn meet(&mut self, note: Note<Generation>)
+        requires own { note.cabinet ≡ self.old.cabinet }
+        ensures longer { self.new.seen ≡ longer self.old.seen note.seen }
+        ensures seen { IsPrefix note.seen self.new.seen }
+        ensures events { Made self.old [] self.new }
+        ensures edition { self.new.edition ≡ self.old.edition }
+    {
+        let Some(pass) = self.pass.take() else {
+            unreachable!()
+        };
+        let mut vcpu = Vcpu::new(&self.cabinet, pass);
+        vcpu.meet(note);
+        self.pass = Some(vcpu.into_parts().1);
     }
 
     /// Reads bytes of a space from an address on, as many as there is room for, and answers how that ended, in which

@@ -1,18 +1,23 @@
 // The writer's desk with its share of the cabinet.
-ghost use Rattle.std.specs.Prelude.{◌≡◌, ◌≢◌, ◌≤◌, ◌^◌, Err, IfOk, None, [], drop};
+ghost use Rattle.std.specs.Prelude.{◌≡◌, ◌≢◌, ◌+◌, ◌≤◌, Err, IfErr, IfOk, None, [], drop, false, replicate};
 ghost use Rattle.std.specs.Arc.{arc_value};
-ghost use Rattle.mem_base.specs.map.Limits.{most_passes, most_words};
+ghost use mathlib.Core.List.{IsPrefix};
+ghost use Rattle.mem_base.specs.declared.map.calls.Config.TheVariants as configs;
+ghost use Rattle.mem_base.specs.map.Limits.{most_passes, most_words, notifier_count};
+ghost use Rattle.mem_base.specs.declared.machine.events.Hand.TheVariants.{Writer};
 ghost use Rattle.mem_base.specs.machine.Answers.{answer_with, harvest_answer, notifier_answer, reap_answer};
 ghost use Rattle.mem_base.specs.machine.Orders.{configure, harvest, notified, reap};
 ghost use Rattle.mem_base.specs.machine.Publishing.{current_forest};
 ghost use Rattle.mem_base.specs.machine.Reaps.{first_writer};
+ghost use Rattle.epoch_rule.specs.Rule.{KeepsHome};
+ghost use Rattle.epoch_rule.specs.Wrote.{Wrote, longer};
 ghost use Rattle.writer_run.specs.Turns.{answer_by};
 ghost use Rattle.config_desk.specs.Configs.{IsTurnOf, with_calls};
 ghost use Rattle.shared_machine.specs.Desks.{HandsOut, handed};
 
 use crate::cpu::Cpu;
 use config_desk::Config;
-use epoch_rule::Cabinet;
+use epoch_rule::{Cabinet, Note};
 use generation::Generation;
 use mem_base::{
     Applied, Client, Config as Event, ListenerEvent, ListenerId, MOST_PASSES, NotifierId, Refusal,
@@ -48,7 +53,8 @@ impl Desk {
     pub fn new(alloc: Global, words: usize) -> Result<Desk, AllocError>
         requires words { words ≤ most_words }
         ensures part { IfOk result (λ desk. desk.part ≡ first_writer words most_passes) }
-        ensures fresh { IfOk result (λ desk. desk.seat.seen ≡ []) }
+        ensures sizes { IfOk result (λ desk. (desk.seat.sizes.passes ≡ most_passes) × (desk.seat.sizes.words ≡ words + notifier_count)) }
+        ensures fresh { IfOk result (λ desk. (desk.seat.seen ≡ []) × (desk.seat.out ≡ replicate most_passes false)) }
     {
         let (cabinet, config) = Config::new(alloc, words, MOST_PASSES)?;
         Ok(Desk { cabinet, config })
@@ -75,7 +81,10 @@ impl Desk {
 
     /// A private event of the writer: a call that changes the map, a transaction that is opened or closed, a listener that joins or
     /// leaves. The number of the generation that it published, if it did, is answered beside what the call answers.
+    ///
+    /// A transaction is opened without memory, and refused with `TooNested` alone.
     pub fn configure(&mut self, event: &Event) -> Result<(Applied, Option<u64>), Refusal>
+        ensures nested { event.now ≡ configs.Begin → IfErr result (λ why. why ≡ Refusal.TooNested) }
         ensures turn { result ≢ Err Refusal.Memory → IsTurnOf self.old (configure event.now) (answer_by event.now result) self.new }
         ensures unchanged { result ≡ Err Refusal.Memory → self.new ≡ self.old }
     {
@@ -107,6 +116,28 @@ impl Desk {
         self.config.harvest(region, client)
     }
 
+    /// A note of what the desk has seen, for virtual CPUs to meet. It takes no memory.
+    pub fn note(&mut self) -> Note<Generation>
+        ensures same { self.new ≡ self.old }
+        ensures note { (result.cabinet ≡ self.old.seat.cabinet) × (result.seen ≡ self.old.seat.seen) }
+    {
+        self.config.note()
+    }
+
+    /// The desk has then seen all that a note of its machine tells of. It takes no memory.
+    pub fn hear(&mut self, note: Note<Generation>)
+        requires own { note.cabinet ≡ self.old.seat.cabinet }
+        ensures longer { self.new.seat.seen ≡ longer self.old.seat.seen note.seen }
+        ensures seen { IsPrefix note.seen self.new.seat.seen }
+        ensures home { KeepsHome self.old.seat.out self.old.seat.seen self.new.seat.seen }
+        ensures wrote { Wrote Writer self.old.seat.sizes self.old.seat.seen [] self.new.seat.seen }
+        ensures same { (self.new.seat.cabinet ≡ self.old.seat.cabinet) × (self.new.seat.sizes ≡ self.old.seat.sizes)
+            × (self.new.seat.out ≡ self.old.seat.out) }
+        ensures part { self.new.part ≡ self.old.part }
+    {
+        self.config.hear(note);
+    }
+
     /// The calls that the listeners got and that are not forgotten, in order.
     pub fn journal(&self) -> &[(ListenerId, ListenerEvent)]
         ensures { result.now ≡ self.now.part.desk.listening.journal }
@@ -135,6 +166,7 @@ impl Desk {
 
 // A private event, by the desk's call for it.
 fn configure(config: &mut Config, event: &Event) -> Result<(Applied, Option<u64>), Refusal>
+    ensures nested { event.now ≡ configs.Begin → IfErr result (λ why. why ≡ Refusal.TooNested) }
     ensures turn { result ≢ Err Refusal.Memory → IsTurnOf config.old (configure event.now) (answer_by event.now result) config.new }
     ensures unchanged { result ≡ Err Refusal.Memory → config.new ≡ config.old }
 {

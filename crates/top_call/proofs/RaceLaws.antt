@@ -14,6 +14,7 @@ use Rattle.mem_base.specs.script.Run.{text_of}
 use Rattle.mem_base.specs.script.Scripts.{Line, Meaning}
 use Rattle.run_laws.specs.Fitting.{AreFitting}
 use Rattle.race_laws.proofs.StoppedEnds.{races_exist}
+use Rattle.config_desk.specs.LawfulDesks.{IsLawfulDesk}
 use Rattle.race_run.proofs.HandedOn.{ConfigState, RunFault, Write}
 use Rattle.race_run.specs.Racing.{HasStopped, TakesOne}
 use Rattle.top_call.specs.declared.endings.Ending.{Ending}
@@ -90,10 +91,10 @@ module _ {K : Type 0} (written : K → Option (List ℕ)) (holds : K → List �
   raced_by : (write_faults : K → ℕ) (lines : List Line) (sink sink' : K) (c : ConfigState) (x : Unit {0})
       → TakesOne written holds sink sink' (IsTextOfRace lines c.seat.seen)
       → (Every IsAlone (phases_of lines) → Writes {T = Unit {0}} {E = RunFault} written holds write_faults sink sink' (text_of lines) Write (Ok x))
-      → c.seat.out ≡ replicate most_passes false
+      → c.seat.out ≡ replicate most_passes false → IsLawfulDesk c
       → WritesRaceOf written holds (Ok lines) sink sink' (Some c) endings.Done
-  raced_by write_faults lines sink sink' c x took run home = record {
-    done = λ e. (lines, c, refl, refl, record { home = home; text = took.0; race = took.2; took = took.1 });
+  raced_by write_faults lines sink sink' c x took run home lawful = record {
+    done = λ e. (lines, c, refl, refl, record { home = home; text = took.0; race = took.2; lawful = lawful; took = took.1 });
     kept = λ n. absurd (n refl);
     plain = λ others e all. plain_done others (same_lines lines others e) all;
     bad = tt;
@@ -111,12 +112,12 @@ module _ {K : Type 0} (written : K → Option (List ℕ)) (holds : K → List �
   pub raced : (write_faults : K → ℕ) (lines : List Line) (sink sink' : K) (c : ConfigState) (r : Result (Unit {0}) RunFault) (x : Unit {0}) → r ≡ Ok x
       → OnOk r (TakesOne written holds sink sink' (IsTextOfRace lines c.seat.seen))
       → (Every IsAlone (phases_of lines) → Writes written holds write_faults sink sink' (text_of lines) Write r)
-      → c.seat.out ≡ replicate most_passes false
+      → c.seat.out ≡ replicate most_passes false → IsLawfulDesk c
       → WritesRaceOf written holds (Ok lines) sink sink' (Some c) endings.Done
-  raced write_faults lines sink sink' c r x is whole run home =
+  raced write_faults lines sink sink' c r x is whole run home lawful =
       raced_by write_faults lines sink sink' c x
       (subst (λ (z : Result (Unit {0}) RunFault). OnOk z (TakesOne written holds sink sink' (IsTextOfRace lines c.seat.seen))) is whole)
-      (λ all. subst (λ (z : Result (Unit {0}) RunFault). Writes written holds write_faults sink sink' (text_of lines) Write z) is (run all)) home
+      (λ all. subst (λ (z : Result (Unit {0}) RunFault). Writes written holds write_faults sink sink' (text_of lines) Write z) is (run all)) home lawful
 
   -- it stopped
 

@@ -50,7 +50,10 @@ fn race_script<R: Threads + Wait + Sync, K: Sink, G: Gate>(
     let (config, done) = race(rt, alloc, script, &cabinet, config, sink, gate);
     drop(cabinet);
     match done {
-        Ok(()) => (Ending::Done, Some(config)),
+        Ok(()) => {
+            config.is_lawful();
+            (Ending::Done, Some(config))
+        }
         Err(fault) => {
             drop(config);
             (ending_after(fault), None)

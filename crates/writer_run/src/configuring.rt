@@ -80,11 +80,13 @@ pub fn configure<H: WriterHand>(
 
 /// Opens a transaction, inside of those that are open: the turn of that. It takes no memory.
 ///
-/// It is refused as the machine's definitions say, and leaves the desk as it was.
+/// It is refused with `TooNested` alone, as the machine's definitions say, and leaves the desk as it was.
 pub fn begin<H: WriterHand>(desk: &mut IdleDesk, hand: &H) -> Result<(), Refusal>
     requires parts { AreParts desk.old (H.Writing.generations hand.now) (H.Writing.words hand.now) }
     ensures turn { IsTurn (part_of desk.old (H.Writing.generations hand.now)) (configure configs.Begin)
         (λ xs. H.Writing.makes hand.now xs hand.now) (plain_answer result) (part_of desk.new (H.Writing.generations hand.now)) }
+    ensures nested { IfErr result (λ why. why ≡ Refusal.TooNested) }
+    ensures left { OnErr result ((part_of desk.new (H.Writing.generations hand.now)).desk ≡ (part_of desk.old (H.Writing.generations hand.now)).desk) }
     ensures parts { AreParts desk.new (H.Writing.generations hand.now) (H.Writing.words hand.now) }
 {
     let _ = hand;

@@ -18,7 +18,7 @@ pub enum What {
     Other(u32, u64),
 }
 
-/// Why a call is refused. A refused call changes nothing.
+/// Why a call is refused. A refused call changes nothing of the map.
 #[derive(Clone, Copy, Debug, PartialEq, Eq)]
 pub enum Refusal {
     /// Something that the call names is not there.
