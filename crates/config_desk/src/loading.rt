@@ -1,4 +1,4 @@
-// Loads by the writer's seat.
+// Loads by the writer's seat of the running machine.
 ghost use Rattle.std.specs.Prelude.{◌≡◌};
 ghost use Rattle.mem_base.specs.machine.Answers.{plain_answer};
 ghost use Rattle.mem_base.specs.machine.Orders.{load};
@@ -7,10 +7,10 @@ ghost use Rattle.writer_run.specs.Parts.{AreParts, part_of};
 ghost use Rattle.writer_run.specs.Turns.{IsTurn};
 ghost use Rattle.seat_run.specs.Written.{HasWritten};
 
-use crate::hands::{LoadingSeat, SeatHand};
 use epoch_rule::{Cabinet, WriterSeat};
 use generation::Generation;
 use mem_base::{Refusal, RegionId};
+use seat_run::{LoadingSeat, SeatHand};
 use std::sync::Wait;
 use writer_desk::IdleDesk;
 use writer_run::load_bytes;
@@ -35,30 +35,28 @@ fn load_by<R: Wait>(
     load_bytes(desk, &mut hand, region, offset, bytes)
 }
 
-impl SeatHand {
-    /// Loads bytes into a region, from an offset in it on: the turn of that. It may wait where it replaces a part of a word.
-    pub fn load<R: Wait>(
-        &mut self,
-        rt: &R,
-        desk: &IdleDesk,
-        region: RegionId,
-        offset: u64,
-        bytes: &[u8],
-    ) -> Result<(), Refusal>
-        requires parts { AreParts desk.now (generations_in_seen self.old.seat.sizes self.old.seat.seen) self.old.seat.sizes.words }
-        ensures turn { IsTurn (part_of desk.now (generations_in_seen self.old.seat.sizes self.old.seat.seen)) (load region offset bytes.now)
-            (λ xs. HasWritten self.old.seat xs self.new.seat) (plain_answer result)
-            (part_of desk.now (generations_in_seen self.new.seat.sizes self.new.seat.seen)) }
-        ensures parts { AreParts desk.now (generations_in_seen self.new.seat.sizes self.new.seat.seen) self.new.seat.sizes.words }
-    {
-        load_by(
-            rt,
-            &self.cabinet,
-            &mut self.seat,
-            desk,
-            region,
-            offset,
-            bytes,
-        )
-    }
+/// Loads bytes into a region by the writer's seat, from an offset in it on: the turn of that. It may wait where it replaces a part of a word.
+pub(crate) fn load_with<R: Wait>(
+    rt: &R,
+    hand: &mut SeatHand,
+    desk: &IdleDesk,
+    region: RegionId,
+    offset: u64,
+    bytes: &[u8],
+) -> Result<(), Refusal>
+    requires parts { AreParts desk.now (generations_in_seen hand.old.seat.sizes hand.old.seat.seen) hand.old.seat.sizes.words }
+    ensures turn { IsTurn (part_of desk.now (generations_in_seen hand.old.seat.sizes hand.old.seat.seen)) (load region offset bytes.now)
+        (λ xs. HasWritten hand.old.seat xs hand.new.seat) (plain_answer result)
+        (part_of desk.now (generations_in_seen hand.new.seat.sizes hand.new.seat.seen)) }
+    ensures parts { AreParts desk.now (generations_in_seen hand.new.seat.sizes hand.new.seat.seen) hand.new.seat.sizes.words }
+{
+    load_by(
+        rt,
+        &hand.cabinet,
+        &mut hand.seat,
+        desk,
+        region,
+        offset,
+        bytes,
+    )
 }
