@@ -2,7 +2,7 @@ use Rattle.std.proofs.Common.{◌≡◌, take, filter, length}
 use Rattle.std.specs.Prelude.{nat_lt, flat_map}
 use Rattle.std.specs.Arc.{arc_value}
 use Rattle.mem_base.specs.map.Order.{ids_of}
-use Rattle.region_tree.proofs.features.with_events.Given as goal
+use Rattle.node_chunks.proofs.features.with_events.Given as goal
 
 -- the ids of the regions of the chunks so far
 abbrev pub invariant-loop-chunk : goal.invariant-loop-chunk

@@ -4,7 +4,7 @@ ghost use Rattle.std.specs.Arc.{arc_value};
 ghost use Rattle.mem_base.specs.lists.Every.{Every};
 ghost use Rattle.mem_base.specs.map.Region.{IsAscending};
 ghost use Rattle.region_slots.specs.Slots.{nodes_of};
-ghost use Rattle.region_tree.specs.Near.{OthersAre, AreLeft, IsBound, is_below, is_touched};
+ghost use Rattle.node_chunks.specs.Near.{OthersAre, AreLeft, IsBound, is_below, is_touched};
 
 use mem_base::{Chunk, Nodes, RegionId};
 use region_slots::{Slot, copied};
@@ -24,8 +24,8 @@ fn chunk_of(alloc: Global, slots: &[Slot]) -> Result<Arc<Chunk, Global>, AllocEr
     Ok(Arc::new(alloc, Chunk::new(list))?)
 }
 
-/// Puts copies of the regions of these slots behind the chunks that are there, in chunks that are full but for the last one.
-pub(crate) fn push_copies(
+// Puts copies of the regions of these slots behind the chunks that are there, in chunks that are full but for the last one.
+fn push_copies(
     alloc: Global,
     chunks: &mut Vec<Arc<Chunk, Global>>,
     slots: &[Slot],
@@ -126,7 +126,7 @@ fn push_next(
 }
 
 /// The regions of these slots in chunks, from regions that differ from them in some alone: chunks with no such region are shared.
-pub(crate) fn nodes_near(
+pub fn nodes_near(
     alloc: Global,
     old: &Nodes,
     changed: &[RegionId],
@@ -152,7 +152,7 @@ pub(crate) fn nodes_near(
 }
 
 /// The regions of these slots in chunks of their own, full but for the last one.
-pub(crate) fn nodes_anew(alloc: Global, slots: &[Slot]) -> Result<Nodes, AllocError>
+pub fn nodes_anew(alloc: Global, slots: &[Slot]) -> Result<Nodes, AllocError>
     requires { IsAscending (nodes_of slots.now) }
     ensures { IfOk result (λ nodes. nodes ≡ nodes_of slots.now) }
 {
@@ -163,7 +163,7 @@ pub(crate) fn nodes_anew(alloc: Global, slots: &[Slot]) -> Result<Nodes, AllocEr
 
 /// Whether these are too many chunks for this number of regions: fewer than 32 regions a chunk. Regions that are dropped leave their chunks
 /// shorter; by then more were dropped than are left, so making all chunks anew copies less than one region for each that was dropped.
-pub(crate) fn is_sparse(chunks: usize, regions: usize) -> bool
+pub fn is_sparse(chunks: usize, regions: usize) -> bool
     ensures { result ≡ nat_lt (regions / 32 + 4) chunks }
 {
     regions / (Chunk::MOST / 2) + 4 < chunks

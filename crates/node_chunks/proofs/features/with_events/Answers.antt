@@ -1,8 +1,8 @@
 use Rattle.std.proofs.Common.{◌≡◌, ◌++◌, take, get_or, sym, ap, ◌∙◌}
 use Rattle.std.specs.Prelude.{flat_map}
 use Rattle.std.specs.Arc.{arc_value}
-use Rattle.region_tree.proofs.FeatureLaws.{noted, noted_more}
-use Rattle.region_tree.proofs.features.with_events.Goals as goal
+use Rattle.node_chunks.proofs.FeatureLaws.{noted, noted_more}
+use Rattle.node_chunks.proofs.features.with_events.Goals as goal
 
 pub loop-chunk-preserved : goal.loop-chunk-preserved
 loop-chunk-preserved c =

@@ -3,7 +3,7 @@ use Rattle.std.specs.Prelude.{flat_map}
 use Rattle.std.specs.Arc.{arc_value}
 use Rattle.mem_base.specs.lists.Every.{Every}
 use Rattle.region_slots.specs.Slots.{nodes_of}
-use Rattle.region_tree.proofs.near.push_copies.Given as goal
+use Rattle.node_chunks.proofs.near.push_copies.Given as goal
 
 -- the regions that are copied, and those that are left
 abbrev pub invariant-loop-rest : goal.invariant-loop-rest

@@ -1,6 +1,6 @@
 use Rattle.std.proofs.Common.{◌≡◌, length, take}
 use Rattle.region_slots.specs.Slots.{nodes_of}
-use Rattle.region_tree.proofs.near.chunk_of.Given as goal
+use Rattle.node_chunks.proofs.near.chunk_of.Given as goal
 
 -- the regions so far are copied
 abbrev pub invariant-loop-slot : goal.invariant-loop-slot

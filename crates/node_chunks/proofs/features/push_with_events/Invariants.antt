@@ -1,7 +1,7 @@
 use Rattle.std.proofs.Common.{◌≡◌, ◌++◌, drop, filter, length}
 use Rattle.std.specs.Prelude.{nat_lt}
 use Rattle.mem_base.specs.map.Order.{ids_of}
-use Rattle.region_tree.proofs.features.push_with_events.Given as goal
+use Rattle.node_chunks.proofs.features.push_with_events.Given as goal
 
 -- the ids so far, and those of the regions that are left
 abbrev pub invariant-loop-node : goal.invariant-loop-node

@@ -17,7 +17,7 @@ use Rattle.mem_base.proofs.ForestLaws.{IsAbsent}
 use Rattle.mem_base.proofs.ChunkLaws.{none_there, front_only, back_only, ascending_first, ascending_rest, below_rest, from_first, first_has}
 use Rattle.region_slots.specs.declared.slots.Slot.{Slot}
 use Rattle.region_slots.specs.Slots.{nodes_of}
-use Rattle.region_tree.specs.Near.{AreLeft, IsBound, is_below, is_touched}
+use Rattle.node_chunks.specs.Near.{AreLeft, IsBound, is_below, is_touched}
 use Rattle.mem_base.proofs.BoolLaws.{and_nothing}
 
 none_below : (xs : List Node) (r : RegionId) → Every (λ m. r.0 < m.id.0) xs → node_of xs r ≡ None

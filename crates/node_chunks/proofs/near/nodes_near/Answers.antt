@@ -4,9 +4,9 @@ use Rattle.std.specs.Prelude.{flat_map, unwrap_or}
 use Rattle.std.specs.Arc.{arc_value}
 use Rattle.mem_base.specs.declared.map.ids.RegionId.{RegionId}
 use Rattle.region_slots.specs.Slots.{nodes_of}
-use Rattle.region_tree.specs.Near.{AreLeft, IsBound}
-use Rattle.region_tree.proofs.NearLaws.{nodes_parts}
-use Rattle.region_tree.proofs.near.nodes_near.Goals as goal
+use Rattle.node_chunks.specs.Near.{AreLeft, IsBound}
+use Rattle.node_chunks.proofs.NearLaws.{nodes_parts}
+use Rattle.node_chunks.proofs.near.nodes_near.Goals as goal
 
 pub push_next-requires-clause-bound : goal.push_next-requires-clause-bound
 push_next-requires-clause-bound c =

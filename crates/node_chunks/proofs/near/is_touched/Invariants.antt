@@ -1,6 +1,6 @@
 use Rattle.std.proofs.Common.{◌≡◌, drop}
-use Rattle.region_tree.specs.Near.{is_touched}
-use Rattle.region_tree.proofs.near.is_touched.Given as goal
+use Rattle.node_chunks.specs.Near.{is_touched}
+use Rattle.node_chunks.proofs.near.is_touched.Given as goal
 
 -- none of the regions so far is in the place
 abbrev pub invariant-loop-region : goal.invariant-loop-region

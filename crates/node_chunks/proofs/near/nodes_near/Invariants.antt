@@ -3,8 +3,8 @@ use Rattle.std.specs.Prelude.{flat_map}
 use Rattle.std.specs.Arc.{arc_value}
 use Rattle.mem_base.specs.lists.Every.{Every}
 use Rattle.region_slots.specs.Slots.{nodes_of}
-use Rattle.region_tree.specs.Near.{AreLeft}
-use Rattle.region_tree.proofs.near.nodes_near.Given as goal
+use Rattle.node_chunks.specs.Near.{AreLeft}
+use Rattle.node_chunks.proofs.near.nodes_near.Given as goal
 
 -- the regions that are done, and what is left of the old ones and the new ones
 abbrev pub invariant-loop-i : goal.invariant-loop-i

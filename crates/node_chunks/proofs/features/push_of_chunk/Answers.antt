@@ -1,8 +1,8 @@
 use Rattle.std.proofs.Common.{rules, ◌≡◌, false, ◌++◌, sym, ap, ◌∙◌}
 use Rattle.std.proofs.lemmas.List.{append-nil}
 use Rattle.mem_base.specs.map.Chunks.{any_events}
-use Rattle.region_tree.proofs.FeatureLaws.{noted_none}
-use Rattle.region_tree.proofs.features.push_of_chunk.Goals as goal
+use Rattle.node_chunks.proofs.FeatureLaws.{noted_none}
+use Rattle.node_chunks.proofs.features.push_of_chunk.Goals as goal
 
 pub returns-then-not-has_events : goal.returns-then-not-has_events
 returns-then-not-has_events c =

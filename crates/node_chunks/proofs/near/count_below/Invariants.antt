@@ -1,8 +1,8 @@
 use Rattle.std.proofs.Common.{◌≡◌, true, take}
 use Rattle.mem_base.specs.lists.Every.{Every}
 use Rattle.region_slots.specs.Slots.{nodes_of}
-use Rattle.region_tree.specs.Near.{is_below}
-use Rattle.region_tree.proofs.near.count_below.Given as goal
+use Rattle.node_chunks.specs.Near.{is_below}
+use Rattle.node_chunks.proofs.near.count_below.Given as goal
 
 -- the regions so far are below the bound
 abbrev pub invariant-loop-i : goal.invariant-loop-i

@@ -18,7 +18,7 @@ pub struct Features {
 
 impl Features {
     /// Those of these regions. Only chunks in which a region has ioeventfds are gone through.
-    pub(crate) fn of(alloc: Global, nodes: &Nodes) -> Result<Features, AllocError>
+    pub fn of(alloc: Global, nodes: &Nodes) -> Result<Features, AllocError>
         ensures iommu { IfOk result (λ features. features.has_iommu ≡ list_any (λ n. is_iommu n.kind) nodes.now) }
         ensures events { IfOk result (λ features. features.with_events.items ≡ ids_of (filter (λ n. nat_lt 0 (length n.events)) nodes.now)) }
     {

@@ -1,8 +1,8 @@
 use Rattle.std.proofs.Common.{rules, ◌≡◌, false}
 use Rattle.region_slots.specs.declared.slots.Slot.{Slot}
-use Rattle.region_tree.specs.Near.{is_below}
-use Rattle.region_tree.proofs.NearLaws.{slots_above}
-use Rattle.region_tree.proofs.near.count_below.Goals as goal
+use Rattle.node_chunks.specs.Near.{is_below}
+use Rattle.node_chunks.proofs.NearLaws.{slots_above}
+use Rattle.node_chunks.proofs.near.count_below.Goals as goal
 
 pub returns-then-not-is_below-clause-above : goal.returns-then-not-is_below-clause-above
 returns-then-not-is_below-clause-above c =

@@ -1,9 +1,9 @@
 use Rattle.std.proofs.Common.{rules, ◌≡◌, ◌++◌, false, sym, ap, ◌∙◌}
 use Rattle.std.specs.Prelude.{flat_map}
 use Rattle.std.specs.Arc.{arc_value}
-use Rattle.region_tree.specs.Near.{is_touched}
-use Rattle.region_tree.proofs.NearLaws.{flat_push, left_of_copied, shared}
-use Rattle.region_tree.proofs.near.push_next.Goals as goal
+use Rattle.node_chunks.specs.Near.{is_touched}
+use Rattle.node_chunks.proofs.NearLaws.{flat_push, left_of_copied, shared}
+use Rattle.node_chunks.proofs.near.push_next.Goals as goal
 
 pub returns-then-is_touched-clause-left : goal.returns-then-is_touched-clause-left
 returns-then-is_touched-clause-left c =
