@@ -14,6 +14,7 @@ ghost use Rattle.writer_desk.specs.Listened.{resting};
 ghost use Rattle.writer_run.specs.Turns.{answer_by, number_told};
 ghost use Rattle.config_desk.specs.Configs.{IsTurnOf, with_calls};
 
+use crate::loading::load_with;
 use epoch_rule::{Cabinet, WriterSeat};
 use generation::Generation;
 use mem_base::{
@@ -342,7 +343,7 @@ impl Config {
     ) -> Result<(), Refusal>
         ensures turn { IsTurnOf self.old (load region offset bytes.now) (plain_answer result) self.new }
     {
-        self.hand.load(rt, &self.desk, region, offset, bytes)
+        load_with(rt, &mut self.hand, &self.desk, region, offset, bytes)
     }
 
     /// The calls that the listeners got and that were not taken out or forgotten, in order.

@@ -8,6 +8,7 @@
 
 mod config;
 mod laws;
+mod loading;
 mod passing;
 
 pub use config::Config;

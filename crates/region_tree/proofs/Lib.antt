@@ -3,5 +3,3 @@ pub mod AddLaws
 pub mod RegionLaws
 pub mod EditLaws
 pub mod PickedLaws
-pub mod NearLaws
-pub mod FeatureLaws

@@ -9,11 +9,9 @@
 
 mod calls;
 mod conditions;
-mod features;
-mod near;
 mod refusals;
 mod tree;
 
-pub use features::Features;
+pub use node_chunks::Features;
 pub use region_slots::Child;
 pub use tree::Tree;

@@ -15,12 +15,11 @@ ghost use Rattle.mem_base.specs.map.Steps.{reaches, depth_of, weight_of};
 ghost use Rattle.mem_base.specs.map.Touched.{reached};
 ghost use Rattle.region_slots.specs.Slots.{nodes_of, placed_of};
 ghost use Rattle.region_extents.specs.Kept.{aliases_of, aliases_in};
-ghost use Rattle.region_tree.specs.Near.{OthersAre};
+ghost use Rattle.node_chunks.specs.Near.{OthersAre};
 ghost use Rattle.region_tree.specs.Reach.{picked};
 
-use crate::features::Features;
-use crate::near::{is_sparse, nodes_anew, nodes_near};
 use mem_base::{Forest, MOST_DEPTH, Node, Nodes, RegionId, SpaceId, Spaces};
+use node_chunks::{Features, is_sparse, nodes_anew, nodes_near};
 use region_extents::{Ids, Kept, depth_within, kept_extent, mark_within, weight_within};
 use region_slots::{Child, Slot, Slots, place_of};
 use std::alloc::{AllocError, Global};

@@ -8,21 +8,15 @@ use Rattle.mem_base.specs.declared.machine.events.HistoryEntry.{HistoryEntry}
 use Rattle.mem_base.specs.views.Naming.{names}
 use Rattle.mem_base.specs.declared.machine.events.Hand.TheVariants as hands
 use Rattle.mem_base.specs.machine.Actors.{own_entries, generations_after_all}
-use Rattle.mem_base.specs.machine.Answers.{Answer}
 use Rattle.mem_base.specs.machine.Desk.{cells_of}
 use Rattle.mem_base.specs.machine.Generations.{Generation, Generations, first_generations, generation}
-use Rattle.mem_base.specs.machine.Orders.{load, pass_ids}
-use Rattle.mem_base.specs.machine.Reaps.{Writer}
+use Rattle.mem_base.specs.machine.Orders.{pass_ids}
 use Rattle.generation.specs.Published.{Published}
 use Rattle.epoch_rule.specs.Calls.{generations_in_seen}
 use Rattle.epoch_rule.specs.Values.{WriterValue}
 use Rattle.epoch_rule.specs.Wrote.{Wrote}
-use Rattle.writer_desk.specs.declared.idle.IdleDesk.{IdleDesk}
-use Rattle.writer_run.specs.Hands.{IsPublished, cleared, swept}
-use Rattle.writer_run.specs.Parts.{part_of}
-use Rattle.writer_run.specs.Turns.{IsTurn}
-use Rattle.writer_run.proofs.EntryLaws.{after_both, fills_keep, published_by, publishes_leave, sweeps_keep}
-use Rattle.writer_run.proofs.WordLaws.{load_leaves}
+use Rattle.writer_hand.specs.Hands.{IsPublished, cleared, swept}
+use Rattle.writer_hand.proofs.EntryLaws.{after_both, fills_keep, published_by, publishes_leave, sweeps_keep}
 use Rattle.seat_run.specs.Recents.{is_named_in, shown_by}
 use Rattle.seat_run.specs.Written.{HasWritten}
 use Rattle.seat_run.specs.WrittenLaws.{generations_go}
@@ -48,11 +42,6 @@ module _ (v w : WriterValue) where
 
   pub filled_kept : (p : Place) → HasWritten v (cleared p) w → h.kept ≡ g.kept
   filled_kept p made = ap (λ (x : Generations). x.kept) (generations_go v w (cleared p) made ∙ fills_keep p (cells_of p) [] g)
-
-  pub loaded_kept : (d : IdleDesk) (region : RegionId) (offset : ℕ) (bytes : List ℕ) (makes : List HistoryEntry → Type 0)
-      (answer : Answer) → IsTurn (part_of d g) (load region offset bytes) makes answer (part_of d h) → h.kept ≡ g.kept
-  loaded_kept d region offset bytes makes answer t =
-      ap (λ (x : Writer). x.generations.kept) (t.writer ∙ load_leaves (part_of d g) region offset bytes t.replies)
 
   -- where the writer made no entry
   pub still_kept : w.sizes ≡ v.sizes → own_entries 0 w.seen ≡ own_entries 0 v.seen → h.kept ≡ g.kept

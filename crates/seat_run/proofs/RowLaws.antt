@@ -24,12 +24,12 @@ use Rattle.generation.specs.Published.{Published}
 use Rattle.epoch_rule.specs.declared.views.Sizes.{Sizes}
 use Rattle.epoch_rule.specs.Calls.{sweeps_of, places_of, generations_in_seen}
 use Rattle.shared_words.specs.Fills.{fills_of}
-use Rattle.writer_run.specs.Entries.{entries_with, nothing, edition_of, at}
+use Rattle.writer_hand.specs.Entries.{entries_with, nothing, edition_of, at}
 use Rattle.epoch_rule.specs.Calls as epoch
 use Rattle.epoch_rule.specs.Rule.{KeepsHome}
 use Rattle.epoch_rule.specs.Values.{WriterValue}
 use Rattle.epoch_rule.specs.Wrote.{Wrote}
-use Rattle.writer_run.specs.Hands.{swept, cleared, IsPublished, IsHeldUp}
+use Rattle.writer_hand.specs.Hands.{swept, cleared, IsPublished, IsHeldUp}
 use Rattle.seat_run.specs.Written.{HasWritten}
 use Rattle.epoch_rule.proofs.AddsLaws.{adds_some}
 use Rattle.seat_run.specs.WrittenLaws.{generations_go}

@@ -9,7 +9,7 @@ use Rattle.epoch_rule.specs.Calls.{generations_in_seen}
 use Rattle.epoch_rule.specs.Values.{WriterValue}
 use Rattle.epoch_rule.specs.Wrote.{Adds}
 use Rattle.epoch_rule.proofs.AddsLaws.{adds_none, adds_then}
-use Rattle.writer_run.proofs.EntryLaws.{after_both}
+use Rattle.writer_hand.proofs.EntryLaws.{after_both}
 use Rattle.seat_run.specs.Written.{HasWritten}
 
 pub written_none : (v : WriterValue) → HasWritten v [] v

@@ -15,7 +15,7 @@ use generation::Generation;
 use mem_base::{Client, Place, Refusal, RegionId};
 use std::alloc::{AllocError, Global};
 use std::sync::{Arc, Wait};
-use writer_run::{Loads, Names, WriterHand, Writing};
+use writer_hand::{Loads, Names, WriterHand, Writing};
 
 /// The writer's seat with its cabinet, and the generations that are kept.
 #[derive(Drop)]

@@ -5,7 +5,6 @@
 #![tactic(auto)]
 
 mod hands;
-mod loading;
 mod passing;
 mod recent;
 mod steps;

@@ -2,7 +2,7 @@
 ghost use Rattle.std.specs.Prelude.{◌≡◌, ℕ, ◌+◌, ◌≤◌, ◌<◌, List, [], ◌∷◌, length, MatchResult};
 ghost use Rattle.mem_base.specs.access.Places.{extent, mark_words, past, words_of};
 ghost use Rattle.epoch_rule.specs.Calls.{generations_in_seen, refusal_of};
-ghost use Rattle.writer_run.specs.Hands.{MayPublish, IsPublished, IsHeldUp, cleared, swept, word_entry};
+ghost use Rattle.writer_hand.specs.Hands.{MayPublish, IsPublished, IsHeldUp, cleared, swept, word_entry};
 ghost use Rattle.mem_base.specs.declared.machine.events.Event.TheVariants as events;
 ghost use Rattle.mem_base.specs.declared.machine.events.Carried.TheVariants.{At};
 ghost use Rattle.mem_base.specs.machine.Generations.{least_lowest};

@@ -11,10 +11,11 @@ use Rattle.mem_base.specs.map.Calls.{after}
 use Rattle.mem_base.specs.map.Forest.{FitsTypes, IsMade}
 use Rattle.mem_base.specs.machine.Committed.{transaction}
 use Rattle.generation.specs.Published.{Published}
-use Rattle.transact.specs.Desks.{DeskState, IsDesk, desk_state, publishes_due, reached_in}
+use Rattle.transact.specs.Desks.{DeskState, IsDesk, desk_state, publishes_due}
+use Rattle.touched_spaces.specs.Reached.{reached_in}
 use Rattle.transact.specs.declared.spare.Next.{Next}
 use Rattle.transact.specs.Preparing.{Readied, IsOfDesk, IsFromCall, IsFromCommit}
-use Rattle.transact.specs.Noted.{AreNoted}
+use Rattle.touched_spaces.specs.Noted.{AreNoted}
 use Rattle.transact.specs.Spares.{IsSpare, IsNext}
 use Rattle.transact.proofs.MadeLaws.{made_after, counted_after, closed_made}
 

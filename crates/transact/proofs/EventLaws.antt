@@ -101,15 +101,6 @@ some_listed p (n ∷ ns) = go (p n) (some_listed p ns)
     go true e = grind (arith, nat_tests)
     go false e = e
 
-pub none_listed : (p : Node → Bool) (nodes : List Node) → list_any p nodes ≡ false → ids_of (filter p nodes) ≡ []
-none_listed p [] h = refl
-none_listed p (n ∷ ns) h = go (p n) h (none_listed p ns)
-  where
-    go : (b : Bool) → (b || list_any p ns) ≡ false → (list_any p ns ≡ false → ids_of (filter p ns) ≡ [])
-        → ids_of (if b then n ∷ filter p ns else filter p ns) ≡ []
-    go true h rest = absurd (grind arith)
-    go false h rest = rest h
-
 pub not_empty : (rs : List RegionId) → not (eqb (length rs) 0) ≡ ltb 0 (length rs)
 not_empty [] = refl
 not_empty (r ∷ rs) = grind (arith, nat_tests)

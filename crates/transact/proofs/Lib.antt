@@ -1,13 +1,8 @@
 pub mod MadeLaws
-pub mod TouchedLaws
 pub mod ShownLaws
 pub mod EventLaws
 pub mod PlacedLaws
 pub mod DeskLaws
 pub mod StepLaws
 pub mod SpareLaws
-pub mod NotedLaws
-pub mod StayLaws
-pub mod LiveLaws
-pub mod RegionLaws
 pub mod BackedLaws

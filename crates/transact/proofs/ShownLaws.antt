@@ -10,21 +10,17 @@ use Rattle.mem_base.specs.declared.views.flat.FlatRange.{FlatRange}
 use Rattle.mem_base.specs.lists.Every.{Every}
 use Rattle.mem_base.specs.map.Search.{is_space, root_of}
 use Rattle.mem_base.specs.map.Forest.{IsMade}
-use Rattle.mem_base.specs.map.Touched.{is_same_region, is_touched}
+use Rattle.mem_base.specs.map.Touched.{is_same_region}
 use Rattle.mem_base.specs.views.Flattened.{view_of}
 use Rattle.mem_base.specs.lists.Booleans.{bool_eq}
 use Rattle.mem_base.specs.views.View.{IsView}
-use Rattle.view_laws.proofs.TouchedLaws.{untouched_view, region_same}
+use Rattle.view_laws.proofs.TouchedLaws.{region_same}
 use Rattle.change_spans.specs.declared.reaches.Reach.{Reach}
 use Rattle.change_spans.specs.declared.reaches.Span.{Span}
 use Rattle.change_spans.specs.Reaches.{has_in, IsOver, ShowsWithin}
 use Rattle.view_splice.specs.Splices.{StaysOutside}
-use Rattle.transact.proofs.MadeLaws.{ordered_made, view_made}
+use Rattle.touched_spaces.proofs.ViewedLaws.{view_made}
 use Rattle.mem_base.proofs.BoolLaws.{bool_same}
-
--- an untouched space keeps its view
-pub view_stays : (f g : Forest) (s : SpaceId) → IsMade f → IsMade g → is_touched f g s ≡ false → view_of f s ≡ view_of g s
-view_stays f g s m n calm = untouched_view f g s (ordered_made f m).ascending (ordered_made g n).ascending calm
 
 -- each atlas is of the view of its space
 pub each_view : {X : Type 0} (h : X → List FlatRange) (f : Forest) (spaces : List (SpaceId × RegionId)) (atlases : List (SpaceId × X)) →

@@ -1,16 +1,16 @@
 -- What a desk is seen as, and what holds of it.
 -- QEMU's core has the tree, the depth of transactions and what is pending under its big lock.
-use Rattle.std.specs.Prelude.{◌≡◌, ℕ, ◌+◌, ◌≤◌, Bool, false, if◌then◌else◌, List, [], map, Option, Some, None}
+use Rattle.std.specs.Prelude.{◌≡◌, ℕ, ◌+◌, ◌≤◌, Bool, false, if◌then◌else◌, List, [], Option}
 use Rattle.mem_base.specs.declared.map.ids.RegionId.{RegionId}
 use Rattle.mem_base.specs.declared.map.ids.SpaceId.{SpaceId}
 use Rattle.mem_base.specs.declared.map.forests.Forest.{Forest}
 use Rattle.mem_base.specs.map.Limits.{most_nested}
 use Rattle.mem_base.specs.map.Calls.{empty}
 use Rattle.mem_base.specs.map.Forest.{IsMade}
-use Rattle.mem_base.specs.map.Touched.{reached}
 use Rattle.mem_base.specs.machine.Committed.{TransactionState, transaction}
 use Rattle.generation.specs.Published.{Published, published}
-use Rattle.transact.specs.Noted.{AreNoted}
+use Rattle.touched_spaces.specs.Noted.{AreNoted}
+use Rattle.touched_spaces.specs.Reached.{reached_in}
 use Rattle.transact.specs.Spares.{IsSpare}
 
 -- the forest that calls have made, with the transactions that are open, and the generation that is current
@@ -28,15 +28,6 @@ first_state = desk_state (transaction empty 0 false) (published 0 empty [])
 -- the desk after a call, a begin or a commit that publishes nothing
 abbrev pub with_state : TransactionState → DeskState → DeskState
 with_state state d = desk_state state d.current
-
--- each space of a forest with the regions that are reached in it
-abbrev pub reached_in : Forest → List (SpaceId × List RegionId)
-reached_in f = map (λ p. (p.0, reached f p.0)) f.spaces
-
--- the regions of a space that was found, none where none was
-abbrev pub regions_at : Option (SpaceId × List RegionId) → List RegionId
-regions_at None = []
-regions_at (Some p) = p.1
 
 -- a pending change counts as one more publish
 abbrev pub publishes_due : Bool → ℕ

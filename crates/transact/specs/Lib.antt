@@ -2,6 +2,5 @@ pub mod Desks
 pub mod Preparing
 pub mod Commits
 pub mod Spares
-pub mod Noted
 pub mod Marks
 pub mod Backed

@@ -11,10 +11,8 @@ ghost use Rattle.transact.specs.Desks.{first_state, with_state};
 ghost use Rattle.transact.specs.Preparing.{AreDeskPlaces, readied, IsOfDesk, when_done, most_carves};
 ghost use Rattle.transact.specs.Commits.{IsStep};
 
-use crate::noted::{Noted, noting};
 use crate::prepared::{Prepared, Step};
 use crate::preparing::prepare;
-use crate::regions::Regions;
 use crate::spare::{Next, Spare, lacking, replace, second};
 use generation::Generation;
 use mem_base::{Applied, Call, Edition, Listener, MOST_NESTED, Place, Refusal, SpaceId};
@@ -24,6 +22,7 @@ use std::marker::Model;
 use std::sync::Arc;
 use std::sync::ledger::Ledger;
 use step_counter::Steps;
+use touched_spaces::{Noted, Regions, noting};
 
 /// What the writer keeps of the map: the tree, the transactions that are open, and the current generation.
 ///

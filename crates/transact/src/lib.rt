@@ -12,16 +12,12 @@
 #![tactic(auto)]
 
 mod backed;
-mod changes;
 mod desk;
 mod marks;
-mod noted;
 mod prepared;
 mod preparing;
-mod regions;
 mod shown;
 mod spare;
-mod touched;
 
 pub use backed::BackedDesk;
 pub use desk::Desk;

@@ -1,16 +1,16 @@
 // What is prepared before a generation becomes current.
 ghost use Rattle.std.specs.Prelude.{◌≡◌, None, Some};
 ghost use Rattle.std.specs.Arc.{arc_value};
-ghost use Rattle.transact.specs.Desks.{reached_in};
+ghost use Rattle.touched_spaces.specs.Reached.{reached_in};
 ghost use Rattle.transact.specs.Spares.{IsNext};
 
-use crate::regions::Regions;
 use crate::spare::Next;
 use generation::Generation;
 use mem_base::{Changes, SpaceId};
 use std::alloc::Global;
 use std::marker::Model;
 use std::sync::Arc;
+use touched_spaces::Regions;
 
 /// A generation that is ready to become current, with the listeners' calls and, where a call was prepared, that call and the
 /// tree after it. To drop it leaves the desk as it was, but for that the next change has to copy the tree.
@@ -26,7 +26,7 @@ impl Model for Prepared {
     ghost use Rattle.std.specs.Prelude.{◌≡◌, IfSome, option_map};
     ghost use Rattle.std.specs.Arc.{arc_value};
     ghost use Rattle.transact.specs.Preparing.{Readied};
-    ghost use Rattle.transact.specs.Desks.{reached_in};
+    ghost use Rattle.touched_spaces.specs.Reached.{reached_in};
     ghost use Rattle.transact.specs.Spares.{IsNext};
 
     ghost Value = { Readied };

@@ -10,15 +10,13 @@ ghost use Rattle.mem_base.specs.machine.Desk.{shown_places};
 ghost use Rattle.change_spans.specs.Reaches.{ShowsWithin};
 ghost use Rattle.mem_base.specs.access.EditionPlaces.{IsEdition};
 ghost use Rattle.generation.specs.Published.{views_of, published, AscendByRegion};
-ghost use Rattle.transact.specs.Desks.{reached_in};
+ghost use Rattle.touched_spaces.specs.Reached.{reached_in};
 ghost use Rattle.transact.specs.Marks.{AreLeafMarks};
-ghost use Rattle.transact.specs.Noted.{AreNoted};
+ghost use Rattle.touched_spaces.specs.Noted.{AreNoted};
 ghost use Rattle.transact.specs.Preparing.{is_shown_in, AreDeskPlaces, places_or, readied, most_carves};
 
 use crate::marks::{is_leaf, leaf_marks};
-use crate::noted::Noted;
 use crate::prepared::Prepared;
-use crate::regions::Regions;
 use crate::shown::{Shown, show_spaces};
 use change_spans::{Reach, spans_of};
 use flat_lookup::Atlas;
@@ -29,6 +27,7 @@ use std::alloc::{AllocError, Global};
 use std::sync::Arc;
 use std::sync::ledger::Ledger;
 use step_counter::Steps;
+use touched_spaces::{Noted, Regions};
 
 // Whether one of these regions is a leaf in one of the views.
 fn any_leaf(regions: &[RegionId], atlases: &[(SpaceId, Arc<Atlas, Global>)]) -> bool

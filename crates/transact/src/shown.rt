@@ -14,13 +14,10 @@ ghost use Rattle.mem_base.specs.views.LiveEvents.{ShareNoLive};
 ghost use Rattle.mem_base.specs.views.Listening.{change_of, changes_between};
 ghost use Rattle.change_spans.specs.Reaches.{ShowsWithin};
 ghost use Rattle.generation.specs.Published.{views_of};
-ghost use Rattle.transact.specs.Desks.{reached_in};
-ghost use Rattle.transact.specs.Noted.{AreNoted};
-ghost use Rattle.transact.specs.Preparing.{weight_at, carves_of, most_carves, heard_by};
+ghost use Rattle.touched_spaces.specs.Reached.{reached_in};
+ghost use Rattle.touched_spaces.specs.Noted.{AreNoted};
+ghost use Rattle.transact.specs.Preparing.{weight_at, carves_of, most_carves, heard_by, is_heard};
 
-use crate::changes::{change_at, is_heard};
-use crate::noted::Noted;
-use crate::regions::{Regions, is_same_space, reach_of};
 use change_spans::{Reach, hull};
 use flat_lookup::Atlas;
 use flat_render::render;
@@ -32,6 +29,7 @@ use std::alloc::{AllocError, Global};
 use std::sync::Arc;
 use std::sync::ledger::Ledger;
 use step_counter::Steps;
+use touched_spaces::{Noted, Regions, change_at, is_same_space, reach_of};
 use view_splice::render_again;
 
 /// Of each space of a forest, in order of making, its atlas, the regions that are reached in it, and where somebody listens to it
@@ -154,6 +152,13 @@ fn show_space<L: Ledger>(
     let (reach, touched) = reach_of(alloc, current.forest(), known, noted, tree, space)?;
     let atlas = atlas_of(alloc, current, spans, touched, tree, space, steps)?;
     Ok((atlas, reach, touched))
+}
+
+// Whether one of the listeners listens to a space.
+fn is_heard(listeners: &[Listener], space: SpaceId) -> bool
+    ensures { result ≡ is_heard listeners.now space }
+{
+    listeners.iter().any(|listener| listener.space == space)
 }
 
 // Adds how a space differs from the current generation, where somebody listens to it.

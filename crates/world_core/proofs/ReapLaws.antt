@@ -12,7 +12,7 @@ use Rattle.kept_generations.specs.KeptState.{KeptState, generations_of}
 use Rattle.place_words.proofs.CellLaws.{fewer_keep}
 use Rattle.writer_desk.specs.Listened.{ListenedState, resting}
 use Rattle.writer_desk.specs.Writers.{desk_of}
-use Rattle.writer_run.specs.Hands.{is_named_from}
+use Rattle.writer_hand.specs.Hands.{is_named_from}
 use Rattle.writer_run.specs.Reaped.{without_regions}
 use Rattle.world_hand.specs.Reached.{IsReached}
 use Rattle.world_core.specs.Worlds.{aside, filled_beside, filled_world, unswept, IsFilledWorld}

@@ -29,7 +29,7 @@ use Rattle.writer_desk.specs.Listened.{resting}
 use Rattle.writer_desk.specs.Writers.{desk_of}
 use Rattle.writer_run.specs.Parts.{AreParts, part_of}
 use Rattle.writer_run.specs.Turns.{IsTurn, number_told}
-use Rattle.writer_run.proofs.EntryLaws.{same_flags}
+use Rattle.writer_hand.proofs.EntryLaws.{same_flags}
 use Rattle.world_hand.specs.Reached.{IsReached}
 use Rattle.world_hand.specs.declared.hand.PureHand.{PureHand}
 use Rattle.world_hand.specs.Run.{HasMade, HasRun, shared_of}

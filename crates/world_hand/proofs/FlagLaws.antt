@@ -42,7 +42,7 @@ use Rattle.mem_base.specs.machine.Reaps.{Writer, released, writer}
 use Rattle.mem_base.specs.machine.Turns.{Played, after_private, entries_of_turn, history_entry, played, replies_of, turn}
 use Rattle.mem_base.proofs.EveryLaws.{every_map, every_one}
 use Rattle.turn_laws.proofs.Rows.{sweeps_of, with_swept}
-use Rattle.writer_run.proofs.EntryLaws.{same_flags}
+use Rattle.writer_hand.proofs.EntryLaws.{same_flags}
 use Rattle.world_hand.specs.Run.{SweepNone, is_sweep}
 
 -- the same with these passes swept

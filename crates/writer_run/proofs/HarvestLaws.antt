@@ -21,8 +21,8 @@ use Rattle.mem_base.specs.machine.Reaps.{Writer}
 use Rattle.mem_base.specs.machine.Turns.{played, history_entry, replies_of}
 use Rattle.mem_base.specs.map.Refusals.{or_refused}
 use Rattle.writer_desk.specs.Listened.{ListenedState}
-use Rattle.writer_run.specs.Entries.{entries_with, at}
-use Rattle.writer_run.specs.Hands.{AreHarvested, harvests_below}
+use Rattle.writer_hand.specs.Entries.{entries_with, at}
+use Rattle.writer_hand.specs.Hands.{AreHarvested, harvests_below}
 use Rattle.writer_desk.specs.declared.idle.IdleDesk.{IdleDesk}
 use Rattle.writer_run.specs.Parts.{part_of}
 use Rattle.writer_run.specs.Turns.{IsTurn}

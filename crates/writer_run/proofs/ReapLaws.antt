@@ -28,13 +28,13 @@ use Rattle.turn_laws.proofs.Turning.{turn_facts}
 use Rattle.writer_desk.proofs.HandedOn.{backed_state, backing_at, backing_without, forest_at}
 use Rattle.writer_desk.specs.Writers.{desk_of}
 use Rattle.writer_desk.specs.Listened.{ListenedState, resting, with_backed}
-use Rattle.writer_run.specs.Hands.{swept}
+use Rattle.writer_hand.specs.Hands.{swept}
 use Rattle.writer_desk.specs.declared.idle.IdleDesk.{IdleDesk}
 use Rattle.writer_run.specs.Parts.{part_with, BelongTogether, AreParts}
 use Rattle.writer_run.specs.Reaped.{without_regions}
 use Rattle.writer_run.specs.Turns.{IsTurn}
 use Rattle.writer_run.proofs.DropLaws.{reaped_gone, gone_then}
-use Rattle.writer_run.proofs.EntryLaws.{Keeps, same_flags, sweeps_keep, after_sweeps, played_sweeps}
+use Rattle.writer_hand.proofs.EntryLaws.{Keeps, same_flags, sweeps_keep, after_sweeps, played_sweeps}
 use Rattle.mem_base.proofs.ListLaws.{length_map}
 
 -- places without those of some regions

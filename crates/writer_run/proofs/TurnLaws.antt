@@ -45,16 +45,16 @@ use Rattle.generation.specs.Published.{Published}
 use Rattle.writer_desk.proofs.HandedOn.{Readied, when_done, AreDeskPlaces, BackedState, backed_state, all_places}
 use Rattle.writer_desk.specs.Writers.{WriterState, writer_state, Beside, desk_of, settled_as, IsReady}
 use Rattle.writer_desk.specs.Listened.{ListenedState, resting, told, IsDone, IsReadied, IsRefused, IsUnmoved}
-use Rattle.writer_run.specs.Entries.{entries_with, edition_of}
-use Rattle.writer_run.specs.Hands.{swept, MayPublish, IsHeldUp}
+use Rattle.writer_hand.specs.Entries.{entries_with, edition_of}
+use Rattle.writer_hand.specs.Hands.{swept, MayPublish, IsHeldUp}
 use Rattle.writer_desk.specs.declared.idle.IdleDesk.{IdleDesk}
 use Rattle.writer_run.specs.Parts.{idle_beside, part_with, BelongTogether, AreParts}
 use Rattle.writer_desk.specs.Writers.{dropped_with, is_held, made_place}
 use Rattle.writer_desk.proofs.HeldLaws.{held_where_refused}
 use Rattle.writer_run.specs.Turns.{IsTurn, answer_by, cleared_at, number_told}
 use Rattle.writer_run.proofs.DropLaws.{configured_gone, gone_then}
-use Rattle.writer_run.proofs.EntryLaws.{Keeps, Publishes, same_flags, after_both, sweeps_keep, after_sweeps, played_sweeps, published_by, publishes_leave}
-use Rattle.writer_run.proofs.EntryLaws.{played_publishes, publishes_make, fills_keep, played_fills}
+use Rattle.writer_hand.proofs.EntryLaws.{Keeps, Publishes, same_flags, after_both, sweeps_keep, after_sweeps, played_sweeps, published_by, publishes_leave}
+use Rattle.writer_hand.proofs.EntryLaws.{played_publishes, publishes_make, fills_keep, played_fills}
 use Rattle.writer_run.proofs.MadeLaws.{unfilled_with, kept_beside, cells_at, unfilled_is, made_has, made_among, same_first, pool_stays}
 use Rattle.mem_base.proofs.BoolLaws.{true_is_not_false}
 use Rattle.mem_base.proofs.ListLaws.{length_map}

@@ -35,8 +35,8 @@ use Rattle.mem_base.specs.map.Refusals.{or_refused}
 use Rattle.view_laws.proofs.Tests.{none_is_not_some}
 use Rattle.history_laws.specs.BackedForests.{BacksForest}
 use Rattle.writer_desk.proofs.HandedOn.{AreDeskPlaces, all_places}
-use Rattle.writer_run.specs.Entries.{entries_with, at}
-use Rattle.writer_run.specs.Hands.{word_entry}
+use Rattle.writer_hand.specs.Entries.{entries_with, at}
+use Rattle.writer_hand.specs.Hands.{word_entry}
 use Rattle.writer_desk.specs.declared.idle.IdleDesk.{IdleDesk}
 use Rattle.writer_run.specs.Parts.{part_of, AreParts}
 use Rattle.writer_run.specs.Turns.{IsTurn}

@@ -10,7 +10,7 @@ use Rattle.mem_base.specs.machine.Publishing.{would_publish}
 use Rattle.mem_base.specs.machine.Reaps.{Writer}
 use Rattle.mem_base.specs.machine.Turns.{turn, entries_of_turn}
 use Rattle.mem_base.specs.declared.access.cells.Place.{Place}
-use Rattle.writer_run.specs.Hands.{cleared}
+use Rattle.writer_hand.specs.Hands.{cleared}
 
 -- the call is the defined turn, by the replies that its entries got: just these entries were made, this is its answer, and this
 -- the writer's part that it leaves

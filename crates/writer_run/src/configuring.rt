@@ -10,12 +10,12 @@ ghost use Rattle.writer_run.specs.Parts.{AreParts, part_of};
 ghost use Rattle.writer_run.specs.Turns.{IsTurn, answer_by, number_told};
 
 use crate::fills::fill_made;
-use crate::hands::WriterHand;
 use mem_base::{Applied, Config, Refusal};
 use std::marker::Brand;
 use std::sync::ledger::{Blank, Ledger};
 use step_counter::Steps;
 use writer_desk::{IdleDesk, ListenedDesk, Planned, note_drop};
+use writer_hand::WriterHand;
 
 // What the private event comes to, with a counter of carves of its own.
 fn planned<L: Ledger>(

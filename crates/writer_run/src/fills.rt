@@ -4,9 +4,9 @@ ghost use Rattle.mem_base.specs.access.Places.{past};
 ghost use Rattle.writer_desk.specs.Writers.{made_place};
 ghost use Rattle.writer_run.specs.Turns.{cleared_at};
 
-use crate::hands::WriterHand;
 use mem_base::Applied;
 use writer_desk::ListenedDesk;
+use writer_hand::WriterHand;
 
 /// The words of a region that was made are cleared.
 pub(crate) fn fill_made<H: WriterHand>(desk: &ListenedDesk, hand: &mut H, applied: Applied)

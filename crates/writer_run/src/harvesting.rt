@@ -5,16 +5,16 @@ ghost use Rattle.mem_base.specs.map.Limits.{pages_per_word};
 ghost use Rattle.mem_base.specs.access.Places.{extent, mark_words, pages_in, past, words_of};
 ghost use Rattle.mem_base.specs.machine.Answers.{answer_with, harvest_answer};
 ghost use Rattle.mem_base.specs.machine.Orders.{harvest, harvest_refusal};
-ghost use Rattle.writer_run.specs.Hands.{AreHarvested};
+ghost use Rattle.writer_hand.specs.Hands.{AreHarvested};
 ghost use Rattle.writer_run.specs.Parts.{AreParts, part_of};
 ghost use Rattle.writer_run.specs.Turns.{IsTurn};
 
-use crate::hands::WriterHand;
 use dirty_log::pages_of;
 use mem_base::{Client, PAGE_SIZE, PAGES_PER_WORD, Place, Refusal, RegionId, What};
 use region_tree::Tree;
 use std::alloc::Global;
 use writer_desk::IdleDesk;
+use writer_hand::WriterHand;
 
 // Why the marks of a region are not harvested, where they are not.
 fn harvest_refusal(tree: &Tree, region: RegionId) -> Option<Refusal>

@@ -6,15 +6,15 @@ ghost use Rattle.mem_base.specs.map.Region.{node_of};
 ghost use Rattle.mem_base.specs.machine.Answers.{answer_with, reap_answer};
 ghost use Rattle.mem_base.specs.machine.Orders.{reap};
 ghost use Rattle.writer_desk.specs.HandedOn.{forest_at};
-ghost use Rattle.writer_run.specs.Hands.{is_named_from};
+ghost use Rattle.writer_hand.specs.Hands.{is_named_from};
 ghost use Rattle.writer_run.specs.Parts.{AreParts, part_of};
 ghost use Rattle.writer_run.specs.Reaped.{without_regions};
 ghost use Rattle.writer_run.specs.Turns.{IsTurn};
 
-use crate::hands::Names;
 use mem_base::{Refusal, RegionId};
 use std::alloc::Global;
 use writer_desk::{IdleDesk, ListenedDesk};
+use writer_hand::Names;
 
 // Those of some regions that no kept generation of at least this number names, in their order. There is room for all of them.
 fn unnamed<H: Names>(hand: &H, lowest: u64, regions: &[RegionId], out: &mut Vec<RegionId>)

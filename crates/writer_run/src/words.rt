@@ -4,14 +4,14 @@ ghost use Rattle.mem_base.specs.declared.access.cells.Place.{Place};
 ghost use Rattle.mem_base.specs.access.Places.{past};
 ghost use Rattle.mem_base.specs.machine.Orders.{load, load_refusal, loads, notified};
 ghost use Rattle.mem_base.specs.machine.Answers.{notifier_answer, plain_answer};
-ghost use Rattle.writer_run.specs.Entries.{entries_with, at};
+ghost use Rattle.writer_hand.specs.Entries.{entries_with, at};
 ghost use Rattle.writer_run.specs.Parts.{AreParts, part_of};
 ghost use Rattle.writer_run.specs.Turns.{IsTurn};
 
-use crate::hands::{Loads, WriterHand};
 use mem_base::{NotifierId, Place, Refusal, RegionId, WORD_SIZE, What};
 use region_tree::Tree;
 use writer_desk::IdleDesk;
+use writer_hand::{Loads, WriterHand};
 
 // The last of some places.
 fn last_of(places: &[Place]) -> Place

@@ -2,7 +2,7 @@ use Rattle.std.proofs.Common.{rules, ◌≡◌, false, ◌∙◌}
 use Rattle.std.specs.Arc.{arc_value}
 use Rattle.mem_base.specs.map.Touched.{is_touched}
 use Rattle.mem_base.specs.views.Flattened.{view_of}
-use Rattle.transact.proofs.ShownLaws.{view_stays}
+use Rattle.touched_spaces.proofs.ViewedLaws.{view_stays}
 use Rattle.transact.proofs.shown.atlas_of.Goals as goal
 
 pub returns-clause-view : goal.returns-clause-view

@@ -1,6 +1,6 @@
 use Rattle.std.proofs.Common.{rules, ◌≡◌, ◌∙◌}
 use Rattle.std.specs.Arc.{arc_value}
-use Rattle.transact.proofs.MadeLaws.{view_is}
+use Rattle.touched_spaces.proofs.ViewedLaws.{view_is}
 use Rattle.transact.proofs.shown.rendered.Goals as goal
 
 pub returns-in-Ok-clause-view : goal.returns-in-Ok-clause-view

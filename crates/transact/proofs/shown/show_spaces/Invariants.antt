@@ -7,7 +7,7 @@ use Rattle.mem_base.specs.views.Flattened.{view_of}
 use Rattle.mem_base.specs.views.LiveEvents.{ShareNoLive}
 use Rattle.mem_base.specs.views.Listening.{change_of, changes_between}
 use Rattle.generation.specs.Published.{views_of}
-use Rattle.transact.specs.Desks.{reached_in}
+use Rattle.touched_spaces.specs.Reached.{reached_in}
 use Rattle.transact.specs.Preparing.{carves_of, most_carves, heard_by}
 use Rattle.transact.proofs.shown.show_spaces.Given as goal
 

@@ -14,7 +14,7 @@ use Rattle.mem_base.specs.machine.Publishing.{held_up, would_publish}
 use Rattle.generation.specs.Published.{Published}
 use Rattle.writer_desk.proofs.HandedOn.{AreDeskPlaces, when_done, BackedState, backed_state, all_places}
 use Rattle.writer_desk.specs.Listened.{ListenedState, IsDone, IsReadied, IsRefused, IsUnmoved}
-use Rattle.writer_run.specs.Hands.{swept, IsPublished, IsHeldUp, MayPublish}
+use Rattle.writer_hand.specs.Hands.{swept, IsPublished, IsHeldUp, MayPublish}
 use Rattle.writer_run.specs.Parts.{part_with, part_of}
 use Rattle.writer_desk.specs.Writers.{dropped_with, is_held, made_place}
 use Rattle.writer_run.specs.Turns.{IsTurn, answer_by, cleared_at}

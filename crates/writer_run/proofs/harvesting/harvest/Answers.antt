@@ -8,7 +8,7 @@ use Rattle.mem_base.specs.access.PlacesByRegion.{place_in}
 use Rattle.mem_base.specs.machine.Generations.{Generations}
 use Rattle.mem_base.specs.machine.Orders.{harvest_refusal}
 use Rattle.writer_desk.proofs.HandedOn.{AreDeskPlaces, BackedState, all_places}
-use Rattle.writer_run.specs.Hands.{AreHarvested}
+use Rattle.writer_hand.specs.Hands.{AreHarvested}
 use Rattle.writer_run.proofs.HarvestLaws.{harvested, harvests_keep}
 use Rattle.writer_run.proofs.MadeLaws.{region_of_place, more_places}
 use Rattle.writer_run.proofs.WordLaws.{within, sized, has_place, still}

@@ -7,7 +7,7 @@ use Rattle.mem_base.specs.map.Region.{node_of}
 use Rattle.mem_base.specs.machine.Generations.{Generations, least_lowest}
 use Rattle.mem_base.specs.machine.Reaps.{is_named}
 use Rattle.writer_desk.proofs.HandedOn.{forest_at}
-use Rattle.writer_run.specs.Hands.{is_named_from, swept}
+use Rattle.writer_hand.specs.Hands.{is_named_from, swept}
 use Rattle.writer_run.specs.Reaped.{without_regions}
 use Rattle.writer_run.proofs.ReapLaws.{none_there, reaped_by}
 use Rattle.writer_run.proofs.reaping.reap.Goals as goal

@@ -2,7 +2,7 @@ use Rattle.std.proofs.Common.{◌+◌, ◌<◌, Bool, List, ℕ, length, filter,
 use Rattle.std.specs.Prelude.{not}
 use Rattle.mem_base.specs.declared.map.ids.RegionId.{RegionId}
 use Rattle.writer_desk.specs.Listened.{ListenedState}
-use Rattle.writer_run.specs.Hands.{is_named_from}
+use Rattle.writer_hand.specs.Hands.{is_named_from}
 use Rattle.writer_run.specs.Reaped.{without_regions}
 use Rattle.writer_run.proofs.ReapLaws.{pass_one, release_one, release_last}
 use Rattle.writer_run.proofs.reaping.release_unnamed.Goals as goal

@@ -1,6 +1,6 @@
 use Rattle.std.proofs.Common.{◌≡◌, drop, filter}
 use Rattle.std.specs.Prelude.{not}
-use Rattle.writer_run.specs.Hands.{is_named_from}
+use Rattle.writer_hand.specs.Hands.{is_named_from}
 use Rattle.writer_run.specs.Reaped.{without_regions}
 use Rattle.writer_run.proofs.reaping.release_unnamed.Given as goal
 

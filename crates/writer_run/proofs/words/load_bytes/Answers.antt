@@ -9,7 +9,7 @@ use Rattle.mem_base.specs.access.PlacesByRegion.{place_in}
 use Rattle.mem_base.specs.machine.Generations.{Generations}
 use Rattle.mem_base.specs.machine.Orders.{load_refusal, loads}
 use Rattle.writer_desk.proofs.HandedOn.{AreDeskPlaces, BackedState, all_places}
-use Rattle.writer_run.specs.Entries.{entries_with, at}
+use Rattle.writer_hand.specs.Entries.{entries_with, at}
 use Rattle.writer_run.proofs.MadeLaws.{region_of_place, more_places}
 use Rattle.writer_run.proofs.WordLaws.{within, room, never, loaded, loads_keep, still}
 use Rattle.writer_run.proofs.words.load_bytes.Goals as goal

@@ -4,7 +4,7 @@ use Rattle.mem_base.specs.declared.access.cells.WordStep.TheVariants.{Take}
 use Rattle.mem_base.specs.access.Places.{notifiers_place}
 use Rattle.mem_base.specs.machine.Generations.{Generations}
 use Rattle.writer_desk.proofs.HandedOn.{BackedState, all_places}
-use Rattle.writer_run.specs.Hands.{word_entry}
+use Rattle.writer_hand.specs.Hands.{word_entry}
 use Rattle.writer_run.proofs.WordLaws.{taken}
 use Rattle.writer_run.proofs.words.notified.Goals as goal
 

@@ -5,5 +5,5 @@ use Rattle.config_desk.proofs.config.Config.load_bytes.Goals as goal
 
 pub invariant_of-self : goal.invariant_of-self
 invariant_of-self g c =
-    after_turn c.self.inside.desk c.self.inside.hand.seat c.self.invariant c.self.inside.desk c.load.new.self.seat c.load.ensures.parts
-    (load c.args.region c.args.offset c.args.bytes.now) (plain_answer c.load.result) tt c.load.ensures.turn
+    after_turn c.self.inside.desk c.self.inside.hand.seat c.self.invariant c.self.inside.desk c.load_with.new.hand.seat c.load_with.ensures.parts
+    (load c.args.region c.args.offset c.args.bytes.now) (plain_answer c.load_with.result) tt c.load_with.ensures.turn

@@ -1,7 +1,7 @@
 use Rattle.std.proofs.Common.{rules, ◌≡◌, Ok, true}
 use Rattle.std.specs.Arc.{arc_value}
 use Rattle.mem_base.specs.map.Calls.{after}
-use Rattle.transact.specs.Noted.{AreNoted}
+use Rattle.touched_spaces.specs.Noted.{AreNoted}
 use Rattle.transact.specs.Spares.{IsSpare}
 use Rattle.transact.proofs.DeskLaws.{called, one_more}
 use Rattle.transact.proofs.desk.Desk.call.Goals as goal

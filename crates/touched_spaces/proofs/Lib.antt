@@ -1,0 +1,6 @@
+pub mod ViewedLaws
+pub mod TouchedLaws
+pub mod StayLaws
+pub mod NotedLaws
+pub mod LiveLaws
+pub mod RegionLaws
