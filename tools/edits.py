@@ -7,7 +7,8 @@ The first line of an edit is `breaks: FUNCTION REASON`: which function's contrac
   invariant NAME..    the invariant of a loop, which the prover names by the loop's variable (`loop` where it has none), or of the type of an argument or
                       the result (`self`, `result`, ..)
   safe                that no index, number or cast is out of bounds
-  end                 that it comes to an end"""
+  end                 that it comes to an end
+More of them may stand in one line (`shown invariant i`): any one is enough."""
 import functools
 import glob
 import os
@@ -173,8 +174,13 @@ class Edit:
 
     def reasons(self):
         """By what that function refuses it, as its first line says: any one is enough."""
-        words = self.breaks.split()[1:]
-        return [f"{words[0]} {it}" for it in words[1:]] if words[:1] and words[0] in SHAPES else words
+        found, shape = [], ""
+        for word in self.breaks.split()[1:]:
+            if word in SHAPES:
+                shape = f"{word} "
+            else:
+                found.append(shape + word)
+        return found
 
 
 def read_edit(path):
