@@ -260,26 +260,26 @@ def fault_of_first_line(edit):
     return ""
 
 
-def reason_of(fn, goal):
-    """What a goal of the prover speaks of, in the words of a first line."""
-    goal = goal.removeprefix(f"{fn.path[-1]}-") if re.match(rf"{fn.path[-1]}-(returns|loop|\w+-requires|\w+_\w+-|decreases)", goal) else goal
-    clause = goal.rpartition("-clause-")[2] if "-clause-" in goal else ""
-    if row := re.match(r"([\w-]+?)-requires", goal):
-        return f"requires {row[1].split('-')[0]}"
-    if row := re.match(r"invariant_of-(\w+)", goal):
-        return f"invariant {row[1]}"
-    if "decreases" in goal:
-        return "end"
-    if row := re.match(r"loop(?:-(\w+?))?-(init|preserved|\w+)", goal):
-        return f"invariant {row[1] or 'loop'}"
+def reasons_of(fn, goal):
+    """What a goal of the prover speaks of, in the words of a first line: one reason, or the names of all clauses where it has them together."""
+    goal = goal.removeprefix(f"{fn.path[-1]}-") if fn.cycle else goal
     if goal.startswith("returns"):
-        return clause or (fn.clauses[0] if len(fn.clauses) == 1 else "") or "ensures"
-    return "safe"
+        return [goal.rpartition("-clause-")[2]] if "-clause-" in goal else [it or "ensures" for it in fn.clauses] or ["ensures"]
+    if row := re.match(r"([\w-]+?)-requires", goal):
+        return [f"requires {row[1].split('-')[0]}"]
+    if row := re.match(r"invariant_of-(\w+)", goal):
+        return [f"invariant {row[1]}"]
+    if "decreases" in goal:
+        return ["end"]
+    if row := re.match(r"loop(?:-(\w+?))?-(init|preserved|\w+)", goal):
+        return [f"invariant {row[1] or 'loop'}"]
+    return ["safe"]
 
 
 @dataclass
 class Refusal:
-    """What the prover says against one function: the reasons in the words of first lines, and whether a goal is open or a written answer no longer fits."""
+    """What the prover says against one function: the reasons in the words of first lines, and of what kind: `goal`, one is open; `answer`, a written answer no
+    longer fits; or what says nothing of the contract: `type`, a written invariant can no longer be read, or `name`, what a proof cites is gone."""
 
     function: str
     reasons: list
@@ -289,7 +289,7 @@ class Refusal:
 
 # A line by which the prover leaves a goal open.
 OPEN = re.compile(r"note: (?:\./)?(\S+?):(\d+):\d+: it is not proved .*?\(`([\w+-]+)`\)")
-# How the kit's own trial of edits tells that a proof file names what the edit took away, so that no contract was tried.
+# How the kit's own trial of edits tells that a proof file names what the edit took away.
 NAMES = re.compile(r"(note: )?(\./)?proofs/.*(has no field|is not in scope|has no `|was not admitted)")
 
 
@@ -299,25 +299,43 @@ def says_of(crate, fn, said):
     return next((it.removeprefix(start) for it in said.split("\n") if it.startswith(start)), "")
 
 
+def goals_open(fn, state, said):
+    """The goals of a function that the prover left open, and its lines on them."""
+    at = [it for it in said.split("\n") if (row := OPEN.match(it)) and row[1] == fn.file and int(row[2]) in fn.lines]
+    named = [it for row in re.findall(r"did not prove ((?:`[^`]+`(?:, | and )?)+)", state) for it in re.findall(r"`([^`]+)`", row)]
+    return list(dict.fromkeys([*named, *(OPEN.match(it)[3] for it in at)])), at
+
+
+def goals_of_errors(lines):
+    """The goals for which lines of errors say that their written answer is refused."""
+    return [row[1] for it in lines if (row := re.search(r": error: `([\w+-]+)`: ", it))]
+
+
 def refusal_of(crate, fn, said):
     """What the prover says against a function itself, not for the sake of another that it calls; None where it says nothing of that kind."""
     state = says_of(crate, fn, said)
     if not state.startswith(("not proved", "no proof")):
         return None
-    opened = [it for row in re.findall(r"did not prove ((?:`[^`]+`(?:, | and )?)+)", state) for it in re.findall(r"`([^`]+)`", row)]
-    at = [it for it in said.split("\n") if (row := OPEN.match(it)) and row[1] == fn.file and int(row[2]) in fn.lines]
-    opened += [OPEN.match(it)[3] for it in at]
-    module = re.escape(".".join(("Rattle", crate, "proofs", *fn.proof)))
-    stale = re.findall(rf"`{module}\.Answers\.([^`]+)`", state)
+    opened, at = goals_open(fn, state, said)
     own = [it for it in said.split("\n") if it.removeprefix("./").startswith(f"{fn.folder}/") and ": error" in it]
-    stale += [row[1] for it in own if (row := re.search(r": error: `([\w+-]+)`: ", it))]
-    if fn.cycle:
+    if fn.cycle not in ("", fn.path[-1]):
+        # In a cycle of several functions the goals of each begin with its name.
         mine = f"{fn.path[-1]}-"
-        opened, stale, own = [it for it in opened if it.startswith(mine)], [it for it in stale if it.startswith(mine)], [it for it in own if f"`{mine}" in it]
-    if not opened and not stale and not own:
+        opened, own = [it for it in opened if it.startswith(mine)], [it for it in own if f"`{mine}" in it]
+    lost = goals_of_errors(it for it in own if NAMES.match(it))
+    stale = goals_of_errors(it for it in own if not NAMES.match(it))
+    if not opened and not own:
         return None
-    kind = "goal" if opened else "name" if own and all(NAMES.match(it) for it in own) else "answer"
-    return Refusal(fn.name, list(dict.fromkeys(reason_of(fn, it) for it in [*opened, *stale])), kind, [*at, *own, state][0][:300])
+    # A goal that has another name than before is open since its answer stands under the old one.
+    before = {reason for it in lost for reason in reasons_of(fn, it)}
+    firm = [it for it in opened if not before & set(reasons_of(fn, it))]
+    if any("/Invariants.antt:" in it for it in own):
+        kind = "type"
+    else:
+        kind = "goal" if firm else "answer" if stale else "name"
+    goals = [*firm, *stale] or [*opened, *lost]
+    reasons = list(dict.fromkeys(reason for it in goals for reason in reasons_of(fn, it)))
+    return Refusal(fn.name, reasons, kind, [*at, *own, state][0][:300])
 
 
 def all_refusals(crate, said):
