@@ -1,10 +1,6 @@
-pub mod ShownCalls
-pub mod PublishedLaws
-pub mod AnswerLaws
+pub mod PagesLaws
 pub mod SeenLaws
 pub mod ReceiptLaws
 pub mod RecordLaws
 pub mod StayLaws
-pub mod PlaceLaws
-pub mod DifferLaws
 pub mod HandedOn

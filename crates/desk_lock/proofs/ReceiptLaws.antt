@@ -26,15 +26,17 @@ use Rattle.epoch_rule.specs.Rule.{IsLegal}
 use Rattle.view_laws.proofs.Tests.{none_is_not_some}
 use Rattle.config_desk.specs.HandedOn.{number_told as number_of_writer}
 use Rattle.config_desk.specs.Configs.{ConfigState, IsOfTurns, IsTurnOf}
-use Rattle.desk_lock.specs.declared.orders.Receipt.{Receipt}
-use Rattle.desk_lock.specs.declared.drafts.Draft.{Draft}
-use Rattle.desk_lock.specs.Copied.{HasRoom, IsDraft}
-use Rattle.desk_lock.specs.Receipts.{HandsOut, HasSeenPublished, HasSeenTold, IsAnswerTo, IsReceipt, ShowsOrder, number_told}
-use Rattle.desk_lock.specs.Turned.{HandsCurrent, IsAsked, TellsNumber, turn_of}
-use Rattle.desk_lock.proofs.AnswerLaws.{answer_right, pages_bounded, regions_bound}
-use Rattle.desk_lock.proofs.PublishedLaws.{IsPublished, call_published, commit_published, is_loud}
+use Rattle.desk_orders.specs.declared.orders.Receipt.{Receipt}
+use Rattle.desk_orders.specs.declared.drafts.Draft.{Draft}
+use Rattle.desk_orders.specs.Copied.{HasRoom, IsDraft}
+use Rattle.desk_orders.specs.Receipts.{HandsOut, HasSeenPublished, HasSeenTold, IsAnswerTo, IsReceipt, ShowsOrder, number_told}
+use Rattle.desk_orders.specs.Given.{turn_of}
+use Rattle.desk_lock.specs.Turned.{HandsCurrent, IsAsked, TellsNumber}
+use Rattle.desk_orders.proofs.AnswerLaws.{answer_right, regions_bound}
+use Rattle.desk_lock.proofs.PagesLaws.{pages_bounded}
+use Rattle.desk_orders.proofs.PublishedLaws.{IsPublished, call_published, commit_published, is_loud}
 use Rattle.desk_lock.proofs.SeenLaws.{current_shown, published_seen}
-use Rattle.desk_lock.proofs.ShownCalls.{call_shown}
+use Rattle.desk_orders.proofs.ShownCalls.{call_shown}
 use Rattle.std.proofs.lemmas.Option.{same_Some}
 
 -- a turn of the writer's desk, by what is told of its answer

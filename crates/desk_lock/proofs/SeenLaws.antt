@@ -17,7 +17,7 @@ use Rattle.end_laws.proofs.EndLaws.{turns_end_in}
 use Rattle.epoch_rule.specs.Rule.{IsLegal}
 use Rattle.race_laws.proofs.OutsideLaws.{publish_stands}
 use Rattle.config_desk.specs.Configs.{ConfigState, IsOfTurns}
-use Rattle.desk_lock.specs.Receipts.{HasSeenPublished}
+use Rattle.desk_orders.specs.Receipts.{HasSeenPublished}
 
 -- the first of these generations
 first_of : (gs : List Generation) (x : Generation) → slice_get gs 0 ≡ Some x → forest_in gs ≡ x.forest

@@ -1,8 +1,4 @@
 pub mod Records
-pub mod Receipts
 pub mod Turned
-pub mod Clerks
-pub mod Copied
-pub mod Differing
 pub mod Laws
 pub mod HandedOn

@@ -5,22 +5,16 @@ use Rattle.mem_base.specs.declared.machine.records.DeskOrder.{DeskOrder}
 use Rattle.mem_base.specs.declared.machine.records.DeskOrder.TheVariants as orders
 use Rattle.mem_base.specs.declared.machine.records.DeskAnswer.{DeskAnswer}
 use Rattle.mem_base.specs.declared.machine.records.DeskAnswer.TheVariants as answers
-use Rattle.mem_base.specs.declared.machine.records.DeskEntry.{DeskEntry}
 use Rattle.mem_base.specs.machine.Publishing.{current_forest}
 use Rattle.mem_base.specs.machine.Reaps.{Writer}
-use Rattle.mem_base.specs.machine.Records.{Given, call_of, journal_length, told}
-use Rattle.mem_base.specs.machine.Turns.{WriterCall, turn, entries_of_turn}
+use Rattle.mem_base.specs.machine.Records.{journal_length, told}
+use Rattle.mem_base.specs.machine.Turns.{entries_of_turn}
 use Rattle.generation.specs.Published.{Published}
 use Rattle.config_desk.specs.HandedOn.{number_told, HasWritten}
 use Rattle.config_desk.specs.Configs.{ConfigState}
-use Rattle.desk_lock.specs.declared.orders.Receipt.{Receipt}
-use Rattle.desk_lock.specs.Records.{RecordState}
-
-abbrev pub given_by : ℕ → DeskOrder → List ℕ → Given
-given_by who order replies = record { who = who; order = order; replies = replies }
-
-abbrev pub turn_of : Writer → DeskOrder → List ℕ → WriterCall
-turn_of w order replies = turn w (call_of order) replies
+use Rattle.desk_orders.specs.Given.{entry_got, turn_of}
+use Rattle.desk_orders.specs.declared.orders.Receipt.{Receipt}
+use Rattle.desk_orders.specs.Records.{RecordState}
 
 -- The order was the defined turn: the writer made just its entries, the answer is what that tells, and the writer's part is what it left
 pub record IsAsked (v : ConfigState) (order : DeskOrder) (answer : DeskAnswer) (w : ConfigState) : Type 0 where
@@ -46,10 +40,6 @@ pub record IsTurned (v : ConfigState) (order : DeskOrder) (r : Receipt) (w : Con
   pub asked : IsAsked v order r.answer w
   pub from : r.from ≡ journal_length v.part
   pub to : r.to ≡ journal_length w.part
-
--- what is written down of an order that got this receipt
-abbrev pub entry_got : ℕ → DeskOrder → Receipt → DeskEntry
-entry_got who order r = record { who = who; order = order; answer = r.answer; from = r.from; to = r.to }
 
 abbrev pub config_in : RecordState → ConfigState
 config_in s = record { seat = s.seat; part = s.part }

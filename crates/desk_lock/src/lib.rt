@@ -8,21 +8,19 @@
 #![tactic(auto)]
 
 mod asking;
-mod clerks;
-mod differing;
 mod drafts;
 mod laws;
 mod locks;
 mod orderly;
-mod orders;
 mod records;
 mod turning;
 
-pub use clerks::Clerk;
 pub use config_desk::Config;
-pub use laws::{closes_one_way, first_is_empty, later_makes_turns, receipts_stay, records_grow};
+pub use desk_orders::{
+    Clerk, Orderly, Receipt, closes_one_way, first_is_empty, later_makes_turns, receipts_stay,
+};
+pub use laws::records_grow;
 pub use locks::{DeskLock, Naming};
 pub use mem_base::{DeskAnswer as Answer, DeskEntry as Entry, DeskOrder as Order, Differs};
-pub use orderly::{Orderly, Shared};
-pub use orders::Receipt;
+pub use orderly::Shared;
 pub use records::Record;

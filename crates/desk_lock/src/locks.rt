@@ -1,15 +1,13 @@
 // The record behind a lock.
 ghost use Rattle.std.specs.Prelude.{◌≡◌, ◌≤◌, IfOk, OnErr, MatchResult, None, Some, drop, length};
 ghost use Rattle.mem_base.specs.machine.Records.{Closes};
-ghost use Rattle.desk_lock.specs.Clerks.{wrote_down};
-ghost use Rattle.desk_lock.specs.Receipts.{IsReceipt};
-ghost use Rattle.desk_lock.specs.Records.{IsLater, later_entries};
-ghost use Rattle.desk_lock.specs.Turned.{entry_got};
+ghost use Rattle.desk_orders.specs.Clerks.{wrote_down};
+ghost use Rattle.desk_orders.specs.Receipts.{IsReceipt};
+ghost use Rattle.desk_orders.specs.Records.{IsLater, later_entries};
+ghost use Rattle.desk_orders.specs.Given.{entry_got};
 
-use crate::clerks::Clerk;
-use crate::differing::differs_in;
-use crate::orders::Receipt;
 use crate::records::Record;
+use desk_orders::{Clerk, Receipt, differs_in};
 use mem_base::{DeskEntry, DeskOrder, Differs};
 use std::alloc::AllocError;
 use std::marker::{Brand, Model, PhantomData};
@@ -17,14 +15,14 @@ use std::sync::{Mutex, Wait};
 
 /// A name for what a lock began with. Each call of a program picks it.
 pub trait Naming {
-    ghost use Rattle.desk_lock.specs.Records.{RecordState};
+    ghost use Rattle.desk_orders.specs.Records.{RecordState};
 
     /// The record that was put behind the lock.
     ghost start: { RecordState };
 }
 
 impl Naming for Brand {
-    ghost use Rattle.desk_lock.specs.Records.{no_record};
+    ghost use Rattle.desk_orders.specs.Records.{no_record};
 
     ghost start = { no_record };
 }
@@ -37,7 +35,7 @@ struct Locked<J: Naming> {
 }
 
 impl<J: Naming> Model for Locked<J> {
-    ghost use Rattle.desk_lock.specs.Records.{RecordState, IsLater};
+    ghost use Rattle.desk_orders.specs.Records.{RecordState, IsLater};
 
     ghost Value = { RecordState };
 
@@ -47,7 +45,7 @@ impl<J: Naming> Model for Locked<J> {
 }
 
 impl<J: Naming> Locked<J> {
-    #[tactic(auto, using(crate::proofs::RecordLaws::later_same))]
+    #[tactic(auto, using(desk_orders::proofs::RecordLaws::later_same))]
     fn new(first: Record) -> Locked<J>
         requires { first ≡ J.start }
     {
@@ -57,7 +55,7 @@ impl<J: Naming> Locked<J> {
         }
     }
 
-    #[tactic(auto, using(crate::proofs::RecordLaws::later_joins))]
+    #[tactic(auto, using(desk_orders::proofs::RecordLaws::later_joins))]
     fn order<R: Wait>(
         &mut self,
         rt: &R,

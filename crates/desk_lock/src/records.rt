@@ -7,14 +7,16 @@ ghost use Rattle.mem_base.specs.machine.Actors.{own_entries};
 ghost use Rattle.mem_base.specs.machine.Publishing.{current_forest};
 ghost use Rattle.epoch_rule.specs.Values.{first_free};
 ghost use Rattle.epoch_rule.specs.Wrote.{IsNewPass, Wrote, longer};
-ghost use Rattle.desk_lock.specs.Receipts.{IsReceipt};
-ghost use Rattle.desk_lock.specs.Records.{IsLater, IsRecord, IsUnused, record_state};
-ghost use Rattle.desk_lock.specs.Turned.{Takes, entry_got};
+ghost use Rattle.desk_orders.specs.Receipts.{IsReceipt};
+ghost use Rattle.desk_orders.specs.Records.{IsLater, IsRecord};
+ghost use Rattle.desk_lock.specs.Records.{IsUnused, record_state};
+ghost use Rattle.desk_orders.specs.Given.{entry_got};
+ghost use Rattle.desk_lock.specs.Turned.{Takes};
 
-use crate::drafts::{draft_of, written};
-use crate::orders::Receipt;
+use crate::drafts::draft_of;
 use crate::turning::turned;
 use config_desk::Config;
+use desk_orders::{Receipt, written};
 use epoch_rule::{Note, Pass};
 use generation::Generation;
 use mem_base::{DeskEntry, DeskOrder, ListenerEvent, ListenerId};
@@ -34,7 +36,8 @@ pub struct Record {
 }
 
 impl Model for Record {
-    ghost use Rattle.desk_lock.specs.Records.{RecordState, IsRecord, record_state};
+    ghost use Rattle.desk_orders.specs.Records.{RecordState, IsRecord};
+    ghost use Rattle.desk_lock.specs.Records.{record_state};
 
     ghost Value = { RecordState };
 

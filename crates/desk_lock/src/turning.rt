@@ -1,12 +1,12 @@
 // An order is done: its turn, and what who ordered is told.
 ghost use Rattle.std.specs.Prelude.{◌≡◌, IfOk, OnErr};
 ghost use Rattle.epoch_rule.specs.Copies.{value_in};
-ghost use Rattle.desk_lock.specs.Receipts.{IsReceipt};
+ghost use Rattle.desk_orders.specs.Receipts.{IsReceipt};
 ghost use Rattle.desk_lock.specs.Turned.{HandsCurrent, IsTurned};
 
 use crate::asking::ask;
-use crate::orders::Receipt;
 use config_desk::Config;
+use desk_orders::Receipt;
 use generation::Generation;
 use mem_base::DeskOrder;
 use std::alloc::{AllocError, Global};

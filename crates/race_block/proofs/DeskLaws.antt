@@ -29,8 +29,8 @@ use Rattle.race_laws.specs.SoFar.{IsTold}
 use Rattle.race_laws.specs.Stopped.{BeginsLine}
 use Rattle.race_laws.proofs.EnterLaws.{some_published}
 use Rattle.race_laws.proofs.NextLines.{orders_of, own_asks}
-use Rattle.desk_lock.specs.Receipts.{HandsOut, HasSeenTold, IsAnswerTo, number_told}
-use Rattle.desk_lock.specs.Turned.{entry_got}
+use Rattle.desk_orders.specs.Receipts.{HandsOut, HasSeenTold, IsAnswerTo, number_told}
+use Rattle.desk_orders.specs.Given.{entry_got}
 use Rattle.race_lines.specs.declared.tasks.LineTask.{LineTask}
 use Rattle.race_lines.specs.declared.tasks.LineTask.TheVariants.{Idle, Ordered, Shown, Found, Watched, Unwatched, Entered, Left, Read, Written, Copied}
 use Rattle.race_lines.specs.declared.tasks.Refused.{Refused}

@@ -1,8 +1,4 @@
 -- What this crate hands on of the crates below it: who takes these names from here need not list those crates.
-pub use Rattle.desk_lock.proofs.RecordLaws.{later_same, later_joins}
-pub use Rattle.desk_lock.proofs.StayLaws.{later_makes_turns}
-pub use Rattle.desk_lock.specs.Laws.{MakesTurns}
-pub use Rattle.desk_lock.specs.Records.{IsLater, RecordState, later_entries}
 pub use Rattle.pass_lines.proofs.DoneLaws.{at_later, published_prefix}
 pub use Rattle.pass_lines.proofs.EntryLaws.{state_then}
 pub use Rattle.pass_lines.specs.Doing.{IsInItsGeneration, state_seen}

@@ -34,8 +34,8 @@ use Rattle.race_laws.specs.Acting.{PassAt, PassDeed, PassLineDoes, deed_on}
 use Rattle.race_laws.specs.Stopped.{StandsPublished}
 use Rattle.race_laws.proofs.ActingLaws.{pass_acts}
 use Rattle.race_laws.proofs.Publishing.{stands_after}
-use Rattle.desk_lock.specs.Receipts.{HasSeenTold, IsAnswerTo, number_told}
-use Rattle.desk_lock.specs.Turned.{entry_got}
+use Rattle.desk_orders.specs.Receipts.{HasSeenTold, IsAnswerTo, number_told}
+use Rattle.desk_orders.specs.Given.{entry_got}
 use Rattle.pass_lines.specs.Doing.{Grew, IsInItsGeneration, state_seen}
 use Rattle.pass_lines.specs.Laws.{KeepsLines}
 use Rattle.pass_lines.proofs.DoneLaws.{at_later, lines_are_done}

@@ -18,9 +18,9 @@ use Rattle.epoch_rule.specs.Values.{NoteValue}
 use Rattle.race_laws.specs.Acting.{DeskAt}
 use Rattle.race_laws.specs.SoFar.{IsTold}
 use Rattle.race_laws.specs.Stopped.{BeginsLine}
-use Rattle.desk_lock.specs.declared.orders.Receipt.{Receipt}
-use Rattle.desk_lock.specs.Clerks.{wrote_down}
-use Rattle.desk_lock.specs.Receipts.{IsReceipt}
+use Rattle.desk_orders.specs.declared.orders.Receipt.{Receipt}
+use Rattle.desk_orders.specs.Clerks.{wrote_down}
+use Rattle.desk_orders.specs.Receipts.{IsReceipt}
 use Rattle.race_lines.specs.declared.tasks.LineTask.{LineTask}
 use Rattle.race_lines.specs.declared.tasks.LineTask.TheVariants.{Ordered}
 use Rattle.race_lines.specs.declared.tasks.Refused.{Refused}

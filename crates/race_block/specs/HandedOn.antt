@@ -1,4 +1,2 @@
 -- What this crate hands on of the crates below it: who takes these names from here need not list those crates.
-pub use Rattle.desk_lock.specs.HandedOn.{ConfigState}
-pub use Rattle.desk_lock.specs.Records.{IsLater, RecordState, later_entries, IsUnused}
 pub use Rattle.pass_lines.specs.Doing.{IsInItsGeneration}

@@ -12,9 +12,9 @@ use Rattle.mem_base.specs.script.Spelling.{Text}
 use Rattle.mem_base.specs.script.Tasks.{Known, Task, entered, left, accessed, copied}
 use Rattle.generation.specs.Published.{Published}
 use Rattle.epoch_rule.specs.Values.{PassValue}
-use Rattle.desk_lock.specs.declared.orders.Receipt.{Receipt}
-use Rattle.desk_lock.specs.Clerks.{wrote_down}
-use Rattle.desk_lock.specs.Receipts.{IsReceipt}
+use Rattle.desk_orders.specs.declared.orders.Receipt.{Receipt}
+use Rattle.desk_orders.specs.Clerks.{wrote_down}
+use Rattle.desk_orders.specs.Receipts.{IsReceipt}
 use Rattle.pass_lines.specs.declared.answers.LineAnswer.{LineAnswer}
 use Rattle.pass_lines.specs.declared.answers.LineAnswer.TheVariants as answers
 use Rattle.pass_lines.specs.Doing.{DoesLine, Grew, IsInItsGeneration}

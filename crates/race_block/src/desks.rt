@@ -6,7 +6,7 @@ ghost use Rattle.race_block.specs.Desks.{AreNotesOf, DoesDeskLine, Gives, GivesO
 ghost use Rattle.race_block.specs.Desks.{LeavesLine, StopsIn, entry_of, line_meant};
 
 use crate::tasks::OwnLine;
-use desk_lock::{Clerk, Orderly, Receipt};
+use desk_orders::{Clerk, Orderly, Receipt};
 use epoch_rule::Note;
 use generation::Generation;
 use mem_base::{DeskAnswer, DeskOrder};

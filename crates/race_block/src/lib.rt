@@ -1,5 +1,4 @@
-//! The block of a race: its actors, what each does line by line and keeps, how they run beside one another, and that all have seen one history
-//! then.
+//! The actors of a race's block: what each does line by line, and keeps.
 //!
 //! A pass has its lines with their tasks, which were resolved before the block, or with names that nobody changes in the block; and a clerk for its
 //! orders to the desk. It reaches a gate before each line. Where its names are still to be resolved and none of its lines gives an order, it resolves
@@ -9,16 +8,14 @@
 //! definition has for these lines; that what it does after an order that published a generation stands after that in the history; and, where memory
 //! lasted, that the text that it keeps is what the lines wrote.
 //!
-//! The actors share the desk behind a lock, each in a thread of its own where one can be made. After the threads the record of the desk hears what
-//! all have seen, and each virtual CPU meets what the writer has seen. The layer above may rely on it that each actor did its lines, or the first of
-//! them where memory ran out; that all virtual CPUs have then seen just the record's history; and that it is told how the lists of those that
-//! ordered stand to the record.
+//! An actor asks whoever takes orders, and the layer above lets the actors run beside one another; what it may rely on then is here too: what an
+//! actor is once its clerk was taken, its notes were heard, and its virtual CPU has met what the writer has seen.
 #![tactic(auto)]
 
 mod blocks;
+mod clerks;
 mod desks;
 mod few;
-mod joining;
 mod laws;
 mod passes;
 mod plain;
@@ -27,11 +24,11 @@ mod spaces;
 mod tasks;
 mod texts;
 
-pub use blocks::{BlockActor, act_all};
-pub use desk_lock::{Clerk, Config, Naming, Record};
+pub use blocks::{BlockActor, act};
+pub use clerks::take_clerks;
+pub use desk_orders::Clerk;
 pub use desks::DeskActor;
 pub use few::FewBytes;
-pub use joining::run_block;
 pub use laws::passes_keep_lines;
 pub use passes::PassActor;
 pub use resolving::resolve_lines;

@@ -13,7 +13,7 @@ use crate::plain::{any_gives_order, run_plain};
 use crate::resolving::resolve_lines;
 use crate::tasks::{BlockLine, LineGot, OwnLine, PassLines, PassTask};
 use crate::texts::{tasks_in, text_of};
-use desk_lock::{Clerk, Orderly, Receipt};
+use desk_orders::{Clerk, Orderly, Receipt};
 use io_window::Bounce;
 use mem_base::{Access, DeskOrder, SpaceId};
 use outside::{Actor, Gate};

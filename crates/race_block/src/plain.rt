@@ -15,7 +15,7 @@ use crate::resolving::block_line;
 use crate::spaces::Spaces;
 use crate::tasks::{BlockLine, LineGot, OwnLine, PassLines};
 use crate::texts::{add_answer, add_plain};
-use desk_lock::{Clerk, Orderly};
+use desk_orders::{Clerk, Orderly};
 use io_window::Bounce;
 use mem_base::{Bytes, Command, Name, PassCommand};
 use outside::{Actor, Gate};

@@ -1,16 +1,1 @@
-pub mod ListLaws
-pub mod StartLaws
-pub mod DeskLaws
-pub mod PassLaws
-pub mod EndLaws
-pub mod PhaseLaws
-pub mod PhaseTextLaws
-pub mod LineLists
-pub mod SeatLists
-pub mod SeatLaws
-pub mod BackLaws
-pub mod TextLaws
-pub mod TextLists
-pub mod JoinedLaws
-pub mod BlockLaws
 pub mod HandedOn

@@ -6,22 +6,23 @@ ghost use Rattle.run_laws.specs.Fitting.{AreFitting};
 ghost use Rattle.generation.specs.Published.{Published};
 ghost use Rattle.epoch_rule.specs.Values.{PassValue};
 ghost use Rattle.race_phases.specs.Plain.{whose_line};
-ghost use Rattle.race_block.specs.HandedOn.{IsLater};
+ghost use Rattle.race_join.specs.HandedOn.{IsLater};
 ghost use Rattle.race_block.specs.Blocks.{CanAct};
-ghost use Rattle.race_outside.specs.Levels.{HasMet, IsHeard, IsOfCabinet};
-ghost use Rattle.race_outside.specs.Ready.{AreReady};
-ghost use Rattle.race_outside.specs.Outside.{StopsIn, WritesOn};
-ghost use Rattle.race_inside.specs.Blocks.{HasRunAll};
-ghost use Rattle.race_inside.specs.Seats.{AreSeated, IsTold, names_then};
+ghost use Rattle.race_levels.specs.Levels.{HasMet, IsHeard, IsOfCabinet};
+ghost use Rattle.race_levels.specs.Ready.{AreReady};
+ghost use Rattle.race_levels.specs.Outside.{StopsIn, WritesOn};
+ghost use Rattle.race_seats.specs.Blocks.{HasRunAll};
+ghost use Rattle.race_seats.specs.Seats.{AreSeated, IsTold, names_then};
 
-use crate::rooms::{Room, room_for};
-use crate::seats::{Seated, desks_known, known_after, seat, seat_desk, unseat_passes};
-use crate::texts::add_block;
 use mem_base::{Command, Differs};
 use outside::Gate;
-use race_block::{BlockActor, Clerk, Naming, Record, run_block};
+use race_block::{BlockActor, Clerk};
+use race_join::{Naming, Record, run_block};
 use race_lines::KnownNames;
 use race_outside::meet_all;
+use race_seats::{
+    Room, Seated, add_block, desks_known, known_after, room_for, seat, seat_desk, unseat_passes,
+};
 use script_lines::Line;
 use std::alloc::{AllocError, Global};
 use std::marker::Brand;
@@ -110,7 +111,7 @@ fn run_in<'c, J: Naming + Send + Sync, G: Gate, R: Threads + Wait + Sync>(
     let done = add_block(
         text,
         known,
-        &after,
+        after.journal(),
         actors.as_slice(),
         clerks.as_slice(),
         differs,

@@ -4,17 +4,11 @@
 //! lines become actors: the desk with what is known, and each pass with its virtual CPU and its lines, with their tasks where the desk has
 //! lines too. After the block the runner has the same again, and the text of the block. The layer above may rely on it that the race so
 //! far goes on by just the block and its text; that all have seen the same history then; and out of memory that the race could have gone
-//! on. The laws of a block take what stands before it and what its run leaves.
+//! on.
 #![tactic(auto)]
 
 mod blocks;
-mod laws;
-mod rooms;
-mod seats;
-mod tasks;
-mod texts;
 
 pub use blocks::block;
-pub use laws::{blocks_may_stop, blocks_step_on};
-pub use race_block::{Config, Record};
+pub use race_join::{Config, Record};
 pub use race_outside::outside_line;

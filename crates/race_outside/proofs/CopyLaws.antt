@@ -1,13 +1,11 @@
 -- What a line of a pass copies is at most 64 bytes; and whose line it is.
-use Rattle.std.proofs.Common.{◌≢◌, ◌≤◌, ◌<◌, ℕ, Option, Some, None, Result, Ok, Err, refl, sym, subst, arith}
+use Rattle.std.proofs.Common.{◌≤◌, ℕ, Option, Some, None, Result, Ok, Err, sym, subst, arith}
 use Rattle.mem_base.specs.declared.map.calls.Call.{Call}
 use Rattle.mem_base.specs.declared.machine.records.DeskOrder.TheVariants as orders
 use Rattle.mem_base.specs.declared.script.commands.Command.{Command}
 use Rattle.mem_base.specs.declared.script.commands.Command.TheVariants as commands
 use Rattle.mem_base.specs.declared.script.commands.PassCommand.TheVariants as pass_commands
-use Rattle.mem_base.specs.map.Limits.{most_passes}
 use Rattle.mem_base.specs.script.Spelling.{Text}
-use Rattle.mem_base.specs.script.Race.{actor_number, desk_number}
 use Rattle.mem_base.specs.script.Tasks.{Known, kind_of, Resolved, Task, change_of, known, listener_named, plain, region, space, task_of, then_resolved, unless_taken}
 use Rattle.mem_base.specs.script.Tasks.{watcher_named}
 use Rattle.mem_base.specs.script.Tasks as tasks
@@ -75,8 +73,3 @@ fits_task k c room (Ok Left) r fits wide = tt
 fits_task k c room (Ok (Read space addr len)) r fits wide = tt
 fits_task k c room (Ok (Written space addr bytes)) r fits wide = tt
 fits_task k c room (Err why) r fits wide = tt
-
--- a command that is not the desk's is one of the sixteen passes'
-pub is_pass : (c : Command) → FitsCommand c → actor_number c ≢ desk_number → actor_number c < most_passes
-is_pass (commands.Pass pass command) h other = h.0
-is_pass _ h other = absurd (other refl)

@@ -28,25 +28,27 @@ use Rattle.run_laws.specs.Fitting.{FitsCommand}
 use Rattle.race_laws.specs.SoFar.{IsRaceSoFar}
 use Rattle.race_laws.specs.Outside.{desk_course}
 use Rattle.race_laws.proofs.OutsideLaws.{orders_fit}
-use Rattle.desk_lock.specs.declared.orders.Receipt.{Receipt}
-use Rattle.desk_lock.specs.Receipts.{HandsOut}
-use Rattle.desk_lock.specs.Records.{GrewBy, RecordState}
-use Rattle.desk_lock.specs.Turned.{Takes, given_by, turn_of}
-use Rattle.desk_lock.proofs.RecordLaws.{grew_on, grew_one}
+use Rattle.desk_orders.specs.declared.orders.Receipt.{Receipt}
+use Rattle.desk_orders.specs.Receipts.{HandsOut}
+use Rattle.desk_orders.specs.Records.{GrewBy, RecordState}
+use Rattle.desk_orders.specs.Given.{given_by, turn_of}
+use Rattle.desk_lock.specs.Turned.{Takes}
+use Rattle.desk_orders.proofs.RecordLaws.{grew_on}
+use Rattle.desk_lock.proofs.RecordLaws.{grew_one}
 use Rattle.race_lines.specs.declared.tasks.LineTask.{LineTask}
 use Rattle.race_lines.specs.declared.tasks.LineTask.TheVariants.{Idle, Ordered, Shown, Found, Watched, Unwatched, Entered, Left, Read, Written, Copied}
 use Rattle.race_lines.specs.declared.tasks.Refused.{Refused}
 use Rattle.race_lines.specs.DeskLines.{desk_line_by, entry_with}
 use Rattle.race_lines.specs.LineTasks.{Resolves, name_made, resolved}
 use Rattle.race_lines.proofs.SaidLaws.{lines_go_by_answers}
-use Rattle.race_outside.specs.Steps.{HasGiven, line_given, orders_of, stand_with}
-use Rattle.race_outside.proofs.StepLaws.{desk_lines_step}
-use Rattle.race_outside.specs.Settling.{AreLevel, HaveMet}
-use Rattle.race_outside.proofs.SettlingLaws.{desk_settles}
+use Rattle.race_levels.specs.Steps.{HasGiven, line_given, orders_of, stand_with}
+use Rattle.race_levels.proofs.StepLaws.{desk_lines_step}
+use Rattle.race_levels.specs.Settling.{AreLevel, HaveMet}
+use Rattle.race_levels.proofs.SettlingLaws.{desk_settles}
 use Rattle.view_laws.proofs.Tests.{none_is_not_some}
 use Rattle.race_outside.specs.declared.desks.Asked.{Asked}
 use Rattle.race_outside.specs.Asked.{IsAsked, LooksAt, TakesOwn, entry_of_receipt, line_asked}
-use Rattle.race_outside.specs.Outside.{StepsOn, stand_of}
+use Rattle.race_levels.specs.Outside.{StepsOn, stand_of}
 
 -- a look's answer tells the number of the generation that it hands out
 looked : (a : DeskAnswer) (g : Published) (seen : List HistoryEntry) → HandsOut orders.Look a (Some g) seen

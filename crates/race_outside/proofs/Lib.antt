@@ -1,11 +1,5 @@
-pub mod LevelLists
-pub mod SettlingLaws
-pub mod ReadyLaws
-pub mod StepLaws
-pub mod LevelLaws
 pub mod DeskLaws
-pub mod StoppingLaws
+pub mod AskingLaws
 pub mod CopyLaws
 pub mod PassLaws
 pub mod PlaceLaws
-pub mod HandedOn

@@ -42,9 +42,10 @@ use Rattle.pass_lines.specs.declared.answers.LineAnswer.TheVariants as answers
 use Rattle.pass_lines.specs.Doing.{IsInItsGeneration}
 use Rattle.pass_lines.specs.Texts.{answer_text}
 use Rattle.pass_lines.proofs.DoneLaws.{lines_are_done, published_prefix}
-use Rattle.desk_lock.specs.Records.{GrewBy, RecordState, turns_given}
-use Rattle.desk_lock.specs.Turned.{given_by}
-use Rattle.desk_lock.proofs.RecordLaws.{grew_on, grew_one, append_cancel}
+use Rattle.desk_orders.specs.Records.{GrewBy, RecordState, turns_given}
+use Rattle.desk_orders.specs.Given.{given_by}
+use Rattle.desk_orders.proofs.RecordLaws.{grew_on, append_cancel}
+use Rattle.desk_lock.proofs.RecordLaws.{grew_one}
 use Rattle.race_lines.specs.declared.passes.PassSaid.{PassSaid}
 use Rattle.race_lines.specs.declared.passes.PassSaid.TheVariants as saids
 use Rattle.race_lines.specs.declared.tasks.LineTask.{LineTask}
@@ -53,14 +54,14 @@ use Rattle.race_lines.specs.declared.tasks.Refused.{Refused}
 use Rattle.race_lines.specs.DeskLines.{entry_with}
 use Rattle.race_lines.specs.LineTasks.{Resolves, name_made, refused_text, task_meant}
 use Rattle.race_lines.specs.PassLines.{said_of}
-use Rattle.race_outside.specs.Steps.{HasDone, stand_with}
-use Rattle.race_outside.proofs.StepLaws.{pass_lines_step}
-use Rattle.race_outside.specs.Levels.{HasMet, IsHeard, IsOfCabinet}
-use Rattle.race_outside.specs.Ready.{AreReady}
-use Rattle.race_outside.specs.Settling.{AreLevel, HaveMet, OnePassMade, pass_at}
-use Rattle.race_outside.proofs.SettlingLaws.{desk_settles, pass_settles}
-use Rattle.race_outside.proofs.ReadyLaws.{have_met, ready_again}
-use Rattle.race_outside.specs.Outside.{StepsOn, StopsIn, WritesOn, stand_of}
+use Rattle.race_levels.specs.Steps.{HasDone, stand_with}
+use Rattle.race_levels.proofs.StepLaws.{pass_lines_step}
+use Rattle.race_levels.specs.Levels.{HasMet, IsHeard, IsOfCabinet}
+use Rattle.race_levels.specs.Ready.{AreReady}
+use Rattle.race_levels.specs.Settling.{AreLevel, HaveMet, OnePassMade, pass_at}
+use Rattle.race_levels.proofs.SettlingLaws.{desk_settles, pass_settles}
+use Rattle.race_levels.proofs.ReadyLaws.{have_met, ready_again}
+use Rattle.race_levels.specs.Outside.{StepsOn, StopsIn, WritesOn, stand_of}
 use Rattle.race_outside.specs.Passes.{Changed, DoesPassLine, HasActed, HasDoneLine, HasDoneNothing, HasOrdered, HasSettled, IsIdle, IsWritten, said_by}
 
 -- what is kept of an answer says what the answer writes

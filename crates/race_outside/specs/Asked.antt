@@ -9,9 +9,9 @@ use Rattle.mem_base.specs.script.RaceLines.{DeskLine, no_entry}
 use Rattle.mem_base.specs.script.Race.{desk_number}
 use Rattle.generation.specs.Published.{Published}
 use Rattle.epoch_rule.specs.Copies.{value_in}
-use Rattle.desk_lock.specs.declared.orders.Receipt.{Receipt}
-use Rattle.desk_lock.specs.Receipts.{IsReceipt}
-use Rattle.desk_lock.specs.Records.{RecordState}
+use Rattle.desk_orders.specs.declared.orders.Receipt.{Receipt}
+use Rattle.desk_orders.specs.Receipts.{IsReceipt}
+use Rattle.desk_orders.specs.Records.{RecordState}
 use Rattle.desk_lock.specs.Turned.{Takes}
 use Rattle.race_lines.specs.declared.tasks.LineTask.{LineTask}
 use Rattle.race_lines.specs.declared.tasks.LineTask.TheVariants.{Ordered}

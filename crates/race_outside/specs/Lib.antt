@@ -1,8 +1,2 @@
-pub mod Levels
-pub mod Settling
-pub mod Ready
-pub mod Steps
-pub mod ActorLevels
-pub mod Outside
 pub mod Asked
 pub mod Passes

@@ -10,8 +10,8 @@ use Rattle.mem_base.specs.script.Tasks.{Task}
 use Rattle.generation.specs.Published.{Published}
 use Rattle.epoch_rule.specs.Rule.{IsLegal}
 use Rattle.epoch_rule.specs.Values.{PassValue}
-use Rattle.desk_lock.specs.declared.orders.Receipt.{Receipt}
-use Rattle.desk_lock.specs.Records.{GrewBy, RecordState}
+use Rattle.desk_orders.specs.declared.orders.Receipt.{Receipt}
+use Rattle.desk_orders.specs.Records.{GrewBy, RecordState}
 use Rattle.desk_lock.specs.Turned.{Takes}
 use Rattle.pass_lines.specs.declared.answers.LineAnswer.{LineAnswer}
 use Rattle.pass_lines.specs.declared.answers.LineAnswer.TheVariants as answers
@@ -23,7 +23,7 @@ use Rattle.race_lines.specs.declared.tasks.LineTask.TheVariants.{Ordered, Entere
 use Rattle.race_lines.specs.declared.tasks.Refused.{Refused}
 use Rattle.race_lines.specs.LineTasks.{task_meant}
 use Rattle.race_lines.specs.PassLines.{said_of}
-use Rattle.race_outside.specs.Levels.{HasMet, IsHeard}
+use Rattle.race_levels.specs.Levels.{HasMet, IsHeard}
 
 -- what is asked of a task: the bounce has room for what it copies
 abbrev pub FitsTask : ℕ → Result LineTask Refused → Type 0

@@ -4,11 +4,11 @@ ghost use Rattle.std.specs.Arc.{arc_value};
 ghost use Rattle.mem_base.specs.script.Race.{actor_number, alone, desk_number};
 ghost use Rattle.mem_base.specs.script.RaceLines.{said_text};
 ghost use Rattle.run_laws.specs.Fitting.{FitsCommand};
-ghost use Rattle.desk_lock.specs.Records.{IsLater};
+ghost use Rattle.desk_orders.specs.Records.{IsLater};
 ghost use Rattle.race_lines.specs.DeskLines.{entry_got};
-ghost use Rattle.race_outside.specs.Ready.{AreReady};
+ghost use Rattle.race_levels.specs.Ready.{AreReady};
 ghost use Rattle.race_outside.specs.Asked.{IsAsked, LooksAt, StopsAsking, TakesOwn, entry_of_receipt};
-ghost use Rattle.race_outside.specs.Outside.{StepsOn, StopsIn};
+ghost use Rattle.race_levels.specs.Outside.{StepsOn, StopsIn};
 
 use crate::levels::meet_all;
 use desk_lock::{Receipt, Record};

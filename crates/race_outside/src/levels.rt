@@ -3,8 +3,8 @@ ghost use Rattle.std.specs.Prelude.{◌≡◌, ◌≢◌, ℕ, ◌<◌, [], All,
 ghost use Rattle.generation.specs.Published.{Published};
 ghost use Rattle.epoch_rule.specs.Rule.{IsLegal};
 ghost use Rattle.epoch_rule.specs.Values.{PassValue};
-ghost use Rattle.desk_lock.specs.Records.{GrewBy, IsLater};
-ghost use Rattle.race_outside.specs.Levels.{HasMet, IsHeard, IsOfCabinet};
+ghost use Rattle.desk_orders.specs.Records.{GrewBy, IsLater};
+ghost use Rattle.race_levels.specs.Levels.{HasMet, IsHeard, IsOfCabinet};
 
 use desk_lock::Record;
 use vcpu_pass::Vcpu;

@@ -2,9 +2,9 @@
 ghost use Rattle.std.specs.Prelude.{◌≡◌, ◌≤◌, OnErr, OnOk};
 ghost use Rattle.mem_base.specs.script.Race.{actor_number, alone, desk_number};
 ghost use Rattle.run_laws.specs.Fitting.{FitsCommand};
-ghost use Rattle.desk_lock.specs.Records.{IsLater};
-ghost use Rattle.race_outside.specs.Ready.{AreReady};
-ghost use Rattle.race_outside.specs.Outside.{StopsIn, WritesOn};
+ghost use Rattle.desk_orders.specs.Records.{IsLater};
+ghost use Rattle.race_levels.specs.Ready.{AreReady};
+ghost use Rattle.race_levels.specs.Outside.{StopsIn, WritesOn};
 
 use crate::desks::desk_line;
 use crate::passes::pass_line;

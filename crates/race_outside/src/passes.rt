@@ -5,10 +5,10 @@ ghost use Rattle.run_laws.specs.Fitting.{FitsCommand};
 ghost use Rattle.generation.specs.Published.{Published};
 ghost use Rattle.epoch_rule.specs.Values.{PassValue};
 ghost use Rattle.pass_lines.specs.Doing.{IsInItsGeneration};
-ghost use Rattle.desk_lock.specs.Records.{IsLater};
-ghost use Rattle.race_outside.specs.Levels.{IsHeard, IsOfCabinet};
-ghost use Rattle.race_outside.specs.Ready.{AreReady};
-ghost use Rattle.race_outside.specs.Outside.{StopsIn, WritesOn};
+ghost use Rattle.desk_orders.specs.Records.{IsLater};
+ghost use Rattle.race_levels.specs.Levels.{IsHeard, IsOfCabinet};
+ghost use Rattle.race_levels.specs.Ready.{AreReady};
+ghost use Rattle.race_levels.specs.Outside.{StopsIn, WritesOn};
 ghost use Rattle.race_outside.specs.Passes.{DoesPassLine, FitsTask, HasDoneLine, HasDoneNothing, HasOrdered, HasSettled, IsWritten, said_by};
 
 use crate::levels::level;

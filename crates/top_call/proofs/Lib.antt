@@ -1,3 +1,1 @@
-pub mod RunLaws
 pub mod RaceLaws
-pub mod SayLaws

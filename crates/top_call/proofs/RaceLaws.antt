@@ -17,12 +17,12 @@ use Rattle.race_laws.proofs.StoppedEnds.{races_exist}
 use Rattle.config_desk.specs.LawfulDesks.{IsLawfulDesk}
 use Rattle.race_run.proofs.HandedOn.{ConfigState, RunFault, Write}
 use Rattle.race_run.specs.Racing.{HasStopped, TakesOne}
-use Rattle.top_call.specs.declared.endings.Ending.{Ending}
-use Rattle.top_call.specs.declared.endings.Ending.TheVariants as endings
+use Rattle.top_runs.specs.declared.endings.Ending.{Ending}
+use Rattle.top_runs.specs.declared.endings.Ending.TheVariants as endings
 use Rattle.top_call.specs.RacedText.{IsRacedText, WritesPlain, WritesRaceOf}
-use Rattle.top_call.specs.Says.{Says}
-use Rattle.top_call.specs.Statuses.{IfBad}
-use Rattle.top_call.proofs.RunLaws.{if_said, meant, no_lines, other_than}
+use Rattle.top_runs.specs.Says.{Says}
+use Rattle.top_runs.specs.Statuses.{IfBad}
+use Rattle.top_runs.proofs.RunLaws.{if_said, meant, no_lines, other_than}
 
 memory_done : endings.Memory ≡ endings.Done → ⊥
 memory_done e = cc

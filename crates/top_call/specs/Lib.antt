@@ -1,8 +1,2 @@
-pub mod Asks
-pub mod KeptText
 pub mod RacedText
-pub mod ReadScript
-pub mod Runs
-pub mod Says
-pub mod Statuses
-pub mod WrittenText
+pub mod Races

@@ -11,9 +11,9 @@ use Rattle.mem_base.specs.script.Race.{IsAlone, IsTextOfRace, phases_of}
 use Rattle.mem_base.specs.script.Run.{text_of}
 use Rattle.config_desk.specs.LawfulDesks.{IsLawfulDesk}
 use Rattle.race_run.specs.HandedOn.{ConfigState}
-use Rattle.top_call.specs.declared.endings.Ending.{Ending}
-use Rattle.top_call.specs.declared.endings.Ending.TheVariants as endings
-use Rattle.top_call.specs.Statuses.{IfBad}
+use Rattle.top_runs.specs.declared.endings.Ending.{Ending}
+use Rattle.top_runs.specs.declared.endings.Ending.TheVariants as endings
+use Rattle.top_runs.specs.Statuses.{IfBad}
 
 -- a text that the commands may write as a race, or the line of a text that is no script
 abbrev pub IsRacedText : Meaning → Text → Type 0

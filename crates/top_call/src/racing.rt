@@ -6,17 +6,17 @@ ghost use Rattle.mem_base.specs.script.Scripts.{script_of};
 ghost use Rattle.mem_base.specs.script.Run.{pool_words};
 ghost use Rattle.race_run.specs.Ends.{IsFresh};
 ghost use Rattle.top_call.specs.RacedText.{WritesRaceOf};
-ghost use Rattle.top_call.specs.Runs.{Races, ending_of};
+ghost use Rattle.top_runs.specs.Runs.{ending_of};
+ghost use Rattle.top_call.specs.Races.{Races};
 
-use crate::endings::Ending;
 use crate::machines::{Machine, parse_and_make, pool_ahead, pool_of_script, with_pool};
-use crate::running::{refuse, too_long};
 use outside::{Gate, ReadStop, Sink, Source, read_all};
 use race_run::{Config, RunFault, race};
 use script_text::{MOST_TEXT, ParseFault, Script};
 use std::alloc::{AllocError, Global};
 use std::sync::Wait;
 use std::thread::Threads;
+use top_runs::{Ending, refuse, too_long};
 
 // How a race ends that stopped by this fault.
 fn ending_after(fault: RunFault) -> Ending

@@ -1,11 +1,11 @@
 use Rattle.std.proofs.Common.{Option, OnOk, sym, subst}
 use Rattle.mem_base.specs.script.Race.{block}
 use Rattle.mem_base.specs.script.Tasks.{Known}
-use Rattle.race_block.proofs.HandedOn.{later_same}
-use Rattle.race_outside.specs.Outside.{WritesOn}
-use Rattle.race_inside.specs.Seats.{IsTold, names_then}
-use Rattle.race_inside.proofs.BlockLaws.{nothing_stops}
-use Rattle.race_inside.proofs.SeatLaws.{ready_seats}
+use Rattle.race_join.proofs.HandedOn.{later_same}
+use Rattle.race_levels.specs.Outside.{WritesOn}
+use Rattle.race_seats.specs.Seats.{IsTold, names_then}
+use Rattle.race_seats.proofs.BlockLaws.{nothing_stops}
+use Rattle.race_seats.proofs.SeatLaws.{ready_seats}
 use Rattle.race_inside.proofs.blocks.block.Goals as goal
 
 pub seat-seated-requires-clause-room : goal.seat-seated-requires-clause-room

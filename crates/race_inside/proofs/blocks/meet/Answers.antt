@@ -3,7 +3,7 @@ use Rattle.std.specs.Prelude.{slice_index_or}
 use Rattle.std.proofs.lemmas.List.{with_items_is}
 use Rattle.generation.specs.Published.{Published}
 use Rattle.epoch_rule.specs.Values.{PassValue}
-use Rattle.race_outside.specs.Levels.{HasMet, IsHeard}
+use Rattle.race_levels.specs.Levels.{HasMet, IsHeard}
 use Rattle.race_inside.proofs.blocks.meet.Goals as goal
 
 pub meet_all-requires-clause-heard : goal.meet_all-requires-clause-heard

@@ -1,8 +1,8 @@
 use Rattle.std.proofs.Common.{List, sym, subst, ◌∙◌}
 use Rattle.std.proofs.lemmas.List.{with_items_is}
 use Rattle.race_block.specs.declared.blocks.BlockActor.{BlockActor}
-use Rattle.race_inside.specs.Blocks.{HasRunAll}
-use Rattle.race_inside.proofs.BlockLaws.{has_run_all}
+use Rattle.race_seats.specs.Blocks.{HasRunAll}
+use Rattle.race_seats.proofs.BlockLaws.{has_run_all}
 use Rattle.race_inside.proofs.blocks.run_actors.Goals as goal
 
 pub returns : goal.returns

@@ -1,15 +1,15 @@
 use Rattle.std.proofs.Common.{rules, ◌≡◌, None, length, All, option_to_list, ap, sym, subst, ◌∙◌}
 use Rattle.mem_base.specs.script.Race.{block}
-use Rattle.race_block.proofs.HandedOn.{RecordState}
+use Rattle.race_join.proofs.HandedOn.{RecordState}
 use Rattle.race_block.specs.Blocks.{CanAct}
-use Rattle.race_outside.specs.Ready.{AreReady}
-use Rattle.race_outside.specs.Outside.{StopsIn}
-use Rattle.race_inside.specs.Ran.{HasRunBlock, known_after_block}
-use Rattle.race_inside.proofs.PhaseTextLaws.{blocks_may_stop, blocks_step_on}
-use Rattle.race_inside.specs.Seats.{IsKnown, IsTold, names_then}
-use Rattle.race_inside.proofs.BackLaws.{all_heard, all_own, all_ready}
-use Rattle.race_inside.specs.Blocks.{HasRunAll}
-use Rattle.race_inside.proofs.BlockLaws.{came_back, has_run, is_told, known_is, known_list, names_same, parts, seated_can_all, steps_on}
+use Rattle.race_levels.specs.Ready.{AreReady}
+use Rattle.race_levels.specs.Outside.{StopsIn}
+use Rattle.race_seats.specs.Ran.{HasRunBlock, known_after_block}
+use Rattle.race_seats.proofs.PhaseTextLaws.{blocks_may_stop, blocks_step_on}
+use Rattle.race_seats.specs.Seats.{IsKnown, IsTold, names_then}
+use Rattle.race_seats.proofs.BackLaws.{all_heard, all_own, all_ready}
+use Rattle.race_seats.specs.Blocks.{HasRunAll}
+use Rattle.race_seats.proofs.BlockLaws.{came_back, has_run, is_told, known_is, known_list, names_same, parts, seated_can_all, steps_on}
 use Rattle.race_inside.proofs.blocks.run_in.Goals as goal
 
 pub run_actors-after-requires-clause-ready : goal.run_actors-after-requires-clause-ready

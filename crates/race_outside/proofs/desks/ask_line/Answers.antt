@@ -1,7 +1,7 @@
 use Rattle.std.proofs.Common.{inl, inr, refl, sym, subst}
-use Rattle.desk_lock.specs.Records.{RecordState}
+use Rattle.desk_orders.specs.Records.{RecordState}
 use Rattle.race_outside.specs.Asked.{TakesOwn}
-use Rattle.desk_lock.proofs.RecordLaws.{later_joins}
+use Rattle.desk_orders.proofs.RecordLaws.{later_joins}
 use Rattle.race_outside.proofs.desks.ask_line.Goals as goal
 use Rattle.mem_base.proofs.OptionLaws.{on_failure}
 

@@ -5,14 +5,15 @@ use Rattle.mem_base.specs.map.Limits.{most_passes}
 use Rattle.mem_base.specs.script.RaceLines.{said_text}
 use Rattle.mem_base.specs.script.Race.{alone}
 use Rattle.mem_base.specs.script.Scripts.{Line}
-use Rattle.desk_lock.specs.Records.{RecordState}
+use Rattle.desk_orders.specs.Records.{RecordState}
 use Rattle.race_lines.specs.DeskLines.{desk_line_by}
 use Rattle.race_lines.specs.LineTasks.{resolved}
-use Rattle.race_outside.proofs.ReadyLaws.{have_met}
+use Rattle.race_levels.proofs.ReadyLaws.{have_met}
 use Rattle.race_outside.specs.Asked.{line_asked}
-use Rattle.race_outside.specs.Outside.{StepsOn, StopsIn}
+use Rattle.race_levels.specs.Outside.{StepsOn, StopsIn}
 use Rattle.race_outside.proofs.DeskLaws.{asked_steps}
-use Rattle.race_outside.proofs.StoppingLaws.{asking_stops, lost_stops, on_both}
+use Rattle.race_levels.proofs.StoppingLaws.{lost_stops, on_both}
+use Rattle.race_outside.proofs.AskingLaws.{asking_stops}
 use Rattle.race_outside.proofs.desks.desk_line.Goals as goal
 use Rattle.mem_base.proofs.OptionLaws.{on_failure}
 

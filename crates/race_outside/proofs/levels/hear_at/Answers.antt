@@ -1,5 +1,5 @@
 use Rattle.std.proofs.Common.{refl}
-use Rattle.race_outside.proofs.LevelLists.{same_list}
+use Rattle.race_levels.proofs.LevelLists.{same_list}
 use Rattle.race_outside.proofs.levels.hear_at.Goals as goal
 
 pub returns-clause-same : goal.returns-clause-same

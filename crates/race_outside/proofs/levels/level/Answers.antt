@@ -2,10 +2,10 @@ use Rattle.std.proofs.Common.{◌<◌, List, length, sym, subst}
 use Rattle.std.specs.Prelude.{[], slice_index_or}
 use Rattle.generation.specs.Published.{Published}
 use Rattle.epoch_rule.specs.Values.{PassValue}
-use Rattle.desk_lock.specs.Records.{GrewBy, RecordState}
-use Rattle.race_outside.specs.Levels.{IsHeard}
-use Rattle.race_outside.proofs.LevelLists.{heard_all}
-use Rattle.race_outside.proofs.ReadyLaws.{quiet}
+use Rattle.desk_orders.specs.Records.{GrewBy, RecordState}
+use Rattle.race_levels.specs.Levels.{IsHeard}
+use Rattle.race_levels.proofs.LevelLists.{heard_all}
+use Rattle.race_levels.proofs.ReadyLaws.{quiet}
 use Rattle.race_outside.proofs.levels.level.Goals as goal
 
 pub meet_all-requires-clause-heard : goal.meet_all-requires-clause-heard

@@ -1,8 +1,8 @@
 use Rattle.std.proofs.Common.{◌<◌, get_or, length, subst, sym, arith}
 use Rattle.generation.specs.Published.{Published}
 use Rattle.epoch_rule.specs.Values.{PassValue}
-use Rattle.desk_lock.specs.Records.{RecordState}
-use Rattle.race_outside.specs.Levels.{IsHeard}
+use Rattle.desk_orders.specs.Records.{RecordState}
+use Rattle.race_levels.specs.Levels.{IsHeard}
 use Rattle.race_outside.proofs.levels.meet_all.Goals as goal
 
 pub meet_one-requires-clause-heard : goal.meet_one-requires-clause-heard

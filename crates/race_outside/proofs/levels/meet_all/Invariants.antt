@@ -1,7 +1,7 @@
 use Rattle.std.proofs.Common.{◌≡◌, ℕ, ◌<◌, ◌≤◌, get_or, length}
 use Rattle.generation.specs.Published.{Published}
 use Rattle.epoch_rule.specs.Values.{PassValue}
-use Rattle.race_outside.specs.Levels.{HasMet}
+use Rattle.race_levels.specs.Levels.{HasMet}
 use Rattle.race_outside.proofs.levels.meet_all.Given as goal
 
 abbrev pub invariant-loop-i : goal.invariant-loop-i

@@ -1,6 +1,6 @@
 use Rattle.mem_base.specs.script.Race.{alone}
 use Rattle.mem_base.specs.script.RaceLines.{said_text}
-use Rattle.race_outside.proofs.StoppingLaws.{lost_stops, writes_on}
+use Rattle.race_levels.proofs.StoppingLaws.{lost_stops, writes_on}
 use Rattle.race_outside.proofs.lines.write_desk_line.Goals as goal
 use Rattle.mem_base.proofs.OptionLaws.{on_failure}
 

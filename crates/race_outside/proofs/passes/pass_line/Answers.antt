@@ -3,12 +3,12 @@ use Rattle.mem_base.specs.map.Limits.{most_passes}
 use Rattle.mem_base.specs.script.Race.{alone}
 use Rattle.mem_base.specs.script.RaceLines.{said_text}
 use Rattle.mem_base.specs.script.Scripts.{Line}
-use Rattle.desk_lock.specs.Records.{RecordState}
-use Rattle.desk_lock.proofs.RecordLaws.{later_joins}
+use Rattle.desk_orders.specs.Records.{RecordState}
+use Rattle.desk_orders.proofs.RecordLaws.{later_joins}
 use Rattle.race_lines.specs.PassLines.{said_of}
 use Rattle.race_outside.specs.Passes.{HasDoneLine, HasDoneNothing}
 use Rattle.race_outside.proofs.PassLaws.{between_ready, done_between, done_steps, either_way, nothing_between, nothing_steps, others_heard, steps_written, still_own}
-use Rattle.race_outside.proofs.StoppingLaws.{lost_stops, nothing_stops}
+use Rattle.race_levels.proofs.StoppingLaws.{lost_stops, nothing_stops}
 use Rattle.race_outside.proofs.passes.pass_line.Goals as goal
 use Rattle.mem_base.proofs.OptionLaws.{on_failure}
 

@@ -3,7 +3,7 @@ use Rattle.std.specs.Prelude.{slice_index_or}
 use Rattle.std.proofs.lemmas.List.{take_at}
 use Rattle.generation.specs.Published.{Published}
 use Rattle.epoch_rule.specs.Values.{PassValue}
-use Rattle.race_outside.specs.Levels.{IsHeard}
+use Rattle.race_levels.specs.Levels.{IsHeard}
 use Rattle.race_outside.specs.Passes.{HasSettled}
 use Rattle.race_outside.proofs.passes.settle.Goals as goal
 

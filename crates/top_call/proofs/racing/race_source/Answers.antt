@@ -1,10 +1,10 @@
 use Rattle.std.proofs.Common.{Err, None, ap, inl, inr, refl}
 use Rattle.mem_base.specs.script.Scripts.{script_of}
 use Rattle.run_laws.proofs.FittingLaws.{lines_fit}
-use Rattle.top_call.specs.declared.endings.Ending.TheVariants as endings
+use Rattle.top_runs.specs.declared.endings.Ending.TheVariants as endings
 use Rattle.top_call.specs.RacedText.{WritesRaceOf}
 use Rattle.top_call.proofs.RaceLaws.{nothing_raced, refused_race}
-use Rattle.top_call.proofs.RunLaws.{long_fault, memory_by, ran_by, read_fault_by, too_long_by}
+use Rattle.top_runs.proofs.RunLaws.{long_fault, memory_by, ran_by, read_fault_by, too_long_by}
 use Rattle.top_call.proofs.racing.race_source.Goals as goal
 
 pub returns-in-Ok : goal.returns-in-Ok

@@ -4,7 +4,7 @@ use Rattle.mem_base.specs.script.Scripts.{Line, script_of}
 use Rattle.run_laws.proofs.FittingLaws.{lines_fit}
 use Rattle.script_text.specs.declared.faults.ParseFault.{ParseFault}
 use Rattle.script_text.specs.Parses.{FailsBy, Parses}
-use Rattle.top_call.specs.declared.endings.Ending.TheVariants as endings
+use Rattle.top_runs.specs.declared.endings.Ending.TheVariants as endings
 use Rattle.top_call.proofs.RaceLaws.{nothing_raced, refused_race}
 use Rattle.top_call.proofs.racing.race_text.Goals as goal
 

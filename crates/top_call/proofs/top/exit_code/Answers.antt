@@ -1,7 +1,7 @@
 use Rattle.std.proofs.Common.{map, rules, string_bytes}
 use Rattle.mem_base.specs.script.Words.{task_of}
-use Rattle.top_call.specs.Runs.{Races}
-use Rattle.top_call.proofs.SayLaws.{if_race_one}
+use Rattle.top_call.specs.Races.{Races}
+use Rattle.top_runs.proofs.SayLaws.{if_race_one}
 use Rattle.top_call.proofs.top.exit_code.Goals as goal
 
 pub returns-clause-race : goal.returns-clause-race

@@ -1,5 +1,6 @@
 use Rattle.std.proofs.Common.{subst}
-use Rattle.desk_lock.specs.Records.{RecordState, IsLater, record_state}
+use Rattle.desk_orders.specs.Records.{RecordState, IsLater}
+use Rattle.desk_lock.specs.Records.{record_state}
 use Rattle.desk_lock.proofs.RecordLaws.{heard_later}
 use Rattle.desk_lock.proofs.records.Record.hear.Goals as goal
 

@@ -1,8 +1,10 @@
 use Rattle.std.proofs.Common.{List, ap, subst, ◌∙◌}
 use Rattle.mem_base.specs.declared.machine.records.DeskEntry.{DeskEntry}
-use Rattle.desk_lock.specs.Records.{RecordState, IsLater, record_state}
+use Rattle.desk_orders.specs.Records.{RecordState, IsLater}
+use Rattle.desk_lock.specs.Records.{record_state}
 use Rattle.desk_lock.proofs.ReceiptLaws.{has_room}
-use Rattle.desk_lock.proofs.RecordLaws.{later_one, later_unmoved, still_record, takes_by}
+use Rattle.desk_orders.proofs.RecordLaws.{later_unmoved, still_record}
+use Rattle.desk_lock.proofs.RecordLaws.{later_one, takes_by}
 use Rattle.desk_lock.proofs.records.Record.take.Goals as goal
 
 pub returns-in_err-reserve-clause-later : goal.returns-in_err-reserve-clause-later

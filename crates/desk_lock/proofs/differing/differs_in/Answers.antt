@@ -1,7 +1,0 @@
-use Rattle.std.proofs.Common.{sym}
-use Rattle.desk_lock.proofs.DifferLaws.{stray_differs}
-use Rattle.desk_lock.proofs.differing.differs_in.Goals as goal
-
-pub returns : goal.returns
-returns c =
-    stray_differs c.args.entries.now c.args.clerks.now c.args.clerks.now c.in-Some-first_stray.who c.in_default.ensures (sym c.in-Some-first_stray.ensures)

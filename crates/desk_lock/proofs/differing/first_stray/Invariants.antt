@@ -1,6 +1,0 @@
-use Rattle.std.proofs.Common.{◌≡◌}
-use Rattle.desk_lock.proofs.DifferLaws.{stray_from}
-use Rattle.desk_lock.proofs.differing.first_stray.Given as goal
-
-abbrev pub invariant-loop-i : goal.invariant-loop-i
-invariant-loop-i l = stray_from l.clerks l.entries 0 ≡ stray_from l.clerks l.entries l.i

@@ -1,5 +1,0 @@
-use Rattle.desk_lock.proofs.StayLaws.{closes_one_way}
-use Rattle.desk_lock.proofs.laws.closes_one_way.Goals as goal
-
-pub returns : goal.returns
-returns c = closes_one_way

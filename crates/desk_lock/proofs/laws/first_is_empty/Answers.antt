@@ -1,5 +1,0 @@
-use Rattle.desk_lock.proofs.StayLaws.{first_is_empty}
-use Rattle.desk_lock.proofs.laws.first_is_empty.Goals as goal
-
-pub returns : goal.returns
-returns c = first_is_empty

@@ -1,5 +1,0 @@
-use Rattle.desk_lock.proofs.StayLaws.{later_makes_turns}
-use Rattle.desk_lock.proofs.laws.later_makes_turns.Goals as goal
-
-pub returns : goal.returns
-returns c = later_makes_turns

@@ -1,5 +1,0 @@
-use Rattle.race_inside.proofs.PhaseTextLaws.{blocks_step_on}
-use Rattle.race_inside.proofs.laws.blocks_step_on.Goals as goal
-
-pub returns : goal.returns
-returns c = blocks_step_on

@@ -1,5 +1,0 @@
-use Rattle.race_outside.proofs.SettlingLaws.{desk_settles}
-use Rattle.race_outside.proofs.level_laws.desk_settles.Goals as goal
-
-pub returns : goal.returns
-returns c = desk_settles

@@ -1,5 +1,0 @@
-use Rattle.race_outside.proofs.LevelLaws.{actors_are_level}
-use Rattle.race_outside.proofs.step_laws.actors_are_level.Goals as goal
-
-pub returns : goal.returns
-returns c = actors_are_level

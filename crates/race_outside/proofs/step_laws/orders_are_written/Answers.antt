@@ -1,5 +1,0 @@
-use Rattle.race_outside.proofs.StepLaws.{orders_are_written}
-use Rattle.race_outside.proofs.step_laws.orders_are_written.Goals as goal
-
-pub returns : goal.returns
-returns c = orders_are_written

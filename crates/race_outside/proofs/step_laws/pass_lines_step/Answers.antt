@@ -1,5 +1,0 @@
-use Rattle.race_outside.proofs.StepLaws.{pass_lines_step}
-use Rattle.race_outside.proofs.step_laws.pass_lines_step.Goals as goal
-
-pub returns : goal.returns
-returns c = pass_lines_step
