@@ -260,6 +260,20 @@ def fault_of_first_line(edit):
     return ""
 
 
+def faults_of_table(edits):
+    """What is wrong with the table of docs/PROMISES.md that names a wrong body for each part of that page: it has to name just the edits of crates/NAME/must-fail,
+    and each part before it."""
+    with open(f"{TOP}/docs/PROMISES.md", encoding="utf-8") as it:
+        before, _, table = it.read().partition("\n## A wrong body for each promise\n")
+    rows = [row.groups() for row in re.finditer(r"^\| ([^|]+?) \| (.+) \|$", table.partition("\n## ")[0], re.M)][1:]
+    named = {it for _, bodies in rows for it in re.findall(r"`([\w-]+/[\w-]+)`", bodies)}
+    tried = {f"{it.crate}/{os.path.basename(it.path)[: -len('.edit')]}" for it in edits if it.path.startswith("crates/")}
+    parts = [re.sub(r" \(.*", "", it) for it in re.findall(r"^## (.+)$", before, re.M)]
+    faults = [f"docs/PROMISES.md names the wrong body {it}, which is not in must-fail" for it in sorted(named - tried)]
+    faults += [f"the wrong body {it} is in must-fail, and stands for no part of docs/PROMISES.md" for it in sorted(tried - named)]
+    return faults + [f"no wrong body stands for the part '{it}' of docs/PROMISES.md" for it in parts if it not in [part for part, _ in rows]]
+
+
 def reasons_of(fn, goal):
     """What a goal of the prover speaks of, in the words of a first line: one reason, or the names of all clauses where it has them together."""
     goal = goal.removeprefix(f"{fn.path[-1]}-") if fn.cycle else goal
