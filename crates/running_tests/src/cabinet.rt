@@ -4,3 +4,4 @@ mod crowds;
 mod holding;
 mod marking;
 mod notes;
+mod steps;

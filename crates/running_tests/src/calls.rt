@@ -1,5 +1,28 @@
-// The calls of the tests.
-use mem_base::{Call, Client, Device, DeviceKind, Kind, Perm, RegionId, Size, SpaceId};
+// The calls of the tests, and how accesses end.
+use config_desk::Config;
+use mem_base::{Call, Client, Device, DeviceKind, Kind, Perm, RegionId, Size, SpaceId, TxResult};
+
+/// It ended well.
+pub(crate) const GOOD: TxResult = TxResult {
+    error: false,
+    decode: false,
+};
+
+/// Nothing answered some byte.
+pub(crate) const HOLE: TxResult = TxResult {
+    error: false,
+    decode: true,
+};
+
+/// Whether all of these calls are accepted.
+pub(crate) fn accepts(config: &mut Config, calls: &[Call]) -> bool {
+    for call in calls {
+        if config.call(call).is_err() {
+            return false;
+        }
+    }
+    true
+}
 
 /// A call that makes a region of this many bytes.
 pub(crate) fn region(kind: Kind, bytes: u64) -> Call {

@@ -1,9 +1,10 @@
-//! Tests of the running machine and of its parts: the cabinet and its words, the virtual CPU over generations that a desk makes and a
-//! cabinet publishes, mapped windows, memory that comes and goes beneath sixteen virtual CPUs, and the desk that threads share.
+//! Tests of the running machine and of its parts: the cabinet and its words, whole words that a virtual CPU writes, mapped windows, sixteen
+//! virtual CPUs beside a writer that moves their memory or makes it anew, and the desk that threads share.
 //!
-//! No crate stands on this one. What is tested here is what no clause says: that the calls answer with ample memory; that what they
-//! answer in worked cases is what QEMU's core and this project's rules give; and that threads which run beside one another, on whatever
-//! schedule, go on, lose no step, no write and no order, and read bytes that some write put there. Each test of threads ends by itself.
+//! No crate stands on this one. What is tested here is what no clause says and no script reaches: that the calls answer with ample memory;
+//! that what they answer in worked cases is what QEMU's core and this project's rules give; and that threads which run beside one another,
+//! on whatever schedule, go on, lose no step, no write and no order, and read bytes that some write put there. Each test of threads ends
+//! by itself. The accesses of a virtual CPU in worked cases are scripts of `examples/worked`, each of which is raced too.
 #![tactic(auto)]
 
 #[cfg(test)]
@@ -11,9 +12,9 @@ mod cabinet;
 #[cfg(test)]
 mod calls;
 #[cfg(test)]
-mod locks;
+mod crowds;
 #[cfg(test)]
-mod pools;
+mod locks;
 #[cfg(test)]
 mod vcpus;
 #[cfg(test)]

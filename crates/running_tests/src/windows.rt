@@ -1,5 +1,4 @@
 // Tests of windows on the running machine.
-mod crowds;
 mod held;
 mod leaves;
 mod lines;

@@ -2,6 +2,7 @@
 ghost use Rattle.std.specs.Prelude.{◌≡◌, ◌<◌, All, None, Some, IfOk};
 
 use crate::cabinet::boards::{Board, open, publish_next, ram};
+use crate::cabinet::marking::marks;
 use epoch_rule::{Cabinet, Pass, WriterSeat};
 use mem_base::Edition;
 use shared_words::{add, load};
@@ -29,14 +30,14 @@ fn visit(cabinet: &Cabinet<Board>, mut pass: Pass<Board>) -> bool
 fn publish_many(
     alloc: Global,
     cabinet: &Cabinet<Board>,
-    mut writer: WriterSeat<Board>,
+    writer: &mut WriterSeat<Board>,
 ) -> Result<bool, AllocError>
-    requires { (writer.cabinet ≡ cabinet.now.id) × (writer.sizes.passes ≡ 1) × (writer.sizes.words ≡ 32835) }
+    requires { (writer.old.cabinet ≡ cabinet.now.id) × (writer.old.sizes.passes ≡ 1) × (writer.old.sizes.words ≡ 32835) }
 {
     let mut last = 0u64;
     let mut good = true;
     for _ in 0..1000u32 {
-        if let Ok(number) = publish_next(alloc, cabinet, &mut writer, 1)? {
+        if let Ok(number) = publish_next(alloc, cabinet, writer, 1)? {
             good &= number == last.saturating_add(1);
             last = number;
         }
@@ -44,42 +45,33 @@ fn publish_many(
     Ok(good)
 }
 
-fn visit_beside_publishes<R: Threads + Sync>(
+/// Whether all is right where a pass enters and leaves beside the publishes.
+fn visits_are_good<R: Threads + Sync>(
     rt: &R,
     alloc: Global,
     cabinet: &Cabinet<Board>,
-    pass: Pass<Board>,
-    writer: WriterSeat<Board>,
-) -> (bool, Result<bool, AllocError>)
-    requires pass { (pass.cabinet ≡ cabinet.now.id) × (pass.edition ≡ None) }
-    requires writer { (writer.cabinet ≡ cabinet.now.id) × (writer.sizes.passes ≡ 1) × (writer.sizes.words ≡ 32835) }
+    writer: &mut WriterSeat<Board>,
+) -> Result<bool, AllocError>
+    requires { (writer.old.cabinet ≡ cabinet.now.id) × (writer.old.sizes.passes ≡ 1) × (writer.old.sizes.words ≡ 32835) }
 {
-    thread::join(
-        rt,
-        move || visit(cabinet, pass),
-        move || publish_many(alloc, cabinet, writer),
-    )
-}
-
-/// How often each test begins its threads anew.
-pub(crate) const TIMES: u32 = 20;
-
-/// Whether all was right where one pass enters and leaves beside the publishes.
-fn visits_are_good<R: Threads + Sync>(rt: &R, alloc: Global) -> Result<bool, AllocError> {
-    let (cabinet, mut writer) = open(alloc, 1)?;
-    let Some(pass) = cabinet.pass(&mut writer) else {
+    let Some(pass) = cabinet.pass(writer) else {
         return Ok(false);
     };
-    let (visited, published) = visit_beside_publishes(rt, alloc, &cabinet, pass, writer);
+    let (visited, published) = thread::join(
+        rt,
+        move || visit(cabinet, pass),
+        || publish_many(alloc, cabinet, writer),
+    );
     Ok(visited && published?)
 }
 
-#[test]
-fn numbers_never_fall_beside_a_thousand_publishes(rt: HostRuntime) -> Result<(), Fail> {
-    for time in 0..TIMES {
-        assert!(rt; visits_are_good(&rt, rt.alloc())?, "at time {time}");
-    }
-    Ok(())
+/// The same of a cabinet of its own.
+fn visits<R: Threads + Sync>(rt: &R, alloc: Global) -> Result<bool, AllocError> {
+    let (cabinet, mut writer) = open(alloc, 1)?;
+    let is_so = visits_are_good(rt, alloc, &cabinet, &mut writer);
+    drop(writer);
+    drop(cabinet);
+    is_so
 }
 
 /// Adds one to word 5 of the RAM, 10,000 times.
@@ -121,23 +113,81 @@ fn add_in_threads<R: Threads + Sync>(rt: &R, cabinet: &Cabinet<Board>, passes: &
     thread::for_each_mut(rt, passes, 16, &|_, pass| add_many(cabinet, pass));
 }
 
-/// What is in the word after sixteen passes added to it, each in a thread of its own; `None` where there are fewer.
-fn added_by_sixteen<R: Threads + Sync>(rt: &R, alloc: Global) -> Result<Option<u64>, AllocError> {
-    let (cabinet, mut writer) = open(alloc, 16)?;
-    let published = publish_next(alloc, &cabinet, &mut writer, 16)?;
-    let mut passes = crew(alloc, &cabinet, &mut writer)?;
-    if published != Ok(1) || passes.len() != 16 {
-        return Ok(None);
+/// Whether sixteen passes can be had, and the word is right after each of them added to it in a thread of its own.
+fn additions_are_there<R: Threads + Sync>(
+    rt: &R,
+    alloc: Global,
+    cabinet: &Cabinet<Board>,
+    writer: &mut WriterSeat<Board>,
+) -> Result<bool, AllocError>
+    requires { (writer.old.cabinet ≡ cabinet.now.id) × (writer.old.sizes.passes ≡ 16) × (writer.old.sizes.words ≡ 32835) }
+{
+    if publish_next(alloc, cabinet, writer, 16)? != Ok(1) {
+        return Ok(false);
     }
-    add_in_threads(rt, &cabinet, passes.as_mut_slice());
-    Ok(Some(load(&cabinet, &mut writer, &ram(), 5)))
+    let mut passes = crew(alloc, cabinet, writer)?;
+    let count = passes.len();
+    add_in_threads(rt, cabinet, passes.as_mut_slice());
+    drop(passes);
+    Ok(count == 16 && load(cabinet, writer, &ram(), 5) == 160000)
+}
+
+/// The same of a cabinet of its own.
+fn additions<R: Threads + Sync>(rt: &R, alloc: Global) -> Result<bool, AllocError> {
+    let (cabinet, mut writer) = open(alloc, 16)?;
+    let is_so = additions_are_there(rt, alloc, &cabinet, &mut writer);
+    drop(writer);
+    drop(cabinet);
+    is_so
+}
+
+/// What threads do with a cabinet.
+#[derive(Clone, Copy)]
+enum Trial {
+    Visits,
+    Additions,
+    Marks,
+}
+
+/// How often threads do it anew.
+const TIMES: u32 = 20;
+
+/// The first time that it does not come out.
+fn first_other<R: Threads + Sync>(
+    rt: &R,
+    alloc: Global,
+    trial: Trial,
+) -> Result<Option<u32>, AllocError> {
+    for time in 0..TIMES {
+        let is_so = match trial {
+            Trial::Visits => visits(rt, alloc)?,
+            Trial::Additions => additions(rt, alloc)?,
+            Trial::Marks => marks(rt, alloc)?,
+        };
+        if !is_so {
+            return Ok(Some(time));
+        }
+    }
+    Ok(None)
+}
+
+#[test]
+fn numbers_never_fall_beside_a_thousand_publishes(rt: HostRuntime) -> Result<(), Fail> {
+    let time = first_other(&rt, rt.alloc(), Trial::Visits)?;
+    assert!(rt; time.is_none(), "at time {time:?}");
+    Ok(())
 }
 
 #[test]
 fn sixteen_threads_lose_no_addition(rt: HostRuntime) -> Result<(), Fail> {
-    for time in 0..TIMES {
-        let added = added_by_sixteen(&rt, rt.alloc())?;
-        assert_eq!(rt; added, Some(160000), "at time {time}");
-    }
+    let time = first_other(&rt, rt.alloc(), Trial::Additions)?;
+    assert!(rt; time.is_none(), "at time {time:?}");
+    Ok(())
+}
+
+#[test]
+fn marks_beside_harvests_are_each_taken_once(rt: HostRuntime) -> Result<(), Fail> {
+    let time = first_other(&rt, rt.alloc(), Trial::Marks)?;
+    assert!(rt; time.is_none(), "at time {time:?}");
     Ok(())
 }

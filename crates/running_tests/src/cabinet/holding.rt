@@ -1,8 +1,10 @@
-// A publish that a pass holds up.
-ghost use Rattle.std.specs.Prelude.{◌≡◌};
+// A publish that a pass holds up, and a sweep.
+ghost use Rattle.std.specs.Prelude.{◌≡◌, ◌+◌, ◌<◌, Some, None};
+ghost use Rattle.mem_base.specs.machine.Actors.{number_seen};
+ghost use Rattle.running_tests.specs.declared.cabinet.boards.Board.{Board};
 
 use crate::cabinet::boards::{Board, next_board, open, publish_next};
-use epoch_rule::{Cabinet, Held, Swept, WriterSeat};
+use epoch_rule::{Batch, Cabinet, Pass, WriterSeat};
 use mem_base::{Edition, PassId};
 use std::alloc::{AllocError, Global};
 use std::test::Fail;
@@ -27,33 +29,126 @@ fn publish_from(
     Ok(all)
 }
 
+/// Publishes a batch; whether it is board 9.
+fn publishes(cabinet: &Cabinet<Board>, writer: &mut WriterSeat<Board>, next: Batch<Board>) -> bool
+    requires own { writer.old.cabinet ≡ cabinet.now.id }
+    requires sizes { (writer.old.sizes.passes ≡ 2) × (writer.old.sizes.words ≡ 32835) }
+    requires next { (next.edition.number ≡ number_seen writer.old.seen + 1) × (next.copies ≡ 2) × (next.edition.number < 1000000) }
+{
+    match cabinet.publish(writer, next) {
+        Ok(number) => number == 9,
+        Err((_, next)) => {
+            drop(next);
+            false
+        }
+    }
+}
+
+/// Whether the publish of 9 is held up by the first pass, which is in 1, and is done with the same batch as soon as it has left.
+fn is_held_up(
+    alloc: Global,
+    cabinet: &Cabinet<Board>,
+    writer: &mut WriterSeat<Board>,
+    pass: &mut Pass<Board>,
+) -> Result<bool, AllocError>
+    requires own { (writer.old.cabinet ≡ cabinet.now.id) × (pass.old.cabinet ≡ cabinet.now.id) }
+    requires sizes { (writer.old.sizes.passes ≡ 2) × (writer.old.sizes.words ≡ 32835) }
+    requires entered { (e : Board) × (pass.old.edition ≡ Some e) }
+{
+    let next = next_board(alloc, writer, 2)?;
+    match cabinet.publish(writer, next) {
+        Ok(_) => Ok(false),
+        Err((held, next)) => {
+            let is_held = held.pass == PassId::FIRST && held.number == 1;
+            let stays = cabinet.generation(pass).number() == 1;
+            cabinet.leave(pass);
+            let is_done = publishes(cabinet, writer, next);
+            Ok(is_held && stays && is_done && cabinet.enter(pass) == 9)
+        }
+    }
+}
+
+/// The same of a pass that entered 1 before eight boards were published.
+fn holds_up(
+    alloc: Global,
+    cabinet: &Cabinet<Board>,
+    writer: &mut WriterSeat<Board>,
+    pass: &mut Pass<Board>,
+) -> Result<bool, AllocError>
+    requires own { (writer.old.cabinet ≡ cabinet.now.id) × (pass.old.cabinet ≡ cabinet.now.id) }
+    requires sizes { (writer.old.sizes.passes ≡ 2) × (writer.old.sizes.words ≡ 32835) }
+    requires out { pass.old.edition ≡ None }
+{
+    let first = publish_from(alloc, cabinet, writer, 1, 1)?;
+    let entered = cabinet.enter(pass);
+    let others = publish_from(alloc, cabinet, writer, 2, 8)?;
+    Ok(first && entered == 1 && others && is_held_up(alloc, cabinet, writer, pass)?)
+}
+
+/// Whether a sweep finds the number that the second pass entered, and that pass; and once it has left, the current number, and the first
+/// pass.
+fn is_swept(
+    alloc: Global,
+    cabinet: &Cabinet<Board>,
+    writer: &mut WriterSeat<Board>,
+    pass: &mut Pass<Board>,
+) -> Result<bool, AllocError>
+    requires own { (writer.old.cabinet ≡ cabinet.now.id) × (pass.old.cabinet ≡ cabinet.now.id) }
+    requires sizes { (writer.old.sizes.passes ≡ 2) × (writer.old.sizes.words ≡ 32835) }
+    requires out { pass.old.edition ≡ None }
+{
+    let first = publish_from(alloc, cabinet, writer, 1, 3)?;
+    let entered = cabinet.enter(pass);
+    let others = publish_from(alloc, cabinet, writer, 4, 5)?;
+    let second = cabinet.sweep(writer);
+    let is_second = second.lowest == 3 && second.pass == pass.id();
+    cabinet.leave(pass);
+    let current = cabinet.sweep(writer);
+    let is_current = current.lowest == 5 && current.pass == PassId::FIRST;
+    Ok(first && entered == 3 && others && is_second && is_current)
+}
+
+/// Whether there are just two passes, and the first one holds up a publish, or the second is told by a sweep.
+fn of_two(
+    alloc: Global,
+    cabinet: &Cabinet<Board>,
+    writer: &mut WriterSeat<Board>,
+    holds: bool,
+) -> Result<bool, AllocError>
+    requires own { writer.old.cabinet ≡ cabinet.now.id }
+    requires sizes { (writer.old.sizes.passes ≡ 2) × (writer.old.sizes.words ≡ 32835) }
+{
+    let (first, second) = (cabinet.pass(writer), cabinet.pass(writer));
+    if cabinet.pass(writer).is_some() {
+        return Ok(false);
+    }
+    match (first, second) {
+        (Some(mut first), Some(mut second)) => {
+            let is_so = if holds {
+                holds_up(alloc, cabinet, writer, &mut first)
+            } else {
+                is_swept(alloc, cabinet, writer, &mut second)
+            };
+            drop(first);
+            drop(second);
+            is_so
+        }
+        _ => Ok(false),
+    }
+}
+
+/// The same in a cabinet of its own.
+fn holding(alloc: Global, holds: bool) -> Result<bool, AllocError> {
+    let (cabinet, mut writer) = open(alloc, 2)?;
+    let is_so = of_two(alloc, &cabinet, &mut writer, holds);
+    drop(writer);
+    drop(cabinet);
+    is_so
+}
+
 #[test]
 fn a_pass_that_stays_at_1_holds_up_the_publish_of_9(rt: HostRuntime) -> Result<(), Fail> {
-    let alloc = rt.alloc();
-    let (cabinet, mut writer) = open(alloc, 2)?;
-    let Some(mut pass) = cabinet.pass(&mut writer) else {
-        panic!(rt; "no pass was handed out")
-    };
-    assert!(rt; publish_from(alloc, &cabinet, &mut writer, 1, 1)?);
-    assert_eq!(rt; cabinet.enter(&mut pass), 1);
-    assert!(rt; publish_from(alloc, &cabinet, &mut writer, 2, 8)?);
-    let next = next_board(alloc, &writer, 2)?;
-    let (held, next) = match cabinet.publish(&mut writer, next) {
-        Ok(_) => panic!(rt; "9 was published"),
-        Err(refused) => refused,
-    };
-    let wanted = Held {
-        pass: PassId::FIRST,
-        number: 1,
-    };
-    assert_eq!(rt; held, wanted);
-    assert!(rt; cabinet.entered(&pass));
-    assert_eq!(rt; cabinet.generation(&pass).number(), 1);
-    cabinet.leave(&mut pass);
-    let published = cabinet.publish(&mut writer, next).map_err(|(held, _)| held);
-    assert_eq!(rt; published, Ok(9));
-    assert_eq!(rt; cabinet.enter(&mut pass), 9);
-    cabinet.leave(&mut pass);
+    assert!(rt; holding(rt.alloc(), true)?);
     Ok(())
 }
 
@@ -61,28 +156,6 @@ fn a_pass_that_stays_at_1_holds_up_the_publish_of_9(rt: HostRuntime) -> Result<(
 fn a_sweep_names_the_least_pass_that_may_use_the_oldest_generation(
     rt: HostRuntime,
 ) -> Result<(), Fail> {
-    let alloc = rt.alloc();
-    let (cabinet, mut writer) = open(alloc, 2)?;
-    let Some(_first) = cabinet.pass(&mut writer) else {
-        panic!(rt; "no pass was handed out")
-    };
-    let Some(mut second) = cabinet.pass(&mut writer) else {
-        panic!(rt; "no second pass was handed out")
-    };
-    assert!(rt; cabinet.pass(&mut writer).is_none());
-    assert!(rt; publish_from(alloc, &cabinet, &mut writer, 1, 3)?);
-    assert_eq!(rt; cabinet.enter(&mut second), 3);
-    assert!(rt; publish_from(alloc, &cabinet, &mut writer, 4, 5)?);
-    let wanted = Swept {
-        lowest: 3,
-        pass: second.id(),
-    };
-    assert_eq!(rt; cabinet.sweep(&mut writer), wanted);
-    cabinet.leave(&mut second);
-    let wanted = Swept {
-        lowest: 5,
-        pass: PassId::FIRST,
-    };
-    assert_eq!(rt; cabinet.sweep(&mut writer), wanted);
+    assert!(rt; holding(rt.alloc(), false)?);
     Ok(())
 }

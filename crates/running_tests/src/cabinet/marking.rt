@@ -1,13 +1,11 @@
-// Marks and harvests beside one another, and each call on words once.
-ghost use Rattle.std.specs.Prelude.{◌≡◌, ◌<◌, None, Some};
+// Marks and harvests beside one another.
+ghost use Rattle.std.specs.Prelude.{◌≡◌, ◌<◌, None, Some, IfOk, IfSome};
 
 use crate::cabinet::boards::{Board, open, publish_next, ram};
-use crate::cabinet::crowds::TIMES;
 use epoch_rule::{Cabinet, Pass, WriterSeat};
 use mem_base::Client;
-use shared_words::{fill, harvest, load, mark, or, store_part, store8, take};
+use shared_words::{harvest, mark};
 use std::alloc::{AllocError, Global};
-use std::test::Fail;
 use std::thread;
 use std::thread::Threads;
 
@@ -66,60 +64,39 @@ fn mark_beside_harvests<R: Threads + Sync>(
     (taken | rest, once && taken & rest == 0)
 }
 
-/// The same, of a pass in generation 1; `None` where it is not published.
-fn marks_taken<R: Threads + Sync>(
-    rt: &R,
+/// A pass of a cabinet in which generation 1 is current; `None` where it is not published.
+fn first_pass(
     alloc: Global,
-) -> Result<Option<(u64, bool)>, AllocError> {
-    let (cabinet, mut writer) = open(alloc, 1)?;
-    let published = publish_next(alloc, &cabinet, &mut writer, 1)?;
-    let Some(pass) = cabinet.pass(&mut writer) else {
+    cabinet: &Cabinet<Board>,
+    writer: &mut WriterSeat<Board>,
+) -> Result<Option<Pass<Board>>, AllocError>
+    requires { (writer.old.cabinet ≡ cabinet.now.id) × (writer.old.sizes.passes ≡ 1) × (writer.old.sizes.words ≡ 32835) }
+    ensures pass { IfOk result (λ p. IfSome p (λ q. (q.cabinet ≡ cabinet.now.id) × (q.edition ≡ None))) }
+    ensures same { (writer.new.cabinet ≡ writer.old.cabinet) × (writer.new.sizes ≡ writer.old.sizes) }
+{
+    if publish_next(alloc, cabinet, writer, 1)? != Ok(1) {
         return Ok(None);
+    }
+    Ok(cabinet.pass(writer))
+}
+
+/// Whether all pages are marked by a pass, and each mark is taken once.
+pub(crate) fn marks<R: Threads + Sync>(rt: &R, alloc: Global) -> Result<bool, AllocError> {
+    let (cabinet, mut writer) = open(alloc, 1)?;
+    let taken = match first_pass(alloc, &cabinet, &mut writer) {
+        Ok(Some(pass)) => {
+            let taken = mark_beside_harvests(rt, &cabinet, pass, writer);
+            Ok(taken == (u64::MAX, true))
+        }
+        Ok(None) => {
+            drop(writer);
+            Ok(false)
+        }
+        Err(error) => {
+            drop(writer);
+            Err(error)
+        }
     };
-    if published != Ok(1) {
-        return Ok(None);
-    }
-    Ok(Some(mark_beside_harvests(rt, &cabinet, pass, writer)))
-}
-
-#[test]
-fn marks_beside_harvests_are_each_taken_once(rt: HostRuntime) -> Result<(), Fail> {
-    for time in 0..TIMES {
-        let taken = marks_taken(&rt, rt.alloc())?;
-        assert_eq!(rt; taken, Some((u64::MAX, true)), "at time {time}");
-    }
-    Ok(())
-}
-
-#[test]
-fn each_step_leaves_its_word(rt: HostRuntime) -> Result<(), Fail> {
-    let alloc = rt.alloc();
-    let (cabinet, mut writer) = open(alloc, 1)?;
-    let place = ram();
-    store8(&cabinet, &mut writer, &place, 7, 0x1122_3344_5566_7788);
-    store_part(&rt, &cabinet, &mut writer, &place, 7, 2, &[0xaa, 0xbb]);
-    assert_eq!(rt;
-        load(&cabinet, &mut writer, &place, 7),
-        0x1122_3344_bbaa_7788
-    );
-    assert_eq!(rt;
-        or(&cabinet, &mut writer, &place, 7, 0xf),
-        0x1122_3344_bbaa_7788
-    );
-    assert_eq!(rt;
-        take(&cabinet, &mut writer, &place, 7),
-        0x1122_3344_bbaa_778f
-    );
-    assert_eq!(rt; load(&cabinet, &mut writer, &place, 7), 0);
-    store8(&cabinet, &mut writer, &place, 32770, 1);
-    assert_eq!(rt;
-        harvest(&cabinet, &mut writer, &place, Client::Migration, 0),
-        1
-    );
-    store8(&cabinet, &mut writer, &place, 0, 1);
-    store8(&cabinet, &mut writer, &place, 32770, 1);
-    fill(&cabinet, &mut writer, &place);
-    assert_eq!(rt; load(&cabinet, &mut writer, &place, 0), 0);
-    assert_eq!(rt; load(&cabinet, &mut writer, &place, 32770), 0);
-    Ok(())
+    drop(cabinet);
+    taken
 }

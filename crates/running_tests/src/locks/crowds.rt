@@ -37,10 +37,17 @@ fn order_at(i: u32) -> Order {
     }
 }
 
-// A thread gives its orders.
+// A thread gives an order.
+fn give<J: Naming, R: Wait>(rt: &R, lock: &DeskLock<J>, clerk: &mut Clerk, order: &Order) {
+    drop(lock.order(rt, clerk, order));
+}
+
+// It gives all of its orders.
 fn give_all<J: Naming, R: Wait>(rt: &R, lock: &DeskLock<J>, clerk: &mut Clerk) {
     for i in 0..ORDERS {
-        let _ = lock.order(rt, clerk, &order_at(i));
+        let order = order_at(i);
+        give(rt, lock, clerk, &order);
+        drop(order);
     }
 }
 
@@ -76,14 +83,26 @@ fn crew(alloc: Global) -> Result<Vec<Clerk>, AllocError> {
 
 // The same of a machine of its own.
 #[tactic(auto, using(desk_lock::proofs::RecordLaws::unused))]
+fn entries_of<R: Threads + Wait + Sync>(
+    rt: &R,
+    alloc: Global,
+    clerks: &mut [Clerk],
+) -> Result<Option<usize>, AllocError> {
+    let (cabinet, config) = Config::new(alloc, 65536, 8)?;
+    drop(cabinet);
+    let record = Record::new(alloc, config);
+    Ok(entries_of_crowd::<Brand, R>(rt, record, clerks))
+}
+
+// The same of eight clerks.
 fn entries_of_a_crowd<R: Threads + Wait + Sync>(
     rt: &R,
     alloc: Global,
 ) -> Result<Option<usize>, AllocError> {
     let mut clerks = crew(alloc)?;
-    let (_, config) = Config::new(alloc, 65536, 8)?;
-    let record = Record::new(alloc, config);
-    Ok(entries_of_crowd::<Brand, R>(rt, record, clerks.as_mut_slice()))
+    let entries = entries_of(rt, alloc, clerks.as_mut_slice());
+    drop(clerks);
+    entries
 }
 
 #[test]

@@ -132,6 +132,15 @@ fn is_last(i: u32, answer: &Answer) -> bool {
     }
 }
 
+// Whether there is an answer, and it is that of the order at a place.
+fn is_right(i: u32, answer: &Option<Answer>) -> bool {
+    match answer {
+        Some(answer) if i < 8 => is_first(i, answer),
+        Some(answer) => is_last(i, answer),
+        None => false,
+    }
+}
+
 // Gives an order; where memory runs out, once more. `None` where it changed something then, or memory runs out again.
 fn given<R: Wait>(rt: &R, record: &mut Record, clerk: &mut Clerk, order: &Order) -> Option<Answer> {
     let before = sizes(record, clerk);
@@ -165,16 +174,11 @@ fn is_answered<R: Wait>(
     i: u32,
 ) -> Result<bool, AllocError> {
     let order = order_at(alloc, i)?;
-    Ok(match given(rt, record, clerk, &order) {
-        Some(answer) => {
-            if i < 8 {
-                is_first(i, &answer)
-            } else {
-                is_last(i, &answer)
-            }
-        }
-        None => false,
-    })
+    let answer = given(rt, record, clerk, &order);
+    drop(order);
+    let is_so = is_right(i, &answer);
+    drop(answer);
+    Ok(is_so)
 }
 
 // The first order that is answered otherwise, or how many there are.
@@ -195,10 +199,13 @@ fn first_wrong_of<R: Wait>(
 // The same of a machine of its own.
 #[tactic(auto, using(desk_lock::proofs::RecordLaws::unused))]
 fn first_wrong<R: Wait>(rt: &R, alloc: Global) -> Result<u32, AllocError> {
-    let (_, config) = Config::new(alloc, 4096, 1)?;
+    let (cabinet, config) = Config::new(alloc, 4096, 1)?;
+    drop(cabinet);
     let mut record = Record::new(alloc, config);
     let mut clerk = Clerk::new(alloc, 16);
     let wrong = first_wrong_of(rt, alloc, &mut record, &mut clerk);
+    drop(clerk);
+    drop(record);
     wrong
 }
 

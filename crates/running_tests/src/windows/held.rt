@@ -1,13 +1,13 @@
 // A window that is held open while the map moves beneath it.
-ghost use Rattle.std.specs.Prelude.{◌≡◌};
+ghost use Rattle.std.specs.Prelude.{◌≡◌, ◌≤◌, true};
 
-use crate::calls::{add, log, region, shift, space};
-use crate::windows::movers::GOOD;
+use crate::calls::{GOOD, accepts, add, log, region, shift, space};
+use crate::windows::lines::marks;
 use config_desk::Config;
 use epoch_rule::Cabinet;
 use generation::Generation;
-use io_window::{Closed, open};
-use mem_base::{Call, Client, Kind, PassId, Refusal, RegionId, SpaceId};
+use io_window::{Closed, Window, open};
+use mem_base::{Call, Kind, PassId, Refusal, SpaceId};
 use std::alloc::{AllocError, Global};
 use std::sync::Wait;
 use vcpu_pass::Vcpu;
@@ -32,16 +32,6 @@ fn memory() -> [Call; 5] {
     ]
 }
 
-/// Whether all of these calls are accepted.
-fn accepts(config: &mut Config, calls: &[Call]) -> bool {
-    for call in calls {
-        if config.call(call).is_err() {
-            return false;
-        }
-    }
-    true
-}
-
 /// Moves the memory on by a page, again and again; whether each move is published.
 fn moves(config: &mut Config) -> bool {
     for step in 1..=MOVES {
@@ -61,20 +51,29 @@ fn is_held_up(config: &mut Config) -> bool {
     }
 }
 
-/// Puts eight bytes into a window, has the memory moved beneath it eight times, puts eight more and closes it; whether all was as it has
-/// to be.
+/// Puts eight bytes into a window, has the memory moved beneath it eight times, and puts eight more; whether all was as it has to be.
+fn puts<R: Wait>(rt: &R, config: &mut Config, window: &mut Window<'_>) -> bool
+    requires write { window.old.start.write ≡ true }
+    requires fresh { window.old.put_end ≡ 0 }
+    ensures stays { (window.new.len ≡ window.old.len) × (window.new.put_end ≤ window.old.len) }
+{
+    if window.len() != 16 {
+        return false;
+    }
+    window.put(rt, 0, &[1; 8]);
+    let moved = moves(config) && is_held_up(config);
+    window.put(rt, 8, &[2; 8]);
+    moved && window.direct() && window.number() == OPENED && window.put_end() == 16
+}
+
+/// The same by a window that is opened and closed.
 fn holds<'c, R: Wait>(rt: &R, config: &mut Config, vcpu: Vcpu<'c>) -> (Vcpu<'c>, bool) {
     match open(vcpu, SpaceId(0), 0, 16, true, None) {
         Ok(mut window) => {
-            if window.len() != 16 {
-                return (window.close(rt, 0).vcpu, false);
-            }
-            window.put(rt, 0, &[1; 8]);
-            let moved = moves(config) && is_held_up(config);
-            window.put(rt, 8, &[2; 8]);
-            let is_so = window.direct() && window.number() == OPENED && window.put_end() == 16;
-            let Closed { vcpu, result, .. } = window.close(rt, 16);
-            (vcpu, moved && is_so && result == GOOD)
+            let len = window.len();
+            let is_so = puts(rt, config, &mut window);
+            let Closed { vcpu, result, .. } = window.close(rt, len);
+            (vcpu, is_so && result == GOOD)
         }
         Err((_, vcpu, _)) => (vcpu, false),
     }
@@ -85,15 +84,8 @@ fn has_moved(config: &mut Config, vcpu: &mut Vcpu<'_>) -> bool {
     let mut bytes = [0u8; 16];
     let moved = config.call(&shift(1, 0x8000)).is_ok();
     let access = vcpu.read(SpaceId(0), 0x8000, &mut bytes);
-    let marked = match config.harvest(RegionId(1), Client::Vga) {
-        Ok(pages) => pages.as_slice() == [0].as_slice(),
-        Err(_) => false,
-    };
-    moved
-        && marked
-        && bytes == BYTES
-        && access.result == GOOD
-        && access.number == OPENED + MOVES + 1
+    let is_read = bytes == BYTES && access.result == GOOD && access.number == OPENED + MOVES + 1;
+    moved && is_read && marks(config, 1, &[0])
 }
 
 fn held_on<R: Wait>(rt: &R, cabinet: &Cabinet<Generation>, config: &mut Config) -> bool
@@ -107,12 +99,16 @@ fn held_on<R: Wait>(rt: &R, cabinet: &Cabinet<Generation>, config: &mut Config) 
         return false;
     }
     let (mut vcpu, held) = holds(rt, config, vcpu);
-    held && !vcpu.entered() && has_moved(config, &mut vcpu)
+    let is_so = held && !vcpu.entered() && has_moved(config, &mut vcpu);
+    drop(vcpu);
+    is_so
 }
 
 fn held<R: Wait>(rt: &R, alloc: Global) -> Result<bool, AllocError> {
     let (cabinet, mut config) = Config::new(alloc, 4096, 16)?;
     let held = held_on(rt, &cabinet, &mut config);
+    drop(config);
+    drop(cabinet);
     Ok(held)
 }
 

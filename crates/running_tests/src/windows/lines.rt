@@ -1,5 +1,5 @@
 // The lines of a worked case: what the writer and one virtual CPU do, and what that has to answer.
-use crate::windows::movers::{Mover, Span, copies, finds_none, gets, has_bytes, puts};
+use crate::windows::movers::{Mover, Span, by_window, copies, finds_none};
 use config_desk::Config;
 use mem_base::{Call, Client, RegionId, TxResult};
 use std::sync::Wait;
@@ -7,10 +7,8 @@ use std::sync::Wait;
 /// What is done, and what it has to answer.
 #[derive(Clone, Copy)]
 pub(crate) enum Line {
-    /// The writer does a call.
-    Do(Call),
-    Begin,
-    Commit,
+    /// A ROM device is switched to its registers.
+    RomdOff(u32),
     /// The writer puts bytes into a region, from an offset on.
     Load(u32, u64, &'static [u8]),
     /// These pages of a region were written since its marks were last taken.
@@ -25,69 +23,56 @@ pub(crate) enum Line {
     Copy(Span, Span, TxResult),
 }
 
-/// Some bytes of space 0.
-pub(crate) const fn at(addr: u64, len: u64) -> Span {
-    Span {
-        space: 0,
-        addr,
-        len,
+/// Whether these pages of a region are marked.
+pub(crate) fn marks(config: &mut Config, region: u32, pages: &[u64]) -> bool {
+    match config.harvest(RegionId(region), Client::Vga) {
+        Ok(found) => found.as_slice() == pages,
+        Err(_) => false,
     }
 }
 
 /// Does what a line of the writer says, and answers whether that was as it has to be.
 fn writer_does<R: Wait>(rt: &R, config: &mut Config, line: &Line) -> bool {
     match *line {
-        Line::Do(call) => config.call(&call).is_ok(),
-        Line::Begin => config.begin().is_ok(),
-        Line::Commit => config.commit().is_ok(),
+        Line::RomdOff(region) => {
+            let call = Call::Romd {
+                region: RegionId(region),
+                on: false,
+            };
+            config.call(&call).is_ok()
+        }
         Line::Load(region, offset, bytes) => {
             config
                 .load_bytes(rt, RegionId(region), offset, bytes)
                 .is_ok()
         }
-        Line::Marks(region, pages) => match config.harvest(RegionId(region), Client::Vga) {
-            Ok(found) => found.as_slice() == pages,
-            Err(_) => false,
-        },
+        Line::Marks(region, pages) => marks(config, region, pages),
         _ => true,
     }
-}
-
-/// Does nothing: no window has such bytes.
-fn astray(mover: Mover<'_>) -> Mover<'_> {
-    let Mover { vcpu, bounce, .. } = mover;
-    let good = false;
-    Mover { vcpu, bounce, good }
 }
 
 /// Does what a line of the virtual CPU says.
 fn mover_does<'c, R: Wait>(rt: &R, mover: Mover<'c>, line: &Line) -> Mover<'c> {
     match *line {
-        Line::None(span, write, number) if has_bytes(span.addr, span.len) => {
-            finds_none(rt, mover, span, write, number)
+        Line::None(span, write, number) => finds_none(rt, mover, span, write, number),
+        Line::Get(span, direct, bytes, ends) => {
+            by_window(rt, mover, span, false, (direct, bytes, ends))
         }
-        Line::Get(span, direct, bytes, wanted) if has_bytes(span.addr, span.len) => {
-            gets(rt, mover, span, direct, bytes, wanted)
+        Line::Put(span, direct, bytes, ends) => {
+            by_window(rt, mover, span, true, (direct, bytes, ends))
         }
-        Line::Put(span, direct, bytes, wanted) if has_bytes(span.addr, span.len) => {
-            puts(rt, mover, span, direct, bytes, wanted)
-        }
-        Line::Copy(from, to, wanted)
-            if has_bytes(from.addr, from.len) && has_bytes(to.addr, from.len) => {
-            copies(rt, mover, from, to, wanted)
-        }
-        Line::None(..) | Line::Get(..) | Line::Put(..) | Line::Copy(..) => astray(mover),
+        Line::Copy(from, to, ends) => copies(rt, mover, from, to, ends),
         _ => mover,
     }
 }
 
 /// Does lines, up to the first that is not as it has to be; how many were.
-pub(crate) fn goes<'c, R: Wait>(
+pub(crate) fn goes<R: Wait>(
     rt: &R,
     config: &mut Config,
-    mover: Mover<'c>,
+    mover: Mover<'_>,
     lines: &[Line],
-) -> (Mover<'c>, usize) {
+) -> usize {
     let mut mover = mover;
     let mut right = 0usize;
     for line in lines {
@@ -98,5 +83,6 @@ pub(crate) fn goes<'c, R: Wait>(
         }
         right = right.saturating_add(1);
     }
-    (mover, right)
+    drop(mover);
+    right
 }

@@ -1,22 +1,10 @@
 // A virtual CPU that moves bytes by windows.
-ghost use Rattle.std.specs.Prelude.{◌≤◌, ◌+◌, ◌^◌, IsTrue};
+ghost use Rattle.std.specs.Prelude.{◌≡◌, ◌≤◌, ◌+◌, ◌^◌, IsTrue, true, false};
 
-use io_window::{Bounce, Closed, copy, open};
+use io_window::{Bounce, Closed, Window, copy, open};
 use mem_base::{SpaceId, TxResult};
 use std::sync::Wait;
 use vcpu_pass::Vcpu;
-
-/// It ended well.
-pub(crate) const GOOD: TxResult = TxResult {
-    error: false,
-    decode: false,
-};
-
-/// Nothing answered some byte.
-pub(crate) const HOLE: TxResult = TxResult {
-    error: false,
-    decode: true,
-};
 
 /// The most bytes that are moved at once.
 pub(crate) const MOST: usize = 64;
@@ -29,16 +17,15 @@ pub(crate) struct Mover<'c> {
     pub(crate) good: bool,
 }
 
-/// Some bytes of a space: from where on, and how many a window is asked for.
+/// Some bytes: their space, from where on, and how many a window is asked for.
 #[derive(Clone, Copy)]
-pub(crate) struct Span {
-    pub(crate) space: u32,
-    pub(crate) addr: u64,
-    pub(crate) len: u64,
-}
+pub(crate) struct Span(pub(crate) u32, pub(crate) u64, pub(crate) u64);
+
+/// How bytes have to be moved: is the window direct, which bytes, and how does it end.
+pub(crate) type Moved = (bool, &'static [u8], TxResult);
 
 /// Whether there is a byte, and none lies above 2^64 - 1.
-pub(crate) fn has_bytes(addr: u64, len: u64) -> bool
+fn has_bytes(addr: u64, len: u64) -> bool
     ensures { IsTrue result → (1 ≤ len) × (addr + len ≤ 2 ^ 64) }
 {
     len != 0 && len - 1 <= u64::MAX - addr
@@ -51,12 +38,14 @@ pub(crate) fn finds_none<'c, R: Wait>(
     span: Span,
     write: bool,
     number: u64,
-) -> Mover<'c>
-    requires some { 1 ≤ span.len }
-    requires within { span.addr + span.len ≤ 2 ^ 64 }
-{
+) -> Mover<'c> {
     let Mover { vcpu, bounce, good } = mover;
-    match open(vcpu, SpaceId(span.space), span.addr, span.len, write, None) {
+    let Span(space, addr, len) = span;
+    if !has_bytes(addr, len) {
+        let good = false;
+        return Mover { vcpu, bounce, good };
+    }
+    match open(vcpu, SpaceId(space), addr, len, write, None) {
         Ok(window) => {
             let Closed { vcpu, .. } = window.close(rt, 0);
             let good = false;
@@ -69,75 +58,66 @@ pub(crate) fn finds_none<'c, R: Wait>(
     }
 }
 
-/// Gets all bytes of a window: it has to be direct or not, to have these bytes, and to end so.
-pub(crate) fn gets<'c, R: Wait>(
-    rt: &R,
-    mover: Mover<'c>,
-    span: Span,
-    direct: bool,
-    bytes: &[u8],
-    wanted: TxResult,
-) -> Mover<'c>
-    requires some { 1 ≤ span.len }
-    requires within { span.addr + span.len ≤ 2 ^ 64 }
+/// Gets all bytes of a window; whether they are these.
+fn gets(window: &mut Window<'_>, bytes: &[u8]) -> bool
+    requires read { window.old.start.write ≡ false }
+    ensures stays { (window.new.len ≡ window.old.len) × (window.new.put_end ≡ window.old.put_end) }
 {
-    let Mover { vcpu, bounce, good } = mover;
-    match open(
-        vcpu,
-        SpaceId(span.space),
-        span.addr,
-        span.len,
-        false,
-        bounce,
-    ) {
-        Ok(mut window) => {
-            let mut out = [0xeeu8; MOST];
-            let count = window.len().min(MOST as u64) as usize;
-            let is_so = window.direct() == direct && count == bytes.len();
-            window.get(0, &mut out[..count]);
-            let Closed {
-                vcpu,
-                bounce,
-                result,
-            } = window.close(rt, 0);
-            let good = good && is_so && result == wanted && &out[..count] == bytes;
-            Mover { vcpu, bounce, good }
-        }
-        Err((_, vcpu, _)) => Mover {
-            vcpu,
-            bounce: None,
-            good: false,
-        },
+    let mut out = [0xeeu8; MOST];
+    let count = window.len().min(MOST as u64) as usize;
+    window.get(0, &mut out[..count]);
+    &out[..count] == bytes
+}
+
+/// Puts bytes into a window, where it takes just as many; whether it does.
+fn puts<R: Wait>(rt: &R, window: &mut Window<'_>, bytes: &[u8]) -> bool
+    requires write { window.old.start.write ≡ true }
+    requires fresh { window.old.put_end ≡ 0 }
+    ensures stays { (window.new.len ≡ window.old.len) × (window.new.put_end ≤ window.old.len) }
+{
+    if window.len() != bytes.len() as u64 {
+        return false;
+    }
+    window.put(rt, 0, bytes);
+    true
+}
+
+/// One or the other.
+fn moves<R: Wait>(rt: &R, window: &mut Window<'_>, write: bool, bytes: &[u8]) -> bool
+    requires write { window.old.start.write ≡ write }
+    requires fresh { window.old.put_end ≡ 0 }
+    ensures stays { (window.new.len ≡ window.old.len) × (window.new.put_end ≤ window.old.len) }
+{
+    if write {
+        puts(rt, window, bytes)
+    } else {
+        gets(window, bytes)
     }
 }
 
-/// Puts bytes into a window of their length, all that it takes, and uses these: it has to be direct or not, to take this number, and to end
-/// so.
-pub(crate) fn puts<'c, R: Wait>(
+/// Moves all bytes of a window so, and uses all of it.
+pub(crate) fn by_window<'c, R: Wait>(
     rt: &R,
     mover: Mover<'c>,
     span: Span,
-    direct: bool,
-    bytes: &[u8],
-    wanted: TxResult,
-) -> Mover<'c>
-    requires some { 1 ≤ span.len }
-    requires within { span.addr + span.len ≤ 2 ^ 64 }
-{
+    write: bool,
+    moved: Moved,
+) -> Mover<'c> {
     let Mover { vcpu, bounce, good } = mover;
-    match open(vcpu, SpaceId(span.space), span.addr, span.len, true, bounce) {
+    let Span(space, addr, len) = span;
+    let (direct, bytes, ends) = moved;
+    if !has_bytes(addr, len) {
+        let good = false;
+        return Mover { vcpu, bounce, good };
+    }
+    match open(vcpu, SpaceId(space), addr, len, write, bounce) {
         Ok(mut window) => {
             let len = window.len();
-            let is_so = window.direct() == direct && len == bytes.len() as u64;
-            if is_so {
-                window.put(rt, 0, bytes);
-            }
-            let Closed {
-                vcpu,
-                bounce,
-                result,
-            } = window.close(rt, len);
-            let good = good && is_so && result == wanted;
+            let is_direct = window.direct() == direct;
+            let is_so = moves(rt, &mut window, write, bytes);
+            let closed = window.close(rt, len);
+            let good = good && is_direct && is_so && closed.result == ends;
+            let Closed { vcpu, bounce, .. } = closed;
             Mover { vcpu, bounce, good }
         }
         Err((_, vcpu, _)) => Mover {
@@ -154,29 +134,26 @@ pub(crate) fn copies<'c, R: Wait>(
     mover: Mover<'c>,
     from: Span,
     to: Span,
-    wanted: TxResult,
-) -> Mover<'c>
-    requires source { from.addr + from.len ≤ 2 ^ 64 }
-    requires target { to.addr + from.len ≤ 2 ^ 64 }
-{
+    ends: TxResult,
+) -> Mover<'c> {
+    let (Span(source, from, len), Span(target, to, _)) = (from, to);
     let Mover { vcpu, bounce, good } = mover;
     let Some(bounce) = bounce else {
-        return Mover {
-            vcpu,
-            bounce: None,
-            good: false,
-        };
+        let good = false;
+        return Mover { vcpu, bounce, good };
     };
+    if !has_bytes(from, len) || !has_bytes(to, len) || len > bounce.room() as u64 {
+        let bounce = Some(bounce);
+        let good = false;
+        return Mover { vcpu, bounce, good };
+    }
     let mut bytes = [0u8; MOST];
-    let count = (from.len.min(MOST as u64) as usize).min(bounce.room());
-    let (source, target) = (
-        (SpaceId(from.space), from.addr),
-        (SpaceId(to.space), to.addr),
-    );
+    let count = len.min(MOST as u64) as usize;
+    let (source, target) = ((SpaceId(source), from), (SpaceId(target), to));
     let (vcpu, bounce, answer) = copy(rt, vcpu, bounce, source, target, &mut bytes[..count]);
     Mover {
         vcpu,
         bounce: Some(bounce),
-        good: good && answer.result == wanted,
+        good: good && answer.result == ends,
     }
 }

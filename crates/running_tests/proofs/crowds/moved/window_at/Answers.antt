@@ -1,5 +1,5 @@
 use Rattle.std.proofs.Common.{ap, arith}
-use Rattle.running_tests.proofs.windows.crowds.window_at.Goals as goal
+use Rattle.running_tests.proofs.crowds.moved.window_at.Goals as goal
 
 pub returns-then-len-eq-LEN : goal.returns-then-len-eq-LEN
 returns-then-len-eq-LEN g c = (

@@ -1,4 +1,4 @@
-use Rattle.running_tests.proofs.locks.crowds.entries_of_a_crowd.Given as goal
+use Rattle.running_tests.proofs.locks.crowds.entries_of.Given as goal
 
 -- the record that is put behind the lock
 abbrev pub ghosts-entries_of_crowd : goal.ghosts-entries_of_crowd
