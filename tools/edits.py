@@ -128,7 +128,7 @@ def functions_of(crate, file, text):
             if not row[1] or of:
                 path = (*(of if row[1] else modules_of(file)), row[2])
                 clauses = tuple(CLAUSE.findall(own.split(f"\n{row[1]}{{\n")[0]))
-                found.append(Function(path, file, starts[above], starts[last + 1] - 1, range(number + 1, last + 2), cycle_of(own, row[1], row[2]), clauses))
+                found.append(Function(path, file, starts[above], starts[last + 1] - 1, range(above + 1, last + 2), cycle_of(own, row[1], row[2]), clauses))
             number = last
         number += 1
     return found
