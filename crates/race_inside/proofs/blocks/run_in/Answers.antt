@@ -1,5 +1,7 @@
-use Rattle.std.proofs.Common.{rules, ◌≡◌, None, length, All, option_to_list, ap, sym, subst, ◌∙◌}
-use Rattle.mem_base.specs.script.Race.{block}
+use Rattle.std.proofs.Common.{rules, ◌≡◌, List, ◌++◌, None, length, All, option_to_list, ap, sym, subst, ◌∙◌}
+use Rattle.std.specs.Prelude.{OnOk}
+use Rattle.mem_base.specs.views.Listening.{Delivery}
+use Rattle.mem_base.specs.script.Race.{block, differs_line}
 use Rattle.race_join.proofs.HandedOn.{RecordState}
 use Rattle.race_block.specs.Blocks.{CanAct}
 use Rattle.race_levels.specs.Ready.{AreReady}
@@ -7,6 +9,7 @@ use Rattle.race_levels.specs.Outside.{StopsIn}
 use Rattle.race_seats.specs.Ran.{HasRunBlock, known_after_block}
 use Rattle.race_seats.proofs.PhaseTextLaws.{blocks_may_stop, blocks_step_on}
 use Rattle.race_seats.specs.Seats.{IsKnown, IsTold, names_then}
+use Rattle.race_seats.specs.Texts.{actors_said, names_now}
 use Rattle.race_seats.proofs.BackLaws.{all_heard, all_own, all_ready}
 use Rattle.race_seats.specs.Blocks.{HasRunAll}
 use Rattle.race_seats.proofs.BlockLaws.{came_back, has_run, is_told, known_is, known_list, names_same, parts, seated_can_all, steps_on}
@@ -110,10 +113,13 @@ returns-clause-step g c = λ k h.
     let known : names_then k s.known.now c.desks_known-desks.result ≡ known_after_block k news =
     ap (names_then k s.known.now) c.desks_known-desks.ensures ∙ names_same k s.known.now (option_to_list c.pop.result)
     ∙ known_is k lines v w s h news clerks differs r c.unseat_passes.new.actors.items c.pop.new.self.items c.pop.result back.0 c.pop.ensures.items none in
+    let wrote = subst (λ (calls : List Delivery). OnOk c.add_block-done.result (c.add_block-done.new.text ≡ c.args.text.now
+    ++ (actors_said (names_now s.known.now c.as_slice.result.now) calls c.as_slice.result.now c.as_slice-2.result.now ++ differs_line differs)))
+    c.journal.ensures c.add_block-done.ensures.text in
     steps_on k lines v w c.meet.new.desk s h news c.as_slice.result.now clerks c.as_slice-2.result.now differs r
     (names_then k s.known.now c.desks_known-desks.result)
     c.args.text.now c.add_block-done.new.text c.add_block-done.result c.as_slice.ensures.value c.as_slice-2.ensures.value c.meet.ensures.same known
-    c.add_block-done.ensures.lasted c.add_block-done.ensures.text (blocks_step_on k lines v w s.actors.items news clerks differs whole)
+    c.add_block-done.ensures.lasted wrote (blocks_step_on k lines v w s.actors.items news clerks differs whole)
 
 pub returns-clause-stopped : goal.returns-clause-stopped
 returns-clause-stopped g c = λ k h.
