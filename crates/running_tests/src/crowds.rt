@@ -106,9 +106,18 @@ fn crew<'c>(
 }
 
 /// Has all virtual CPUs roam, each in a thread of its own; how many got what they had to get.
-fn roam_all<R: Threads + Wait + Sync>(rt: &R, play: Play, roamers: &mut [Roamer<'_>]) -> usize {
-    thread::for_each_mut(rt, roamers, 16, &|_, roamer| roam(rt, play, roamer));
-    roamers.iter().filter(|roamer| roamer.good).count()
+fn roam_all<R: Threads + Wait + Sync>(rt: &R, play: Play, mut roamers: Vec<Roamer<'_>>) -> usize {
+    thread::for_each_mut(
+        rt,
+        roamers.as_mut_slice(),
+        16,
+        &|_, roamer| roam(rt, play, roamer),
+    );
+    roamers
+        .as_slice()
+        .iter()
+        .filter(|roamer| roamer.good)
+        .count()
 }
 
 /// How often the writer does it.
@@ -127,26 +136,22 @@ fn builds(play: Play, config: &mut Config) -> bool {
     }
 }
 
-/// How often the writer did it, how many of the virtual CPUs got what they had to get, and how many regions a last reap leaves dropped.
+/// How often the writer did it, and how many of the virtual CPUs got what they had to get.
 fn play_on<R: Threads + Wait + Sync>(
     rt: &R,
     play: Play,
     config: &mut Config,
-    roamers: &mut [Roamer<'_>],
-) -> (u32, usize, usize) {
-    if !builds(play, config) {
-        return (0, 0, 0);
-    }
+    roamers: Vec<Roamer<'_>>,
+) -> (u32, usize) {
     let (good, done) = thread::join(
         rt,
-        || roam_all(rt, play, roamers),
+        move || roam_all(rt, play, roamers),
         || write_many(play, config),
     );
-    let _ = config.reap();
-    (done, good, config.dropped().len())
+    (done, good)
 }
 
-/// The same of all virtual CPUs of a machine.
+/// The same of all virtual CPUs of a machine, and how many regions a last reap leaves dropped.
 fn crowd_on<R: Threads + Wait + Sync>(
     rt: &R,
     alloc: Global,
@@ -156,10 +161,13 @@ fn crowd_on<R: Threads + Wait + Sync>(
 ) -> Result<(u32, usize, usize), AllocError>
     requires { config.old.seat.cabinet ≡ cabinet.now.id }
 {
-    let mut roamers = crew(alloc, cabinet, config)?;
-    let crowd = play_on(rt, play, config, roamers.as_mut_slice());
-    drop(roamers);
-    Ok(crowd)
+    let roamers = crew(alloc, cabinet, config)?;
+    if !builds(play, config) {
+        return Ok((0, 0, 0));
+    }
+    let (done, good) = play_on(rt, play, config, roamers);
+    let _ = config.reap();
+    Ok((done, good, config.dropped().len()))
 }
 
 /// The same of a machine of its own.
