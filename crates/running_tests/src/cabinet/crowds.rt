@@ -150,7 +150,7 @@ enum Trial {
 }
 
 /// How often threads do it anew.
-const TIMES: u32 = 20;
+const TIMES: u32 = 5;
 
 /// The first time that it does not come out.
 fn first_other<R: Threads + Sync>(
