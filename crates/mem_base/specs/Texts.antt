@@ -36,31 +36,39 @@ text_of_offset n = codes "0x" ++ digits 16 false n
 
 -- Ids
 
+-- a region, by its number
 abbrev pub text_of_region : RegionId → List ℕ
 text_of_region region = codes "region " ++ decimal region.0
 
+-- an address space, by its number
 abbrev pub text_of_space : SpaceId → List ℕ
 text_of_space space = codes "address space " ++ decimal space.0
 
+-- a listener, by its number
 abbrev pub text_of_listener : ListenerId → List ℕ
 text_of_listener listener = codes "listener " ++ decimal listener.0
 
+-- a watcher, by its number
 abbrev pub text_of_watcher : WatcherId → List ℕ
 text_of_watcher watcher = codes "watcher " ++ decimal watcher.0
 
+-- a pass, by its number
 abbrev pub text_of_pass : PassId → List ℕ
 text_of_pass pass = codes "pass " ++ decimal pass.0
 
+-- a notifier, by its number
 abbrev pub text_of_notifier : ℕ → List ℕ
 text_of_notifier notifier = codes "notifier " ++ decimal notifier
 
 -- What regions are
 
+-- a client of a logging mask
 abbrev pub text_of_client : Client → List ℕ
 text_of_client Vga = codes "VGA"
 text_of_client Code = codes "code"
 text_of_client Migration = codes "migration"
 
+-- a kind of device
 abbrev pub text_of_device_kind : DeviceKind → List ℕ
 text_of_device_kind Latch = codes "latch"
 text_of_device_kind Count = codes "counter"
@@ -79,6 +87,7 @@ text_of_kind (kind.Alias target offset) = codes "alias of " ++ (text_of_region t
 text_of_kind kind.Reserve = codes "reservation"
 text_of_kind kind.Host = codes "host memory"
 
+-- what a translation permits
 abbrev pub text_of_perm : Perm → List ℕ
 text_of_perm Nothing = codes "no access"
 text_of_perm Read = codes "read"
@@ -87,9 +96,11 @@ text_of_perm Both = codes "read and write"
 
 -- What a search finds
 
+-- a text that is told only where something holds
 abbrev pub text_where : Bool → List ℕ → List ℕ
 text_where holds text = if holds then text else []
 
+-- a logging mask, which is told only where some client logs
 abbrev pub text_of_log : ℕ → List ℕ
 text_of_log log = if log == 0 then [] else codes ", logging mask " ++ decimal log
 
@@ -100,12 +111,14 @@ text_of_attrs attrs =
     ++ (text_where attrs.nonvolatile (codes ", non-volatile") ++ (text_where attrs.romd (codes ", ROM device mode")
     ++ (text_where attrs.unmergeable (codes ", unmergeable") ++ text_of_log attrs.log)))
 
+-- a spot: its region, the offset in it, and its attributes
 abbrev pub text_of_spot : Spot → List ℕ
 text_of_spot spot =
     text_of_region spot.leaf ++ (codes " at " ++ (text_of_offset spot.offset ++ (codes " (" ++ (text_of_attrs spot.attrs ++ codes ")"))))
 
 -- Answers
 
+-- what an accepted call answers
 abbrev pub text_of_applied : Applied → List ℕ
 text_of_applied (Made region) = codes "made " ++ text_of_region region
 text_of_applied Done = codes "done"
@@ -118,6 +131,7 @@ text_of_result result =
 
 -- Refusals
 
+-- what a call names and does not find, or finds taken
 abbrev pub text_of_what : What → List ℕ
 text_of_what (what.Region region) = text_of_region region
 text_of_what (what.Space space) = text_of_space space
@@ -126,6 +140,7 @@ text_of_what (what.Watcher watcher) = text_of_watcher watcher
 text_of_what (what.Entry iova) = codes "translation at " ++ text_of_offset iova
 text_of_what (what.Event offset) = codes "ioeventfd at " ++ text_of_offset offset
 
+-- what still uses a region
 abbrev pub text_of_user : User → List ℕ
 text_of_user (user.Region region) = text_of_region region
 text_of_user (user.Space space) = text_of_space space
@@ -141,9 +156,11 @@ text_of_which which.Events = codes "ioeventfds of a region"
 text_of_which which.Calls = codes "accepted calls"
 text_of_which which.Watchers = codes "watchers"
 
+-- a count that may not grow further
 abbrev pub text_of_limit : Which → ℕ → List ℕ
 text_of_limit w limit = codes "the limit of " ++ (decimal limit ++ (codes " " ++ (text_of_which w ++ codes " is reached")))
 
+-- a measure of a region that a call would take above its limit
 abbrev pub text_of_excess : List ℕ → ℕ → ℕ → List ℕ
 text_of_excess measure value most = codes "a region would have " ++ (measure ++ (codes " " ++ (decimal value ++ (codes ", above " ++ decimal most))))
 

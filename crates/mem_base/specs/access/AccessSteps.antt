@@ -112,5 +112,6 @@ abbrev pub is_partial : AccessStep → Bool
 is_partial (steps cell (Replace first bytes value) x) = nat_lt bytes word_size
 is_partial _ = false
 
+-- one of the steps is about a part of a word
 abbrev pub has_partial : List AccessStep → Bool
 has_partial ds = list_any is_partial ds

@@ -2,10 +2,16 @@
 -- address is looked up again after each piece.
 -- `flatview_write_continue` and `flatview_read_continue` of physmem.c are a loop; one pass through it is a round here. Each
 -- definition names the function of physmem.c that it is from.
-use Rattle.std.specs.Prelude.{ℕ, zero, suc, ◌+◌, ◌-◌, min, bit_and, Bool, List, [], ◌∷◌, ◌++◌, Option, Some, None}
+use Rattle.std.specs.Prelude.{ℕ, zero, suc, ◌+◌, ◌-◌, ◌||◌, min, bit_and, Bool, List, [], ◌∷◌, ◌++◌, Option, Some, None}
 use Rattle.mem_base.specs.declared.map.ids.SpaceId.{SpaceId}
 use Rattle.mem_base.specs.declared.map.forests.Forest.{Forest}
+use Rattle.mem_base.specs.declared.map.forests.Node.{Node}
+use Rattle.mem_base.specs.declared.map.spots.Spot.{Spot}
 use Rattle.mem_base.specs.declared.map.translations.Entry.{Entry}
+use Rattle.mem_base.specs.declared.access.accesses.Target.{Target}
+use Rattle.mem_base.specs.declared.access.accesses.Target.TheVariants.{Leaf, Unassigned}
+use Rattle.mem_base.specs.map.Kinds.{is_rom}
+use Rattle.mem_base.specs.map.Region.{node_of}
 use Rattle.mem_base.specs.access.Pieces.{piece, size_at, is_valid}
 use Rattle.mem_base.specs.access.Trails.{Hop, trail_of, chunks, first_length}
 use Rattle.mem_base.specs.access.AccessSteps.{Transfer, is_write, length_of, part}
@@ -22,6 +28,25 @@ abbrev pub in_pages : List Hop → ℕ → ℕ
 in_pages [] left = left
 in_pages (h ∷ hs) left = in_pages hs (in_page h.used h.spot.offset left)
 
+-- whether a region takes no writes by itself: `mr->readonly`, which `memory_region_init_rom` and `memory_region_set_readonly` set
+abbrev pub is_readonly : Node → Bool
+is_readonly n = is_rom n.kind || n.readonly
+
+-- a spot as the core takes it: read-only by its region's own flag, whatever a window on the way says (`memory_access_is_direct` of
+-- memory.h)
+abbrev pub own_spot : Option Node → Spot → Spot
+own_spot None spot = spot
+own_spot (Some n) spot = record spot { attrs = record spot.attrs { readonly = is_readonly n } }
+
+-- the same of where a route ends
+abbrev pub own_target : Forest → Target → Target
+own_target f Unassigned = Unassigned
+own_target f (Leaf spot) = Leaf (own_spot (node_of f.nodes spot.leaf) spot)
+
+-- who answers a write, or a read, in the core
+abbrev pub core_answerer : Forest → Bool → Target → Answerer
+core_answerer f write target = answerer f write (own_target f target)
+
 -- how many bytes a round takes, of `left` that are left and `shared` that share the route with the first: a device as many as
 -- `memory_access_size` says, since `address_space_translate_internal` cuts at a range's end only what is RAM; all else to the
 -- end of the route
@@ -32,7 +57,7 @@ taken_by _ hops shared left = shared
 -- the same at an address, where `flatview_translate` leads
 abbrev pub taken : Forest → Bool → SpaceId → ℕ → ℕ → ℕ
 taken f write s a left =
-    let t = trail_of f write s a in taken_by (answerer f write t.target) t.hops (first_length (chunks f write s a left)) left
+    let t = trail_of f write s a in taken_by (core_answerer f write t.target) t.hops (first_length (chunks f write s a left)) left
 
 -- what a round reaches with the bytes that it takes: of a device one piece, which `flatview_write_continue` hands to
 -- `memory_region_dispatch_write` of memory.c
@@ -43,7 +68,7 @@ reached_at_once who transfer = reached who transfer
 
 -- the same at an address: the body of the loop of `flatview_write_continue` and of `flatview_read_continue`
 abbrev pub in_round : Forest → SpaceId → ℕ → Transfer → List Reached
-in_round f s a transfer = reached_at_once (answerer f (is_write transfer) (trail_of f (is_write transfer) s a).target) transfer
+in_round f s a transfer = reached_at_once (core_answerer f (is_write transfer) (trail_of f (is_write transfer) s a).target) transfer
 
 -- the rounds from an address on, `left` bytes from the access's end, of which the first `inside` belong to a round that began
 -- before and so begin none: the loop of `flatview_write_continue`, which calls `flatview_translate` again after each round

@@ -73,6 +73,7 @@ notices_between old new = map (λ p. Unmap p) (parts_without old new) ++ map (λ
 abbrev pub meets_part : Part → Part → Bool
 meets_part p q = not (nat_lt p.to q.from) && not (nat_lt q.to p.from)
 
+-- by where the parts begin
 abbrev pub part_order : Part → Part → Ordering
 part_order p q = nat_cmp p.from q.from
 
@@ -81,6 +82,7 @@ abbrev pub parts_after : List Part → Notice → Option (List Part)
 parts_after ps (Map p) = if_fits (not (list_any (meets_part p) ps)) (put_by part_order p ps)
 parts_after ps (Unmap p) = if_fits (list_any (is_same_part p) ps) (filter (λ q. not (is_same_part p q)) ps)
 
+-- the parts that are mapped after some notices, from the first on: none where one of them does not fit what came before it
 abbrev pub parts_after_all : Option (List Part) → List Notice → Option (List Part)
 parts_after_all ps [] = ps
 parts_after_all ps (x ∷ xs) = parts_after_all (option_and_then (λ qs. parts_after qs x) ps) xs

@@ -8,6 +8,7 @@ use Rattle.mem_base.specs.access.Cells.{Block}
 abbrev pub words_at : List ℕ → Place → List ℕ
 words_at ws p = take p.words (drop p.start ws)
 
+-- the words of a place, with its region
 abbrev pub block_at : List ℕ → Place → Block
 block_at ws p = record { region = p.region; words = words_at ws p }
 

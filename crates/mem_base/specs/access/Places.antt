@@ -24,6 +24,7 @@ pub record Extent : Type 0 where
 abbrev pub extent : ℕ → ℕ → Extent
 extent bytes regs = record { bytes = bytes; regs = regs }
 
+-- a region's bytes and registers, by its kind and size: RAM and ROM have bytes, a ROM device has both, a device has registers
 abbrev pub extent_of : Kind → ℕ → Extent
 extent_of Ram size = extent size 0
 extent_of Rom size = extent size 0

@@ -31,10 +31,12 @@ by_kind (RomDevice device) n offset size r = by_register n.id device (data_words
 by_kind (Io device) n offset size r = by_register n.id device 0 offset size r ∷ []
 by_kind _ n offset size r = []
 
+-- the steps of a callback of a region, where there is one
 abbrev pub by_region : Option Node → ℕ → ℕ → Request → List AccessStep
 by_region None offset size r = []
 by_region (Some n) offset size r = by_kind n.kind n offset size r
 
+-- the steps on words of one thing that an access reaches
 abbrev pub steps_of : Forest → Reached → List AccessStep
 steps_of f (memory region offset transfer) = on_words region offset transfer
 steps_of f (callback region offset size r) = by_region (node_of f.nodes region) offset size r

@@ -53,6 +53,7 @@ pub data Answerer : Type 0 where
 abbrev pub by_memory_unless : Bool → Spot → Answerer
 by_memory_unless shut spot = if shut then by_nobody else by_memory spot
 
+-- a region's device, from a spot in it on
 abbrev pub by_device_of : Node → Device → Spot → Answerer
 by_device_of n device spot = by_device spot.leaf spot.offset device.ops n.events
 
@@ -65,16 +66,19 @@ answerer_at (RomDevice device) n spot write = if spot.attrs.romd && not write th
 answerer_at (Io device) n spot write = by_device_of n device spot
 answerer_at _ n spot write = by_nobody
 
+-- who answers at a spot, by its region
 abbrev pub answerer_in : Option Node → Spot → Bool → Answerer
 answerer_in None spot write = by_nobody
 answerer_in (Some n) spot write = answerer_at n.kind n spot write
 
+-- who answers where a route ends: nobody where no region does
 abbrev pub answerer : Forest → Bool → Target → Answerer
 answerer f write Unassigned = by_nobody
 answerer f write (Leaf spot) = answerer_in (node_of f.nodes spot.leaf) spot write
 
 -- what is reached of each
 
+-- nothing answers: a read gives zero bytes, and the result is a decode error
 abbrev pub nobody : Transfer → List Reached
 nobody transfer = nothing (read_length transfer) (tx false true) ∷ []
 
@@ -94,10 +98,12 @@ abbrev pub notifier_for : Ops → List Ioevent → Piece → Transfer → Option
 notifier_for ops events p (reading n) = None
 notifier_for ops events p (writing bs) = notifier_of events p.offset p.size (number_of_bytes bs ops.big)
 
+-- a notifier, where one takes the write, and otherwise the rest
 abbrev pub unless_notified : Option ℕ → List Reached → List Reached
 unless_notified None otherwise = otherwise
 unless_notified (Some number) otherwise = notifier number ∷ []
 
+-- a callback, with its part of the transfer
 abbrev pub in_callback : RegionId → Ops → Transfer → Callback → Reached
 in_callback region ops transfer c = callback region c.offset c.size (request ops.big c.size (part c.skipped c.bytes transfer))
 
@@ -113,6 +119,7 @@ abbrev pub in_device : RegionId → ℕ → Ops → List Ioevent → Transfer �
 in_device region offset ops events transfer =
     flat_map (λ p. in_piece region ops events p (part (p.offset - offset) p.size transfer)) (pieces ops offset (length_of transfer))
 
+-- what a transfer reaches, by who answers it
 abbrev pub reached : Answerer → Transfer → List Reached
 reached (by_memory spot) transfer = in_memory spot transfer
 reached (by_device region offset ops events) transfer = in_device region offset ops events transfer

@@ -114,10 +114,12 @@ pub record Route : Type 0 where
   pub length : ℕ
   pub used : List Entry
 
+-- how many bytes the first chunk has
 abbrev pub first_length : List Run → ℕ
 first_length [] = 0
 first_length (r ∷ rs) = r.length
 
+-- the route of an access: where its first byte ends, how many bytes share that way, and the translations on it
 abbrev pub route_of : Forest → Bool → SpaceId → ℕ → ℕ → Route
 route_of f write s a bytes = record {
   target = (trail_of f write s a).target;

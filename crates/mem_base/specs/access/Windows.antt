@@ -19,6 +19,7 @@ use Rattle.mem_base.specs.access.AccessSteps.{Transfer, reading, writing, Access
 use Rattle.mem_base.specs.access.MemoryAccess.{on_words, marked}
 use Rattle.mem_base.specs.access.Access.{access}
 
+-- where a window begins, and whether it is for writes
 abbrev pub window_start : SpaceId → ℕ → Bool → WindowStart
 window_start space addr write = record { space = space; addr = addr; write = write }
 
@@ -30,10 +31,12 @@ is_direct_kind Rom write attrs = not write
 is_direct_kind (RomDevice device) write attrs = attrs.romd && not write
 is_direct_kind _ write attrs = false
 
+-- a region is memory that the window may point into: none that is not there
 abbrev pub is_direct_node : Option Node → Bool → Attrs → Bool
 is_direct_node None write attrs = false
 is_direct_node (Some n) write attrs = is_direct_kind n.kind write attrs
 
+-- a route ends in such memory
 abbrev pub is_direct_target : Forest → Bool → Target → Bool
 is_direct_target f write Unassigned = false
 is_direct_target f write (Leaf spot) = is_direct_node (node_of f.nodes spot.leaf) write spot.attrs
@@ -73,6 +76,7 @@ opening_steps f s direct len = if direct || s.write then [] else access f s.spac
 abbrev pub flush_steps : Forest → WindowStart → ℕ → List ℕ → List AccessStep
 flush_steps f s used held = if used == 0 then [] else access f s.space s.addr (writing (take used held))
 
+-- what closing a window does for a write: pages of memory are marked, or the held bytes are written
 abbrev pub closing_steps : Forest → WindowStart → Bool → ℕ → List ℕ → List AccessStep
 closing_steps f s direct used held =
     if s.write then (if direct then mark_steps (target_at f s) used else flush_steps f s used held) else []

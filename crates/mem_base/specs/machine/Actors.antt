@@ -44,13 +44,16 @@ generations_after_all g (x ∷ xs) = generations_after_all (generations_after g 
 
 -- all generations that were published, also those that are kept no more; generation 0 is empty
 
+-- the first generation: no regions, no places
 abbrev pub first_generation : Generation
 first_generation = generation empty []
 
+-- the generations after an entry: a publish adds the one that it carries
 abbrev pub published_with : List Generation → Event → Carried → List Generation
 published_with gs events.Publish (Edition forest places) = gs ++ generation forest places ∷ []
 published_with gs _ _ = gs
 
+-- the generations after some entries
 abbrev pub published_from : List Generation → List HistoryEntry → List Generation
 published_from gs [] = gs
 published_from gs (x ∷ xs) = published_from (published_with gs x.event x.carried) xs

@@ -68,6 +68,7 @@ pub record IsInOrder (current : ℕ) (due swept : Bool) (k : PassTrack) (p : Pas
   -- while a publish is due, it is one of those that are kept after it too
   pub due_near : due ≡ true → current ≤ k.lowest + (most_generations - 2)
 
+-- the flag of a pass that says whether it was swept
 abbrev pub is_swept : List Bool → PassId → Bool
 is_swept swept pass = slice_index_or swept pass.0 false
 
@@ -79,5 +80,6 @@ pub record AllInOrder (due : Bool) (swept : List Bool) (g : Generations) (ps : L
   pub kept : length g.kept ≡ min (g.current + 1) most_generations
   pub each : (pass : PassId) → pass.0 < length ps → IsInOrder g.current due (is_swept swept pass) (known_of g pass) (pass_of ps pass)
 
+-- what the writer has seen of the passes agrees with where they stand
 abbrev pub IsOrderly : World → Type 0
 IsOrderly w = AllInOrder w.writer.desk.due w.writer.desk.swept w.writer.generations w.passes

@@ -51,6 +51,8 @@ pub data RowPart : Type 0 where
 abbrev pub waits_for_fill : WriterCall → Bool
 waits_for_fill t = (length t.before == 0) && not (length t.after == 0)
 
+-- where a private entry may stand: before the writer's next shared entry, where the turn waits for a place to be filled, or else after
+-- its last
 abbrev pub private_part : WriterCall → PureEntry → RowPart
 private_part t x = if waits_for_fill t then before_next x else after_last x
 
@@ -69,6 +71,7 @@ abbrev pub at_once : List RowPart → List PureEntry
 at_once (after_last x ∷ ps) = x ∷ at_once ps
 at_once _ = []
 
+-- the parts that are left once private entries at the front are passed
 abbrev pub past_at_once : List RowPart → List RowPart
 past_at_once (after_last x ∷ ps) = past_at_once ps
 past_at_once ps = ps
@@ -100,6 +103,7 @@ accepted_one e reply = []
 abbrev pub accepted : List PureEntry → List Config
 accepted xs = flat_map (λ x. accepted_one x.event x.reply) xs
 
+-- the calls that were accepted in some turns, in order
 abbrev pub accepted_in : List WriterCall → List Config
 accepted_in ts = accepted (flat_map (λ t. t.private) ts)
 
@@ -108,6 +112,7 @@ abbrev pub forest_carried : Carried → List Forest
 forest_carried (Edition forest places) = forest ∷ []
 forest_carried _ = []
 
+-- the forests that some entries published, in order
 abbrev pub published_forests : List HistoryEntry → List Forest
 published_forests xs = flat_map (λ x. forest_carried x.carried) xs
 
@@ -123,6 +128,7 @@ is_private e = false
 abbrev pub shared_entries : List PureEntry → List PureEntry
 shared_entries ys = filter (λ y. not (is_private y.event)) ys
 
+-- the private entries of a history, in order
 abbrev pub private_entries_in : List PureEntry → List PureEntry
 private_entries_in ys = filter (λ y. is_private y.event) ys
 
@@ -130,6 +136,7 @@ private_entries_in ys = filter (λ y. is_private y.event) ys
 abbrev pub writers_shared : List PureEntry → List PureEntry
 writers_shared ys = filter (λ y. is_writers y.event) (shared_entries ys)
 
+-- where there is an entry, it is the writer's
 abbrev pub IsWritersOrNone : Option PureEntry → Type 0
 IsWritersOrNone None = Unit {0}
 IsWritersOrNone (Some y) = is_writers y.event ≡ true

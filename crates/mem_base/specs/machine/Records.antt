@@ -61,9 +61,11 @@ pub record Given : Type 0 where
   pub order : DeskOrder
   pub replies : List ℕ
 
+-- an order as the writer takes it, with the replies that came
 abbrev pub answered : Given → Answered
 answered g = (call_of g.order, g.replies)
 
+-- how many calls of listeners the journal has
 abbrev pub journal_length : Writer → ℕ
 journal_length w = length w.desk.listening.journal
 
@@ -78,6 +80,7 @@ recorded w (g ∷ gs) = let t = turn w (call_of g.order) g.replies in entry_of w
 
 -- What an actor got: a clerk's list
 
+-- one actor's part of a record: who it is, and what it got for each of its orders
 pub record Clerk : Type 0 where
   pub who : ℕ
   pub got : List DeskEntry

@@ -21,14 +21,17 @@ use Rattle.mem_base.specs.machine.Guards.{may_reach, may_mark}
 use Rattle.mem_base.specs.machine.Histories.{after_each, IsLegalBy}
 use Rattle.mem_base.specs.map.Limits.{most_generations}
 
+-- what all actors share: the generations, where each pass stands, and the words
 pub record Shared : Type 0 where
   pub generations : Generations
   pub passes : List PassState
   pub words : List ℕ  -- the pool's, and after them the notifiers'
 
+-- these, as one
 abbrev pub shared : Generations → List PassState → List ℕ → Shared
 shared generations passes words = record { generations = generations; passes = passes; words = words }
 
+-- two places are one: of the same region, with the same words
 abbrev pub is_same_place : Place → Place → Bool
 is_same_place p q = (p.region.0 == q.region.0) && (p.start == q.start) && (p.words == q.words) && (p.bytes == q.bytes) && (p.regs == q.regs)
 
@@ -75,17 +78,21 @@ pub record PoolTouch : Type 0 where
   pub word : ℕ
   pub touch : Touch
 
+-- a step on a word of a place, with the word's number in the pool
 abbrev pub pool_touch : Place → Touch → PoolTouch
 pool_touch p t = record { word = p.start + t.word; touch = t }
 
+-- the step on a word that an entry makes, if it makes one
 abbrev pub pool_touch_of : Event → Carried → Option PoolTouch
 pool_touch_of e (At p) = option_map (pool_touch p) (touch_of p e)
 pool_touch_of e _ = None
 
+-- the value that such a step tells: the word's before it, where it tells one
 abbrev pub old_in : List ℕ → Option PoolTouch → ℕ
 old_in words None = 0
 old_in words (Some t) = if t.touch.tells then slice_index words t.word else 0
 
+-- the words after it
 abbrev pub pool_after : List ℕ → Option PoolTouch → List ℕ
 pool_after words None = words
 pool_after words (Some t) = words_after words t.word t.touch.step
@@ -95,12 +102,14 @@ abbrev pub shared_reply : Shared → Event → Carried → ℕ
 shared_reply s e (At p) = old_in s.words (pool_touch_of e (At p))
 shared_reply s e _ = number_told s.generations s.passes e
 
+-- all that is shared, after an entry
 abbrev pub after_shared_entry : Shared → HistoryEntry → Shared
 after_shared_entry s x = shared
     (generations_after s.generations x.event x.carried x.reply)
     (passes_after s.passes x.event x.reply)
     (pool_after s.words (pool_touch_of x.event x.carried))
 
+-- the same after some entries
 abbrev pub after_shared_entries : Shared → List HistoryEntry → Shared
 after_shared_entries s xs = after_each after_shared_entry s xs
 
@@ -112,5 +121,6 @@ shared_opening cabinet_words passes = shared (first_generations passes) (replica
 abbrev pub IsSharedLegalFrom : Shared → List HistoryEntry → Type 0
 IsSharedLegalFrom s xs = IsLegalBy (λ z x. shared_possible z x.event x.carried) (λ z x. x.reply ≡ shared_reply z x.event x.carried) after_shared_entry s xs
 
+-- each entry of a history may stand where it stands, from the first on: what is shared permits it
 abbrev pub IsSharedLegal : ℕ → ℕ → List HistoryEntry → Type 0
 IsSharedLegal cabinet_words passes xs = IsSharedLegalFrom (shared_opening cabinet_words passes) xs

@@ -13,6 +13,7 @@ use Rattle.mem_base.specs.machine.History.{PureEntry, pure_entry}
 use Rattle.mem_base.specs.machine.Orders.{Order, events_before, private_of, events_after}
 use Rattle.mem_base.specs.machine.Answers.{Answer, answer_to, first_or_zero}
 
+-- an entry: its event, what it carries, and the reply
 abbrev pub history_entry : Event → Carried → ℕ → HistoryEntry
 history_entry event carried reply = record { event = event; carried = carried; reply = reply }
 
@@ -22,6 +23,8 @@ pub record Played : Type 0 where
   pub writer : Writer
   pub replies : List ℕ
 
+-- the writer makes some events, one after another: the entries, with what they carry and the replies that come, and the writer after
+-- them
 abbrev pub played : Writer → List Event → List ℕ → Played
 played w [] replies = record { entries = []; writer = w; replies = replies }
 played w (e ∷ es) replies =
@@ -40,9 +43,11 @@ abbrev pub after_private : Writer → List Event → Writer
 after_private w [] = w
 after_private w (e ∷ es) = after_private (writer_after w e (carried_by w.desk e) 0) es
 
+-- the replies of some entries
 abbrev pub replies_of : List HistoryEntry → List ℕ
 replies_of xs = map (λ x. x.reply) xs
 
+-- what one turn of the writer makes: its shared entries before and after the private ones, the writer after it, and the answer
 pub record WriterCall : Type 0 where
   pub before : List HistoryEntry
   pub private : List PureEntry
@@ -50,6 +55,7 @@ pub record WriterCall : Type 0 where
   pub writer : Writer
   pub answer : Answer
 
+-- the turn of an order, with the replies that come
 abbrev pub turn : Writer → Order → List ℕ → WriterCall
 turn w k replies =
     let before = played w (events_before w k) replies in

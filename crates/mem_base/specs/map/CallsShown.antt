@@ -21,6 +21,7 @@ abbrev pub HoldsOf : (Node → Type 0) → Option Node → Type 0
 HoldsOf Fact None = ⊥
 HoldsOf Fact (Some n) = Fact n
 
+-- a forest has this region, of which a fact holds
 abbrev pub HasRegion : Forest → RegionId → (Node → Type 0) → Type 0
 HasRegion f region Fact = HoldsOf Fact (node_of f.nodes region)
 

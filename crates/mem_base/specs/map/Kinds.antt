@@ -31,6 +31,11 @@ has_bytes Rom = true
 has_bytes (RomDevice device) = true
 has_bytes _ = false
 
+-- memory that takes no writes
+abbrev pub is_rom : Kind → Bool
+is_rom Rom = true
+is_rom _ = false
+
 -- memory with a device for its writes
 abbrev pub is_rom_device : Kind → Bool
 is_rom_device (RomDevice device) = true

@@ -11,6 +11,7 @@ use Rattle.mem_base.specs.map.Region.{node_of}
 use Rattle.mem_base.specs.map.Order.{children_of}
 use Rattle.mem_base.specs.map.Search.{Found, passed, itself}
 
+-- any kind but a window
 abbrev pub IsNoAlias : Kind → Type 0
 IsNoAlias (Alias target offset) = ⊥
 IsNoAlias _ = Unit {0}

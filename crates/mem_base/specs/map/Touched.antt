@@ -20,6 +20,7 @@ use Rattle.mem_base.specs.map.Search.{root_of}
 use Rattle.mem_base.specs.map.Steps.{reaches}
 use Rattle.mem_base.specs.lists.Booleans.{bool_eq}
 
+-- a region is reached from a root by steps to children and alias targets
 abbrev pub is_reached_from : List Node → Option RegionId → RegionId → Bool
 is_reached_from nodes None r = false
 is_reached_from nodes (Some root) r = reaches nodes root r
@@ -38,6 +39,7 @@ is_same_region None None = true
 is_same_region (Some r) (Some q) = r.0 == q.0
 is_same_region _ _ = false
 
+-- two kinds of device are one
 abbrev pub is_same_device_kind : DeviceKind → DeviceKind → Bool
 is_same_device_kind Latch Latch = true
 is_same_device_kind Count Count = true
@@ -45,15 +47,18 @@ is_same_device_kind Bell Bell = true
 is_same_device_kind Fault Fault = true
 is_same_device_kind _ _ = false
 
+-- two devices take the same sizes, and have the same order of bytes
 abbrev pub is_same_ops : Ops → Ops → Bool
 is_same_ops x y =
     (x.valid_min == y.valid_min) && (x.valid_max == y.valid_max) && bool_eq x.valid_unaligned y.valid_unaligned
     && (x.impl_min == y.impl_min) && (x.impl_max == y.impl_max) && bool_eq x.impl_unaligned y.impl_unaligned
     && bool_eq x.big y.big
 
+-- two devices are alike in all
 abbrev pub is_same_device : Device → Device → Bool
 is_same_device x y = is_same_device_kind x.kind y.kind && (x.regs == y.regs) && is_same_ops x.ops y.ops
 
+-- two kinds are one, with their devices and targets
 abbrev pub is_same_kind : Kind → Kind → Bool
 is_same_kind Container Container = true
 is_same_kind Ram Ram = true

@@ -20,6 +20,7 @@ Form Y = List Text → Result Y Cause
 abbrev pub Operand : Type 0 → Type 0
 Operand X = Form (X × List Text)
 
+-- what follows an operand that was read: its value and the tokens that are left go on, a cause ends the line
 abbrev pub then_read : {X Y : Type 0} → Result (X × List Text) Cause → (X → Form Y) → Result Y Cause
 then_read (Ok taken) rest = rest taken.0 taken.1
 then_read (Err cause) rest = Err cause

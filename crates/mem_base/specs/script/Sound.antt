@@ -12,9 +12,11 @@ use Rattle.mem_base.specs.script.Printing.{command_tokens}
 abbrev pub is_graphic : ℕ → Bool
 is_graphic b = between 33 126 b && not (b == 35)
 
+-- a text may stand as one token: it is not empty, and has no blank
 abbrev pub is_token : Text → Bool
 is_token text = nat_lt 0 (length text) && list_all is_graphic text
 
+-- all texts may
 abbrev pub are_tokens : List Text → Bool
 are_tokens tokens = list_all is_token tokens
 

@@ -44,23 +44,29 @@ pub record Known : Type 0 where
   pub gone : List ListenerId
   pub watchers : List Watcher  -- in order of joining
 
+-- what is known before the first line: no names
 abbrev pub known_at_first : Known
 known_at_first = record { names = no_names; dropped = []; gone = []; watchers = [] }
 
+-- the region of a number
 abbrev pub region_id : ℕ → RegionId
 region_id n = record { 0 = n }
 
 -- what a name stands for: of all that had it, the one that is there
 
+-- the region that a name stands for, of those that were not dropped
 abbrev pub region_named : Known → Text → Option RegionId
 region_named k name = option_map region_id (number_from 0 k.names.regions (λ n. not (is_among k.dropped (region_id n))) name)
 
+-- the address space that a name stands for
 abbrev pub space_named : Known → Text → Option SpaceId
 space_named k name = option_map (λ n. record { 0 = n }) (number_from 0 k.names.spaces (λ n. true) name)
 
+-- the listener that a name stands for, of those that have not left
 abbrev pub listener_named : Known → Text → Option ListenerId
 listener_named k name = option_map (λ n. record { 0 = n }) (number_from 0 k.names.listeners (λ n. not (list_any (λ l. l.0 == n) k.gone)) name)
 
+-- the watcher that a name stands for, of those that have not left
 abbrev pub watcher_named : Known → Text → Option WatcherId
 watcher_named k name = option_map (λ n. record { 0 = n }) (number_from 0 k.names.notifiers (λ n. list_any (is_watcher n) k.watchers) name)
 
@@ -70,6 +76,7 @@ watcher_named k name = option_map (λ n. record { 0 = n }) (number_from 0 k.name
 abbrev pub Resolved : Type 0 → Type 0
 Resolved X = Result X Text
 
+-- what follows a name that was resolved; one that was not ends the line
 abbrev pub then_resolved : {X Y : Type 0} → Resolved X → (X → Resolved Y) → Resolved Y
 then_resolved (Ok x) rest = rest x
 then_resolved (Err why) rest = Err why
@@ -78,13 +85,16 @@ infixl 10 ◌>>=◌
 abbrev pub ◌>>=◌ : {X Y : Type 0} → Resolved X → (X → Resolved Y) → Resolved Y
 resolved >>= rest = then_resolved resolved rest
 
+-- what a name stands for, or the refusal that tells that it stands for nothing
 abbrev pub known : {I : Type 0} → Text → Option I → Resolved I
 known name None = Err (unknown_text name)
 known name (Some id) = Ok id
 
+-- the region of a name, or the refusal
 abbrev pub region : Known → Text → Resolved RegionId
 region k name = known name (region_named k name)
 
+-- the space of a name, or the refusal
 abbrev pub space : Known → Text → Resolved SpaceId
 space k name = known name (space_named k name)
 
@@ -94,6 +104,7 @@ unless_taken name there x = if is_some there then Err (taken_text name) else Ok 
 
 -- Tasks
 
+-- what a line asks for, once its names are resolved
 pub data Task : Type 0 where
   idle : Task
   ordered : DeskOrder → Text → Task  -- an order, and the name that it makes, if any
@@ -133,6 +144,7 @@ change_of k (changes.Event name offset size number value) = do Ok (calls.Event (
 change_of k (changes.Unevent name offset size value) =
     do Ok (calls.Unevent (← region k name) offset size (is_some value) (unwrap_or value 0))
 
+-- a new region is ordered, unless its name is taken
 abbrev pub region_made : Known → Text → Kind → ℕ → Resolved Task
 region_made k name kind size = unless_taken name (region_named k name) (ordered (orders.Call (calls.Region kind size)) name)
 
@@ -149,10 +161,12 @@ kind_of k region_kinds.Reserve = Ok kinds.Reserve
 
 -- spaces and listeners are numbered in order of making
 
+-- a new address space is ordered, unless its name is taken
 abbrev pub space_made : Known → Text → RegionId → Resolved Task
 space_made k name root =
     unless_taken name (space_named k name) (ordered (orders.Call (calls.Space (record { 0 = length k.names.spaces }) root)) name)
 
+-- a new listener is ordered, unless its name is taken
 abbrev pub listened : Known → Text → SpaceId → ℤ → Resolved Task
 listened k name to priority =
     unless_taken name (listener_named k name) (ordered (orders.Listen (record { 0 = length k.names.listeners }) to priority) name)

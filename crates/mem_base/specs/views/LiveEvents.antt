@@ -87,6 +87,7 @@ pub record IsLive (f : Forest) (s : SpaceId) (l : Live) : Type 0 where
 abbrev pub lives_of_range : Forest → FlatRange → List Live
 lives_of_range f r = filter (meets r.start r.last) (map (moved_to r.start r.offset) (events_of f r.leaf))
 
+-- the ioeventfds that are live in some ranges of a view, in order
 abbrev pub lives_in : Forest → List FlatRange → List Live
 lives_in f rs = lives_in_order (flat_map (lives_of_range f) rs)
 

@@ -39,7 +39,7 @@ pub enum Which {
     Watchers,
 }
 
-/// Why a call is refused. A refused call changes nothing.
+/// Why a call is refused. A refused call changes nothing of the map; a publish that is held up leaves what the writer saw of the passes.
 #[derive(Clone, Copy, Debug, PartialEq, Eq)]
 pub enum Refusal {
     /// Something that the call names is not there.
