@@ -12,8 +12,8 @@ use crate::buffers::copy_first;
 use crate::kept::Kept;
 use mem_base::{BadScript, Refusal};
 use script_lines::{Line, add_bad_line};
-use script_run::run;
 use script_text::{ParseFault, Script, parse};
+use script_world::run;
 use std::alloc::{AllocError, Global};
 
 // What the run of a script writes.

@@ -15,4 +15,4 @@ pub use epoch_rule::Cabinet;
 pub use generation::Generation;
 pub use race_inside::Config;
 pub use races::race;
-pub use script_run::{RunFault, run};
+pub use script_run::RunFault;

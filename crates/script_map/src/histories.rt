@@ -9,10 +9,11 @@ use crate::refused::RefusedLine;
 use generation::Generation;
 use mem_base::{Command, Edition};
 use script_lines::Line;
-use script_run::{Session, World};
+use script_run::Session;
 use script_text::Script;
 use std::alloc::{AllocError, Global};
 use std::sync::Arc;
+use world_core::World;
 
 /// What a script leaves, and each generation that it published on the way.
 #[derive(Drop)]

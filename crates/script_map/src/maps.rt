@@ -12,11 +12,12 @@ use generation::Generation;
 use mem_base::{Command, MOST_PASSES, Name, RegionId, SpaceId};
 use script_lines::Line;
 use script_names::Names;
-use script_run::{Session, World};
+use script_run::Session;
 use script_text::{Script, pool_words};
 use std::alloc::{AllocError, Global};
 use std::marker::Model;
 use std::sync::Arc;
+use world_core::World;
 
 /// The map that commands left: the machine, the names that were made, and the commands that were refused.
 ///

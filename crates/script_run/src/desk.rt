@@ -11,11 +11,11 @@ ghost use Rattle.script_run.specs.Asking.{TakesOwn, entry_of};
 ghost use Rattle.script_run.specs.Adding.{Adds};
 ghost use Rattle.script_run.specs.Standing.{IsReady};
 
-use crate::machine::Machine;
 use crate::orders::ask;
 use mem_base::{Command, DeskAnswer};
 use race_lines::{Answered, KnownNames, LineSaid, LineTask, ResolvedTask, task_of};
 use script_lines::Line;
+use script_machine::Machine;
 use std::alloc::{AllocError, Global};
 
 // Gives the order of a line, where its task has one.

@@ -5,17 +5,13 @@
 
 mod desk;
 mod faults;
-mod machine;
 mod orders;
 mod passes;
 mod pieces;
 mod runs;
 mod session;
-mod worlds;
 
 pub use faults::RunFault;
-pub use machine::Machine;
 pub use runs::run_on;
+pub use script_machine::Machine;
 pub use session::Session;
-pub use world_core::World;
-pub use worlds::run;

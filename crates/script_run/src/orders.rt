@@ -5,8 +5,8 @@ ghost use Rattle.mem_base.specs.machine.Answers.{answer_with, call_answer, commi
 ghost use Rattle.mem_base.specs.machine.Records.{told};
 ghost use Rattle.script_run.specs.Asking.{IsAnswered};
 
-use crate::machine::Machine;
 use mem_base::{Applied, DeskAnswer, DeskOrder, Edition, Ids, Pages, Refusal, RegionId};
+use script_machine::Machine;
 use std::alloc::AllocError;
 
 // What is told of a begin, a load, or a listener that joins or leaves. A run ends where memory ran out.

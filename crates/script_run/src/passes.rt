@@ -17,7 +17,6 @@ ghost use Rattle.script_run.specs.Asking.{FitsTask};
 ghost use Rattle.script_run.specs.Adding.{Adds, PassAdds};
 ghost use Rattle.script_run.specs.Standing.{IsReady};
 
-use crate::machine::Machine;
 use crate::orders::ask;
 use mem_base::{Access, Command, DeskOrder, PassId, SpaceId, TxResult};
 use race_lines::{
@@ -26,6 +25,7 @@ use race_lines::{
 use script_lines::{
     Line, add_dma_line, add_enter_line, add_leave_line, add_read_line, add_write_line,
 };
+use script_machine::Machine;
 use std::alloc::{AllocError, Global};
 
 fn either(x: TxResult, y: TxResult) -> TxResult

@@ -8,12 +8,12 @@ ghost use Rattle.run_laws.specs.Fitting.{AreFitting};
 ghost use Rattle.script_run.specs.Standing.{MayGoOn, state_of};
 
 use crate::faults::RunFault;
-use crate::machine::Machine;
 use crate::pieces::write_lines;
 use crate::session::Session;
 use mem_base::Command;
 use outside::Sink;
 use script_lines::Line;
+use script_machine::Machine;
 use script_text::Script;
 use std::alloc::Global;
 

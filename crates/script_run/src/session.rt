@@ -8,11 +8,11 @@ ghost use Rattle.script_run.specs.Adding.{StepAdds};
 ghost use Rattle.script_run.specs.Standing.{MayGoOn, state_of};
 
 use crate::desk::desk_line;
-use crate::machine::Machine;
 use crate::passes::pass_line;
 use mem_base::Command;
 use race_lines::{KnownNames, LineSaid};
 use script_lines::Line;
+use script_machine::Machine;
 use script_text::pass_of_line;
 use std::alloc::{AllocError, Global};
 use std::marker::Model;

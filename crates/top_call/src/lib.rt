@@ -2,7 +2,7 @@
 //!
 //! Its contract says how each ending comes and what is then written. The program hands in those of the process; whoever
 //! hands in ends in memory runs scripts in memory. What needs no other threads (`top_runs`), the reading of a script (`script_text`), its
-//! run (`script_run`), its race (`race_run`), and the script of a seed (`script_make`) are crates of their own. What a script is, what its
+//! run (`script_world`), its race (`race_run`), and the script of a seed (`script_make`) are crates of their own. What a script is, what its
 //! commands mean and what each line looks like is defined in `mem_base`.
 #![tactic(auto)]
 

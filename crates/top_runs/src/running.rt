@@ -15,8 +15,9 @@ use crate::endings::Ending;
 use mem_base::{BadScript, Cause};
 use outside::{Failed, ReadStop, Sink, Source, read_all, write_all};
 use script_lines::{Line, add_bad_line};
-use script_run::{RunFault, run};
+use script_run::RunFault;
 use script_text::{MOST_TEXT, ParseFault, parse};
+use script_world::run;
 use std::alloc::{AllocError, Global};
 
 /// What is said of a text that is longer than a script may be: no line of it is named.

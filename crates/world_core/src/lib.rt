@@ -12,6 +12,7 @@ mod events;
 mod hands;
 mod numbers;
 mod possible;
+mod scripted;
 mod world;
 
 pub use world::World;

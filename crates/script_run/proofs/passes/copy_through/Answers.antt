@@ -2,7 +2,7 @@ use Rattle.std.proofs.Common.{length}
 use Rattle.mem_base.specs.access.AccessSteps.{reading, writing}
 use Rattle.mem_base.specs.script.PassSteps.{copy}
 use Rattle.run_laws.specs.TaskSteps.{known_state}
-use Rattle.world_core.proofs.HandedOn.{keeps_then}
+use Rattle.world_laws.proofs.PassKeeping.{keeps_then}
 use Rattle.script_run.proofs.PassLaws.{copied, pass_adds, still_entered}
 use Rattle.script_run.proofs.Writing.{on_ok}
 use Rattle.script_run.proofs.passes.copy_through.Goals as goal

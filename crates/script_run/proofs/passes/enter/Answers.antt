@@ -6,7 +6,7 @@ use Rattle.mem_base.specs.script.Output.{enter_line}
 use Rattle.mem_base.specs.script.PassSteps.{enter, entered_number}
 use Rattle.mem_base.specs.script.States.{outcome}
 use Rattle.run_laws.specs.TaskSteps.{known_state}
-use Rattle.world_core.proofs.HandedOn.{keeps_then}
+use Rattle.world_laws.proofs.PassKeeping.{keeps_then}
 use Rattle.script_run.proofs.PassLaws.{anew, entered_as, pass_adds}
 use Rattle.script_run.proofs.Writing.{on_ok}
 use Rattle.script_run.proofs.passes.enter.Goals as goal

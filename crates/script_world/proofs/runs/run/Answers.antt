@@ -1,7 +1,7 @@
 use Rattle.std.proofs.Common.{◌≤◌, sym, subst}
 use Rattle.mem_base.specs.declared.script.places.Section.TheVariants.{Start}
 use Rattle.run_laws.proofs.FittingLaws.{pool_fits, sound_fits}
-use Rattle.script_run.proofs.worlds.run.Goals as goal
+use Rattle.script_world.proofs.runs.run.Goals as goal
 use Rattle.mem_base.specs.map.Limits.{most_words}
 
 pub new-requires-clause-words : goal.new-requires-clause-words

@@ -1,20 +1,13 @@
 // The pure machine as the one that a script runs on.
-ghost use Rattle.mem_base.specs.script.Run.{text_of};
-ghost use Rattle.outside.specs.Sink.{Writes};
-
-use crate::faults::RunFault;
-use crate::machine::Machine;
-use crate::runs::run_on;
+use crate::world::World;
 use generation::Generation;
 use mem_base::{
-    Access, Applied, Call, Client, ListenerEvent, ListenerId, MOST_PASSES, NotifierId, PassId,
-    Refusal, RegionId, SpaceId,
+    Access, Applied, Call, Client, ListenerEvent, ListenerId, NotifierId, PassId, Refusal,
+    RegionId, SpaceId,
 };
-use outside::Sink;
-use script_text::{Script, pool_words};
+use script_machine::Machine;
 use std::alloc::Global;
 use std::sync::Arc;
-use world_core::World;
 
 impl Machine for World {
     ghost world = { λ w. w };
@@ -87,17 +80,4 @@ impl Machine for World {
     fn write(&mut self, pass: PassId, space: SpaceId, addr: u64, bytes: &[u8]) -> Access {
         World::write(self, pass, space, addr, bytes)
     }
-}
-
-/// Runs a script on a machine of its own, with the pool that the script names and 16 passes, and writes the script's text:
-/// each line as one piece with its line feed.
-///
-/// It answers `Write` only where a write failed. After that and after `Memory`, a prefix of the text was written.
-pub fn run<K: Sink>(alloc: Global, script: &Script, sink: &mut K) -> Result<(), RunFault>
-    ensures { Writes K.written K.holds K.faults sink.old sink.new (text_of script.now) RunFault.Write result }
-{
-    // The pool of such a script is no larger than the largest one.
-    script.knows_sound();
-    let machine = World::new(alloc, pool_words(script), MOST_PASSES)?;
-    run_on(alloc, machine, script, sink)
 }
