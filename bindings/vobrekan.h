@@ -461,7 +461,8 @@ vb_answer vb_path(vb_machine *handle, uint32_t space, uint64_t addr, uint32_t *o
 vb_answer vb_plan_read(vb_machine *handle, uint32_t way, uint32_t space, uint64_t addr, size_t len, vb_reached *out, size_t out_len);
 
 /* What a write of bytes to a space reaches, as `vb_plan_read` tells it of a read: callbacks come with the numbers that they take, and
- * pages that are logged are to be marked. QEMU's core, `address_space_write`. */
+ * pages that are logged are to be marked. Memory that is shown through a read-only alias takes no write in this machine's way, and takes it
+ * in QEMU's, which asks the region itself. QEMU's core, `address_space_write`. */
 vb_answer vb_plan_write(vb_machine *handle, uint32_t way, uint32_t space, uint64_t addr, const uint8_t *bytes, size_t bytes_len, vb_reached *out, size_t out_len);
 
 /* Makes a container: a region that only groups others. `size` is in bytes, and 2^64 - 1 stands for 2^64, here and below. */

@@ -6,7 +6,7 @@ use Rattle.mem_base.specs.declared.access.accesses.Target.{Target}
 use Rattle.mem_base.specs.declared.access.accesses.Target.TheVariants.{Leaf, Unassigned}
 use Rattle.mem_base.specs.access.AccessSteps.{Transfer, is_write, length_of, part}
 use Rattle.mem_base.specs.access.Plans.{answerer, by_memory_unless}
-use Rattle.mem_base.specs.access.CorePlans.{taken, in_round, rounds_from, reached_at_once}
+use Rattle.mem_base.specs.access.CorePlans.{core_answerer, own_target, taken, in_round, rounds_from, reached_at_once}
 use Rattle.mem_base.specs.access.Trails.{trail_of}
 use Rattle.plan_laws.proofs.Parts.{same_kind}
 use Rattle.access_plan.specs.HostPlans.{answerer_with_host, chunks_by, rounds_by}
@@ -18,14 +18,14 @@ same_answerer f none w (Leaf spot) =
     ap (λ b. if b then by_memory_unless (w && spot.attrs.readonly) spot else answerer f w (Leaf spot)) (none spot.leaf)
 
 same_rounds : (f : Forest) (s : SpaceId) (first : ℕ) (t : Transfer) (a left inside : ℕ)
-    → rounds_by (answerer f (is_write t)) f (is_write t) s first t a left inside ≡ rounds_from f s first t a left inside
+    → rounds_by (core_answerer f (is_write t)) f (is_write t) s first t a left inside ≡ rounds_from f s first t a left inside
 same_rounds f s first t a zero inside = refl
 same_rounds f s first t a (suc left) (suc inside) = same_rounds f s first t (a + 1) left inside
 same_rounds f s first t a (suc left) zero =
     let n : ℕ = taken f (is_write t) s a (suc left) in
     let u : Transfer = part (a - first) n t in
-    ap (λ b. reached_at_once (answerer f b (trail_of f b s a).target) u
-    ++ rounds_by (answerer f (is_write t)) f (is_write t) s first t (a + 1) left (n - 1)) (sym (same_kind (a - first) n t))
+    ap (λ b. reached_at_once (core_answerer f b (trail_of f b s a).target) u
+    ++ rounds_by (core_answerer f (is_write t)) f (is_write t) s first t (a + 1) left (n - 1)) (sym (same_kind (a - first) n t))
     ∙ ap (λ rs. in_round f s a u ++ rs) (same_rounds f s first t (a + 1) left (n - 1))
 
 pub plan_is_defined : PlanIsDefined
@@ -33,4 +33,4 @@ plan_is_defined f none s a t = (λ i. chunks_by (λ x. same_answerer f none (is_
 
 pub core_plan_is_defined : CorePlanIsDefined
 core_plan_is_defined f none s a t =
-    (λ i. rounds_by (λ x. same_answerer f none (is_write t) x i) f (is_write t) s a t a (length_of t) 0) ∙ same_rounds f s a t a (length_of t) 0
+    (λ i. rounds_by (λ x. same_answerer f none (is_write t) (own_target f x) i) f (is_write t) s a t a (length_of t) 0) ∙ same_rounds f s a t a (length_of t) 0

@@ -13,7 +13,7 @@ use Rattle.mem_base.specs.lists.Runs.{Run}
 use Rattle.mem_base.specs.access.AccessSteps.{Transfer, is_write, length_of, part}
 use Rattle.mem_base.specs.access.Trails.{trail_of, chunks, first_length}
 use Rattle.mem_base.specs.access.Plans.{Reached, Answerer, by_nobody, by_memory_unless, answerer, reached}
-use Rattle.mem_base.specs.access.CorePlans.{taken_by, reached_at_once}
+use Rattle.mem_base.specs.access.CorePlans.{own_target, taken_by, reached_at_once}
 
 abbrev pub is_host_kind : Kind → Bool
 is_host_kind Host = true
@@ -67,8 +67,12 @@ rounds_by who f write s first transfer a (suc left) (suc inside) = rounds_by who
 rounds_by who f write s first transfer a (suc left) zero = let n = taken_at who f write s a (suc left) in
     round_at who f write s a (part (a - first) n transfer) ++ rounds_by who f write s first transfer (a + 1) left (n - 1)
 
+-- who answers in QEMU's core: a region is read-only by its own flag there
+abbrev pub core_answerer_with_host : Forest → Bool → Target → Answerer
+core_answerer_with_host f write target = answerer_with_host f write (own_target f target)
+
 abbrev pub rounds_with_host : Forest → Bool → SpaceId → ℕ → ℕ → Transfer → List Reached
-rounds_with_host f write s a bytes transfer = rounds_by (answerer_with_host f write) f write s a transfer a bytes 0
+rounds_with_host f write s a bytes transfer = rounds_by (core_answerer_with_host f write) f write s a transfer a bytes 0
 
 -- an access to a space at an address
 abbrev pub core_plan_with_host : Forest → SpaceId → ℕ → Transfer → List Reached

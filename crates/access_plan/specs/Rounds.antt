@@ -22,7 +22,7 @@ use Rattle.access_plan.specs.Answering.{IsDeviceRegion}
 use Rattle.access_plan.specs.declared.lists.Reach.{Reach}
 use Rattle.access_plan.specs.declared.rounds.Round.{Round}
 use Rattle.access_plan.specs.declared.rounds.Round.TheVariants as rounds
-use Rattle.access_plan.specs.HostPlans.{IsNearEnd, MeetsEnd, answerer_with_host, round_at, rounds_with_host, taken_at}
+use Rattle.access_plan.specs.HostPlans.{IsNearEnd, MeetsEnd, answerer_with_host, core_answerer_with_host, round_at, rounds_with_host, taken_at}
 use Rattle.access_plan.specs.Lists.{Adds}
 
 -- where a route ends at no device, a round takes what shares the route, and reaches what a chunk does
@@ -65,11 +65,11 @@ IsSoundRound f (rounds.Piece region ops piece) = IsSoundPiece f region ops piece
 
 -- it is the next round at an address
 pub record IsRoundAt (f : Forest) (write : Bool) (s : SpaceId) (a left : ℕ) (round : Round) : Type 0 where
-  pub taken : bytes_in round ≡ taken_at (answerer_with_host f write) f write s a left
+  pub taken : bytes_in round ≡ taken_at (core_answerer_with_host f write) f write s a left
   pub some : 0 < bytes_in round
   pub most : bytes_in round ≤ left
   pub sound : IsSoundRound f round
-  pub is : (t : Transfer) → length_of t ≡ bytes_in round → reached_in f write round t ≡ round_at (answerer_with_host f write) f write s a t
+  pub is : (t : Transfer) → length_of t ≡ bytes_in round → reached_in f write round t ≡ round_at (core_answerer_with_host f write) f write s a t
 
 -- it is, or the next round meets the last offsets of a device
 abbrev pub TakesRound : Forest → Bool → SpaceId → ℕ → ℕ → Option Round → Type 0
@@ -78,10 +78,10 @@ TakesRound f write s a left (Some round) = IsRoundAt f write s a left round
 
 -- a round took this number of bytes, and the list grew by what it reaches
 pub record IsRound (f : Forest) (write : Bool) (s : SpaceId) (a left : ℕ) (t : Transfer) (before after : List Reach) (at taken : ℕ) : Type 0 where
-  pub taken_is : taken ≡ taken_at (answerer_with_host f write) f write s a left
+  pub taken_is : taken ≡ taken_at (core_answerer_with_host f write) f write s a left
   pub some : 0 < taken
   pub most : taken ≤ left
-  pub adds : Adds t before after (round_at (answerer_with_host f write) f write s a (part at taken t)) at (at + taken)
+  pub adds : Adds t before after (round_at (core_answerer_with_host f write) f write s a (part at taken t)) at (at + taken)
 
 -- it did, or it meets the last offsets of a device
 abbrev pub AddsRound : Forest → Bool → SpaceId → ℕ → ℕ → Transfer → List Reach → List Reach → ℕ → Option ℕ → Type 0

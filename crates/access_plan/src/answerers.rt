@@ -1,5 +1,6 @@
 // Who answers at a leaf.
 ghost use Rattle.std.specs.Prelude.{◌≡◌, ◌&&◌, not, Some};
+ghost use Rattle.mem_base.specs.access.CorePlans.{is_readonly, own_spot};
 ghost use Rattle.mem_base.specs.map.Region.{node_of};
 ghost use Rattle.access_plan.specs.HostPlans.{is_host_kind};
 ghost use Rattle.access_plan.specs.Answering.{IsAnswerer, IsAnswererBy, memory_unless, rom_device};
@@ -62,6 +63,24 @@ pub fn answerer_of(g: &Generation, spot: &Spot, write: bool) -> Answerer
         Some(node) => at_node(g, node, spot, write),
         None => Answerer::Nobody,
     }
+}
+
+// The flag of a region itself that it takes no writes.
+fn is_readonly(node: &Node) -> bool
+    ensures { result ≡ is_readonly node.now }
+{
+    matches!(node.kind, Kind::Rom) || node.readonly
+}
+
+/// A spot as QEMU's core takes it: read-only by its region's own flag. `memory_access_is_direct` of memory.h.
+pub(crate) fn own_spot(g: &Generation, spot: &Spot) -> Spot
+    ensures { result ≡ own_spot (node_of g.now.forest.nodes spot.now.leaf) spot.now }
+{
+    let mut own = *spot;
+    if let Some(node) = g.node(spot.leaf) {
+        own.attrs.readonly = is_readonly(node);
+    }
+    own
 }
 
 // A region is memory of the host, whose bytes the machine has not.

@@ -1,12 +1,13 @@
 // What an access reaches by QEMU's core, round by round.
 ghost use Rattle.std.specs.Prelude.{◌≡◌, ◌≤◌, ◌<◌, ◌+◌, ◌^◌, IfOk, IfSome, MatchOption, length, true};
 ghost use Rattle.mem_base.specs.access.Pieces.{piece_at};
+ghost use Rattle.mem_base.specs.access.CorePlans.{own_target};
 ghost use Rattle.access_cut.specs.Conditions.{AreGood, IsCut};
 ghost use Rattle.access_base.specs.Sizes.{IsSize};
 ghost use Rattle.access_plan.specs.Lists.{moved};
 ghost use Rattle.access_plan.specs.Rounds.{AddsRound, AddsRounds, IsDeviceAt, TakesRound};
 
-use crate::answerers::{Answerer, answerer_of};
+use crate::answerers::{Answerer, answerer_of, own_spot};
 use crate::devices::piece;
 use crate::leaves::target;
 use crate::lists::Reach;
@@ -62,6 +63,16 @@ fn device_at(g: &Generation, leads: &Target, write: bool) -> Option<(Spot, Ops)>
     }
 }
 
+// Where a route ends, with the flag of the region itself that it takes no writes, whatever a window on the way says.
+fn own_target(g: &Generation, leads: &Target) -> Target
+    ensures { result ≡ own_target g.now.forest leads.now }
+{
+    match leads {
+        Target::Leaf(spot) => Target::Leaf(own_spot(g, spot)),
+        Target::Unassigned => Target::Unassigned,
+    }
+}
+
 /// The next round of QEMU's core at an address, `left` bytes from the end of an access: how many bytes it takes, and who has them.
 ///
 /// `None` where it meets one of the last offsets of a device of 2^64 bytes, where a piece may end past them. QEMU's core, the body of the
@@ -77,7 +88,8 @@ pub fn next_round(
     requires addresses { addr + left ≤ 2 ^ 64 }
     ensures { TakesRound g.now.forest write space addr left result }
 {
-    let (leads, count) = first_chunk(g, space, addr, left, write);
+    let (route, count) = first_chunk(g, space, addr, left, write);
+    let leads = own_target(g, &route);
     let Some((spot, ops)) = device_at(g, &leads, write) else {
         return Some(Round::Route { leads, count });
     };

@@ -15,9 +15,16 @@ use Rattle.mem_base.specs.machine.Reaps.{first_writer}
 use Rattle.mem_base.specs.machine.Turns.{turns}
 use Rattle.mem_base.specs.machine.World.{opening, place_in_world}
 use Rattle.mem_base.specs.machine.CellHistories.{IsMarkKept}
+use Rattle.generation.specs.Published.{Published}
+use Rattle.epoch_rule.specs.Closing.{SeesWhole}
+use Rattle.epoch_rule.specs.Values.{WriterValue}
 use Rattle.cell_laws.specs.TurnCells.{ReusesReleased}
 use Rattle.writer_run.specs.Taken.{part_told_before}
 use Rattle.config_desk.specs.Configs.{ConfigState, IsOfTurns}
+
+-- where no pass is out, it is the whole history: all that the desk and the passes did
+abbrev pub HasSeenAll : WriterValue → Type 0
+HasSeenAll v = SeesWhole {E = Published} (λ x. x.number) (λ x. x.forest) (λ x. x.places) v
 
 -- what was seen, as a history of the pure machine
 abbrev pub seen_by_turns : (c : ConfigState) → IsOfTurns c.seat c.part → List PureEntry

@@ -2,7 +2,7 @@
 ghost use Rattle.epoch_rule.specs.Rule.{IsLegal};
 ghost use Rattle.config_desk.specs.Configs.{IsOfTurns};
 ghost use Rattle.config_desk.specs.LawfulDesks.{IsLawfulDesk};
-ghost use Rattle.config_desk.specs.SeenLaws.{IsSeenLegal, KeepsMarks, ReplaysToListeners, ReusesWords};
+ghost use Rattle.config_desk.specs.SeenLaws.{HasSeenAll, IsSeenLegal, KeepsMarks, ReplaysToListeners, ReusesWords};
 
 use crate::config::Config;
 use cell_laws::{turns_keep_marks, turns_reuse_released};
@@ -22,6 +22,13 @@ impl Config {
         ensures { IsLegal self.now.seat.sizes self.now.seat.seen }
     {
         self.hand.seat.has_seen_legal();
+    }
+
+    /// A law: where no pass is out, what the seat has seen is the whole history of the machine. It does nothing.
+    pub fn has_seen_all(&self)
+        ensures { HasSeenAll self.now.seat }
+    {
+        self.hand.seat.sees_whole();
     }
 
     /// A law: what the seat has seen, with the private events of the turns put in, is a legal history of the pure machine, and ends in

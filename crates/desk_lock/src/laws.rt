@@ -1,5 +1,6 @@
 // Laws of records and receipts.
 ghost use Rattle.epoch_rule.specs.Rule.{IsLegal};
+ghost use Rattle.config_desk.specs.SeenLaws.{HasSeenAll};
 ghost use Rattle.desk_orders.specs.Laws.{ClosesOneWay, FirstIsEmpty, ReceiptsStay};
 ghost use Rattle.desk_orders.specs.Laws.{LaterMakesTurns};
 ghost use Rattle.desk_lock.specs.Laws.{RecordsGrow};
@@ -21,6 +22,13 @@ impl Record {
         ensures { IsLegal self.now.seat.sizes self.now.seat.seen }
     {
         self.config.has_seen_shared();
+    }
+
+    /// A law: where no pass is out, what the seat has seen is the whole history of the machine. It does nothing.
+    pub fn has_seen_all(&self)
+        ensures { HasSeenAll self.now.seat }
+    {
+        self.config.has_seen_all();
     }
 }
 

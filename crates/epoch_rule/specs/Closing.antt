@@ -13,6 +13,7 @@ use Rattle.epoch_rule.specs.declared.views.Sizes.{Sizes}
 use Rattle.epoch_rule.specs.declared.views.View.{View}
 use Rattle.epoch_rule.specs.Rule.{IsLegal, IsRuled}
 use Rattle.epoch_rule.specs.Copies.{IsCopy}
+use Rattle.epoch_rule.specs.Values.{WriterValue}
 
 -- the table of a cabinet, with its slots for copies of editions and with what each of its seats knows
 abbrev pub TableState : Type 0 → Type 0
@@ -45,3 +46,10 @@ pub record IsWholeHistory {E : Type 0} (number : E → ℕ) (forest : E → Fore
   pub role : view.role ≡ Some 0
   pub seen : xs ≡ view.seen
   pub whole : xs ≡ ruled.log
+
+-- Between any two steps of any threads the cabinet's table is as its rule says. In each such table in which the writer's seat has seen this and
+-- has these passes out, it has seen all of the history, if none is out
+abbrev pub SeesWhole : {E : Type 0} → (E → ℕ) → (E → Forest) → (E → List Place) → WriterValue → Type 0
+SeesWhole {E} number forest places w = ((p : ℕ) → slice_index_or w.out p false ≡ false) → (s : TableState E)
+    (k : IsRuledTable number forest places w.sizes s) (seat : ℕ) (v : View) → get_elem? s.views seat ≡ some v → v.role ≡ Some 0 → v.seen ≡ w.seen
+    → v.out ≡ w.out → w.seen ≡ k.log

@@ -292,7 +292,8 @@ pub extern "C" fn vb_plan_read(
 }
 
 /// What a write of bytes to a space reaches, as `vb_plan_read` tells it of a read: callbacks come with the numbers that they take, and
-/// pages that are logged are to be marked. QEMU's core, `address_space_write`.
+/// pages that are logged are to be marked. Memory that is shown through a read-only alias takes no write in this machine's way, and takes it
+/// in QEMU's, which asks the region itself. QEMU's core, `address_space_write`.
 #[unsafe(no_mangle)]
 pub extern "C" fn vb_plan_write(
     alloc: Global,

@@ -28,14 +28,15 @@ use Rattle.mem_base.specs.access.Pieces.{piece, size_at, is_valid}
 use Rattle.mem_base.specs.declared.map.translations.Entry.{Entry}
 use Rattle.mem_base.specs.access.Trails.{Hop, trail_of, shares_next, chunks, first_length}
 use Rattle.mem_base.specs.access.AccessSteps.{Transfer, reading, writing, is_write, length_of, part}
-use Rattle.mem_base.specs.access.Plans.{Reached, Answerer, by_memory, by_device, by_nobody, by_memory_unless, answerer_at, answerer_in, answerer, in_piece, in_device, reached, in_chunk}
-use Rattle.mem_base.specs.access.CorePlans.{in_page, in_pages, taken_by, taken, reached_at_once, in_round, rounds_from}
+use Rattle.mem_base.specs.access.Plans.{Reached, Answerer, by_memory, by_device, by_nobody, by_memory_unless, answerer_at, answerer_in, answerer, in_piece, in_device, reached, in_chunk, plan}
+use Rattle.mem_base.specs.access.CorePlans.{in_page, in_pages, taken_by, reached_at_once, plan_of_core}
 use Rattle.iommu.specs.Ways.{further}
 use Rattle.access_cut.proofs.PieceLaws.{size_some}
 use Rattle.access_base.specs.Sizes.{IsSize}
 use Rattle.access_base.proofs.DeviceLaws.{size_so}
 use Rattle.access_base.proofs.RunLaws.{first_run}
-use Rattle.plan_laws.specs.CoreLaws.{StaysFrom, PlansAgree, OneChunkAgrees, EndsEven, RangesEndEven, EvenRangesAgree}
+use Rattle.plan_laws.specs.CoreLaws.{NoWindowShuts, PlansAgree, OneChunkAgrees, EndsEven, RangesEndEven, EvenRangesAgree}
+use Rattle.plan_laws.proofs.ShownRounds.{StaysFrom, in_round, rounds_as_shown, rounds_from, stays_as_shown, taken}
 use Rattle.plan_laws.proofs.FirstRuns.{IsFirst, first_is}
 use Rattle.plan_laws.proofs.Sizes.{size_less, same_size, size_even}
 use Rattle.plan_laws.proofs.Parts.{same_kind, part_length, device_then}
@@ -280,8 +281,14 @@ module _ (f : Forest) (closed : IsClosedForest f) (s : SpaceId) (first : ℕ) (t
       (passed_over (a + 1) left (n - 1) (omega (arith, some, most)) ∙ (λ i. rounds_from f s first t (at i) (after i) 0) ∙ rest)
       ∙ sym one.whole
 
+-- the core's plan, where its rounds are those that are shown
+as_shown : (f : Forest) → IsClosedForest f → (s : SpaceId) (a : ℕ) (t : Transfer) → NoWindowShuts f (is_write t) s a (length_of t)
+    → StaysFrom f (is_write t) s a (length_of t) 0 → plan_of_core f s a t ≡ plan f s a t
+as_shown f closed s a t free h =
+    rounds_as_shown f s a t a (length_of t) 0 free ∙ rounds f closed s a t (length_of t) (length_of t) a (omega arith) (omega arith) (omega arith) h
+
 pub plans_agree : PlansAgree
-plans_agree f closed s a t h = rounds f closed s a t (length_of t) (length_of t) a (omega arith) (omega arith) (omega arith) h
+plans_agree f closed s a t free h = as_shown f closed s a t free (stays_as_shown f (is_write t) s a (length_of t) 0 free h)
 
 -- premises that are easier to see
 
@@ -414,7 +421,7 @@ module _ (f : Forest) (w : Bool) (s : SpaceId) where
           (h (suc i) (omega (arith, l))))
 
 pub one_chunk_agrees : OneChunkAgrees
-one_chunk_agrees f closed s a t e = plans_agree f closed s a t (go (length_of t) e)
+one_chunk_agrees f closed s a t free e = as_shown f closed s a t free (go (length_of t) e)
   where
     go : (n : ℕ) → first_length (chunks f (is_write t) s a n) ≡ n → StaysFrom f (is_write t) s a n 0
     go zero e = tt
@@ -423,4 +430,4 @@ one_chunk_agrees f closed s a t e = plans_agree f closed s a t (go (length_of t)
         one_stays f (is_write t) s (suc n) a 0 (λ i l. h.shared i (subst (λ m. i + 1 < m) (sym e) l))
 
 pub even_ranges_agree : EvenRangesAgree
-even_ranges_agree f closed s a t h = plans_agree f closed s a t (even_stays f (is_write t) s closed (length_of t) a 0 h)
+even_ranges_agree f closed s a t free h = as_shown f closed s a t free (even_stays f (is_write t) s closed (length_of t) a 0 h)

@@ -3,4 +3,5 @@ pub mod FirstRuns
 pub mod Sizes
 pub mod Parts
 pub mod Ways
+pub mod ShownRounds
 pub mod CoreLaws

@@ -15,6 +15,7 @@ use Rattle.mem_base.specs.script.Scripts.{Line, Meaning}
 use Rattle.run_laws.specs.Fitting.{AreFitting}
 use Rattle.race_laws.proofs.StoppedEnds.{races_exist}
 use Rattle.config_desk.specs.LawfulDesks.{IsLawfulDesk}
+use Rattle.config_desk.specs.SeenLaws.{HasSeenAll}
 use Rattle.race_run.proofs.HandedOn.{ConfigState, RunFault, Write}
 use Rattle.race_run.specs.Racing.{HasStopped, TakesOne}
 use Rattle.top_runs.specs.declared.endings.Ending.{Ending}
@@ -91,10 +92,10 @@ module _ {K : Type 0} (written : K → Option (List ℕ)) (holds : K → List �
   raced_by : (write_faults : K → ℕ) (lines : List Line) (sink sink' : K) (c : ConfigState) (x : Unit {0})
       → TakesOne written holds sink sink' (IsTextOfRace lines c.seat.seen)
       → (Every IsAlone (phases_of lines) → Writes {T = Unit {0}} {E = RunFault} written holds write_faults sink sink' (text_of lines) Write (Ok x))
-      → c.seat.out ≡ replicate most_passes false → IsLawfulDesk c
+      → c.seat.out ≡ replicate most_passes false → HasSeenAll c.seat → IsLawfulDesk c
       → WritesRaceOf written holds (Ok lines) sink sink' (Some c) endings.Done
-  raced_by write_faults lines sink sink' c x took run home lawful = record {
-    done = λ e. (lines, c, refl, refl, record { home = home; text = took.0; race = took.2; lawful = lawful; took = took.1 });
+  raced_by write_faults lines sink sink' c x took run home all lawful = record {
+    done = λ e. (lines, c, refl, refl, record { home = home; all = all; text = took.0; race = took.2; lawful = lawful; took = took.1 });
     kept = λ n. absurd (n refl);
     plain = λ others e all. plain_done others (same_lines lines others e) all;
     bad = tt;
@@ -112,12 +113,12 @@ module _ {K : Type 0} (written : K → Option (List ℕ)) (holds : K → List �
   pub raced : (write_faults : K → ℕ) (lines : List Line) (sink sink' : K) (c : ConfigState) (r : Result (Unit {0}) RunFault) (x : Unit {0}) → r ≡ Ok x
       → OnOk r (TakesOne written holds sink sink' (IsTextOfRace lines c.seat.seen))
       → (Every IsAlone (phases_of lines) → Writes written holds write_faults sink sink' (text_of lines) Write r)
-      → c.seat.out ≡ replicate most_passes false → IsLawfulDesk c
+      → c.seat.out ≡ replicate most_passes false → HasSeenAll c.seat → IsLawfulDesk c
       → WritesRaceOf written holds (Ok lines) sink sink' (Some c) endings.Done
-  raced write_faults lines sink sink' c r x is whole run home lawful =
+  raced write_faults lines sink sink' c r x is whole run home seen lawful =
       raced_by write_faults lines sink sink' c x
       (subst (λ (z : Result (Unit {0}) RunFault). OnOk z (TakesOne written holds sink sink' (IsTextOfRace lines c.seat.seen))) is whole)
-      (λ all. subst (λ (z : Result (Unit {0}) RunFault). Writes written holds write_faults sink sink' (text_of lines) Write z) is (run all)) home lawful
+      (λ all. subst (λ (z : Result (Unit {0}) RunFault). Writes written holds write_faults sink sink' (text_of lines) Write z) is (run all)) home seen lawful
 
   -- it stopped
 

@@ -10,6 +10,7 @@ use Rattle.mem_base.specs.script.RefusalLines.{bad_line}
 use Rattle.mem_base.specs.script.Race.{IsAlone, IsTextOfRace, phases_of}
 use Rattle.mem_base.specs.script.Run.{text_of}
 use Rattle.config_desk.specs.LawfulDesks.{IsLawfulDesk}
+use Rattle.config_desk.specs.SeenLaws.{HasSeenAll}
 use Rattle.race_run.specs.HandedOn.{ConfigState}
 use Rattle.top_runs.specs.declared.endings.Ending.{Ending}
 use Rattle.top_runs.specs.declared.endings.Ending.TheVariants as endings
@@ -20,13 +21,13 @@ abbrev pub IsRacedText : Meaning → Text → Type 0
 IsRacedText (Ok lines) text = (xs : List HistoryEntry) × IsTextOfRace lines xs text
 IsRacedText (Err bad) text = text ≡ bad_line bad
 
--- The machine on which the commands ran as a race, by its desk: all passes are taken in, and by the rule of the cabinet a desk with no pass
--- out has seen the whole history of its machine (the law `seats_begin_one_history`); what it has seen is a history of the commands, and the sink
--- took its text. At every moment of this history what holds of a run before each command holds too: what is published shows what the manual's
+-- The machine on which the commands ran as a race, by its desk: all passes are taken in, and so what the desk has seen is the whole history of
+-- its machine; it is a history of the commands, and the sink took its text. At every moment of this history what holds of a run before each command holds too: what is published shows what the manual's
 -- search finds, listeners have been told just that, and a reap releases what no held generation names
 pub record HasRaced {K : Type 0} (written : K → Option (List ℕ)) (holds : K → List ℕ → Type 0) (lines : List Line) (sink sink' : K)
     (c : ConfigState) : Type 0 where
   pub home : c.seat.out ≡ replicate most_passes false
+  pub all : HasSeenAll c.seat
   pub text : Text
   pub race : IsTextOfRace lines c.seat.seen text
   pub lawful : IsLawfulDesk c

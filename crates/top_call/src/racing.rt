@@ -51,6 +51,7 @@ fn race_script<R: Threads + Wait + Sync, K: Sink, G: Gate>(
     drop(cabinet);
     match done {
         Ok(()) => {
+            config.has_seen_all();
             config.is_lawful();
             (Ending::Done, Some(config))
         }

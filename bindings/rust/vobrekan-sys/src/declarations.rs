@@ -525,7 +525,8 @@ unsafe extern "C" {
     pub fn vb_plan_read(handle: *mut vb_machine, way: u32, space: u32, addr: u64, len: usize, out: *mut vb_reached, out_len: usize) -> vb_answer;
 
     /// What a write of bytes to a space reaches, as `vb_plan_read` tells it of a read: callbacks come with the numbers that they take, and
-    /// pages that are logged are to be marked. QEMU's core, `address_space_write`.
+    /// pages that are logged are to be marked. Memory that is shown through a read-only alias takes no write in this machine's way, and takes it
+    /// in QEMU's, which asks the region itself. QEMU's core, `address_space_write`.
     pub fn vb_plan_write(handle: *mut vb_machine, way: u32, space: u32, addr: u64, bytes: *const u8, bytes_len: usize, out: *mut vb_reached, out_len: usize) -> vb_answer;
 
     /// Makes a container: a region that only groups others. `size` is in bytes, and 2^64 - 1 stands for 2^64, here and below.

@@ -107,6 +107,36 @@ fn memory_of_the_host_and_marks() {
     assert_eq!(out, [0x11, 0x22, 0x33, 0x44]);
 }
 
+/// A PC shows RAM read-only below its BIOS by such a window (`pam-rom`).
+#[test]
+fn a_write_through_a_read_only_window() {
+    let mut machine = Machine::new(1 << 12).unwrap();
+    let mut change = machine.transaction().unwrap();
+    let system = change.region(Kind::Container, WHOLE).unwrap();
+    let memory = change.region(Kind::Host, 0x2000).unwrap();
+    let shut = change.region(Kind::Host, 0x1000).unwrap();
+    let window = change.region(Kind::Alias(memory, 0x1000), 0x1000).unwrap();
+    change.space(SPACE, system).unwrap();
+    change.add(system, 0x8000, window, 0).unwrap();
+    change.add(system, 0x9000, shut, 0).unwrap();
+    change.readonly(window, true).unwrap();
+    change.readonly(shut, true).unwrap();
+    change.commit().unwrap();
+    let mut bus = Noted::default();
+    let ended = machine.write_to(&mut bus, Way::Chunks, SPACE, 0x8010, &[1, 2]).unwrap();
+    assert_eq!((bus.0.len(), ended.decode), (0, true));
+    let ended = machine.write_to(&mut bus, Way::Qemu, SPACE, 0x8010, &[1, 2]).unwrap();
+    assert_eq!((bus.0, ended.decode), (vec![format!("write {} 0x1010 [1, 2]", memory.0)], false));
+    for way in [Way::Qemu, Way::Chunks] {
+        let mut bus = Noted::default();
+        let ended = machine.write_to(&mut bus, way, SPACE, 0x9010, &[1]).unwrap();
+        assert_eq!((bus.0.len(), ended.decode), (0, true));
+        let mut out = [0; 2];
+        machine.read_from(&mut bus, way, SPACE, 0x8010, &mut out).unwrap();
+        assert_eq!(bus.0, [format!("read {} 0x1010 2", memory.0)]);
+    }
+}
+
 #[test]
 fn what_is_refused() {
     let (mut machine, _, _) = ports();

@@ -1,7 +1,7 @@
 use Rattle.std.proofs.Common.{◌≡◌, ℕ, ◌+◌, ◌-◌, ◌++◌, ap, subst, ◌∙◌, arith}
 use Rattle.mem_base.specs.declared.map.forests.Forest.{Forest}
 use Rattle.mem_base.specs.access.AccessSteps.{Transfer, part}
-use Rattle.access_plan.specs.HostPlans.{answerer_with_host, round_at, rounds_by, rounds_with_host}
+use Rattle.access_plan.specs.HostPlans.{core_answerer_with_host, round_at, rounds_by, rounds_with_host}
 use Rattle.access_plan.specs.Lists.{Adds, IsUnderway, moved}
 use Rattle.access_plan.specs.Rounds.{AddsRound, IsRound}
 use Rattle.access_plan.proofs.ListLaws.{underway_none, underway_then, all_done}
@@ -20,7 +20,7 @@ loop-done-init c =
     let left : n ≡ n - 0 = omega arith in (
       omega arith,
       subst (λ l. IsUnderway t c.args.list.now.items c.args.list.now.items (rounds_with_host f w s a n t) l 0 0)
-          (λ i. rounds_by (answerer_with_host f w) f w s a t (here i) (left i) 0)
+          (λ i. rounds_by (core_answerer_with_host f w) f w s a t (here i) (left i) 0)
           (underway_none t c.args.list.now.items (rounds_with_host f w s a n t) 0),
     )
 
@@ -41,16 +41,16 @@ loop-done-preserved c =
     let here : a + done + count ≡ a + (done + count) = omega arith in
     let left : n - done - count ≡ n - (done + count) = omega arith in
     let skipped : a + done - a ≡ done = omega arith in
-    let list : rounds_by (answerer_with_host f w) f w s a t (a + done) (n - done) 0
-    ≡ round_at (answerer_with_host f w) f w s (a + done) (part done count t)
-    ++ rounds_by (answerer_with_host f w) f w s a t (a + (done + count)) (n - (done + count)) 0 =
-    rounds_then (answerer_with_host f w) f w s a t (a + done) (n - done) count r.taken_is r.some r.most
-    ∙ (λ i. round_at (answerer_with_host f w) f w s (a + done) (part (skipped i) count t)
-    ++ rounds_by (answerer_with_host f w) f w s a t (here i) (left i) 0) in (
+    let list : rounds_by (core_answerer_with_host f w) f w s a t (a + done) (n - done) 0
+    ≡ round_at (core_answerer_with_host f w) f w s (a + done) (part done count t)
+    ++ rounds_by (core_answerer_with_host f w) f w s a t (a + (done + count)) (n - (done + count)) 0 =
+    rounds_then (core_answerer_with_host f w) f w s a t (a + done) (n - done) count r.taken_is r.some r.most
+    ∙ (λ i. round_at (core_answerer_with_host f w) f w s (a + done) (part (skipped i) count t)
+    ++ rounds_by (core_answerer_with_host f w) f w s a t (here i) (left i) 0) in (
       omega (arith, most, less),
       underway_then t c.args.list.now.items c.loop-done.list.items c.add_round.new.list.items (rounds_with_host f w s a n t)
-          (rounds_by (answerer_with_host f w) f w s a t (a + done) (n - done) 0) (round_at (answerer_with_host f w) f w s (a + done) (part done count t))
-          (rounds_by (answerer_with_host f w) f w s a t (a + (done + count)) (n - (done + count)) 0) 0 done (done + count) c.loop-done.invariant.1 list r.adds,
+          (rounds_by (core_answerer_with_host f w) f w s a t (a + done) (n - done) 0) (round_at (core_answerer_with_host f w) f w s (a + done) (part done count t))
+          (rounds_by (core_answerer_with_host f w) f w s a t (a + (done + count)) (n - (done + count)) 0) 0 done (done + count) c.loop-done.invariant.1 list r.adds,
     )
 
 pub returns : goal.returns
@@ -67,5 +67,5 @@ returns c =
     let none : n - c.loop-done.done ≡ 0 = omega (arith, all) in
     subst (λ m. Adds t c.args.list.now.items c.loop-done.list.items (rounds_with_host f w s a n t) 0 m) all
     (all_done t c.args.list.now.items c.loop-done.list.items (rounds_with_host f w s a n t)
-    (rounds_by (answerer_with_host f w) f w s a t (a + c.loop-done.done) (n - c.loop-done.done) 0) 0 c.loop-done.done c.loop-done.invariant.1
-    (ap (λ m. rounds_by (answerer_with_host f w) f w s a t (a + c.loop-done.done) m 0) none))
+    (rounds_by (core_answerer_with_host f w) f w s a t (a + c.loop-done.done) (n - c.loop-done.done) 0) 0 c.loop-done.done c.loop-done.invariant.1
+    (ap (λ m. rounds_by (core_answerer_with_host f w) f w s a t (a + c.loop-done.done) m 0) none))
