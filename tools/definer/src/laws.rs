@@ -12,15 +12,20 @@ pub fn broken(defs: &Definitions, held: &Held) -> Option<String> {
     let first = defs.of("Reaps", "first_writer", vec![held.pool.clone(), passes.clone()]);
     let given = defs.spine(&held.courses).iter().flat_map(|c| defs.spine(&defs.field(c, "given"))).collect::<Vec<_>>();
     let answered = given.into_iter().map(|g| defs.of("Records", "answered", vec![g])).collect();
-    let turns = defs.of("Turns", "turns", vec![first, defs.list(answered)]);
+    let turns = defs.of("Turns", "turns", vec![first.clone(), defs.list(answered)]);
     let asked = vec![held.pool.clone(), passes.clone(), turns.clone(), held.entries.clone()];
     if let Some(part) = PARTS_OF_JOINED.into_iter().find(|p| !defs.yes(&defs.of("JoinedHistory", &format!("IsJoined.{p}"), asked.clone()))) {
         return Some(format!("IsJoined.{part}"));
     }
     let joined = defs.of("JoinedHistory", "joined_history", vec![turns.clone(), held.entries.clone()]);
-    let opening = defs.of("World", "opening", vec![held.pool.clone(), passes]);
+    let opening = defs.of("World", "opening", vec![held.pool.clone(), passes.clone()]);
+    let writer = defs.of("Turns", "last_writer", vec![first, turns.clone()]);
     let places = of_places(defs, &defs.spine(&turns), &defs.spine(&joined));
-    places.or_else(|| of_cells(defs, &opening, &joined)).or_else(|| of_marks(defs, opening, defs.spine(&joined)))
+    let end = defs.of("History", "after_entries", vec![opening.clone(), joined.clone()]);
+    places
+        .or_else(|| of_words(defs, held, passes, writer, &end))
+        .or_else(|| of_cells(defs, &opening, &joined, &end))
+        .or_else(|| of_marks(defs, opening, defs.spine(&joined)))
 }
 
 /// The private entry of each turn stands beside the turn's own shared entries (`IsPlaced`).
@@ -39,10 +44,18 @@ fn of_places(defs: &Definitions, turns: &[Val], joined: &[Val]) -> Option<String
     None
 }
 
+/// At the end, the words of the running machine, read as the cells of the desk's places, are those of the pure machine.
+fn of_words(defs: &Definitions, held: &Held, passes: Val, writer: Val, end: &Val) -> Option<String> {
+    let words = Val::Int(defs.num(&held.pool) + defs.num(&defs.of("Limits", "notifier_count", vec![])));
+    let opening = defs.of("SharedHistory", "shared_opening", vec![words, passes]);
+    let shared = defs.of("SharedHistory", "after_shared_entries", vec![opening, held.entries.clone()]);
+    let shown = defs.of("ShownWorlds", "world_shown", vec![writer, shared]);
+    if defs.same(&shown, end) { None } else { Some("the world that the running machine shows".into()) }
+}
+
 /// A cell holds what the steps on it left of 0. Of a place of many words some at its start and some at its end are asked for: among these are its marks.
-fn of_cells(defs: &Definitions, opening: &Val, joined: &Val) -> Option<String> {
-    let end = defs.of("History", "after_entries", vec![opening.clone(), joined.clone()]);
-    for place in defs.spine(&defs.field(&end, "writer.desk.places")) {
+fn of_cells(defs: &Definitions, opening: &Val, joined: &Val, end: &Val) -> Option<String> {
+    for place in defs.spine(&defs.field(end, "writer.desk.places")) {
         let (region, words) = (defs.field(&place, "region"), defs.num(&defs.field(&place, "words")));
         for i in (0..words).filter(|i| *i < 4 || words - i <= 4) {
             let holds = defs.of("CellHistories", "cell_value", vec![end.clone(), region.clone(), Val::Int(i)]);

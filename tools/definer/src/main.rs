@@ -178,8 +178,8 @@ fn races(defs: &Definitions, folder: &Path) -> i32 {
     count.told()
 }
 
-/// Why this history is no race, if it is none; or the law of races that does not hold of it.
-fn refusal(defs: &Definitions, text: &str) -> R<Option<String>> {
+/// Why this history is no race, if it is none; or the law of races that does not hold of it, where these are asked for.
+fn refusal(defs: &Definitions, text: &str, with_laws: bool) -> R<Option<String>> {
     let h = history::parsed(defs, text)?;
     let lines = history::script_of(defs, &h.script)?;
     let held = Held::new(defs, &lines, &h.passed);
@@ -187,7 +187,7 @@ fn refusal(defs: &Definitions, text: &str) -> R<Option<String>> {
     if refused.is_none() != held.is_race(&h.text) {
         return Err("the parts of `IsRace` hold, and not the whole, or the other way round".into());
     }
-    Ok(refused.or_else(|| laws::broken(defs, &held)))
+    Ok(refused.or_else(|| if with_laws { laws::broken(defs, &held) } else { None }))
 }
 
 /// The text of a history: of a file NAME.true or NAME.false, that of the one that it names with its changes.
@@ -203,17 +203,17 @@ fn history_of(path: &Path) -> R<String> {
 fn histories(defs: &Definitions, folder: &Path) -> i32 {
     let mut count = Count::default();
     for path in [names_of(folder, "history", false), names_of(folder, "true", false)].concat() {
-        count.case(Some(defs), &path.display().to_string(), || match refusal(defs, &history_of(&path)?)? {
+        count.case(Some(defs), &path.display().to_string(), || match refusal(defs, &history_of(&path)?, true)? {
             None => Ok(String::new()),
             Some(part) => Err(format!("it is a true history, and {part} does not hold of it")),
         });
     }
     for path in names_of(folder, "false", false) {
         count.case(Some(defs), &path.display().to_string(), || {
-            let what = edits_of(&path)?;
-            let refused = refusal(defs, &history_of(&path)?)?.ok_or("it is taken for a race")?;
-            match what.said.get("refused") {
-                Some(part) if refused.starts_with(part) => Ok(format!("refused, {}: {refused}", what.what)),
+            let made = edits_of(&path)?;
+            let refused = refusal(defs, &history_of(&path)?, false)?.ok_or("it is taken for a race")?;
+            match made.said.get("refused") {
+                Some(part) if refused.starts_with(part) => Ok(format!("refused by {refused}: {}", made.what)),
                 _ => Err(format!("it is refused by {refused}")),
             }
         });
@@ -221,32 +221,43 @@ fn histories(defs: &Definitions, folder: &Path) -> i32 {
     count.told()
 }
 
-/// What notices a wrong definition: a script, where it writes something else, or a history, where it is judged otherwise.
-fn notices(folder: &Path, edits: Vec<Edit>, example: &Path) -> R<String> {
-    let defs = Definitions::load(folder, &edits)?;
-    let judged = caught(|| match example.extension().and_then(|x| x.to_str()) {
-        Some("mt") => Ok(alike(&text_of(&defs, read(example)?.as_bytes()), read(&example.with_extension("out"))?.as_bytes()).is_ok()),
-        Some("history" | "true") => Ok(refusal(&defs, &history_of(example)?)?.is_none()),
-        _ => Ok(refusal(&defs, &history_of(example)?)?.is_some()),
-    });
-    match judged {
+/// Whether an example is as it should be: a script writes its answer, one of the folder `races` by a race, and a history is judged as its file says.
+fn is_as_told(defs: &Definitions, example: &Path, ending: &str) -> R<bool> {
+    let kind = example.extension().and_then(|x| x.to_str());
+    if kind != Some("mt") {
+        let is_false = kind == Some("false");
+        return Ok(refusal(defs, &history_of(example)?, !is_false)?.is_some() == is_false);
+    }
+    let own = example.with_extension(ending);
+    let wanted = read(&if own.is_file() { own } else { example.with_extension("out") })?;
+    let script = read(example)?;
+    let raced_too = example.parent().is_some_and(|p| p.ends_with("races"));
+    let text = if raced_too { raced(defs, &script, Schedule { seed: None, loses: false })?.text } else { text_of(defs, script.as_bytes()) };
+    Ok(text == wanted.as_bytes())
+}
+
+/// Whether a wrong definition is noticed by the example that its file names, in the way that it names.
+fn noticed(asked: &Asked, folder: &Path, examples: &Path, path: &Path) -> R<String> {
+    let made = edits_of(path)?;
+    let example = examples.join(made.said.get("noticed").ok_or("it does not say what notices it")?);
+    let (mut edits, mut ending) = (vec![], "out");
+    if let Some(way) = made.said.get("way") {
+        edits = edits_of(&folder.with_file_name("ways").join(format!("{way}.edit")))?.edits;
+        ending = way;
+    }
+    edits.extend(made.edits);
+    let defs = Definitions::load(&asked.folder, &edits)?;
+    match caught(|| is_as_told(&defs, &example, ending)) {
         Ok(true) => Err(format!("{} does not notice it", example.display())),
-        Ok(false) => Ok("noticed".into()),
-        Err(why) => Ok(format!("noticed: {}", why.lines().next().unwrap_or_default())),
+        Ok(false) => Ok(format!("noticed, {}", made.what)),
+        Err(why) => Ok(format!("noticed, {}: {}", made.what, why.lines().next().unwrap_or_default())),
     }
 }
 
 fn wrong(asked: &Asked, folder: &Path, examples: &Path) -> i32 {
     let mut count = Count::default();
     for path in names_of(folder, "edit", false) {
-        count.case(None, &path.display().to_string(), || {
-            let made = edits_of(&path)?;
-            let by = examples.join(made.said.get("noticed").ok_or("it does not say what notices it")?);
-            let way = made.said.get("way").map(|w| folder.with_file_name("ways").join(format!("{w}.edit")));
-            let mut all = way.map_or(Ok(vec![]), |w| edits_of(&w).map(|e| e.edits))?;
-            all.extend(made.edits);
-            notices(&asked.folder, all, &by)
-        });
+        count.case(None, &path.display().to_string(), || noticed(asked, folder, examples, &path));
     }
     count.told()
 }

@@ -114,6 +114,9 @@ pub const NATIVES: &[Row] = &[
     ("drop", 2, |defs, a| {
         let mut n = defs.num(&a[0]);
         let mut v = defs.force(&a[1]);
+        if let Val::Sparse(s, i) = &v {
+            return Val::Sparse(s.clone(), s.len.min(i + n as usize));
+        }
         while n > 0 {
             match defs.uncons(&v) {
                 Some((_, r)) => v = defs.force(&r),
