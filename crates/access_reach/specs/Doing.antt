@@ -9,11 +9,6 @@ AllDone does x [] [] y = x ≡ y
 AllDone {S} does x (e ∷ es) (r ∷ rs) y = (m : S) × does x e r m × AllDone does m es rs y
 AllDone does x _ _ y = ⊥
 
--- a single request
-pub one_done : {S : Type 0} (does : S → Asked → Reply → S → Type 0) (x y : S) (e : Asked) (r : Reply) → does x e r y
-    → AllDone does x (e ∷ []) (r ∷ []) y
-one_done does x y e r h = (y, h, refl)
-
 -- some requests, and others after them, are one list
 pub done_then : {S : Type 0} (does : S → Asked → Reply → S → Type 0) (x y z : S) (es fs : List Asked) (rs qs : List Reply) → length rs ≡ length es
     → AllDone does x es rs y → AllDone does y fs qs z → AllDone does x (es ++ fs) (rs ++ qs) z
