@@ -1,6 +1,6 @@
 -- What memory and devices of one's own did, one request after another.
 use Rattle.std.specs.Prelude.{◌≡◌, List, [], ◌∷◌, ◌++◌, length}
-use Rattle.std.proofs.Common.{arith, refl, subst, sym}
+use Rattle.std.proofs.Common.{arith, subst, sym}
 use Rattle.access_reach.specs.Asking.{Asked, Reply}
 
 -- by what a single request does: each of these was done in the state that the one before it left, and had its reply
