@@ -1,6 +1,6 @@
 -- What is ready before a block starts: the lines of its actors, and room for them.
 use Rattle.std.specs.Prelude.{◌≡◌, ℕ, ◌+◌, ◌<◌, ◌≤◌, Bool, true, All, List, [], ◌∷◌, ◌++◌, length, map, nat_le, slice_index_or}
-use Rattle.std.specs.Prelude.{slice_set, vec_capacity}
+use Rattle.std.specs.Prelude.{vec_capacity}
 use Rattle.mem_base.specs.map.Limits.{most_passes}
 use Rattle.mem_base.specs.script.Scripts.{Line}
 use Rattle.mem_base.specs.script.Tasks.{Known}
