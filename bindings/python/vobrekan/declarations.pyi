@@ -217,8 +217,7 @@ class vb_listener_call(Structure):
     listener: int
     range: vb_flat_range
     event: vb_live_event
-    from: int
     to: int
-    def __init__(self, what: int = ..., listener: int = ..., range: vb_flat_range = ..., event: vb_live_event = ..., from: int = ..., to: int = ...) -> None: ...
+    def __init__(self, what: int = ..., listener: int = ..., range: vb_flat_range = ..., event: vb_live_event = ..., to: int = ...) -> None: ...
 
 FUNCTIONS: dict[str, tuple[list[Any], Any]]
