@@ -1,6 +1,7 @@
 """Makes the wheel, as pip asks for it, with nothing but Python: `pip wheel .` in this folder, or tools/release.
 
-The folder VOBREKAN_LIB has libvobrekan.so, which is put into the wheel; without it, it is bindings/out beside this folder. The same files give the same bytes."""
+The folder VOBREKAN_LIB has libvobrekan.so, which is put into the wheel, and in licences/, where that is there, those of what is in it; without VOBREKAN_LIB
+it is bindings/out beside this folder. The same files give the same bytes."""
 import base64
 import hashlib
 import os
@@ -33,10 +34,17 @@ def metadata(it):
     return "\n".join(rows) + "\n\n" + read(f"{HERE}/{it['readme']}").decode()
 
 
-def library():
-    """The shared object."""
-    folder = os.environ.get("VOBREKAN_LIB") or f"{HERE}/../out"
-    return read(f"{folder}/libvobrekan.so")
+def folder():
+    """The folder with the shared object."""
+    return os.environ.get("VOBREKAN_LIB") or f"{HERE}/../out"
+
+
+def licences():
+    """The licence files: this project's, and those that stand beside the shared object."""
+    found, beside = {name: read(f"{HERE}/../../{name}") for name in LICENCES}, f"{folder()}/licences"
+    if os.path.isdir(beside):
+        found |= {name: read(f"{beside}/{name}") for name in sorted(os.listdir(beside))}
+    return found
 
 
 def files():
@@ -44,10 +52,10 @@ def files():
     it = project()
     notes = f"{it['name']}-{it['version']}.dist-info"
     made = {f"vobrekan/{name}": read(f"{HERE}/vobrekan/{name}") for name in MODULE}
-    made["vobrekan/libvobrekan.so"] = library()
+    made["vobrekan/libvobrekan.so"] = read(f"{folder()}/libvobrekan.so")
     made[f"{notes}/METADATA"] = metadata(it).encode()
     made[f"{notes}/WHEEL"] = f"Wheel-Version: 1.0\nGenerator: vobrekan\nRoot-Is-Purelib: false\nTag: {TAG}\n".encode()
-    made |= {f"{notes}/licenses/{name}": read(f"{HERE}/../../{name}") for name in LICENCES}
+    made |= {f"{notes}/licenses/{name}": data for name, data in licences().items()}
     record = f"{notes}/RECORD"
     rows = [f"{path},sha256={base64.urlsafe_b64encode(hashlib.sha256(data).digest()).rstrip(b'=').decode()},{len(data)}" for path, data in made.items()]
     made[record] = ("\n".join([*rows, f"{record},,"]) + "\n").encode()

@@ -296,7 +296,6 @@ class Tests(unittest.TestCase):
             machine.add(parent, 0x1000, child)
         told = refused.exception
         self.assertEqual((told.code, told.name, told.value), (c.VB_HAS_CONTAINER, "HAS_CONTAINER", parent))
-        self.assertEqual(vobrekan.CODES, {number: name[3:] for name, number in vars(c).items() if name[3:] in vobrekan.CODES.values()})
         self.assertEqual((vobrekan.CODES[0], vobrekan.CODES[28], len(vobrekan.CODES)), ("DONE", "CONTENDED", 29))
 
     def test_the_examples_of_the_module(self):
