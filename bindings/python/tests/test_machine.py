@@ -1,9 +1,12 @@
 """A machine through the module for Python."""
+import contextlib
+import doctest
 import os
 import sys
 import unittest
 
 sys.path.insert(0, os.path.join(os.path.dirname(os.path.abspath(__file__)), ".."))
+import vobrekan  # noqa: E402
 from vobrekan import Desk, Device, Ioevent, Machine, Refused, WHOLE, run  # noqa: E402
 from vobrekan import declarations as c  # noqa: E402
 
@@ -270,6 +273,35 @@ class Tests(unittest.TestCase):
             end += len(told)
         with self.assertRaises(IndexError):
             desk.told()
+
+    def test_what_is_closed_is_freed(self):
+        with Desk(1 << 12) as desk, desk.cpu() as cpu:
+            cpu.enter()
+        for call in (desk.reap, cpu.enter):
+            with self.assertRaises(Refused) as refused:
+                call()
+            self.assertEqual((refused.exception.code, refused.exception.name), (c.VB_NO_MACHINE, "NO_MACHINE"))
+        with contextlib.closing(Machine(64)) as machine:
+            with machine:
+                machine.space(SPACE, machine.container())
+            self.assertEqual(machine.last, 1)
+        self.assertRaises(Refused, machine.container)
+        machine.close()
+
+    def test_a_refusal_has_its_fields(self):
+        machine = Machine(1 << 12)
+        parent, child = machine.container(), machine.ram(0x1000)
+        machine.add(parent, 0, child)
+        with self.assertRaises(Refused) as refused:
+            machine.add(parent, 0x1000, child)
+        told = refused.exception
+        self.assertEqual((told.code, told.name, told.value), (c.VB_HAS_CONTAINER, "HAS_CONTAINER", parent))
+        self.assertEqual((vobrekan.CODES[0], vobrekan.CODES[28], len(vobrekan.CODES)), ("DONE", "CONTENDED", 29))
+
+    def test_the_examples_of_the_module(self):
+        self.assertEqual(doctest.testmod(vobrekan).failed, 0)
+        with open(os.path.join(os.path.dirname(vobrekan.__file__), "..", "pyproject.toml"), encoding="utf-8") as project:
+            self.assertIn(f'version = "{vobrekan.__version__}"', project.read())
 
 
 if __name__ == "__main__":

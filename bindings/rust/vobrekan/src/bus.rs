@@ -3,6 +3,48 @@ use crate::{Access, Client, Machine, Reached, Refusal, RegionId, SpaceId, Way};
 use vobrekan_sys as sys;
 
 /// The memory of the host and the devices of a monitor. Offsets are in the region.
+///
+/// ```
+/// use std::collections::BTreeMap;
+/// use vobrekan::*;
+///
+/// /// Memory by its bytes, and one device that answers the offset at which it is read.
+/// #[derive(Default)]
+/// struct Mine(BTreeMap<u64, u8>);
+///
+/// impl Bus for Mine {
+///     fn read_memory(&mut self, _: RegionId, offset: u64, out: &mut [u8]) {
+///         for (at, byte) in (offset..).zip(out) {
+///             *byte = self.0.get(&at).copied().unwrap_or(0);
+///         }
+///     }
+///
+///     fn write_memory(&mut self, _: RegionId, offset: u64, bytes: &[u8]) {
+///         self.0.extend((offset..).zip(bytes.iter().copied()));
+///     }
+///
+///     fn read_device(&mut self, _: RegionId, offset: u64, _: u8) -> Option<u64> {
+///         Some(offset)
+///     }
+///
+///     fn write_device(&mut self, _: RegionId, _: u64, _: u8, _: u64) -> bool {
+///         true
+///     }
+/// }
+///
+/// let mut machine = Machine::new(1 << 10)?;
+/// let device = Device { regs: 1, valid_min: 1, valid_max: 4, impl_min: 1, impl_max: 4, ..Device::default() };
+/// let (board, memory) = (machine.region(Kind::Container, WHOLE)?, machine.region(Kind::Host, 1 << 32)?);
+/// let port = machine.region(Kind::Io(device), 0x100)?;
+/// machine.space(SpaceId(0), board)?;
+/// machine.add(board, 0, memory, 0)?;
+/// machine.add(board, 0x1000, port, 1)?;
+/// let (mut mine, mut bytes) = (Mine::default(), [0; 4]);
+/// machine.write_to(&mut mine, Way::Qemu, SpaceId(0), 0xffc, &[1, 2, 3, 4])?;
+/// machine.read_from(&mut mine, Way::Qemu, SpaceId(0), 0xffe, &mut bytes)?; // two bytes of memory, two of the device
+/// assert_eq!(bytes[..2], [3, 4]);
+/// # Ok::<(), Refusal>(())
+/// ```
 pub trait Bus {
     /// Reads bytes of a region's memory.
     fn read_memory(&mut self, region: RegionId, offset: u64, out: &mut [u8]);

@@ -5,31 +5,65 @@ use std::ptr::null_mut;
 use vobrekan_sys as sys;
 
 /// What is asked of a desk: each is the call of that name of a [`Machine`](crate::Machine).
+///
+/// ```
+/// # use vobrekan::*;
+/// # let mut desk = Desk::new(1 << 16)?;
+/// # let (board, ram) = (desk.region(Kind::Container, WHOLE)?, desk.region(Kind::Ram, 0x2000)?);
+/// # desk.ask(Order::Space(SpaceId(0), board))?;
+/// # desk.ask(Order::Add(board, 0, ram, 0))?;
+/// assert_eq!(desk.ask(Order::Begin)?, None);
+/// desk.ask(Order::Move(ram, 0x4000))?;
+/// assert_eq!(desk.ask(Order::Commit)?, Some(3));
+/// assert_eq!(desk.ask(Order::Commit), Err(Refusal::NoTransaction));
+/// # Ok::<(), Refusal>(())
+/// ```
+#[non_exhaustive]
 #[derive(Clone, Copy, Debug, PartialEq, Eq)]
 pub enum Order {
+    /// Opens a transaction.
     Begin,
+    /// Closes a transaction; the outermost one publishes.
     Commit,
+    /// A listener joins a space, with this priority.
     Listen(ListenerId, SpaceId, i32),
+    /// A listener leaves its space.
     Unlisten(ListenerId),
+    /// Makes an address space with this root.
     Space(SpaceId, RegionId),
-    /// A container, an offset in it, the region that is placed there, and its priority.
+    /// Places a region: a container, an offset in it, the region, and its priority.
     Add(RegionId, u64, RegionId, i32),
+    /// Takes the second region out of its container, the first.
     Del(RegionId, RegionId),
+    /// Moves a region to this offset in its container.
     Move(RegionId, u64),
+    /// Gives a region another size.
     Resize(RegionId, u64),
+    /// Moves the window of an alias to this offset in its target.
     Retarget(RegionId, u64),
+    /// Switches a region on or off.
     Enable(RegionId, bool),
+    /// Switches whether what is found through the region is read-only.
     Readonly(RegionId, bool),
+    /// Switches whether what is found through the region is non-volatile.
     Nonvolatile(RegionId, bool),
+    /// Switches whether ranges that are found through the region end where the path to their leaf changes.
     Unmergeable(RegionId, bool),
+    /// Switches the mode of a ROM device.
     Romd(RegionId, bool),
+    /// Switches the logging of a region for one client.
     Log(RegionId, Client, bool),
+    /// Switches global logging.
     Global(bool),
-    /// An IOMMU region, the offset and the size of a page, the space and the address where it goes on, and what it lets through.
+    /// Adds a translation: an IOMMU region, the offset and the size of a page, the space and the address where it goes on, and what it lets through.
     Map(RegionId, u64, u64, SpaceId, u64, Perm),
+    /// Takes out the translation at this offset.
     Unmap(RegionId, u64),
+    /// Gives a device an ioeventfd.
     Event(RegionId, Ioevent),
+    /// Takes an ioeventfd away.
     Unevent(RegionId, Ioevent),
+    /// Drops a region that nothing uses.
     Drop(RegionId),
 }
 
@@ -88,6 +122,34 @@ fn region_numbers(kind: Kind, size: u64) -> sys::vb_order {
 }
 
 /// The desk of a machine that virtual CPUs share: the map is changed here, beside what they do.
+///
+/// ```
+/// use std::thread;
+/// use vobrekan::*;
+///
+/// let mut desk = Desk::new(1 << 16)?;
+/// let (board, ram) = (desk.region(Kind::Container, WHOLE)?, desk.region(Kind::Ram, 0x2000)?);
+/// desk.ask(Order::Space(SpaceId(0), board))?;
+/// desk.ask(Order::Add(board, 0, ram, 0))?;
+/// let mut cpu = desk.cpu()?;
+/// let working = thread::spawn(move || cpu.write8(SpaceId(0), 0x100, 42)); // beside the desk
+/// let window = desk.region(Kind::Alias(ram, 0), 0x1000)?;
+/// desk.ask(Order::Add(board, 0x10_0000, window, 0))?;
+/// assert!(!working.join().unwrap()?.error);
+/// # Ok::<(), Refusal>(())
+/// ```
+///
+/// It may go to another thread, and is not shared between threads.
+///
+/// ```
+/// fn goes_to_a_thread<T: Send>() {}
+/// goes_to_a_thread::<vobrekan::Desk>();
+/// ```
+///
+/// ```compile_fail,E0277
+/// fn is_shared<T: Sync>() {}
+/// is_shared::<vobrekan::Desk>();
+/// ```
 #[derive(Debug)]
 pub struct Desk {
     handle: sys::vb_desk,
@@ -128,6 +190,17 @@ impl Desk {
     }
 
     /// Asks for something, and answers the number of the generation that was published, if one was.
+    ///
+    /// ```
+    /// # use vobrekan::*;
+    /// # let mut desk = Desk::new(1 << 16)?;
+    /// # let (board, ram) = (desk.region(Kind::Container, WHOLE)?, desk.region(Kind::Ram, 0x2000)?);
+    /// # desk.ask(Order::Space(SpaceId(0), board))?;
+    /// # desk.ask(Order::Add(board, 0, ram, 0))?;
+    /// assert_eq!(desk.ask(Order::Move(ram, 0x8000))?, Some(3));
+    /// assert_eq!(desk.find(SpaceId(0), 0x8000)?.region, ram.0);
+    /// # Ok::<(), Refusal>(())
+    /// ```
     pub fn ask(&mut self, order: Order) -> Result<Option<u64>, Refusal> {
         let answer = accepted(unsafe { sys::vb_desk_ask(&mut self.handle, &numbers(order)) })?;
         if let Order::Drop(_) = order {
@@ -191,6 +264,17 @@ impl Desk {
 }
 
 /// What was written of some bytes.
+///
+/// ```
+/// # use vobrekan::*;
+/// # let mut desk = Desk::new(1 << 16)?;
+/// # let (board, ram) = (desk.region(Kind::Container, WHOLE)?, desk.region(Kind::Ram, 0x2000)?);
+/// # desk.ask(Order::Space(SpaceId(0), board))?;
+/// # desk.ask(Order::Add(board, 0, ram, 0))?;
+/// let written = desk.cpu()?.write(SpaceId(0), 0x101, &[1, 2, 3], 64)?; // a part of a word, tried at most 64 times
+/// assert_eq!((written.count, written.begun), (3, false));
+/// # Ok::<(), Refusal>(())
+/// ```
 #[derive(Clone, Copy, Debug, PartialEq, Eq)]
 pub struct Written {
     /// How many of the first bytes are written.
@@ -202,6 +286,34 @@ pub struct Written {
 }
 
 /// A virtual CPU. It never waits, and may outlive its desk.
+///
+/// ```
+/// # use vobrekan::*;
+/// # let mut desk = Desk::new(1 << 16)?;
+/// # let (board, ram) = (desk.region(Kind::Container, WHOLE)?, desk.region(Kind::Ram, 0x2000)?);
+/// # desk.ask(Order::Space(SpaceId(0), board))?;
+/// # desk.ask(Order::Add(board, 0, ram, 0))?;
+/// let mut cpu = desk.cpu()?;
+/// let entered = cpu.enter()?;
+/// desk.ask(Order::Enable(ram, false))?; // the virtual CPU still sees the map that it entered
+/// let access = cpu.read(SpaceId(0), 0, &mut [0; 4])?;
+/// assert_eq!((access.generation, access.decode), (entered, false));
+/// cpu.leave()?;
+/// assert!(cpu.read(SpaceId(0), 0, &mut [0; 4])?.decode);
+/// # Ok::<(), Refusal>(())
+/// ```
+///
+/// It may go to another thread, and is not shared between threads.
+///
+/// ```
+/// fn goes_to_a_thread<T: Send>() {}
+/// goes_to_a_thread::<vobrekan::Cpu>();
+/// ```
+///
+/// ```compile_fail,E0277
+/// fn is_shared<T: Sync>() {}
+/// is_shared::<vobrekan::Cpu>();
+/// ```
 #[derive(Debug)]
 pub struct Cpu(sys::vb_cpu);
 
@@ -243,6 +355,18 @@ impl Cpu {
     }
 
     /// Writes the eight bytes of a number, the lowest first. Where it would replace only a part of some word, it is refused.
+    ///
+    /// ```
+    /// # use vobrekan::*;
+    /// # let mut desk = Desk::new(1 << 16)?;
+    /// # let (board, ram) = (desk.region(Kind::Container, WHOLE)?, desk.region(Kind::Ram, 0x2000)?);
+    /// # desk.ask(Order::Space(SpaceId(0), board))?;
+    /// # desk.ask(Order::Add(board, 0, ram, 0))?;
+    /// let mut cpu = desk.cpu()?;
+    /// cpu.write8(SpaceId(0), 0x100, 7)?;
+    /// assert!(matches!(cpu.write8(SpaceId(0), 0x104, 7), Err(Refusal::NotWhole(_))));
+    /// # Ok::<(), Refusal>(())
+    /// ```
     pub fn write8(&mut self, space: SpaceId, addr: u64, value: u64) -> Result<Access, Refusal> {
         Ok(access(accepted(unsafe { sys::vb_cpu_write8(&mut self.0, space.0, addr, value) })?))
     }

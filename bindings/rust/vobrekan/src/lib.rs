@@ -2,7 +2,30 @@
 //!
 //! A [`Machine`] has regions in containers, address spaces whose roots they are, and memory and devices behind them. What is
 //! changed is published at once, or by the end of a [`Transaction`]; look-ups and accesses go by what is published. Each method
-//! is one call of the library `libvobrekan`, and what the call does is proved there.
+//! is one call of the library `libvobrekan`, and what the call does is proved there. A [`Desk`] has a machine whose map changes beside virtual CPUs
+//! ([`Cpu`]), each on a thread of its own.
+//!
+//! ```
+//! use vobrekan::{Kind, Machine, PassId, SpaceId, WHOLE};
+//!
+//! let mut machine = Machine::new(1 << 16)?; // a pool of 2^16 words of 8 bytes
+//! let mut change = machine.transaction()?;
+//! let board = change.region(Kind::Container, WHOLE)?;
+//! let ram = change.region(Kind::Ram, 0x2000)?;
+//! change.space(SpaceId(0), board)?;
+//! change.add(board, 0x1000, ram, 0)?; // at 0x1000, with priority 0
+//! change.commit()?;
+//!
+//! assert_eq!(machine.find(SpaceId(0), 0x1010)?.offset, 0x10);
+//! machine.write(PassId(0), SpaceId(0), 0x1010, &[1, 2])?;
+//! let mut bytes = [0; 2];
+//! machine.read(PassId(0), SpaceId(0), 0x1010, &mut bytes)?;
+//! assert_eq!(bytes, [1, 2]);
+//! # Ok::<(), vobrekan::Refusal>(())
+//! ```
+//!
+//! Each call takes `&mut self`, and what it is called on may go to another thread ([`Send`]), but is not shared ([`Sync`]): see [`Machine`].
+#![deny(missing_docs)]
 
 mod bus;
 mod cpus;
@@ -12,7 +35,13 @@ mod script;
 
 use std::ops::{Deref, DerefMut};
 use std::ptr::null_mut;
-use vobrekan_sys as sys;
+
+/// The declarations of the library, for the numbers that its structs have.
+///
+/// ```
+/// assert_eq!(vobrekan::sys::VB_DONE, 0);
+/// ```
+pub use vobrekan_sys as sys;
 
 pub use bus::Bus;
 pub use cpus::{Cpu, Desk, Order, Written};
@@ -22,46 +51,190 @@ pub use script::{Ran, run};
 
 use refusal::accepted;
 
+/// The example of the page of this crate, which is tested so.
+#[cfg(doctest)]
+#[doc = include_str!("../README.md")]
+struct Page;
+
 /// A memory region, by its number.
+///
+/// ```
+/// use vobrekan::*;
+///
+/// let mut machine = Machine::new(1 << 16)?;
+/// assert_eq!(machine.region(Kind::Container, WHOLE)?, RegionId(0));
+/// assert_eq!(machine.region(Kind::Ram, 0x1000)?, RegionId(1));
+/// # Ok::<(), Refusal>(())
+/// ```
 #[derive(Clone, Copy, Debug, PartialEq, Eq, PartialOrd, Ord, Hash)]
 pub struct RegionId(pub u32);
 
 /// An address space, by a number of the caller's.
+///
+/// ```
+/// use vobrekan::*;
+///
+/// let mut machine = Machine::new(1 << 16)?;
+/// let board = machine.region(Kind::Container, WHOLE)?;
+/// assert_eq!(machine.space(SpaceId(7), board)?, Some(1));
+/// assert_eq!(machine.space(SpaceId(7), board), Err(Refusal::NameTaken(What::Space(SpaceId(7)))));
+/// # Ok::<(), Refusal>(())
+/// ```
 #[derive(Clone, Copy, Debug, PartialEq, Eq, PartialOrd, Ord, Hash)]
 pub struct SpaceId(pub u32);
 
 /// A listener, by a number of the caller's.
+///
+/// ```
+/// # use vobrekan::*;
+/// # let mut machine = Machine::new(1 << 16)?;
+/// # let (board, ram) = (machine.region(Kind::Container, WHOLE)?, machine.region(Kind::Ram, 0x2000)?);
+/// # machine.space(SpaceId(0), board)?;
+/// # machine.add(board, 0, ram, 0)?;
+/// machine.listen(ListenerId(3), SpaceId(0), 0)?;
+/// assert!(machine.told(0)?.iter().all(|call| call.listener == 3));
+/// # Ok::<(), Refusal>(())
+/// ```
 #[derive(Clone, Copy, Debug, PartialEq, Eq, PartialOrd, Ord, Hash)]
 pub struct ListenerId(pub u32);
 
 /// A pass, 0 to 15: what one virtual CPU reads and writes with.
+///
+/// ```
+/// # use vobrekan::*;
+/// # let mut machine = Machine::new(1 << 16)?;
+/// # let (board, ram) = (machine.region(Kind::Container, WHOLE)?, machine.region(Kind::Ram, 0x2000)?);
+/// # machine.space(SpaceId(0), board)?;
+/// # machine.add(board, 0, ram, 0)?;
+/// let access = machine.write(PassId(15), SpaceId(0), 0, &[1])?;
+/// assert!(!access.error && !access.decode);
+/// # Ok::<(), Refusal>(())
+/// ```
 #[derive(Clone, Copy, Debug, PartialEq, Eq, PartialOrd, Ord, Hash)]
 pub struct PassId(pub u32);
 
 /// The size that stands for 2^64 bytes.
+///
+/// ```
+/// use vobrekan::*;
+///
+/// let mut machine = Machine::new(1 << 16)?;
+/// let board = machine.region(Kind::Container, WHOLE)?;
+/// machine.space(SpaceId(0), board)?;
+/// assert_eq!(machine.find(SpaceId(0), 0)?.last, u64::MAX);
+/// # Ok::<(), Refusal>(())
+/// ```
 pub const WHOLE: u64 = u64::MAX;
 
 /// A device: its kind, its registers and its access sizes.
+///
+/// ```
+/// use vobrekan::*;
+///
+/// // One register that takes accesses of 1 to 4 bytes.
+/// let latch = Device { kind: sys::VB_DEVICE_LATCH, regs: 1, valid_min: 1, valid_max: 4, impl_min: 1, impl_max: 4, ..Device::default() };
+/// let mut machine = Machine::new(1 << 10)?;
+/// let uart = machine.region(Kind::Io(latch), 0x100)?;
+/// # Ok::<(), Refusal>(())
+/// ```
 pub use sys::vb_device as Device;
 /// A range of a view.
+///
+/// ```
+/// # use vobrekan::*;
+/// # let mut machine = Machine::new(1 << 16)?;
+/// # let (board, ram) = (machine.region(Kind::Container, WHOLE)?, machine.region(Kind::Ram, 0x2000)?);
+/// # machine.space(SpaceId(0), board)?;
+/// # machine.add(board, 0, ram, 0)?;
+/// let range: FlatRange = machine.view(SpaceId(0))?[0];
+/// assert_eq!((range.start, range.last, range.region, range.offset), (0, 0x1fff, ram.0, 0));
+/// # Ok::<(), Refusal>(())
+/// ```
 pub use sys::vb_flat_range as FlatRange;
 /// What an address leads to.
+///
+/// ```
+/// # use vobrekan::*;
+/// # let mut machine = Machine::new(1 << 16)?;
+/// # let (board, ram) = (machine.region(Kind::Container, WHOLE)?, machine.region(Kind::Ram, 0x2000)?);
+/// # machine.space(SpaceId(0), board)?;
+/// # machine.add(board, 0, ram, 0)?;
+/// let found: Found = machine.find(SpaceId(0), 0x10)?;
+/// assert_eq!((found.region, found.offset, found.last), (ram.0, 0x10, 0x1fff));
+/// assert!(!machine.find(SpaceId(0), 0x2000)?.is_there);
+/// # Ok::<(), Refusal>(())
+/// ```
 pub use sys::vb_found as Found;
 /// An ioeventfd.
+///
+/// ```
+/// # use vobrekan::*;
+/// # let mut machine = Machine::new(1 << 16)?;
+/// # let (board, ram) = (machine.region(Kind::Container, WHOLE)?, machine.region(Kind::Ram, 0x2000)?);
+/// # machine.space(SpaceId(0), board)?;
+/// # machine.add(board, 0, ram, 0)?;
+/// let device = Device { regs: 1, valid_min: 1, valid_max: 4, impl_min: 1, impl_max: 4, ..Device::default() };
+/// let doorbell = machine.region(Kind::Io(device), 0x100)?;
+/// machine.add(board, 0x1_0000, doorbell, 0)?;
+/// let event = Ioevent { offset: 0x10, size: 4, number: 5, ..Ioevent::default() }; // any write of 4 bytes
+/// machine.event(doorbell, &event)?;
+/// machine.write(PassId(0), SpaceId(0), 0x1_0010, &[1, 0, 0, 0])?;
+/// assert!(machine.notified(5)?);
+/// # Ok::<(), Refusal>(())
+/// ```
 pub use sys::vb_ioevent as Ioevent;
 /// A call of a listener.
+///
+/// ```
+/// # use vobrekan::*;
+/// # let mut machine = Machine::new(1 << 16)?;
+/// # let (board, ram) = (machine.region(Kind::Container, WHOLE)?, machine.region(Kind::Ram, 0x2000)?);
+/// # machine.space(SpaceId(0), board)?;
+/// # machine.add(board, 0, ram, 0)?;
+/// machine.listen(ListenerId(0), SpaceId(0), 0)?;
+/// let calls: Vec<ListenerCall> = machine.told(0)?;
+/// assert_eq!(calls.iter().map(|call| call.what).collect::<Vec<_>>(), [sys::VB_TOLD_BEGIN, sys::VB_TOLD_ADD, sys::VB_TOLD_COMMIT]);
+/// assert_eq!(calls[1].range.last, 0x1fff);
+/// # Ok::<(), Refusal>(())
+/// ```
 pub use sys::vb_listener_call as ListenerCall;
 /// One thing that an access reaches.
+///
+/// ```
+/// # use vobrekan::*;
+/// # let mut machine = Machine::new(1 << 16)?;
+/// # let (board, ram) = (machine.region(Kind::Container, WHOLE)?, machine.region(Kind::Ram, 0x2000)?);
+/// # machine.space(SpaceId(0), board)?;
+/// # machine.add(board, 0, ram, 0)?;
+/// let (plan, _) = machine.plan_read(Way::Chunks, SpaceId(0), 0x1ffe, 4)?;
+/// assert_eq!(plan.iter().map(|it| (it.what, it.len)).collect::<Vec<_>>(), [(sys::VB_REACHED_MEMORY, 2), (sys::VB_REACHED_NOTHING, 2)]);
+/// # Ok::<(), Refusal>(())
+/// ```
 pub use sys::vb_reached as Reached;
 
 /// What a region is.
+///
+/// ```
+/// use vobrekan::*;
+///
+/// let mut machine = Machine::new(1 << 16)?;
+/// let ram = machine.region(Kind::Ram, 0x4000)?;
+/// let window = machine.region(Kind::Alias(ram, 0x1000), 0x1000)?; // the second page of it
+/// let bus = machine.region(Kind::Iommu, 0x1_0000)?;
+/// # Ok::<(), Refusal>(())
+/// ```
+#[non_exhaustive]
 #[derive(Clone, Copy, Debug, PartialEq, Eq)]
 pub enum Kind {
     /// Only groups its children.
     Container,
+    /// Memory whose bytes the machine has.
     Ram,
+    /// Memory that accesses cannot write; its bytes are loaded.
     Rom,
+    /// A ROM in whose mode it is read as memory, and else as this device.
     RomDevice(Device),
+    /// A device.
     Io(Device),
     /// A translation to another address space.
     Iommu,
@@ -74,6 +247,22 @@ pub enum Kind {
 }
 
 /// By which rule the plan of an access is made.
+///
+/// ```
+/// # use vobrekan::*;
+/// # let mut machine = Machine::new(1 << 16)?;
+/// # let (board, ram) = (machine.region(Kind::Container, WHOLE)?, machine.region(Kind::Ram, 0x2000)?);
+/// # machine.space(SpaceId(0), board)?;
+/// # machine.add(board, 0, ram, 0)?;
+/// let device = Device { regs: 1, valid_min: 1, valid_max: 4, impl_min: 4, impl_max: 4, ..Device::default() };
+/// let port = machine.region(Kind::Io(device), 2)?;
+/// machine.add(board, 0xcf8, port, 1)?;
+/// // The device is two bytes long: in QEMU's way it takes the whole access all the same.
+/// let (cut, _) = machine.plan_read(Way::Chunks, SpaceId(0), 0xcf8, 4)?;
+/// let (whole, _) = machine.plan_read(Way::Qemu, SpaceId(0), 0xcf8, 4)?;
+/// assert_eq!((cut[0].len, whole[0].len), (2, 4));
+/// # Ok::<(), Refusal>(())
+/// ```
 #[derive(Clone, Copy, Debug, PartialEq, Eq)]
 pub enum Way {
     /// Each range takes its own bytes.
@@ -83,33 +272,90 @@ pub enum Way {
 }
 
 /// Who asks which pages were written.
+///
+/// ```
+/// # use vobrekan::*;
+/// # let mut machine = Machine::new(1 << 16)?;
+/// # let (board, ram) = (machine.region(Kind::Container, WHOLE)?, machine.region(Kind::Ram, 0x2000)?);
+/// # machine.space(SpaceId(0), board)?;
+/// # machine.add(board, 0, ram, 0)?;
+/// machine.log(ram, Client::Display, true)?;
+/// machine.write(PassId(0), SpaceId(0), 0x1000, &[1])?;
+/// assert_eq!(machine.harvest(ram, Client::Display)?.iter().collect::<Vec<_>>(), [1]);
+/// # Ok::<(), Refusal>(())
+/// ```
 #[derive(Clone, Copy, Debug, PartialEq, Eq)]
 pub enum Client {
+    /// A display, `vga` in a script.
     Display = 0,
+    /// Translated code.
     Code = 1,
+    /// A migration.
     Migration = 2,
 }
 
 /// Which accesses a translation lets through.
+///
+/// ```
+/// # use vobrekan::*;
+/// # let mut machine = Machine::new(1 << 16)?;
+/// # let (board, ram) = (machine.region(Kind::Container, WHOLE)?, machine.region(Kind::Ram, 0x2000)?);
+/// # machine.space(SpaceId(0), board)?;
+/// # machine.add(board, 0, ram, 0)?;
+/// let bus = machine.region(Kind::Iommu, 0x1_0000)?;
+/// machine.space(SpaceId(1), bus)?;
+/// machine.map(bus, 0, 0x1000, (SpaceId(0), 0), Perm::Read)?;
+/// assert!(machine.write(PassId(0), SpaceId(1), 0, &[1])?.decode); // only reads go through
+/// # Ok::<(), Refusal>(())
+/// ```
 #[derive(Clone, Copy, Debug, PartialEq, Eq)]
 pub enum Perm {
+    /// None.
     Nothing = 0,
+    /// Reads.
     Read = 1,
+    /// Writes.
     Write = 2,
+    /// Reads and writes.
     Both = 3,
 }
 
 /// How an access ended, and the number of the generation in which it ran.
+///
+/// ```
+/// # use vobrekan::*;
+/// # let mut machine = Machine::new(1 << 16)?;
+/// # let (board, ram) = (machine.region(Kind::Container, WHOLE)?, machine.region(Kind::Ram, 0x2000)?);
+/// # machine.space(SpaceId(0), board)?;
+/// # machine.add(board, 0, ram, 0)?;
+/// let access = machine.read(PassId(0), SpaceId(0), 0x1fff, &mut [0; 2])?;
+/// assert_eq!(access, Access { error: false, decode: true, generation: 2 });
+/// # Ok::<(), Refusal>(())
+/// ```
 #[derive(Clone, Copy, Debug, PartialEq, Eq)]
 pub struct Access {
     /// A device answered with an error.
     pub error: bool,
     /// Nothing answered some byte.
     pub decode: bool,
+    /// The generation by which it went.
     pub generation: u64,
 }
 
-/// A machine.
+/// A machine, with its map and its memory.
+///
+/// It may go to another thread, and is not shared between threads: what several threads call is behind a lock of theirs.
+///
+/// ```
+/// fn goes_to_a_thread<T: Send>() {}
+/// goes_to_a_thread::<vobrekan::Machine>();
+/// goes_to_a_thread::<std::sync::Mutex<vobrekan::Machine>>();
+/// ```
+///
+/// ```compile_fail,E0277
+/// fn is_shared<T: Sync>() {}
+/// is_shared::<vobrekan::Machine>();
+/// ```
 #[derive(Debug)]
 pub struct Machine {
     handle: sys::vb_machine,
@@ -183,6 +429,18 @@ impl Machine {
     }
 
     /// Places a region in a container.
+    ///
+    /// ```
+    /// # use vobrekan::*;
+    /// # let mut machine = Machine::new(1 << 16)?;
+    /// # let (board, ram) = (machine.region(Kind::Container, WHOLE)?, machine.region(Kind::Ram, 0x2000)?);
+    /// # machine.space(SpaceId(0), board)?;
+    /// # machine.add(board, 0, ram, 0)?;
+    /// let window = machine.region(Kind::Alias(ram, 0), 0x1000)?;
+    /// machine.add(board, 0x1000, window, 1)?; // over the RAM
+    /// assert_eq!(machine.find(SpaceId(0), 0x1000)?.offset, 0);
+    /// # Ok::<(), Refusal>(())
+    /// ```
     pub fn add(&mut self, parent: RegionId, offset: u64, child: RegionId, priority: i32) -> Result<Option<u64>, Refusal> {
         Ok(published(accepted(unsafe { sys::vb_add(&mut self.handle, parent.0, offset, child.0, priority) })?))
     }
@@ -193,6 +451,17 @@ impl Machine {
     }
 
     /// Moves a region in its container.
+    ///
+    /// ```
+    /// # use vobrekan::*;
+    /// # let mut machine = Machine::new(1 << 16)?;
+    /// # let (board, ram) = (machine.region(Kind::Container, WHOLE)?, machine.region(Kind::Ram, 0x2000)?);
+    /// # machine.space(SpaceId(0), board)?;
+    /// # machine.add(board, 0, ram, 0)?;
+    /// assert_eq!(machine.move_to(ram, 0x8000)?, Some(3)); // the number of the generation that shows it
+    /// assert_eq!(machine.find(SpaceId(0), 0x8000)?.region, ram.0);
+    /// # Ok::<(), Refusal>(())
+    /// ```
     pub fn move_to(&mut self, child: RegionId, offset: u64) -> Result<Option<u64>, Refusal> {
         Ok(published(accepted(unsafe { sys::vb_move(&mut self.handle, child.0, offset) })?))
     }
@@ -243,6 +512,22 @@ impl Machine {
     }
 
     /// Puts a translation into the table of an IOMMU region: the page at `iova` goes on at an address of a space.
+    ///
+    /// ```
+    /// # use vobrekan::*;
+    /// # let mut machine = Machine::new(1 << 16)?;
+    /// # let (board, ram) = (machine.region(Kind::Container, WHOLE)?, machine.region(Kind::Ram, 0x2000)?);
+    /// # machine.space(SpaceId(0), board)?;
+    /// # machine.add(board, 0, ram, 0)?;
+    /// let bus = machine.region(Kind::Iommu, 0x1_0000)?;
+    /// machine.space(SpaceId(1), bus)?;
+    /// machine.load(ram, 0x1010, &[7])?;
+    /// machine.map(bus, 0x4000, 0x1000, (SpaceId(0), 0x1000), Perm::Both)?;
+    /// let mut byte = [0];
+    /// machine.read(PassId(0), SpaceId(1), 0x4010, &mut byte)?;
+    /// assert_eq!(byte, [7]);
+    /// # Ok::<(), Refusal>(())
+    /// ```
     pub fn map(&mut self, region: RegionId, iova: u64, size: u64, to: (SpaceId, u64), perm: Perm) -> Result<Option<u64>, Refusal> {
         Ok(published(accepted(unsafe { sys::vb_map(&mut self.handle, region.0, iova, size, to.0.0, to.1, perm as u32) })?))
     }
@@ -253,6 +538,22 @@ impl Machine {
     }
 
     /// Gives a device an ioeventfd.
+    ///
+    /// ```
+    /// # use vobrekan::*;
+    /// # let mut machine = Machine::new(1 << 16)?;
+    /// # let (board, ram) = (machine.region(Kind::Container, WHOLE)?, machine.region(Kind::Ram, 0x2000)?);
+    /// # machine.space(SpaceId(0), board)?;
+    /// # machine.add(board, 0, ram, 0)?;
+    /// let device = Device { regs: 1, valid_min: 1, valid_max: 4, impl_min: 1, impl_max: 4, ..Device::default() };
+    /// let doorbell = machine.region(Kind::Io(device), 0x100)?;
+    /// machine.add(board, 0x1_0000, doorbell, 0)?;
+    /// let event = Ioevent { offset: 0x10, size: 4, number: 5, ..Ioevent::default() }; // any write of 4 bytes
+    /// machine.event(doorbell, &event)?;
+    /// machine.write(PassId(0), SpaceId(0), 0x1_0010, &[1, 0, 0, 0])?;
+    /// assert!(machine.notified(5)?);
+    /// # Ok::<(), Refusal>(())
+    /// ```
     pub fn event(&mut self, region: RegionId, event: &Ioevent) -> Result<Option<u64>, Refusal> {
         Ok(published(accepted(unsafe { sys::vb_event(&mut self.handle, region.0, event) })?))
     }
@@ -270,6 +571,18 @@ impl Machine {
     }
 
     /// Releases the dropped regions that no generation in use names, and answers them, ascending: their memory is free again.
+    ///
+    /// ```
+    /// # use vobrekan::*;
+    /// # let mut machine = Machine::new(1 << 16)?;
+    /// # let (board, ram) = (machine.region(Kind::Container, WHOLE)?, machine.region(Kind::Ram, 0x2000)?);
+    /// # machine.space(SpaceId(0), board)?;
+    /// # machine.add(board, 0, ram, 0)?;
+    /// machine.del(board, ram)?;
+    /// machine.drop_region(ram)?;
+    /// assert_eq!(machine.reap()?, [ram]);
+    /// # Ok::<(), Refusal>(())
+    /// ```
     pub fn reap(&mut self) -> Result<Vec<RegionId>, Refusal> {
         let mut out = vec![0; self.dropped];
         let count = accepted(unsafe { sys::vb_reap(&mut self.handle, out.as_mut_ptr(), out.len()) })?.value as usize;
@@ -284,6 +597,20 @@ impl Machine {
     }
 
     /// Opens a transaction: what is changed through it is published when it is committed, or dropped.
+    ///
+    /// ```
+    /// # use vobrekan::*;
+    /// # let mut machine = Machine::new(1 << 16)?;
+    /// # let (board, ram) = (machine.region(Kind::Container, WHOLE)?, machine.region(Kind::Ram, 0x2000)?);
+    /// # machine.space(SpaceId(0), board)?;
+    /// # machine.add(board, 0, ram, 0)?;
+    /// let mut change = machine.transaction()?;
+    /// assert_eq!(change.move_to(ram, 0x1000)?, None); // nothing is published yet
+    /// assert_eq!(change.find(SpaceId(0), 0)?.region, ram.0);
+    /// assert_eq!(change.commit()?, Some(3));
+    /// assert!(!machine.find(SpaceId(0), 0)?.is_there);
+    /// # Ok::<(), Refusal>(())
+    /// ```
     pub fn transaction(&mut self) -> Result<Transaction<'_>, Refusal> {
         accepted(unsafe { sys::vb_begin(&mut self.handle) })?;
         Ok(Transaction { machine: self, is_open: true })
@@ -309,6 +636,16 @@ impl Machine {
     }
 
     /// The regions that a search passes on the way to the one that answers an address, from the root of the space on.
+    ///
+    /// ```
+    /// # use vobrekan::*;
+    /// # let mut machine = Machine::new(1 << 16)?;
+    /// # let (board, ram) = (machine.region(Kind::Container, WHOLE)?, machine.region(Kind::Ram, 0x2000)?);
+    /// # machine.space(SpaceId(0), board)?;
+    /// # machine.add(board, 0, ram, 0)?;
+    /// assert_eq!(machine.path(SpaceId(0), 0x10)?, [board, ram]);
+    /// # Ok::<(), Refusal>(())
+    /// ```
     pub fn path(&mut self, space: SpaceId, addr: u64) -> Result<Vec<RegionId>, Refusal> {
         let mut out = [0; 32];
         let count = accepted(unsafe { sys::vb_path(&mut self.handle, space.0, addr, out.as_mut_ptr(), out.len()) })?.value as usize;
@@ -316,6 +653,18 @@ impl Machine {
     }
 
     /// The ranges of the view of a space, by ascending address.
+    ///
+    /// ```
+    /// # use vobrekan::*;
+    /// # let mut machine = Machine::new(1 << 16)?;
+    /// # let (board, ram) = (machine.region(Kind::Container, WHOLE)?, machine.region(Kind::Ram, 0x2000)?);
+    /// # machine.space(SpaceId(0), board)?;
+    /// # machine.add(board, 0, ram, 0)?;
+    /// machine.move_to(ram, 0x1000)?;
+    /// let shown: Vec<_> = machine.view(SpaceId(0))?.iter().map(|range| (range.start, range.last)).collect();
+    /// assert_eq!(shown, [(0x1000, 0x2fff)]);
+    /// # Ok::<(), Refusal>(())
+    /// ```
     pub fn view(&mut self, space: SpaceId) -> Result<Vec<FlatRange>, Refusal> {
         let mut ranges = Vec::new();
         loop {
@@ -336,6 +685,21 @@ impl Machine {
 
     /// Forgets the calls of listeners before the index `until`, counted from the first that was ever made. The others keep their
     /// indices, and the listeners stay. A machine that runs for long keeps all that listeners were told until it is forgotten here.
+    ///
+    /// ```
+    /// # use vobrekan::*;
+    /// # let mut machine = Machine::new(1 << 16)?;
+    /// # let (board, ram) = (machine.region(Kind::Container, WHOLE)?, machine.region(Kind::Ram, 0x2000)?);
+    /// # machine.space(SpaceId(0), board)?;
+    /// # machine.add(board, 0, ram, 0)?;
+    /// machine.listen(ListenerId(0), SpaceId(0), 0)?;
+    /// assert_eq!(machine.told(0)?.len(), 3); // begin, a range, commit
+    /// machine.forget(3)?;
+    /// machine.enable(ram, false)?;
+    /// assert_eq!(machine.told(3)?.len(), 3); // begin, the range is gone, commit
+    /// assert_eq!(machine.told(0), Err(Refusal::Forgotten(3)));
+    /// # Ok::<(), Refusal>(())
+    /// ```
     pub fn forget(&mut self, until: usize) -> Result<(), Refusal> {
         let count = until.saturating_sub(self.forgotten);
         self.forgotten += accepted(unsafe { sys::vb_forget(&mut self.handle, count) })?.value as usize;
@@ -349,6 +713,19 @@ impl Machine {
     }
 
     /// Writes bytes to a space.
+    ///
+    /// ```
+    /// # use vobrekan::*;
+    /// # let mut machine = Machine::new(1 << 16)?;
+    /// # let (board, ram) = (machine.region(Kind::Container, WHOLE)?, machine.region(Kind::Ram, 0x2000)?);
+    /// # machine.space(SpaceId(0), board)?;
+    /// # machine.add(board, 0, ram, 0)?;
+    /// machine.write(PassId(0), SpaceId(0), 0x10, &[1, 2, 3])?;
+    /// let mut bytes = [0; 4];
+    /// machine.read(PassId(0), SpaceId(0), 0xf, &mut bytes)?;
+    /// assert_eq!(bytes, [0, 1, 2, 3]);
+    /// # Ok::<(), Refusal>(())
+    /// ```
     pub fn write(&mut self, pass: PassId, space: SpaceId, addr: u64, bytes: &[u8]) -> Result<Access, Refusal> {
         let answer = unsafe { sys::vb_write(&mut self.handle, pass.0, space.0, addr, bytes.as_ptr(), bytes.len()) };
         Ok(access(accepted(answer)?))
@@ -376,6 +753,20 @@ fn access(answer: sys::vb_answer) -> Access {
 
 /// A transaction that is open. It is committed where it is dropped; then a refusal to publish is not told, and the transaction
 /// stays open in the machine.
+///
+/// ```
+/// # use vobrekan::*;
+/// # let mut machine = Machine::new(1 << 16)?;
+/// # let (board, ram) = (machine.region(Kind::Container, WHOLE)?, machine.region(Kind::Ram, 0x2000)?);
+/// # machine.space(SpaceId(0), board)?;
+/// # machine.add(board, 0, ram, 0)?;
+/// {
+///     let mut change = machine.transaction()?;
+///     change.enable(ram, false)?;
+/// } // committed here
+/// assert!(!machine.find(SpaceId(0), 0)?.is_there);
+/// # Ok::<(), Refusal>(())
+/// ```
 #[derive(Debug)]
 pub struct Transaction<'a> {
     machine: &'a mut Machine,

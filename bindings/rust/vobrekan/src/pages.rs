@@ -4,6 +4,21 @@ use crate::refusal::accepted;
 use vobrekan_sys as sys;
 
 /// Pages of 4,096 bytes of a region, a bit for each.
+///
+/// ```
+/// # use vobrekan::*;
+/// # let mut machine = Machine::new(1 << 16)?;
+/// # let (board, ram) = (machine.region(Kind::Container, WHOLE)?, machine.region(Kind::Ram, 0x2000)?);
+/// # machine.space(SpaceId(0), board)?;
+/// # machine.add(board, 0, ram, 0)?;
+/// machine.log(ram, Client::Migration, true)?;
+/// machine.write(PassId(0), SpaceId(0), 0xfff, &[1, 2])?; // over the border of two pages
+/// let pages: Pages = machine.harvest(ram, Client::Migration)?;
+/// assert_eq!((pages.len(), pages.words()), (2, &[3][..]));
+/// assert_eq!(pages.iter().collect::<Vec<_>>(), [0, 1]);
+/// assert!(machine.harvest(ram, Client::Migration)?.is_empty());
+/// # Ok::<(), Refusal>(())
+/// ```
 #[derive(Clone, Debug, Default, PartialEq, Eq)]
 pub struct Pages {
     words: Vec<u64>,

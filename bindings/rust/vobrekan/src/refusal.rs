@@ -1,3 +1,4 @@
+//! Refusals.
 use std::error::Error;
 use std::fmt;
 use vobrekan_sys as sys;
@@ -5,10 +6,25 @@ use vobrekan_sys as sys;
 use crate::{ListenerId, PassId, RegionId, SpaceId};
 
 /// What is not there, or is there already.
+///
+/// ```
+/// # use vobrekan::*;
+/// # let mut machine = Machine::new(1 << 16)?;
+/// # let (board, ram) = (machine.region(Kind::Container, WHOLE)?, machine.region(Kind::Ram, 0x2000)?);
+/// # machine.space(SpaceId(0), board)?;
+/// # machine.add(board, 0, ram, 0)?;
+/// let nothing = machine.enable(RegionId(9), true);
+/// assert_eq!(nothing, Err(Refusal::Unknown(What::Region(RegionId(9)))));
+/// # Ok::<(), Refusal>(())
+/// ```
+#[non_exhaustive]
 #[derive(Clone, Copy, Debug, PartialEq, Eq)]
 pub enum What {
+    /// A region.
     Region(RegionId),
+    /// An address space.
     Space(SpaceId),
+    /// A listener.
     Listener(ListenerId),
     /// The translation at this offset.
     Entry(u64),
@@ -19,6 +35,19 @@ pub enum What {
 }
 
 /// Why a call is refused. A refused call changes nothing of the map.
+///
+/// ```
+/// # use vobrekan::*;
+/// # let mut machine = Machine::new(1 << 16)?;
+/// # let (board, ram) = (machine.region(Kind::Container, WHOLE)?, machine.region(Kind::Ram, 0x2000)?);
+/// # machine.space(SpaceId(0), board)?;
+/// # machine.add(board, 0, ram, 0)?;
+/// let refusal = machine.add(board, 0, ram, 0).unwrap_err();
+/// assert_eq!(refusal, Refusal::HasContainer(board));
+/// assert_eq!(refusal.to_string(), "the region is in region 0 already");
+/// # Ok::<(), Refusal>(())
+/// ```
+#[non_exhaustive]
 #[derive(Clone, Copy, Debug, PartialEq, Eq)]
 pub enum Refusal {
     /// Something that the call names is not there.

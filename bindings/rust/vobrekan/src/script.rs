@@ -4,6 +4,12 @@ use crate::refusal::accepted;
 use vobrekan_sys as sys;
 
 /// What the run of a script wrote.
+///
+/// ```
+/// let ran = vobrekan::run(b"region r containr 4K\n")?;
+/// assert_eq!((ran.text, ran.fault), (b"bad script line 1 word\n".to_vec(), Some(1)));
+/// # Ok::<(), vobrekan::Refusal>(())
+/// ```
 #[derive(Clone, Debug, PartialEq, Eq)]
 pub struct Ran {
     /// The text of the script; of a text that is no script, one line on its first fault.
@@ -12,7 +18,13 @@ pub struct Ran {
     pub fault: Option<u64>,
 }
 
-/// Runs a script on a machine of its own.
+/// Runs a script on a machine of its own: what it writes is what `mtree run` writes.
+///
+/// ```
+/// let ran = vobrekan::run(b"region r container 4K\nspace s r\nshow s\n")?;
+/// assert_eq!((ran.text, ran.fault), (b"view s g1\n".to_vec(), None));
+/// # Ok::<(), vobrekan::Refusal>(())
+/// ```
 pub fn run(script: &[u8]) -> Result<Ran, Refusal> {
     let mut text = vec![0; 1 << 16];
     loop {
