@@ -30,8 +30,8 @@ use Rattle.race_seats.specs.Rooms.{IsPrepared, most_actors}
 pub record TakesLines (lines : List Line) (who : ℕ) (works after : List Work) : Type 0 where
   pub later : Work
   pub set_at : after ≡ slice_set works who later
-  pub put : lines_meant later.own.items ≡ lines_meant (slice_index_or works who later).own.items ++ lines
-  pub bounce : later.bounce ≡ (slice_index_or works who later).bounce
+  pub put : lines_meant later.own.items ≡ lines_meant (get_or works who later).own.items ++ lines
+  pub bounce : later.bounce ≡ (get_or works who later).bounce
 
 -- numbers of actors
 
