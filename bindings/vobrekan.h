@@ -42,6 +42,7 @@ extern "C" {
 #define VB_NOT_WHOLE 26 /* Only a part of some word would be replaced, in the generation `other`. */
 #define VB_NO_CPU 27 /* All 16 virtual CPUs are handed out. */
 #define VB_CONTENDED 28 /* Of a write only the first `value` bytes are written, in the generation `other`: a word was changed each time that it was tried. */
+#define VB_NOT_ENTERED 29 /* The virtual CPU is entered in no generation. */
 
 #define VB_SORT_REGION 0 /* A refusal names a region. */
 #define VB_SORT_SPACE 1 /* A refusal names an address space. */
@@ -469,6 +470,27 @@ vb_answer vb_desk_range(vb_desk *handle, uint32_t space, size_t index, vb_flat_r
 
 /* What listeners were told, as `vb_delivery` tells it. */
 vb_answer vb_desk_delivery(vb_desk *handle, size_t index, vb_listener_call *out);
+
+/* What a read of `len` bytes of a space reaches in the generation that the virtual CPU is entered in, as `vb_plan_read` tells it of the current
+ * one, in its `way`. No region that is named is released before the virtual CPU leaves the generation, so what a plan names may be used until
+ * then. Where it is in none, it is refused with code 29. It asks no lock, and may be called beside the desk and other virtual CPUs. */
+vb_answer vb_cpu_plan_read(vb_cpu *handle, uint32_t way, uint32_t space, uint64_t addr, size_t len, vb_reached *out, size_t out_len);
+
+/* What a write of bytes to a space reaches in the generation that the virtual CPU is entered in, as `vb_plan_write` tells it of the current one
+ * and `vb_cpu_plan_read` of a read. */
+vb_answer vb_cpu_plan_write(vb_cpu *handle, uint32_t way, uint32_t space, uint64_t addr, const uint8_t *bytes, size_t bytes_len, vb_reached *out, size_t out_len);
+
+/* What an address of a space leads to in the generation that the virtual CPU is entered in, as `vb_find` tells it of the current one. Where it is
+ * in none, it is refused with code 29. It asks no lock. */
+vb_answer vb_cpu_find(vb_cpu *handle, uint32_t space, uint64_t addr, vb_found *out);
+
+/* The range at an index of the view of a space in the generation that the virtual CPU is entered in, as `vb_range` tells it of the current one.
+ * Where it is in none, it is refused with code 29. It asks no lock. */
+vb_answer vb_cpu_range(vb_cpu *handle, uint32_t space, size_t index, vb_flat_range *out);
+
+/* The path on which an address of a space is found in the generation that the virtual CPU is entered in, as `vb_path` tells it of the current
+ * one. Where it is in none, it is refused with code 29. It asks no lock. */
+vb_answer vb_cpu_path(vb_cpu *handle, uint32_t space, uint64_t addr, uint32_t *out, size_t out_len);
 
 /* Forgets the first `count` of the calls that listeners got and that are not forgotten yet, all of them where there are fewer. `value`
  * of the answer is how many it forgot: `vb_delivery` counts from the first that is not forgotten, so an index that a caller keeps is

@@ -35,7 +35,7 @@ def whole(version, sums):
     code = hashlib.sha1("".join(sorted(sums)).encode()).hexdigest()
     rows = ["", "PackageName: vobrekan", "SPDXID: SPDXRef-vobrekan", f"PackageVersion: {version}", "PackageDownloadLocation: NOASSERTION"]
     rows += ["FilesAnalyzed: true", f"PackageVerificationCode: {code} (excludes: ./share/doc/vobrekan/vobrekan.spdx)"]
-    rows += [f"PackageLicenseConcluded: {OWN}", "PackageLicenseInfoFromFiles: NOASSERTION", f"PackageLicenseDeclared: {OWN}"]
+    rows += ["PackageLicenseConcluded: NOASSERTION", "PackageLicenseInfoFromFiles: NOASSERTION", f"PackageLicenseDeclared: {OWN}"]
     return [*rows, f"PackageCopyrightText: {COPYRIGHT}", "Relationship: SPDXRef-DOCUMENT DESCRIBES SPDXRef-vobrekan"]
 
 
@@ -49,18 +49,19 @@ def library(name, kit, files):
 
 
 def file(at, path, data):
-    """A file of the release. The licence of one below licences/ is that of its library."""
-    is_theirs = "/licences/" in path
+    """A file of the release. One below licences/ is of its library, and what is compiled has libraries of the kit in it."""
+    is_own = "/licences/" not in path and not path.startswith(("bin/", "lib/libvobrekan."))
     rows = ["", f"FileName: ./{path}", f"SPDXID: SPDXRef-file-{at}", f"FileChecksum: SHA1: {hashlib.sha1(data).hexdigest()}"]
-    rows += [f"FileChecksum: SHA256: {hashlib.sha256(data).hexdigest()}", f"LicenseConcluded: {'NOASSERTION' if is_theirs else OWN}"]
-    return [*rows, "LicenseInfoInFile: NOASSERTION", f"FileCopyrightText: {'NOASSERTION' if is_theirs else COPYRIGHT}"]
+    rows += [f"FileChecksum: SHA256: {hashlib.sha256(data).hexdigest()}", f"LicenseConcluded: {OWN if is_own else 'NOASSERTION'}"]
+    return [*rows, "LicenseInfoInFile: NOASSERTION", f"FileCopyrightText: {COPYRIGHT if is_own else 'NOASSERTION'}"]
 
 
 def document(name, version, commit, created, kit, libraries, entries):
     """The document: `libraries` has of each library of the kit its licence files, `entries` the bytes of each file of the release."""
     rows = [*head(name, commit, created), *whole(version, [hashlib.sha1(it).hexdigest() for it in entries.values()])]
-    for it, files in libraries.items():
-        rows += library(it, kit, files)
+    # The files of a package stand after it, before the next one.
     for at, (path, data) in enumerate(entries.items(), 1):
         rows += file(at, path, data)
+    for it, files in libraries.items():
+        rows += library(it, kit, files)
     return "\n".join(rows) + "\n"

@@ -235,7 +235,13 @@ class Tests(unittest.TestCase):
         number = cpu.enter()
         self.assertEqual(desk.ask(c.VB_DO_MOVE, region=ram, offset=0x4000).other, number + 1)
         self.assertEqual(cpu.read(SPACE, 8, 2), (b"\x02\x01", 0))
+        self.assertEqual([(it.what, it.region, it.offset, it.len) for it in cpu.plan_read(SPACE, 0xFFC, 8)][0], (c.VB_REACHED_MEMORY, ram, 0xFFC, 4))
+        self.assertEqual([(it.region, it.offset) for it in cpu.plan_write(SPACE, 8, b"x", c.VB_WAY_QEMU)], [(ram, 8)])
+        self.assertEqual((cpu.find(SPACE, 8).region, cpu.path(SPACE, 8), [it.last for it in cpu.view(SPACE)]), (ram, [system, ram], [0xFFF]))
         cpu.leave()
+        with self.assertRaises(Refused) as it:
+            cpu.find(SPACE, 8)
+        self.assertEqual(it.exception.code, c.VB_NOT_ENTERED)
         self.assertEqual(cpu.read(SPACE, 8, 2)[1], c.VB_ACCESS_DECODE)
         self.assertEqual([(it.start, it.region) for it in desk.view(SPACE)], [(0x4000, ram)])
         with self.assertRaises(Refused) as it:

@@ -544,3 +544,28 @@ class Cpu:
     def write8(self, space: int, addr: int, value: int) -> int:
         """Writes the eight bytes of a number, the lowest first. It is refused where only a part of some word would be replaced."""
         return accepted(LIBRARY.vb_cpu_write8(self.handle, space, addr, value)).what
+
+    def plan_read(self, space: int, addr: int, count: int, way: int = c.VB_WAY_CHUNKS) -> list[Reached]:
+        """What a read reaches in the generation that it is entered in, in order, without a lock. No region that is named is released before the virtual
+        CPU leaves. Refused with the code VB_NOT_ENTERED where it is entered in none, as `plan_write`, `find`, `path` and `view` are."""
+        return Machine.plan(lambda out: LIBRARY.vb_cpu_plan_read(self.handle, way, space, addr, count, out, len(out)))
+
+    def plan_write(self, space: int, addr: int, data: Bytes, way: int = c.VB_WAY_CHUNKS) -> list[Reached]:
+        """What a write reaches in the generation that it is entered in, in order."""
+        given = given_as(data)
+        return Machine.plan(lambda out: LIBRARY.vb_cpu_plan_write(self.handle, way, space, addr, given, len(data), out, len(out)))
+
+    def find(self, space: int, addr: int) -> Found:
+        """What an address leads to in the generation that it is entered in."""
+        found = c.vb_found()
+        accepted(LIBRARY.vb_cpu_find(self.handle, space, addr, found))
+        return found
+
+    def path(self, space: int, addr: int) -> list[int]:
+        """The regions that a search passes on the way to the one that answers an address, in the generation that it is entered in."""
+        out = (ctypes.c_uint32 * 32)()
+        return list(out[: accepted(LIBRARY.vb_cpu_path(self.handle, space, addr, out, len(out))).value])
+
+    def view(self, space: int) -> list[FlatRange]:
+        """The ranges of the view of a space in the generation that it is entered in, by ascending address."""
+        return ranges_in(lambda index, it: LIBRARY.vb_cpu_range(self.handle, space, index, it))

@@ -30,6 +30,7 @@ VB_NO_SCRIPT = 25  # The text is no script: `other` is the number of its first l
 VB_NOT_WHOLE = 26  # Only a part of some word would be replaced, in the generation `other`.
 VB_NO_CPU = 27  # All 16 virtual CPUs are handed out.
 VB_CONTENDED = 28  # Of a write only the first `value` bytes are written, in the generation `other`: a word was changed each time that it was tried.
+VB_NOT_ENTERED = 29  # The virtual CPU is entered in no generation.
 
 VB_SORT_REGION = 0  # A refusal names a region.
 VB_SORT_SPACE = 1  # A refusal names an address space.
@@ -319,6 +320,11 @@ FUNCTIONS = {
     "vb_desk_find": ([POINTER(vb_desk), c_uint32, c_uint64, POINTER(vb_found)], vb_answer),
     "vb_desk_range": ([POINTER(vb_desk), c_uint32, c_size_t, POINTER(vb_flat_range)], vb_answer),
     "vb_desk_delivery": ([POINTER(vb_desk), c_size_t, POINTER(vb_listener_call)], vb_answer),
+    "vb_cpu_plan_read": ([POINTER(vb_cpu), c_uint32, c_uint32, c_uint64, c_size_t, POINTER(vb_reached), c_size_t], vb_answer),
+    "vb_cpu_plan_write": ([POINTER(vb_cpu), c_uint32, c_uint32, c_uint64, POINTER(c_uint8), c_size_t, POINTER(vb_reached), c_size_t], vb_answer),
+    "vb_cpu_find": ([POINTER(vb_cpu), c_uint32, c_uint64, POINTER(vb_found)], vb_answer),
+    "vb_cpu_range": ([POINTER(vb_cpu), c_uint32, c_size_t, POINTER(vb_flat_range)], vb_answer),
+    "vb_cpu_path": ([POINTER(vb_cpu), c_uint32, c_uint64, POINTER(c_uint32), c_size_t], vb_answer),
     "vb_forget": ([POINTER(vb_machine), c_size_t], vb_answer),
     "vb_desk_forget": ([POINTER(vb_desk), c_size_t], vb_answer),
     "vb_harvest": ([POINTER(vb_machine), c_uint32, c_uint32, POINTER(c_uint64), c_size_t], vb_answer),

@@ -87,6 +87,9 @@ pub const VB_NO_CPU: u32 = 27;
 /// Of a write only the first `value` bytes are written, in the generation `other`: a word was changed each time that it was tried.
 pub const VB_CONTENDED: u32 = 28;
 
+/// The virtual CPU is entered in no generation.
+pub const VB_NOT_ENTERED: u32 = 29;
+
 /// A refusal names a region.
 pub const VB_SORT_REGION: u32 = 0;
 
@@ -684,6 +687,27 @@ unsafe extern "C" {
 
     /// What listeners were told, as `vb_delivery` tells it.
     pub fn vb_desk_delivery(handle: *mut vb_desk, index: usize, out: *mut vb_listener_call) -> vb_answer;
+
+    /// What a read of `len` bytes of a space reaches in the generation that the virtual CPU is entered in, as `vb_plan_read` tells it of the current
+    /// one, in its `way`. No region that is named is released before the virtual CPU leaves the generation, so what a plan names may be used until
+    /// then. Where it is in none, it is refused with code 29. It asks no lock, and may be called beside the desk and other virtual CPUs.
+    pub fn vb_cpu_plan_read(handle: *mut vb_cpu, way: u32, space: u32, addr: u64, len: usize, out: *mut vb_reached, out_len: usize) -> vb_answer;
+
+    /// What a write of bytes to a space reaches in the generation that the virtual CPU is entered in, as `vb_plan_write` tells it of the current one
+    /// and `vb_cpu_plan_read` of a read.
+    pub fn vb_cpu_plan_write(handle: *mut vb_cpu, way: u32, space: u32, addr: u64, bytes: *const u8, bytes_len: usize, out: *mut vb_reached, out_len: usize) -> vb_answer;
+
+    /// What an address of a space leads to in the generation that the virtual CPU is entered in, as `vb_find` tells it of the current one. Where it is
+    /// in none, it is refused with code 29. It asks no lock.
+    pub fn vb_cpu_find(handle: *mut vb_cpu, space: u32, addr: u64, out: *mut vb_found) -> vb_answer;
+
+    /// The range at an index of the view of a space in the generation that the virtual CPU is entered in, as `vb_range` tells it of the current one.
+    /// Where it is in none, it is refused with code 29. It asks no lock.
+    pub fn vb_cpu_range(handle: *mut vb_cpu, space: u32, index: usize, out: *mut vb_flat_range) -> vb_answer;
+
+    /// The path on which an address of a space is found in the generation that the virtual CPU is entered in, as `vb_path` tells it of the current
+    /// one. Where it is in none, it is refused with code 29. It asks no lock.
+    pub fn vb_cpu_path(handle: *mut vb_cpu, space: u32, addr: u64, out: *mut u32, out_len: usize) -> vb_answer;
 
     /// Forgets the first `count` of the calls that listeners got and that are not forgotten yet, all of them where there are fewer. `value`
     /// of the answer is how many it forgot: `vb_delivery` counts from the first that is not forgotten, so an index that a caller keeps is

@@ -126,27 +126,27 @@ impl Machine {
 
     /// What a read of `len` bytes of a space reaches, in order, and the number of the generation in which it does.
     pub fn plan_read(&mut self, way: Way, space: SpaceId, addr: u64, len: usize) -> Result<(Vec<Reached>, u64), Refusal> {
-        self.plan(|at, out| unsafe { sys::vb_plan_read(at, way as u32, space.0, addr, len, out.as_mut_ptr(), out.len()) })
+        planned(|out| unsafe { sys::vb_plan_read(&mut self.handle, way as u32, space.0, addr, len, out.as_mut_ptr(), out.len()) })
     }
 
     /// What a write of bytes to a space reaches, in order, and the number of the generation in which it does.
     pub fn plan_write(&mut self, way: Way, space: SpaceId, addr: u64, bytes: &[u8]) -> Result<(Vec<Reached>, u64), Refusal> {
-        self.plan(|at, out| unsafe {
-            sys::vb_plan_write(at, way as u32, space.0, addr, bytes.as_ptr(), bytes.len(), out.as_mut_ptr(), out.len())
+        planned(|out| unsafe {
+            sys::vb_plan_write(&mut self.handle, way as u32, space.0, addr, bytes.as_ptr(), bytes.len(), out.as_mut_ptr(), out.len())
         })
     }
+}
 
-    /// A plan, with as much room as it asks for.
-    fn plan(&mut self, ask: impl Fn(*mut sys::vb_machine, &mut [Reached]) -> sys::vb_answer) -> Result<(Vec<Reached>, u64), Refusal> {
-        let mut list = vec![Reached::default(); 8];
-        loop {
-            let answer = crate::refusal::accepted(ask(&mut self.handle, &mut list))?;
-            let count = answer.value as usize;
-            if count <= list.len() {
-                list.truncate(count);
-                return Ok((list, answer.other));
-            }
-            list.resize(count, Reached::default());
+/// A plan, with as much room as it asks for.
+pub(crate) fn planned(mut ask: impl FnMut(&mut [Reached]) -> sys::vb_answer) -> Result<(Vec<Reached>, u64), Refusal> {
+    let mut list = vec![Reached::default(); 8];
+    loop {
+        let answer = crate::refusal::accepted(ask(&mut list))?;
+        let count = answer.value as usize;
+        if count <= list.len() {
+            list.truncate(count);
+            return Ok((list, answer.other));
         }
+        list.resize(count, Reached::default());
     }
 }

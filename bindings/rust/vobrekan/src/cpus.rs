@@ -1,6 +1,7 @@
 //! A machine that virtual CPUs share: its desk, and the virtual CPUs, each on a thread of its own.
+use crate::bus::planned;
 use crate::refusal::accepted;
-use crate::{Access, Client, FlatRange, Found, Ioevent, Kind, ListenerCall, ListenerId, Pages, Perm, Refusal, RegionId, SpaceId, access, published, told};
+use crate::{Access, Client, FlatRange, Found, Ioevent, Kind, ListenerCall, ListenerId, Pages, Perm, Reached, Refusal, RegionId, SpaceId, Way, access, published, told};
 use std::ptr::null_mut;
 use vobrekan_sys as sys;
 
@@ -369,5 +370,60 @@ impl Cpu {
     /// ```
     pub fn write8(&mut self, space: SpaceId, addr: u64, value: u64) -> Result<Access, Refusal> {
         Ok(access(accepted(unsafe { sys::vb_cpu_write8(&mut self.0, space.0, addr, value) })?))
+    }
+
+    /// What a read of `len` bytes of a space reaches in the generation that it is entered in, in order: what a monitor asks at an exit of its guest,
+    /// without a lock. No region that is named is released before the virtual CPU leaves. Refused where it is entered in none.
+    ///
+    /// ```
+    /// # use vobrekan::*;
+    /// # let mut desk = Desk::new(1 << 16)?;
+    /// # let (board, ram) = (desk.region(Kind::Container, WHOLE)?, desk.region(Kind::Host, 0x2000)?);
+    /// # desk.ask(Order::Space(SpaceId(0), board))?;
+    /// # desk.ask(Order::Add(board, 0, ram, 0))?;
+    /// let mut cpu = desk.cpu()?;
+    /// cpu.enter()?;
+    /// desk.ask(Order::Move(ram, 0x8000))?; // the virtual CPU still asks the map that it entered
+    /// let plan = cpu.plan_read(Way::Qemu, SpaceId(0), 0x1ffc, 8)?;
+    /// assert_eq!((plan[0].region, plan[0].offset, plan[0].len), (ram.0, 0x1ffc, 4)); // after these four bytes nothing answers
+    /// # Ok::<(), Refusal>(())
+    /// ```
+    pub fn plan_read(&mut self, way: Way, space: SpaceId, addr: u64, len: usize) -> Result<Vec<Reached>, Refusal> {
+        Ok(planned(|out| unsafe { sys::vb_cpu_plan_read(&mut self.0, way as u32, space.0, addr, len, out.as_mut_ptr(), out.len()) })?.0)
+    }
+
+    /// What a write of bytes to a space reaches in the generation that it is entered in, as `plan_read` tells it of a read.
+    pub fn plan_write(&mut self, way: Way, space: SpaceId, addr: u64, bytes: &[u8]) -> Result<Vec<Reached>, Refusal> {
+        Ok(planned(|out| unsafe {
+            sys::vb_cpu_plan_write(&mut self.0, way as u32, space.0, addr, bytes.as_ptr(), bytes.len(), out.as_mut_ptr(), out.len())
+        })?
+        .0)
+    }
+
+    /// What an address of a space leads to in the generation that it is entered in, and how far it goes on alike. Refused where it is entered in none.
+    pub fn find(&mut self, space: SpaceId, addr: u64) -> Result<Found, Refusal> {
+        let mut found = Found::default();
+        accepted(unsafe { sys::vb_cpu_find(&mut self.0, space.0, addr, &mut found) })?;
+        Ok(found)
+    }
+
+    /// The regions that a search passes on the way to the one that answers an address, in the generation that it is entered in.
+    pub fn path(&mut self, space: SpaceId, addr: u64) -> Result<Vec<RegionId>, Refusal> {
+        let mut out = [0; 32];
+        let count = accepted(unsafe { sys::vb_cpu_path(&mut self.0, space.0, addr, out.as_mut_ptr(), out.len()) })?.value as usize;
+        Ok(out[..count].iter().copied().map(RegionId).collect())
+    }
+
+    /// The ranges of the view of a space in the generation that it is entered in, by ascending address.
+    pub fn view(&mut self, space: SpaceId) -> Result<Vec<FlatRange>, Refusal> {
+        let mut ranges = Vec::new();
+        loop {
+            let mut range = FlatRange::default();
+            let count = accepted(unsafe { sys::vb_cpu_range(&mut self.0, space.0, ranges.len(), &mut range) })?.value;
+            if ranges.len() as u64 >= count {
+                return Ok(ranges);
+            }
+            ranges.push(range);
+        }
     }
 }

@@ -100,6 +100,8 @@ pub enum Refusal {
     NotWhole(u64),
     /// All 16 virtual CPUs are handed out.
     NoCpu,
+    /// The virtual CPU is entered in no generation.
+    NotEntered,
     /// What listeners were told is forgotten up to this index.
     Forgotten(u64),
     /// A code that this crate does not know.
@@ -148,6 +150,7 @@ pub(crate) fn accepted(answer: sys::vb_answer) -> Result<sys::vb_answer, Refusal
         sys::VB_NO_MACHINE => Refusal::NoMachine,
         sys::VB_NOT_WHOLE => Refusal::NotWhole(other),
         sys::VB_NO_CPU => Refusal::NoCpu,
+        sys::VB_NOT_ENTERED => Refusal::NotEntered,
         _ => Refusal::Other(code),
     })
 }
@@ -193,6 +196,7 @@ impl fmt::Display for Refusal {
             Refusal::NoMachine => write!(f, "the handle has no machine"),
             Refusal::NotWhole(_) => write!(f, "only a part of some word would be replaced"),
             Refusal::NoCpu => write!(f, "all virtual CPUs are handed out"),
+            Refusal::NotEntered => write!(f, "the virtual CPU is entered in no generation"),
             Refusal::Forgotten(until) => write!(f, "what listeners were told is forgotten up to {until}"),
             Refusal::Other(code) => write!(f, "code {code}"),
         }
