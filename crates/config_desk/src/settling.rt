@@ -30,12 +30,21 @@ pub struct Patience {
     pub sleep_nanos: u64,
 }
 
-// Lets other threads run, before a try after which `left - 1` are left.
-fn give_way<R: Wait>(rt: &R, patience: &Patience, left: u64) {
-    if left > u64::from(patience.sleeps) {
-        thread::yield_now();
-    } else {
-        Parker::new().park_timeout(rt, Duration::from_nanos(patience.sleep_nanos));
+impl Patience {
+    /// How many tries there are at most after the first.
+    pub fn tries(&self) -> u64
+        ensures { result ≡ tries_of self.now }
+    {
+        u64::from(self.yields) + u64::from(self.sleeps)
+    }
+
+    /// Waits before a try, where `left` of the tries are left, this one among them.
+    pub fn wait<R: Wait>(&self, rt: &R, left: u64) {
+        if left > u64::from(self.sleeps) {
+            thread::yield_now();
+        } else {
+            Parker::new().park_timeout(rt, Duration::from_nanos(self.sleep_nanos));
+        }
     }
 }
 
@@ -60,12 +69,12 @@ impl Config {
         ensures { WasTried patience.now self.old event.now result self.new }
     {
         let mut answer = self.configure(event);
-        let mut left = u64::from(patience.yields) + u64::from(patience.sleeps);
+        let mut left = patience.tries();
         while left > 0 {
             if !was_held(&answer) {
                 return answer;
             }
-            give_way(rt, patience, left);
+            patience.wait(rt, left);
             answer = self.configure(event);
             left -= 1;
         }

@@ -16,7 +16,7 @@ loop-left-init g c =
       unchanged = e.unchanged;
     } in (
       0,
-      omega (arith, c.from.ensures, c.from-2.ensures),
+      omega (arith, c.tries-left.ensures),
       first_try c.args.self.now c.configure-answer.new.self c.args.event.now c.configure-answer.result first,
     )
 
