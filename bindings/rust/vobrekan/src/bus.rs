@@ -130,6 +130,19 @@ impl Machine {
     }
 
     /// What a write of bytes to a space reaches, in order, and the number of the generation in which it does.
+    ///
+    /// ```
+    /// # use vobrekan::*;
+    /// # let mut machine = Machine::new(1 << 16)?;
+    /// # let (board, ram) = (machine.region(Kind::Container, WHOLE)?, machine.region(Kind::Ram, 0x2000)?);
+    /// # machine.space(SpaceId(0), board)?;
+    /// # machine.add(board, 0, ram, 0)?;
+    /// machine.log(ram, Client::Migration, true)?;
+    /// let (plan, generation) = machine.plan_write(Way::Chunks, SpaceId(0), 0x10, &[1, 2])?;
+    /// assert_eq!(plan.iter().map(|it| it.what).collect::<Vec<_>>(), [sys::VB_REACHED_MEMORY, sys::VB_REACHED_MARK]);
+    /// assert_eq!(generation, 3);
+    /// # Ok::<(), Refusal>(())
+    /// ```
     pub fn plan_write(&mut self, way: Way, space: SpaceId, addr: u64, bytes: &[u8]) -> Result<(Vec<Reached>, u64), Refusal> {
         planned(|out| unsafe {
             sys::vb_plan_write(&mut self.handle, way as u32, space.0, addr, bytes.as_ptr(), bytes.len(), out.as_mut_ptr(), out.len())

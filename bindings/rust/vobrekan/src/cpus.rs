@@ -211,6 +211,22 @@ impl Desk {
     }
 
     /// Releases the dropped regions that no generation in use names, and answers them, ascending.
+    ///
+    /// ```
+    /// # use vobrekan::*;
+    /// # let mut desk = Desk::new(1 << 16)?;
+    /// # let (board, ram) = (desk.region(Kind::Container, WHOLE)?, desk.region(Kind::Ram, 0x2000)?);
+    /// # desk.ask(Order::Space(SpaceId(0), board))?;
+    /// # desk.ask(Order::Add(board, 0, ram, 0))?;
+    /// let mut cpu = desk.cpu()?;
+    /// cpu.enter()?;
+    /// desk.ask(Order::Del(board, ram))?;
+    /// desk.ask(Order::Drop(ram))?;
+    /// assert_eq!(desk.reap()?, []); // the virtual CPU may still use it
+    /// cpu.leave()?;
+    /// assert_eq!(desk.reap()?, [ram]);
+    /// # Ok::<(), Refusal>(())
+    /// ```
     pub fn reap(&mut self) -> Result<Vec<RegionId>, Refusal> {
         let mut out = vec![0; self.dropped];
         let count = accepted(unsafe { sys::vb_desk_reap(&mut self.handle, out.as_mut_ptr(), out.len()) })?.value as usize;
@@ -237,6 +253,17 @@ impl Desk {
     }
 
     /// The ranges of the current view of a space, by ascending address.
+    ///
+    /// ```
+    /// # use vobrekan::*;
+    /// # let mut desk = Desk::new(1 << 16)?;
+    /// # let (board, ram) = (desk.region(Kind::Container, WHOLE)?, desk.region(Kind::Ram, 0x2000)?);
+    /// # desk.ask(Order::Space(SpaceId(0), board))?;
+    /// # desk.ask(Order::Add(board, 0, ram, 0))?;
+    /// desk.ask(Order::Move(ram, 0x4000))?;
+    /// assert_eq!(desk.view(SpaceId(0))?[0].start, 0x4000);
+    /// # Ok::<(), Refusal>(())
+    /// ```
     pub fn view(&mut self, space: SpaceId) -> Result<Vec<FlatRange>, Refusal> {
         let mut ranges = Vec::new();
         loop {

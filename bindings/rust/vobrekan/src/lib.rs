@@ -185,11 +185,36 @@ impl Machine {
     }
 
     /// Gives a region another size: any region but memory.
+    ///
+    /// ```
+    /// # use vobrekan::*;
+    /// # let mut machine = Machine::new(1 << 16)?;
+    /// # let (board, ram) = (machine.region(Kind::Container, WHOLE)?, machine.region(Kind::Ram, 0x2000)?);
+    /// # machine.space(SpaceId(0), board)?;
+    /// # machine.add(board, 0, ram, 0)?;
+    /// assert_eq!(machine.resize(ram, 0x1000), Err(Refusal::WrongKind(ram)));
+    /// machine.resize(board, 0x1800)?;
+    /// assert_eq!(machine.find(SpaceId(0), 0)?.last, 0x17ff);
+    /// # Ok::<(), Refusal>(())
+    /// ```
     pub fn resize(&mut self, region: RegionId, size: u64) -> Result<Option<u64>, Refusal> {
         Ok(published(accepted(unsafe { sys::vb_resize(&mut self.handle, region.0, size) })?))
     }
 
     /// Moves the window of an alias in its target.
+    ///
+    /// ```
+    /// # use vobrekan::*;
+    /// # let mut machine = Machine::new(1 << 16)?;
+    /// # let (board, ram) = (machine.region(Kind::Container, WHOLE)?, machine.region(Kind::Ram, 0x2000)?);
+    /// # machine.space(SpaceId(0), board)?;
+    /// # machine.add(board, 0, ram, 0)?;
+    /// let window = machine.region(Kind::Alias(ram, 0), 0x1000)?;
+    /// machine.add(board, 0x8000, window, 0)?;
+    /// machine.retarget(window, 0x1000)?;
+    /// assert_eq!(machine.find(SpaceId(0), 0x8010)?.offset, 0x1010);
+    /// # Ok::<(), Refusal>(())
+    /// ```
     pub fn retarget(&mut self, alias: RegionId, offset: u64) -> Result<Option<u64>, Refusal> {
         Ok(published(accepted(unsafe { sys::vb_retarget(&mut self.handle, alias.0, offset) })?))
     }
@@ -200,6 +225,18 @@ impl Machine {
     }
 
     /// Switches whether what is found through the region is read-only.
+    ///
+    /// ```
+    /// # use vobrekan::*;
+    /// # let mut machine = Machine::new(1 << 16)?;
+    /// # let (board, ram) = (machine.region(Kind::Container, WHOLE)?, machine.region(Kind::Ram, 0x2000)?);
+    /// # machine.space(SpaceId(0), board)?;
+    /// # machine.add(board, 0, ram, 0)?;
+    /// machine.readonly(ram, true)?;
+    /// assert!(machine.find(SpaceId(0), 0)?.readonly);
+    /// assert!(machine.write(PassId(0), SpaceId(0), 0, &[1])?.decode); // nothing is written
+    /// # Ok::<(), Refusal>(())
+    /// ```
     pub fn readonly(&mut self, region: RegionId, on: bool) -> Result<Option<u64>, Refusal> {
         Ok(published(accepted(unsafe { sys::vb_readonly(&mut self.handle, region.0, on) })?))
     }
@@ -347,6 +384,18 @@ impl Machine {
     }
 
     /// What an address of a space leads to, and how far it goes on alike.
+    ///
+    /// ```
+    /// # use vobrekan::*;
+    /// # let mut machine = Machine::new(1 << 16)?;
+    /// # let (board, ram) = (machine.region(Kind::Container, WHOLE)?, machine.region(Kind::Ram, 0x2000)?);
+    /// # machine.space(SpaceId(0), board)?;
+    /// # machine.add(board, 0, ram, 0)?;
+    /// let found = machine.find(SpaceId(0), 0x1234)?;
+    /// assert_eq!((found.region, found.offset, found.last), (ram.0, 0x1234, 0x1fff));
+    /// assert_eq!(machine.find(SpaceId(1), 0), Err(Refusal::Unknown(What::Space(SpaceId(1)))));
+    /// # Ok::<(), Refusal>(())
+    /// ```
     pub fn find(&mut self, space: SpaceId, addr: u64) -> Result<Found, Refusal> {
         let mut found = Found::default();
         accepted(unsafe { sys::vb_find(&mut self.handle, space.0, addr, &mut found) })?;
@@ -397,6 +446,19 @@ impl Machine {
 
     /// The calls that listeners got from the index `from` on, counted from the first that was ever made: a caller that goes on from
     /// where it came to misses none. Refused where the call `from` is forgotten.
+    ///
+    /// ```
+    /// # use vobrekan::*;
+    /// # let mut machine = Machine::new(1 << 16)?;
+    /// # let (board, ram) = (machine.region(Kind::Container, WHOLE)?, machine.region(Kind::Ram, 0x2000)?);
+    /// # machine.space(SpaceId(0), board)?;
+    /// # machine.add(board, 0, ram, 0)?;
+    /// machine.listen(ListenerId(0), SpaceId(0), 0)?;
+    /// let seen = machine.told(0)?.len();
+    /// machine.enable(ram, false)?;
+    /// assert!(machine.told(seen)?.iter().any(|call| call.what == sys::VB_TOLD_DELETE));
+    /// # Ok::<(), Refusal>(())
+    /// ```
     pub fn told(&mut self, from: usize) -> Result<Vec<ListenerCall>, Refusal> {
         told(from, self.forgotten, |index, call| unsafe { sys::vb_delivery(&mut self.handle, index, call) })
     }
@@ -450,6 +512,21 @@ impl Machine {
     }
 
     /// Loads bytes into a region that has bytes, ROM among them.
+    ///
+    /// ```
+    /// # use vobrekan::*;
+    /// # let mut machine = Machine::new(1 << 16)?;
+    /// # let (board, ram) = (machine.region(Kind::Container, WHOLE)?, machine.region(Kind::Ram, 0x2000)?);
+    /// # machine.space(SpaceId(0), board)?;
+    /// # machine.add(board, 0, ram, 0)?;
+    /// let rom = machine.region(Kind::Rom, 0x1000)?;
+    /// machine.add(board, 0x1_0000, rom, 0)?;
+    /// machine.load(rom, 0x10, &[0xea])?;
+    /// let mut byte = [0];
+    /// machine.read(PassId(0), SpaceId(0), 0x1_0010, &mut byte)?;
+    /// assert_eq!(byte, [0xea]);
+    /// # Ok::<(), Refusal>(())
+    /// ```
     pub fn load(&mut self, region: RegionId, offset: u64, bytes: &[u8]) -> Result<(), Refusal> {
         accepted(unsafe { sys::vb_load(&mut self.handle, region.0, offset, bytes.as_ptr(), bytes.len()) })?;
         Ok(())
