@@ -302,10 +302,11 @@ class Tests(unittest.TestCase):
             machine.add(parent, 0x1000, child)
         told = refused.exception
         self.assertEqual((told.code, told.name, told.value), (c.VB_HAS_CONTAINER, "HAS_CONTAINER", parent))
-        self.assertEqual((vobrekan.CODES[0], vobrekan.CODES[28], len(vobrekan.CODES)), ("DONE", "CONTENDED", 29))
+        self.assertEqual((vobrekan.CODES[0], vobrekan.CODES[29], len(vobrekan.CODES)), ("DONE", "NOT_ENTERED", 30))
 
     def test_the_examples_of_the_module(self):
-        self.assertEqual(doctest.testmod(vobrekan).failed, 0)
+        for module in (vobrekan, vobrekan.bounds):
+            self.assertEqual(doctest.testmod(module).failed, 0)
         with open(os.path.join(os.path.dirname(vobrekan.__file__), "..", "pyproject.toml"), encoding="utf-8") as project:
             self.assertIn(f'version = "{vobrekan.__version__}"', project.read())
 
