@@ -10,7 +10,7 @@ import zipfile
 
 HERE = os.path.dirname(os.path.abspath(__file__))
 TAG = "py3-none-linux_x86_64"
-MODULE = ["__init__.py", "declarations.py", "declarations.pyi", "py.typed"]
+MODULE = ["__init__.py", "bounds.py", "declarations.py", "declarations.pyi", "py.typed"]
 LICENCES = ["LICENSE-APACHE", "LICENSE-MIT"]
 # The earliest time that a file of an archive can have.
 TIME = (1980, 1, 1, 0, 0, 0)

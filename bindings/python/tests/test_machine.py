@@ -306,7 +306,8 @@ class Tests(unittest.TestCase):
         self.assertEqual(list(vobrekan.CODES.values()), names[: names.index("SORT_REGION")])
 
     def test_the_examples_of_the_module(self):
-        self.assertEqual(doctest.testmod(vobrekan).failed, 0)
+        for module in (vobrekan, vobrekan.bounds):
+            self.assertEqual(doctest.testmod(module).failed, 0)
         with open(os.path.join(os.path.dirname(vobrekan.__file__), "..", "pyproject.toml"), encoding="utf-8") as project:
             self.assertIn(f'version = "{vobrekan.__version__}"', project.read())
 

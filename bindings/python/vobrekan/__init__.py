@@ -11,16 +11,24 @@
 
 The library is libvobrekan.so of the folder VOBREKAN_LIB, where that is set; else the one beside this module, which a wheel has; else the one that
 bindings/build makes. Each method of Machine is one call of the library, by the same name without `vb_`; a refused call raises Refused, and changes
-nothing of the map. Numbers of kinds, clients and so on are in `vobrekan.declarations`, as `VB_CLIENT_DISPLAY`.
+nothing of the map. Numbers of kinds, clients and so on are in `vobrekan.declarations`, as `VB_CLIENT_DISPLAY`. A number that its parameter or its
+field does not hold is a ValueError, before anything is called.
+
+Several threads may use one machine: a call of the library keeps the interpreter's lock, so one works at a time. What takes several calls (`view`, `told`,
+`harvest`, `drop` with `reap`, a transaction) is no single step, so threads that share a machine put a lock of their own around it. Virtual CPUs work
+beside one another in C and Rust; here they take turns.
 """
 from __future__ import annotations
 
+import array
 import ctypes
 import os
-from types import TracebackType
+import sys
+from types import SimpleNamespace, TracebackType
 from typing import Any, Callable, Union
 
 from . import declarations as c
+from .bounds import checked, in_range
 from .declarations import (
     vb_device as Device,
     vb_flat_range as FlatRange,
@@ -39,7 +47,11 @@ HERE = os.path.dirname(os.path.abspath(__file__))
 # The size that stands for 2^64 bytes.
 WHOLE = 2**64 - 1
 
-Bytes = Union[bytes, bytearray, memoryview]
+# The most words of marks that a region of the machine's own memory has: it is at most the pool, 2^29 bytes, with a bit for each page of 4,096.
+MOST_MARKS = 2**29 // 4096 // 64
+
+# Bytes to be written: of items that are wider than a byte, all bytes of each, as they lie in memory.
+Bytes = Union[bytes, bytearray, memoryview, "array.array[Any]"]
 
 
 def folder() -> str:
@@ -49,13 +61,14 @@ def folder() -> str:
     return HERE if os.path.exists(os.path.join(HERE, "libvobrekan.so")) else os.path.join(HERE, "..", "..", "out")
 
 
-def loaded() -> ctypes.CDLL:
-    """The library, with the types of its calls."""
-    library = ctypes.CDLL(os.path.join(folder(), "libvobrekan.so"))
+def loaded() -> SimpleNamespace:
+    """The calls of the library, each with its types. A call keeps the interpreter's lock (PyDLL): the library takes one at a time on a handle."""
+    library, calls = ctypes.PyDLL(os.path.join(folder(), "libvobrekan.so")), SimpleNamespace()
     for name, (parameters, result) in c.FUNCTIONS.items():
         function = getattr(library, name)
         function.argtypes, function.restype = parameters, result
-    return library
+        setattr(calls, name, checked(name, function, parameters))
+    return calls
 
 
 LIBRARY = loaded()
@@ -92,6 +105,9 @@ class Refused(Exception):
         self.code, self.what, self.value, self.other = answer.code, answer.what, answer.value, answer.other
         super().__init__(said(answer))
 
+    def __reduce__(self) -> tuple[Any, ...]:
+        return Refused, (c.vb_answer(self.code, self.what, self.value, self.other),), self.__dict__
+
     @property
     def name(self) -> str:
         """The name of the code, without `VB_`."""
@@ -119,9 +135,15 @@ def published(answer: c.vb_answer) -> int | None:
     return accepted(answer).other or None
 
 
-def given_as(data: Bytes) -> ctypes.Array[ctypes.c_uint8]:
-    """Bytes as the library takes them: of none it looks at none, and the place of one is there."""
-    return (ctypes.c_uint8 * max(len(data), 1)).from_buffer_copy(bytes(data) or b"\0")
+def given_as(data: Bytes) -> tuple[ctypes.Array[ctypes.c_uint8], int]:
+    """Bytes as the library takes them, and how many they are: of none it looks at none, and the place of one is there."""
+    given = memoryview(data).tobytes()
+    return (ctypes.c_uint8 * max(len(given), 1)).from_buffer_copy(given or b"\0"), len(given)
+
+
+def room_for(count: int) -> ctypes.Array[ctypes.c_uint8]:
+    """Room for so many bytes, which are read; for one, where they are none."""
+    return (ctypes.c_uint8 * max(in_range("count", count, 0, sys.maxsize), 1))()
 
 
 def run(script: Bytes) -> tuple[bytes, int | None]:
@@ -130,11 +152,11 @@ def run(script: Bytes) -> tuple[bytes, int | None]:
     >>> run(b"region r container 4K\\nspace s r\\nshow s\\n")
     (b'view s g1\\n', None)
     """
-    given = given_as(script)
+    given, length = given_as(script)
     room = 1 << 16
     while True:
         out = (ctypes.c_uint8 * room)()
-        answer: c.vb_answer = LIBRARY.vb_run(given, len(script), out, room)
+        answer: c.vb_answer = LIBRARY.vb_run(given, length, out, room)
         fault = answer.other if answer.code == c.VB_NO_SCRIPT else None
         if fault is None:
             accepted(answer)
@@ -174,13 +196,18 @@ def regions_in(owner: Machine | Desk, reap: Callable[[Any], Any]) -> list[int]:
     return list(out[:count])
 
 
-def pages_in(harvest: Callable[[Any, int], Any]) -> list[int]:
-    """The pages that a harvest tells. It is asked for the room first: without any it says how much it takes."""
+def pages_in(region: int, client: int, harvest: Callable[[Any, int], Any]) -> list[int]:
+    """The pages that a harvest tells. It is asked for the room first: without any it says how much it takes.
+
+    A region that takes more room than the machine's own memory can is none of it. It is refused as such, which the library says once it has the room."""
     room = 0
     while True:
         out = (ctypes.c_uint64 * max(room, 1))()
         answer = harvest(out, room)
-        if answer.code == c.VB_ARGUMENT and answer.value > room:
+        is_short = answer.code == c.VB_ARGUMENT and client <= c.VB_CLIENT_MIGRATION and answer.value > room
+        if is_short and answer.value > MOST_MARKS:
+            raise Refused(c.vb_answer(code=c.VB_WRONG_KIND, value=region))
+        if is_short:
             room = answer.value
             continue
         accepted(answer)
@@ -191,7 +218,8 @@ class Machine:
     """A machine over a pool of this many words of 8 bytes, at most 2^26.
 
     `with machine:` is a transaction: what is changed in it is published at its end, also where an error ends it, and `last` is then the number of the
-    generation that was published, if one was. `close` frees the machine, and `with contextlib.closing(Machine(words)) as machine:` calls it at its end.
+    generation that was published, if one was. Where the publish is refused, `Refused` is raised, but where an error ended it that one goes on; the
+    transaction is then open until `close_transactions`. `close` frees the machine, and `with contextlib.closing(Machine(words)) as machine:` calls it at its end.
 
     >>> machine = Machine(1 << 10)
     >>> with machine:
@@ -203,7 +231,8 @@ class Machine:
     last: int | None
 
     def __init__(self, words: int) -> None:
-        self.handle, self.dropped, self.forgotten = c.vb_machine(), 0, 0
+        self.handle, self.dropped, self.forgotten, self.left_open = c.vb_machine(), 0, 0, 0
+        self.last = None
         accepted(LIBRARY.vb_new(self.handle, words))
 
     def close(self) -> None:
@@ -220,7 +249,27 @@ class Machine:
         return self
 
     def __exit__(self, kind: type[BaseException] | None = None, error: BaseException | None = None, trace: TracebackType | None = None) -> None:
-        self.last = published(LIBRARY.vb_commit(self.handle))
+        self.left_open += 1
+        try:
+            self.last = self.close_transactions()
+        except Refused as refused:
+            self.last = None
+            if error is None:
+                raise
+            if hasattr(error, "add_note"):
+                error.add_note(f"and the transaction is still open: {refused}")
+
+    def close_transactions(self) -> int | None:
+        """Closes the transactions that have ended and are still open, since the commit at their end was refused, as where memory runs out. It answers the
+        number of the generation that was published, if one was. The end of a later transaction does it too."""
+        last = None
+        while self.left_open:
+            answer = LIBRARY.vb_commit(self.handle)
+            if answer.code == c.VB_NO_TRANSACTION:
+                self.left_open = 0
+            last = published(answer)
+            self.left_open -= 1
+        return last
 
     # Regions: each answers the number of the region that it made.
 
@@ -341,7 +390,7 @@ class Machine:
 
     def harvest(self, region: int, client: int) -> list[int]:
         """The pages of a region that were written since they were last taken for this client, ascending."""
-        return pages_in(lambda out, room: LIBRARY.vb_harvest(self.handle, region, client, out, room))
+        return pages_in(region, client, lambda out, room: LIBRARY.vb_harvest(self.handle, region, client, out, room))
 
     # What it shows.
 
@@ -381,14 +430,14 @@ class Machine:
 
     def read(self, space: int, addr: int, count: int, by: int = 0) -> tuple[bytes, int]:
         """Bytes of a space, and how the access ended: 1 a device's error, 2 nothing there, 3 both, 0 neither."""
-        out = (ctypes.c_uint8 * max(count, 1))()
+        out = room_for(count)
         answer = accepted(LIBRARY.vb_read(self.handle, by, space, addr, out, count))
         return bytes(out[:count]), answer.what
 
     def write(self, space: int, addr: int, data: Bytes, by: int = 0) -> int:
         """Writes bytes to a space, and answers how the access ended."""
-        given = given_as(data)
-        return accepted(LIBRARY.vb_write(self.handle, by, space, addr, given, len(data))).what
+        given, length = given_as(data)
+        return accepted(LIBRARY.vb_write(self.handle, by, space, addr, given, length)).what
 
     def plan_read(self, space: int, addr: int, count: int, way: int = c.VB_WAY_CHUNKS) -> list[Reached]:
         """What a read reaches, in order, for a caller that has the memory and the devices itself."""
@@ -396,8 +445,8 @@ class Machine:
 
     def plan_write(self, space: int, addr: int, data: Bytes, way: int = c.VB_WAY_CHUNKS) -> list[Reached]:
         """What a write reaches, in order."""
-        given = given_as(data)
-        return self.plan(lambda out: LIBRARY.vb_plan_write(self.handle, way, space, addr, given, len(data), out, len(out)))
+        given, length = given_as(data)
+        return self.plan(lambda out: LIBRARY.vb_plan_write(self.handle, way, space, addr, given, length, out, len(out)))
 
     @staticmethod
     def plan(ask: Callable[[Any], Any]) -> list[Reached]:
@@ -411,8 +460,8 @@ class Machine:
 
     def load(self, region: int, offset: int, data: Bytes) -> None:
         """Loads bytes into a region that has bytes, ROM among them."""
-        given = given_as(data)
-        accepted(LIBRARY.vb_load(self.handle, region, offset, given, len(data)))
+        given, length = given_as(data)
+        accepted(LIBRARY.vb_load(self.handle, region, offset, given, length))
 
     def notified(self, number: int) -> bool:
         """Takes a notifier, 0 to 63: whether a write has set it since it was last taken."""
@@ -472,7 +521,7 @@ class Desk:
 
     def harvest(self, region: int, client: int) -> list[int]:
         """The pages of a region that were written since they were last taken for this client, ascending."""
-        return pages_in(lambda out, room: LIBRARY.vb_desk_harvest(self.handle, region, client, out, room))
+        return pages_in(region, client, lambda out, room: LIBRARY.vb_desk_harvest(self.handle, region, client, out, room))
 
     def notified(self, number: int) -> bool:
         """Takes a notifier, 0 to 63: whether a write has set it since it was last taken."""
@@ -529,17 +578,17 @@ class Cpu:
 
     def read(self, space: int, addr: int, count: int) -> tuple[bytes, int]:
         """Bytes of a space, and how the access ended, as `Machine.read` answers them."""
-        out = (ctypes.c_uint8 * max(count, 1))()
+        out = room_for(count)
         answer = accepted(LIBRARY.vb_cpu_read(self.handle, space, addr, out, count))
         return bytes(out[:count]), answer.what
 
     def write(self, space: int, addr: int, data: Bytes, tries: int = 64) -> tuple[int, int]:
         """Writes bytes, and answers how many of the first are written, and how that ended: each part of a word is tried this many times."""
-        given = given_as(data)
-        answer = LIBRARY.vb_cpu_write(self.handle, space, addr, given, len(data), tries)
+        given, length = given_as(data)
+        answer = LIBRARY.vb_cpu_write(self.handle, space, addr, given, length, tries)
         if answer.code == c.VB_CONTENDED:
             return answer.value, answer.what
-        return len(data), accepted(answer).what
+        return length, accepted(answer).what
 
     def write8(self, space: int, addr: int, value: int) -> int:
         """Writes the eight bytes of a number, the lowest first. It is refused where only a part of some word would be replaced."""
@@ -552,8 +601,8 @@ class Cpu:
 
     def plan_write(self, space: int, addr: int, data: Bytes, way: int = c.VB_WAY_CHUNKS) -> list[Reached]:
         """What a write reaches in the generation that it is entered in, in order."""
-        given = given_as(data)
-        return Machine.plan(lambda out: LIBRARY.vb_cpu_plan_write(self.handle, way, space, addr, given, len(data), out, len(out)))
+        given, length = given_as(data)
+        return Machine.plan(lambda out: LIBRARY.vb_cpu_plan_write(self.handle, way, space, addr, given, length, out, len(out)))
 
     def find(self, space: int, addr: int) -> Found:
         """What an address leads to in the generation that it is entered in."""

@@ -1,5 +1,7 @@
 """Made by bindings/declare from crates/libvobrekan/src."""
-from ctypes import POINTER, Structure, c_bool, c_int32, c_size_t, c_uint8, c_uint32, c_uint64, c_void_p
+from ctypes import POINTER, c_bool, c_int32, c_size_t, c_uint8, c_uint32, c_uint64, c_void_p
+
+from .bounds import Numbers
 
 VB_DONE = 0  # It is done.
 VB_UNKNOWN = 1  # Something that the call names is not there: `what` is its sort, `value` its number.
@@ -110,7 +112,7 @@ VB_TOLD_EVENT_DEL = 7  # A listener is told that an ioeventfd is gone.
 VB_TOLD_COMMIT = 8  # A listener is told that the change is whole.
 
 
-class vb_machine(Structure):
+class vb_machine(Numbers):
     """What C keeps of a machine: a pointer, which is null where there is none."""
 
     _fields_ = [
@@ -118,7 +120,7 @@ class vb_machine(Structure):
     ]
 
 
-class vb_desk(Structure):
+class vb_desk(Numbers):
     """What C keeps of the desk of a machine that virtual CPUs share: a pointer, which is null where there is none."""
 
     _fields_ = [
@@ -126,7 +128,7 @@ class vb_desk(Structure):
     ]
 
 
-class vb_cpu(Structure):
+class vb_cpu(Numbers):
     """What C keeps of a virtual CPU: a pointer, which is null where there is none."""
 
     _fields_ = [
@@ -134,7 +136,7 @@ class vb_cpu(Structure):
     ]
 
 
-class vb_answer(Structure):
+class vb_answer(Numbers):
     """What a call answers: a code, and what it names.
 
     The code is 0 where it is done. 1 to 20 are the refusals of the machine, numbered as the lines of a script number them, and
@@ -149,7 +151,7 @@ class vb_answer(Structure):
     ]
 
 
-class vb_device(Structure):
+class vb_device(Numbers):
     """A device: what its registers do, how many words of 8 bytes they are, and its access sizes in bytes.
 
     The kinds are 0 latch, 1 counter, 2 bell and 3 fault."""
@@ -167,7 +169,7 @@ class vb_device(Structure):
     ]
 
 
-class vb_ioevent(Structure):
+class vb_ioevent(Numbers):
     """An ioeventfd: a write of `size` bytes at `offset` in its device sets the notifier `number`, where it is any write or
     writes `value`."""
 
@@ -180,7 +182,7 @@ class vb_ioevent(Structure):
     ]
 
 
-class vb_order(Structure):
+class vb_order(Numbers):
     """What is asked of a desk. `what` says which of the calls of a machine it is, by `VB_DO_..`; each takes the numbers that it names, and the
     others are not looked at."""
 
@@ -203,7 +205,7 @@ class vb_order(Structure):
     ]
 
 
-class vb_flat_range(Structure):
+class vb_flat_range(Numbers):
     """A range of a view: the addresses `start` to `last` inclusive are answered by a region, from `offset` in it on."""
 
     _fields_ = [
@@ -219,7 +221,7 @@ class vb_flat_range(Structure):
     ]
 
 
-class vb_found(Structure):
+class vb_found(Numbers):
     """What an address leads to: the byte of a region, if there is one, and the last address after it that is answered alike."""
 
     _fields_ = [
@@ -236,7 +238,7 @@ class vb_found(Structure):
     ]
 
 
-class vb_reached(Structure):
+class vb_reached(Numbers):
     """One thing that an access reaches. `what` is 0 memory, 1 a callback of a device, 2 a notifier, 3 a mark of a page, 4 nothing. It is
     about `len` bytes of the access, those from byte `at` of it on; a mark is about none."""
 
@@ -254,7 +256,7 @@ class vb_reached(Structure):
     ]
 
 
-class vb_live_event(Structure):
+class vb_live_event(Numbers):
     """An ioeventfd as a view shows it. Its address is `distance` bytes from 0: below it where a view shows only the end of its bytes."""
 
     _fields_ = [
@@ -267,7 +269,7 @@ class vb_live_event(Structure):
     ]
 
 
-class vb_listener_call(Structure):
+class vb_listener_call(Numbers):
     """One call of a listener. `what` is 0 begin, 1 a range is gone, 2 it is there, 3 it stays, 4 logging starts, 5 logging stops, 6 an
     ioeventfd is there, 7 it is gone, 8 commit."""
 

@@ -1,6 +1,7 @@
 """Made by bindings/declare from crates/libvobrekan/src."""
-from ctypes import Structure
 from typing import Any
+
+from .bounds import Numbers
 
 VB_DONE: int
 VB_UNKNOWN: int
@@ -109,26 +110,26 @@ VB_TOLD_EVENT_ADD: int
 VB_TOLD_EVENT_DEL: int
 VB_TOLD_COMMIT: int
 
-class vb_machine(Structure):
+class vb_machine(Numbers):
     at: Any
     def __init__(self, at: Any = ...) -> None: ...
 
-class vb_desk(Structure):
+class vb_desk(Numbers):
     at: Any
     def __init__(self, at: Any = ...) -> None: ...
 
-class vb_cpu(Structure):
+class vb_cpu(Numbers):
     at: Any
     def __init__(self, at: Any = ...) -> None: ...
 
-class vb_answer(Structure):
+class vb_answer(Numbers):
     code: int
     what: int
     value: int
     other: int
     def __init__(self, code: int = ..., what: int = ..., value: int = ..., other: int = ...) -> None: ...
 
-class vb_device(Structure):
+class vb_device(Numbers):
     kind: int
     regs: int
     valid_min: int
@@ -140,7 +141,7 @@ class vb_device(Structure):
     big: bool
     def __init__(self, kind: int = ..., regs: int = ..., valid_min: int = ..., valid_max: int = ..., valid_unaligned: bool = ..., impl_min: int = ..., impl_max: int = ..., impl_unaligned: bool = ..., big: bool = ...) -> None: ...
 
-class vb_ioevent(Structure):
+class vb_ioevent(Numbers):
     offset: int
     value: int
     number: int
@@ -148,7 +149,7 @@ class vb_ioevent(Structure):
     matched: bool
     def __init__(self, offset: int = ..., value: int = ..., number: int = ..., size: int = ..., matched: bool = ...) -> None: ...
 
-class vb_order(Structure):
+class vb_order(Numbers):
     offset: int
     size: int
     translated: int
@@ -166,7 +167,7 @@ class vb_order(Structure):
     event: vb_ioevent
     def __init__(self, offset: int = ..., size: int = ..., translated: int = ..., what: int = ..., kind: int = ..., region: int = ..., other: int = ..., space: int = ..., listener: int = ..., client: int = ..., perm: int = ..., priority: int = ..., on: bool = ..., device: vb_device = ..., event: vb_ioevent = ...) -> None: ...
 
-class vb_flat_range(Structure):
+class vb_flat_range(Numbers):
     start: int
     last: int
     offset: int
@@ -178,7 +179,7 @@ class vb_flat_range(Structure):
     unmergeable: bool
     def __init__(self, start: int = ..., last: int = ..., offset: int = ..., region: int = ..., log: int = ..., readonly: bool = ..., nonvolatile: bool = ..., romd: bool = ..., unmergeable: bool = ...) -> None: ...
 
-class vb_found(Structure):
+class vb_found(Numbers):
     last: int
     offset: int
     region: int
@@ -191,7 +192,7 @@ class vb_found(Structure):
     is_there: bool
     def __init__(self, last: int = ..., offset: int = ..., region: int = ..., kind: int = ..., log: int = ..., readonly: bool = ..., nonvolatile: bool = ..., romd: bool = ..., unmergeable: bool = ..., is_there: bool = ...) -> None: ...
 
-class vb_reached(Structure):
+class vb_reached(Numbers):
     offset: int
     value: int
     at: int
@@ -204,7 +205,7 @@ class vb_reached(Structure):
     big: bool
     def __init__(self, offset: int = ..., value: int = ..., at: int = ..., len: int = ..., what: int = ..., region: int = ..., number: int = ..., size: int = ..., takes: bool = ..., big: bool = ...) -> None: ...
 
-class vb_live_event(Structure):
+class vb_live_event(Numbers):
     distance: int
     value: int
     number: int
@@ -213,7 +214,7 @@ class vb_live_event(Structure):
     is_below: bool
     def __init__(self, distance: int = ..., value: int = ..., number: int = ..., size: int = ..., matched: bool = ..., is_below: bool = ...) -> None: ...
 
-class vb_listener_call(Structure):
+class vb_listener_call(Numbers):
     what: int
     listener: int
     range: vb_flat_range

@@ -126,6 +126,7 @@ impl Machine {
 
     /// What a read of `len` bytes of a space reaches, in order, and the number of the generation in which it does.
     pub fn plan_read(&mut self, way: Way, space: SpaceId, addr: u64, len: usize) -> Result<(Vec<Reached>, u64), Refusal> {
+        // SAFETY: the handle and the slices are borrowed for the call, and each pointer comes with the length of its slice.
         planned(|out| unsafe { sys::vb_plan_read(&mut self.handle, way as u32, space.0, addr, len, out.as_mut_ptr(), out.len()) })
     }
 
@@ -144,6 +145,7 @@ impl Machine {
     /// # Ok::<(), Refusal>(())
     /// ```
     pub fn plan_write(&mut self, way: Way, space: SpaceId, addr: u64, bytes: &[u8]) -> Result<(Vec<Reached>, u64), Refusal> {
+        // SAFETY: the handle and the slices are borrowed for the call, and each pointer comes with the length of its slice.
         planned(|out| unsafe {
             sys::vb_plan_write(&mut self.handle, way as u32, space.0, addr, bytes.as_ptr(), bytes.len(), out.as_mut_ptr(), out.len())
         })

@@ -160,11 +160,12 @@ pub struct Desk {
     forgotten: usize,
 }
 
-// The library proves that the handle may go to another thread. A call takes `&mut self`, so one works on it at a time.
+// SAFETY: the library proves that the handle may go to another thread. A call takes `&mut self`, so one works on it at a time.
 unsafe impl Send for Desk {}
 
 impl Drop for Desk {
     fn drop(&mut self) {
+        // SAFETY: the handle is borrowed for the call; any numbers may be given.
         unsafe { sys::vb_desk_free(&mut self.handle) }
     }
 }
@@ -173,6 +174,7 @@ impl Desk {
     /// A machine over a pool of this many words of 8 bytes, at most 2^26, and its desk.
     pub fn new(words: usize) -> Result<Desk, Refusal> {
         let mut desk = Desk { handle: sys::vb_desk { at: null_mut() }, dropped: 0, forgotten: 0 };
+        // SAFETY: the handle is borrowed for the call, and has nothing yet; any number may be given.
         accepted(unsafe { sys::vb_desk_new(&mut desk.handle, words) })?;
         Ok(desk)
     }
@@ -180,12 +182,14 @@ impl Desk {
     /// A virtual CPU, which has seen all that the desk has done. There are 16.
     pub fn cpu(&mut self) -> Result<Cpu, Refusal> {
         let mut cpu = Cpu(sys::vb_cpu { at: null_mut() });
+        // SAFETY: both handles are borrowed for the call, and that of the virtual CPU has nothing yet.
         accepted(unsafe { sys::vb_desk_cpu(&mut self.handle, &mut cpu.0) })?;
         Ok(cpu)
     }
 
     /// Makes a region. It is in no container.
     pub fn region(&mut self, kind: Kind, size: u64) -> Result<RegionId, Refusal> {
+        // SAFETY: the handle and the value beside it are borrowed for the call; any numbers may be given.
         let answer = accepted(unsafe { sys::vb_desk_ask(&mut self.handle, &region_numbers(kind, size)) })?;
         Ok(RegionId(answer.value as u32))
     }
@@ -203,6 +207,7 @@ impl Desk {
     /// # Ok::<(), Refusal>(())
     /// ```
     pub fn ask(&mut self, order: Order) -> Result<Option<u64>, Refusal> {
+        // SAFETY: the handle and the value beside it are borrowed for the call; any numbers may be given.
         let answer = accepted(unsafe { sys::vb_desk_ask(&mut self.handle, &numbers(order)) })?;
         if let Order::Drop(_) = order {
             self.dropped += 1;
@@ -229,6 +234,7 @@ impl Desk {
     /// ```
     pub fn reap(&mut self) -> Result<Vec<RegionId>, Refusal> {
         let mut out = vec![0; self.dropped];
+        // SAFETY: the handle and the slices are borrowed for the call, and each pointer comes with the length of its slice.
         let count = accepted(unsafe { sys::vb_desk_reap(&mut self.handle, out.as_mut_ptr(), out.len()) })?.value as usize;
         out.truncate(count);
         self.dropped -= out.len();
@@ -237,17 +243,20 @@ impl Desk {
 
     /// Takes the marks of a region for one client: the pages that were written since they were last taken.
     pub fn harvest(&mut self, region: RegionId, client: Client) -> Result<Pages, Refusal> {
-        Pages::harvested(|out| unsafe { sys::vb_desk_harvest(&mut self.handle, region.0, client as u32, out.as_mut_ptr(), out.len()) })
+        // SAFETY: the handle and the slices are borrowed for the call, and each pointer comes with the length of its slice.
+        Pages::harvested(region, |out| unsafe { sys::vb_desk_harvest(&mut self.handle, region.0, client as u32, out.as_mut_ptr(), out.len()) })
     }
 
     /// Takes a notifier, 0 to 63: whether a write has set it since it was last taken.
     pub fn notified(&mut self, number: u32) -> Result<bool, Refusal> {
+        // SAFETY: the handle is borrowed for the call; any numbers may be given.
         Ok(accepted(unsafe { sys::vb_desk_notified(&mut self.handle, number) })?.value != 0)
     }
 
     /// What an address of a space leads to in the current generation, and how far it goes on alike.
     pub fn find(&mut self, space: SpaceId, addr: u64) -> Result<Found, Refusal> {
         let mut found = Found::default();
+        // SAFETY: the handle and the value beside it are borrowed for the call; any numbers may be given.
         accepted(unsafe { sys::vb_desk_find(&mut self.handle, space.0, addr, &mut found) })?;
         Ok(found)
     }
@@ -268,6 +277,7 @@ impl Desk {
         let mut ranges = Vec::new();
         loop {
             let mut range = FlatRange::default();
+            // SAFETY: the handle and the value beside it are borrowed for the call; any numbers may be given.
             let count = accepted(unsafe { sys::vb_desk_range(&mut self.handle, space.0, ranges.len(), &mut range) })?.value;
             if ranges.len() as u64 >= count {
                 return Ok(ranges);
@@ -279,6 +289,7 @@ impl Desk {
     /// The calls that listeners got from the index `from` on, counted from the first that was ever made: a caller that goes on from
     /// where it came to misses none. Refused where the call `from` is forgotten.
     pub fn told(&mut self, from: usize) -> Result<Vec<ListenerCall>, Refusal> {
+        // SAFETY: the handle and the value beside it are borrowed for the call; any numbers may be given.
         told(from, self.forgotten, |index, call| unsafe { sys::vb_desk_delivery(&mut self.handle, index, call) })
     }
 
@@ -286,6 +297,7 @@ impl Desk {
     /// indices, and the listeners stay. A desk that works for long keeps all that listeners were told until it is forgotten here.
     pub fn forget(&mut self, until: usize) -> Result<(), Refusal> {
         let count = until.saturating_sub(self.forgotten);
+        // SAFETY: the handle is borrowed for the call; any numbers may be given.
         self.forgotten += accepted(unsafe { sys::vb_desk_forget(&mut self.handle, count) })?.value as usize;
         Ok(())
     }
@@ -345,11 +357,12 @@ pub struct Written {
 #[derive(Debug)]
 pub struct Cpu(sys::vb_cpu);
 
-// As of a desk.
+// SAFETY: as of a desk.
 unsafe impl Send for Cpu {}
 
 impl Drop for Cpu {
     fn drop(&mut self) {
+        // SAFETY: the handle is borrowed for the call; any numbers may be given.
         unsafe { sys::vb_cpu_free(&mut self.0) }
     }
 }
@@ -357,23 +370,27 @@ impl Drop for Cpu {
 impl Cpu {
     /// Enters the current generation, and answers its number: accesses go by it until the virtual CPU leaves it or enters anew.
     pub fn enter(&mut self) -> Result<u64, Refusal> {
+        // SAFETY: the handle is borrowed for the call; any numbers may be given.
         Ok(accepted(unsafe { sys::vb_cpu_enter(&mut self.0) })?.other)
     }
 
     /// Leaves the generation that it is entered in; where it is in none, it does nothing.
     pub fn leave(&mut self) -> Result<(), Refusal> {
+        // SAFETY: the handle is borrowed for the call; any numbers may be given.
         accepted(unsafe { sys::vb_cpu_leave(&mut self.0) })?;
         Ok(())
     }
 
     /// Reads bytes of a space, as many as there is room for.
     pub fn read(&mut self, space: SpaceId, addr: u64, out: &mut [u8]) -> Result<Access, Refusal> {
+        // SAFETY: the handle and the slices are borrowed for the call, and each pointer comes with the length of its slice.
         Ok(access(accepted(unsafe { sys::vb_cpu_read(&mut self.0, space.0, addr, out.as_mut_ptr(), out.len()) })?))
     }
 
     /// Writes bytes of a space. Each part of a word is tried at most `tries` times: where another changed the word each time, only the bytes
     /// before it are written, and a caller that wants all of them goes on there.
     pub fn write(&mut self, space: SpaceId, addr: u64, bytes: &[u8], tries: u32) -> Result<Written, Refusal> {
+        // SAFETY: the handle and the slices are borrowed for the call, and each pointer comes with the length of its slice.
         let answer = unsafe { sys::vb_cpu_write(&mut self.0, space.0, addr, bytes.as_ptr(), bytes.len(), tries) };
         if answer.code != sys::VB_CONTENDED {
             return Ok(Written { count: bytes.len(), access: access(accepted(answer)?), begun: false });
@@ -396,6 +413,7 @@ impl Cpu {
     /// # Ok::<(), Refusal>(())
     /// ```
     pub fn write8(&mut self, space: SpaceId, addr: u64, value: u64) -> Result<Access, Refusal> {
+        // SAFETY: the handle is borrowed for the call; any numbers may be given.
         Ok(access(accepted(unsafe { sys::vb_cpu_write8(&mut self.0, space.0, addr, value) })?))
     }
 
@@ -416,11 +434,13 @@ impl Cpu {
     /// # Ok::<(), Refusal>(())
     /// ```
     pub fn plan_read(&mut self, way: Way, space: SpaceId, addr: u64, len: usize) -> Result<Vec<Reached>, Refusal> {
+        // SAFETY: the handle and the slices are borrowed for the call, and each pointer comes with the length of its slice.
         Ok(planned(|out| unsafe { sys::vb_cpu_plan_read(&mut self.0, way as u32, space.0, addr, len, out.as_mut_ptr(), out.len()) })?.0)
     }
 
     /// What a write of bytes to a space reaches in the generation that it is entered in, as `plan_read` tells it of a read.
     pub fn plan_write(&mut self, way: Way, space: SpaceId, addr: u64, bytes: &[u8]) -> Result<Vec<Reached>, Refusal> {
+        // SAFETY: the handle and the slices are borrowed for the call, and each pointer comes with the length of its slice.
         Ok(planned(|out| unsafe {
             sys::vb_cpu_plan_write(&mut self.0, way as u32, space.0, addr, bytes.as_ptr(), bytes.len(), out.as_mut_ptr(), out.len())
         })?
@@ -430,6 +450,7 @@ impl Cpu {
     /// What an address of a space leads to in the generation that it is entered in, and how far it goes on alike. Refused where it is entered in none.
     pub fn find(&mut self, space: SpaceId, addr: u64) -> Result<Found, Refusal> {
         let mut found = Found::default();
+        // SAFETY: the handle and the value beside it are borrowed for the call; any numbers may be given.
         accepted(unsafe { sys::vb_cpu_find(&mut self.0, space.0, addr, &mut found) })?;
         Ok(found)
     }
@@ -437,6 +458,7 @@ impl Cpu {
     /// The regions that a search passes on the way to the one that answers an address, in the generation that it is entered in.
     pub fn path(&mut self, space: SpaceId, addr: u64) -> Result<Vec<RegionId>, Refusal> {
         let mut out = [0; 32];
+        // SAFETY: the handle and the slices are borrowed for the call, and each pointer comes with the length of its slice.
         let count = accepted(unsafe { sys::vb_cpu_path(&mut self.0, space.0, addr, out.as_mut_ptr(), out.len()) })?.value as usize;
         Ok(out[..count].iter().copied().map(RegionId).collect())
     }
@@ -446,6 +468,7 @@ impl Cpu {
         let mut ranges = Vec::new();
         loop {
             let mut range = FlatRange::default();
+            // SAFETY: the handle and the value beside it are borrowed for the call; any numbers may be given.
             let count = accepted(unsafe { sys::vb_cpu_range(&mut self.0, space.0, ranges.len(), &mut range) })?.value;
             if ranges.len() as u64 >= count {
                 return Ok(ranges);

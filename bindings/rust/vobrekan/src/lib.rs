@@ -26,6 +26,9 @@
 //!
 //! Each call takes `&mut self`, and what it is called on may go to another thread ([`Send`]), but is not shared ([`Sync`]): see [`Machine`].
 #![deny(missing_docs)]
+// The library asks of its callers that one call at a time works on a handle, and none on a copy of it; that no pointer is null, and each is good for its
+// length; and that two parameters do not overlap. Here a handle is a private field that is never copied, and every pointer comes from a reference or a slice.
+#![deny(clippy::undocumented_unsafe_blocks)]
 
 mod bus;
 mod cpus;
@@ -81,13 +84,16 @@ pub struct Machine {
     dropped: usize,
     /// How many calls of listeners are forgotten.
     forgotten: usize,
+    /// How many transactions have ended and are still open.
+    left_open: usize,
 }
 
-// The library proves that a handle may go to another thread. A call takes `&mut self`, so one works on it at a time.
+// SAFETY: the library proves that a handle may go to another thread. A call takes `&mut self`, so one works on it at a time.
 unsafe impl Send for Machine {}
 
 impl Drop for Machine {
     fn drop(&mut self) {
+        // SAFETY: the handle is borrowed for the call; any numbers may be given.
         unsafe { sys::vb_free(&mut self.handle) }
     }
 }
@@ -117,7 +123,8 @@ impl Machine {
     /// A machine over a pool of this many words of 8 bytes, at most 2^26: the memory of RAM, ROM and ROM devices, their marks,
     /// and the registers of devices are in the pool.
     pub fn new(words: usize) -> Result<Machine, Refusal> {
-        let mut machine = Machine { handle: sys::vb_machine { at: null_mut() }, dropped: 0, forgotten: 0 };
+        let mut machine = Machine { handle: sys::vb_machine { at: null_mut() }, dropped: 0, forgotten: 0, left_open: 0 };
+        // SAFETY: the handle is borrowed for the call, and has nothing yet; any number may be given.
         accepted(unsafe { sys::vb_new(&mut machine.handle, words) })?;
         Ok(machine)
     }
@@ -125,6 +132,7 @@ impl Machine {
     /// Makes a region. It is in no container.
     pub fn region(&mut self, kind: Kind, size: u64) -> Result<RegionId, Refusal> {
         let at = &mut self.handle;
+        // SAFETY: the handle and the devices are borrowed for the call; any numbers may be given.
         let answer = accepted(unsafe {
             match kind {
                 Kind::Container => sys::vb_container(at, size),
@@ -143,6 +151,7 @@ impl Machine {
 
     /// Makes an address space with this root.
     pub fn space(&mut self, space: SpaceId, root: RegionId) -> Result<Option<u64>, Refusal> {
+        // SAFETY: the handle is borrowed for the call; any numbers may be given.
         Ok(published(accepted(unsafe { sys::vb_space(&mut self.handle, space.0, root.0) })?))
     }
 
@@ -160,11 +169,13 @@ impl Machine {
     /// # Ok::<(), Refusal>(())
     /// ```
     pub fn add(&mut self, parent: RegionId, offset: u64, child: RegionId, priority: i32) -> Result<Option<u64>, Refusal> {
+        // SAFETY: the handle is borrowed for the call; any numbers may be given.
         Ok(published(accepted(unsafe { sys::vb_add(&mut self.handle, parent.0, offset, child.0, priority) })?))
     }
 
     /// Takes a region out of its container.
     pub fn del(&mut self, parent: RegionId, child: RegionId) -> Result<Option<u64>, Refusal> {
+        // SAFETY: the handle is borrowed for the call; any numbers may be given.
         Ok(published(accepted(unsafe { sys::vb_del(&mut self.handle, parent.0, child.0) })?))
     }
 
@@ -181,6 +192,7 @@ impl Machine {
     /// # Ok::<(), Refusal>(())
     /// ```
     pub fn move_to(&mut self, child: RegionId, offset: u64) -> Result<Option<u64>, Refusal> {
+        // SAFETY: the handle is borrowed for the call; any numbers may be given.
         Ok(published(accepted(unsafe { sys::vb_move(&mut self.handle, child.0, offset) })?))
     }
 
@@ -198,6 +210,7 @@ impl Machine {
     /// # Ok::<(), Refusal>(())
     /// ```
     pub fn resize(&mut self, region: RegionId, size: u64) -> Result<Option<u64>, Refusal> {
+        // SAFETY: the handle is borrowed for the call; any numbers may be given.
         Ok(published(accepted(unsafe { sys::vb_resize(&mut self.handle, region.0, size) })?))
     }
 
@@ -216,11 +229,13 @@ impl Machine {
     /// # Ok::<(), Refusal>(())
     /// ```
     pub fn retarget(&mut self, alias: RegionId, offset: u64) -> Result<Option<u64>, Refusal> {
+        // SAFETY: the handle is borrowed for the call; any numbers may be given.
         Ok(published(accepted(unsafe { sys::vb_retarget(&mut self.handle, alias.0, offset) })?))
     }
 
     /// Switches a region on or off: one that is off is left out wherever it stands.
     pub fn enable(&mut self, region: RegionId, on: bool) -> Result<Option<u64>, Refusal> {
+        // SAFETY: the handle is borrowed for the call; any numbers may be given.
         Ok(published(accepted(unsafe { sys::vb_enable(&mut self.handle, region.0, on) })?))
     }
 
@@ -238,31 +253,37 @@ impl Machine {
     /// # Ok::<(), Refusal>(())
     /// ```
     pub fn readonly(&mut self, region: RegionId, on: bool) -> Result<Option<u64>, Refusal> {
+        // SAFETY: the handle is borrowed for the call; any numbers may be given.
         Ok(published(accepted(unsafe { sys::vb_readonly(&mut self.handle, region.0, on) })?))
     }
 
     /// Switches whether what is found through the region is non-volatile.
     pub fn nonvolatile(&mut self, region: RegionId, on: bool) -> Result<Option<u64>, Refusal> {
+        // SAFETY: the handle is borrowed for the call; any numbers may be given.
         Ok(published(accepted(unsafe { sys::vb_nonvolatile(&mut self.handle, region.0, on) })?))
     }
 
     /// Switches whether ranges that are found through the region end where the path to their leaf changes.
     pub fn unmergeable(&mut self, region: RegionId, on: bool) -> Result<Option<u64>, Refusal> {
+        // SAFETY: the handle is borrowed for the call; any numbers may be given.
         Ok(published(accepted(unsafe { sys::vb_unmergeable(&mut self.handle, region.0, on) })?))
     }
 
     /// Switches the mode of a ROM device.
     pub fn romd(&mut self, region: RegionId, on: bool) -> Result<Option<u64>, Refusal> {
+        // SAFETY: the handle is borrowed for the call; any numbers may be given.
         Ok(published(accepted(unsafe { sys::vb_romd(&mut self.handle, region.0, on) })?))
     }
 
     /// Switches the logging of a region for one client.
     pub fn log(&mut self, region: RegionId, client: Client, on: bool) -> Result<Option<u64>, Refusal> {
+        // SAFETY: the handle is borrowed for the call; any numbers may be given.
         Ok(published(accepted(unsafe { sys::vb_log(&mut self.handle, region.0, client as u32, on) })?))
     }
 
     /// Switches global logging.
     pub fn global(&mut self, on: bool) -> Result<Option<u64>, Refusal> {
+        // SAFETY: the handle is borrowed for the call; any numbers may be given.
         Ok(published(accepted(unsafe { sys::vb_global(&mut self.handle, on) })?))
     }
 
@@ -284,11 +305,13 @@ impl Machine {
     /// # Ok::<(), Refusal>(())
     /// ```
     pub fn map(&mut self, region: RegionId, iova: u64, size: u64, to: (SpaceId, u64), perm: Perm) -> Result<Option<u64>, Refusal> {
+        // SAFETY: the handle is borrowed for the call; any numbers may be given.
         Ok(published(accepted(unsafe { sys::vb_map(&mut self.handle, region.0, iova, size, to.0.0, to.1, perm as u32) })?))
     }
 
     /// Takes a translation out.
     pub fn unmap(&mut self, region: RegionId, iova: u64) -> Result<Option<u64>, Refusal> {
+        // SAFETY: the handle is borrowed for the call; any numbers may be given.
         Ok(published(accepted(unsafe { sys::vb_unmap(&mut self.handle, region.0, iova) })?))
     }
 
@@ -310,16 +333,19 @@ impl Machine {
     /// # Ok::<(), Refusal>(())
     /// ```
     pub fn event(&mut self, region: RegionId, event: &Ioevent) -> Result<Option<u64>, Refusal> {
+        // SAFETY: the handle and the value beside it are borrowed for the call; any numbers may be given.
         Ok(published(accepted(unsafe { sys::vb_event(&mut self.handle, region.0, event) })?))
     }
 
     /// Takes an ioeventfd away.
     pub fn unevent(&mut self, region: RegionId, event: &Ioevent) -> Result<Option<u64>, Refusal> {
+        // SAFETY: the handle and the value beside it are borrowed for the call; any numbers may be given.
         Ok(published(accepted(unsafe { sys::vb_unevent(&mut self.handle, region.0, event) })?))
     }
 
     /// Drops a region that nothing uses.
     pub fn drop_region(&mut self, region: RegionId) -> Result<(), Refusal> {
+        // SAFETY: the handle is borrowed for the call; any numbers may be given.
         accepted(unsafe { sys::vb_drop(&mut self.handle, region.0) })?;
         self.dropped += 1;
         Ok(())
@@ -340,6 +366,7 @@ impl Machine {
     /// ```
     pub fn reap(&mut self) -> Result<Vec<RegionId>, Refusal> {
         let mut out = vec![0; self.dropped];
+        // SAFETY: the handle and the slices are borrowed for the call, and each pointer comes with the length of its slice.
         let count = accepted(unsafe { sys::vb_reap(&mut self.handle, out.as_mut_ptr(), out.len()) })?.value as usize;
         out.truncate(count);
         self.dropped -= out.len();
@@ -348,7 +375,8 @@ impl Machine {
 
     /// Takes the marks of a region for one client: the pages that were written since they were last taken.
     pub fn harvest(&mut self, region: RegionId, client: Client) -> Result<Pages, Refusal> {
-        Pages::harvested(|out| unsafe { sys::vb_harvest(&mut self.handle, region.0, client as u32, out.as_mut_ptr(), out.len()) })
+        // SAFETY: the handle and the slices are borrowed for the call, and each pointer comes with the length of its slice.
+        Pages::harvested(region, |out| unsafe { sys::vb_harvest(&mut self.handle, region.0, client as u32, out.as_mut_ptr(), out.len()) })
     }
 
     /// Opens a transaction: what is changed through it is published when it is committed, or dropped.
@@ -367,18 +395,47 @@ impl Machine {
     /// # Ok::<(), Refusal>(())
     /// ```
     pub fn transaction(&mut self) -> Result<Transaction<'_>, Refusal> {
+        // SAFETY: the handle is borrowed for the call; any numbers may be given.
         accepted(unsafe { sys::vb_begin(&mut self.handle) })?;
         Ok(Transaction { machine: self, is_open: true })
     }
 
+    /// Closes the transactions that have ended and are still open, since their commit was refused, as where memory ran out. It answers the number of the
+    /// generation that was published, if one was. The end of a later transaction does it too.
+    ///
+    /// ```
+    /// # use vobrekan::*;
+    /// # let mut machine = Machine::new(1 << 16)?;
+    /// # let (board, ram) = (machine.region(Kind::Container, WHOLE)?, machine.region(Kind::Ram, 0x2000)?);
+    /// # machine.space(SpaceId(0), board)?;
+    /// # machine.add(board, 0, ram, 0)?;
+    /// let mut change = machine.transaction()?;
+    /// change.move_to(ram, 0x1000)?;
+    /// drop(change); // committed here, but where that is refused
+    /// machine.close_transactions()?; // now it is
+    /// assert!(!machine.find(SpaceId(0), 0)?.is_there);
+    /// # Ok::<(), Refusal>(())
+    /// ```
+    pub fn close_transactions(&mut self) -> Result<Option<u64>, Refusal> {
+        let mut last = None;
+        while self.left_open > 0 {
+            // SAFETY: the handle is borrowed for the call; any numbers may be given.
+            last = published(accepted(unsafe { sys::vb_commit(&mut self.handle) })?);
+            self.left_open -= 1;
+        }
+        Ok(last)
+    }
+
     /// A listener joins a space.
     pub fn listen(&mut self, listener: ListenerId, space: SpaceId, priority: i32) -> Result<(), Refusal> {
+        // SAFETY: the handle is borrowed for the call; any numbers may be given.
         accepted(unsafe { sys::vb_listen(&mut self.handle, listener.0, space.0, priority) })?;
         Ok(())
     }
 
     /// A listener leaves its space.
     pub fn unlisten(&mut self, listener: ListenerId) -> Result<(), Refusal> {
+        // SAFETY: the handle is borrowed for the call; any numbers may be given.
         accepted(unsafe { sys::vb_unlisten(&mut self.handle, listener.0) })?;
         Ok(())
     }
@@ -398,6 +455,7 @@ impl Machine {
     /// ```
     pub fn find(&mut self, space: SpaceId, addr: u64) -> Result<Found, Refusal> {
         let mut found = Found::default();
+        // SAFETY: the handle and the value beside it are borrowed for the call; any numbers may be given.
         accepted(unsafe { sys::vb_find(&mut self.handle, space.0, addr, &mut found) })?;
         Ok(found)
     }
@@ -415,6 +473,7 @@ impl Machine {
     /// ```
     pub fn path(&mut self, space: SpaceId, addr: u64) -> Result<Vec<RegionId>, Refusal> {
         let mut out = [0; 32];
+        // SAFETY: the handle and the slices are borrowed for the call, and each pointer comes with the length of its slice.
         let count = accepted(unsafe { sys::vb_path(&mut self.handle, space.0, addr, out.as_mut_ptr(), out.len()) })?.value as usize;
         Ok(out[..count].iter().copied().map(RegionId).collect())
     }
@@ -436,6 +495,7 @@ impl Machine {
         let mut ranges = Vec::new();
         loop {
             let mut range = FlatRange::default();
+            // SAFETY: the handle and the value beside it are borrowed for the call; any numbers may be given.
             let count = accepted(unsafe { sys::vb_range(&mut self.handle, space.0, ranges.len(), &mut range) })?.value;
             if ranges.len() as u64 >= count {
                 return Ok(ranges);
@@ -460,6 +520,7 @@ impl Machine {
     /// # Ok::<(), Refusal>(())
     /// ```
     pub fn told(&mut self, from: usize) -> Result<Vec<ListenerCall>, Refusal> {
+        // SAFETY: the handle and the value beside it are borrowed for the call; any numbers may be given.
         told(from, self.forgotten, |index, call| unsafe { sys::vb_delivery(&mut self.handle, index, call) })
     }
 
@@ -482,12 +543,14 @@ impl Machine {
     /// ```
     pub fn forget(&mut self, until: usize) -> Result<(), Refusal> {
         let count = until.saturating_sub(self.forgotten);
+        // SAFETY: the handle is borrowed for the call; any numbers may be given.
         self.forgotten += accepted(unsafe { sys::vb_forget(&mut self.handle, count) })?.value as usize;
         Ok(())
     }
 
     /// Reads bytes of a space, as many as there is room for.
     pub fn read(&mut self, pass: PassId, space: SpaceId, addr: u64, out: &mut [u8]) -> Result<Access, Refusal> {
+        // SAFETY: the handle and the slices are borrowed for the call, and each pointer comes with the length of its slice.
         let answer = unsafe { sys::vb_read(&mut self.handle, pass.0, space.0, addr, out.as_mut_ptr(), out.len()) };
         Ok(access(accepted(answer)?))
     }
@@ -507,6 +570,7 @@ impl Machine {
     /// # Ok::<(), Refusal>(())
     /// ```
     pub fn write(&mut self, pass: PassId, space: SpaceId, addr: u64, bytes: &[u8]) -> Result<Access, Refusal> {
+        // SAFETY: the handle and the slices are borrowed for the call, and each pointer comes with the length of its slice.
         let answer = unsafe { sys::vb_write(&mut self.handle, pass.0, space.0, addr, bytes.as_ptr(), bytes.len()) };
         Ok(access(accepted(answer)?))
     }
@@ -528,12 +592,14 @@ impl Machine {
     /// # Ok::<(), Refusal>(())
     /// ```
     pub fn load(&mut self, region: RegionId, offset: u64, bytes: &[u8]) -> Result<(), Refusal> {
+        // SAFETY: the handle and the slices are borrowed for the call, and each pointer comes with the length of its slice.
         accepted(unsafe { sys::vb_load(&mut self.handle, region.0, offset, bytes.as_ptr(), bytes.len()) })?;
         Ok(())
     }
 
     /// Takes a notifier, 0 to 63: whether a write has set it since it was last taken.
     pub fn notified(&mut self, number: u32) -> Result<bool, Refusal> {
+        // SAFETY: the handle is borrowed for the call; any numbers may be given.
         Ok(accepted(unsafe { sys::vb_notified(&mut self.handle, number) })?.value != 0)
     }
 }
@@ -546,8 +612,8 @@ fn access(answer: sys::vb_answer) -> Access {
     }
 }
 
-/// A transaction that is open. It is committed where it is dropped; then a refusal to publish is not told, and the transaction
-/// stays open in the machine.
+/// A transaction that is open. It is committed where it is dropped. Where that is refused, as where memory runs out, it stays open in the machine
+/// until [`Machine::close_transactions`], or the end of a later transaction, closes it.
 ///
 /// ```
 /// # use vobrekan::*;
@@ -569,19 +635,25 @@ pub struct Transaction<'a> {
 }
 
 impl Transaction<'_> {
-    /// Closes the transaction, and answers the number of the generation that the outermost one publishes. Where it is refused,
-    /// the transaction is tried once more where it is dropped.
+    /// Closes the transaction, and answers the number of the generation that the outermost one publishes. Where it is refused, the transaction stays
+    /// open: [`Machine::close_transactions`] tries it once more.
     pub fn commit(mut self) -> Result<Option<u64>, Refusal> {
-        let answer = accepted(unsafe { sys::vb_commit(&mut self.machine.handle) })?;
+        self.end()
+    }
+
+    /// Closes it, with those before it that were left open.
+    fn end(&mut self) -> Result<Option<u64>, Refusal> {
         self.is_open = false;
-        Ok(published(answer))
+        self.machine.left_open += 1;
+        self.machine.close_transactions()
     }
 }
 
 impl Drop for Transaction<'_> {
     fn drop(&mut self) {
         if self.is_open {
-            unsafe { sys::vb_commit(&mut self.machine.handle) };
+            // A refusal is told by whoever closes it later.
+            let _ = self.end();
         }
     }
 }

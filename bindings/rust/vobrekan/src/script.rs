@@ -28,6 +28,7 @@ pub struct Ran {
 pub fn run(script: &[u8]) -> Result<Ran, Refusal> {
     let mut text = vec![0; 1 << 16];
     loop {
+        // SAFETY: both slices are borrowed for the call, and each pointer comes with the length of its slice.
         let answer = unsafe { sys::vb_run(script.as_ptr(), script.len(), text.as_mut_ptr(), text.len()) };
         let fault = (answer.code == sys::VB_NO_SCRIPT).then_some(answer.other);
         if fault.is_none() {
