@@ -3,7 +3,7 @@ use crate::desk::calls::{DECODE, ERROR, OK};
 use crate::desk::drawn_maps::{ADDRS, draw_map, flip};
 use crate::desk::machines::Machine;
 use crate::desk::plain_accesses::Memory;
-use crate::desk::trials::{Counts, Trial, comes_out};
+use crate::desk::trials::{Counts, Trial, comes_out, tick};
 use crate::draws::draw;
 use access_run::{read, write};
 use mem_base::{Refusal, SpaceId, TxResult};
@@ -20,24 +20,17 @@ const ACCESSES: u32 = 200;
 /// The most bytes of an access.
 const MOST: usize = 24;
 
-/// Counts one more where something holds.
-fn tick(count: &mut u32, holds: bool) {
-    if holds {
-        *count = count.saturating_add(1);
-    }
-}
-
 /// Counts an access: whether it ends well, with an error or with a decode error; sets a notifier, marks pages, has several runs, and is
 /// translated.
 fn count(counts: &mut Counts, memory: &Memory, ends: TxResult) {
-    tick(&mut counts[0], true);
-    tick(&mut counts[1], ends == OK);
-    tick(&mut counts[2], ends == ERROR);
-    tick(&mut counts[3], ends == DECODE);
-    tick(&mut counts[4], memory.count.notified > 0);
-    tick(&mut counts[5], memory.count.marks > 0);
-    tick(&mut counts[6], memory.runs > 1);
-    tick(&mut counts[7], memory.translated);
+    tick(counts, 0, true);
+    tick(counts, 1, ends == OK);
+    tick(counts, 2, ends == ERROR);
+    tick(counts, 3, ends == DECODE);
+    tick(counts, 4, memory.count.notified > 0);
+    tick(counts, 5, memory.count.marks > 0);
+    tick(counts, 6, memory.runs > 1);
+    tick(counts, 7, memory.translated);
 }
 
 /// An access: its space, its address, whether it writes, how many bytes it has, and the bytes.

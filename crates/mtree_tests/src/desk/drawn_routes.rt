@@ -2,7 +2,7 @@
 use crate::desk::calls::{add, map, region, space};
 use crate::desk::desks::{apply, commit};
 use crate::desk::plain_trails::{Trail, put_trails, sharing};
-use crate::desk::trials::{Counts, Trial, comes_out};
+use crate::desk::trials::{Counts, Trial, comes_out, tick};
 use crate::draws::draw;
 use generation::Generation;
 use iommu::route;
@@ -126,15 +126,13 @@ fn is_route<L: Ledger>(
 
 /// Counts a route, whether it uses two translations or more, and whether it ends before its access does.
 fn count(counts: &mut Counts, trails: &[Trail]) {
-    counts[0] = counts[0].saturating_add(1);
-    if let Some(first) = trails.first()
-        && first.count() > 1
-    {
-        counts[1] = counts[1].saturating_add(1);
-    }
-    if shared(trails) < LEN {
-        counts[2] = counts[2].saturating_add(1);
-    }
+    let is_chained = match trails.first() {
+        Some(first) => first.count() > 1,
+        None => false,
+    };
+    tick(counts, 0, true);
+    tick(counts, 1, is_chained);
+    tick(counts, 2, shared(trails) < LEN);
 }
 
 /// Whether the routes of all these trails are theirs.

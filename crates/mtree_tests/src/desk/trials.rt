@@ -18,6 +18,13 @@ use step_counter::Steps;
 /// How many things of each kind were met in drawn maps.
 pub(crate) type Counts = [u32; 8];
 
+/// Counts one more of a kind where something holds.
+pub(crate) fn tick(counts: &mut Counts, kind: usize, holds: bool) {
+    if holds && let Some(count) = counts.get_mut(kind) {
+        *count = count.saturating_add(1);
+    }
+}
+
 /// What is tried.
 #[derive(Clone, Copy)]
 pub(crate) enum Trial {
