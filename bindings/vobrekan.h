@@ -42,96 +42,100 @@ extern "C" {
 #define VB_NOT_WHOLE 26 /* Only a part of some word would be replaced, in the generation `other`. */
 #define VB_NO_CPU 27 /* All 16 virtual CPUs are handed out. */
 #define VB_CONTENDED 28 /* Of a write only the first `value` bytes are written, in the generation `other`: a word was changed each time that it was tried. */
+#define VB_NOT_ENTERED 29 /* The virtual CPU is entered in no generation. */
 
-#define VB_SORT_REGION 0
-#define VB_SORT_SPACE 1
-#define VB_SORT_LISTENER 2
-#define VB_SORT_WATCHER 3
-#define VB_SORT_ENTRY 4
-#define VB_SORT_EVENT 5
-#define VB_LIMIT_REGIONS 0
-#define VB_LIMIT_MADE 1
-#define VB_LIMIT_SPACES 2
-#define VB_LIMIT_LISTENERS 3
-#define VB_LIMIT_ENTRIES 4
-#define VB_LIMIT_EVENTS 5
-#define VB_LIMIT_CALLS 6
-#define VB_LIMIT_WATCHERS 7
-#define VB_KIND_CONTAINER 0
-#define VB_KIND_RAM 1
-#define VB_KIND_ROM 2
-#define VB_KIND_ROM_DEVICE 3
-#define VB_KIND_IO 4
-#define VB_KIND_IOMMU 5
-#define VB_KIND_ALIAS 6
-#define VB_KIND_RESERVE 7
-#define VB_KIND_HOST 8
-#define VB_DEVICE_LATCH 0
-#define VB_DEVICE_COUNT 1
-#define VB_DEVICE_BELL 2
-#define VB_DEVICE_FAULT 3
-#define VB_DO_BEGIN 0
-#define VB_DO_COMMIT 1
-#define VB_DO_LISTEN 2
-#define VB_DO_UNLISTEN 3
-#define VB_DO_REGION 4
-#define VB_DO_SPACE 5
-#define VB_DO_ADD 6
-#define VB_DO_DEL 7
-#define VB_DO_MOVE 8
-#define VB_DO_RESIZE 9
-#define VB_DO_RETARGET 10
-#define VB_DO_ENABLE 11
-#define VB_DO_READONLY 12
-#define VB_DO_NONVOLATILE 13
-#define VB_DO_UNMERGEABLE 14
-#define VB_DO_ROMD 15
-#define VB_DO_LOG 16
-#define VB_DO_GLOBAL 17
-#define VB_DO_MAP 18
-#define VB_DO_UNMAP 19
-#define VB_DO_EVENT 20
-#define VB_DO_UNEVENT 21
-#define VB_DO_DROP 22
-#define VB_CLIENT_DISPLAY 0
-#define VB_CLIENT_CODE 1
-#define VB_CLIENT_MIGRATION 2
-#define VB_PERM_NOTHING 0
-#define VB_PERM_READ 1
-#define VB_PERM_WRITE 2
-#define VB_PERM_BOTH 3
-#define VB_ACCESS_ERROR 1
-#define VB_ACCESS_DECODE 2
-#define VB_ACCESS_BEGUN 4
-#define VB_WAY_CHUNKS 0
-#define VB_WAY_QEMU 1
-#define VB_REACHED_MEMORY 0
-#define VB_REACHED_CALLBACK 1
-#define VB_REACHED_NOTIFIER 2
-#define VB_REACHED_MARK 3
-#define VB_REACHED_NOTHING 4
-#define VB_TOLD_BEGIN 0
-#define VB_TOLD_DELETE 1
-#define VB_TOLD_ADD 2
-#define VB_TOLD_KEEP 3
-#define VB_TOLD_LOG_START 4
-#define VB_TOLD_LOG_STOP 5
-#define VB_TOLD_EVENT_ADD 6
-#define VB_TOLD_EVENT_DEL 7
-#define VB_TOLD_COMMIT 8
+#define VB_SORT_REGION 0 /* A refusal names a region. */
+#define VB_SORT_SPACE 1 /* A refusal names an address space. */
+#define VB_SORT_LISTENER 2 /* A refusal names a listener. */
+#define VB_SORT_WATCHER 3 /* A refusal names a watcher. */
+#define VB_SORT_ENTRY 4 /* A refusal names a translation, by its offset. */
+#define VB_SORT_EVENT 5 /* A refusal names an ioeventfd, by its offset. */
+#define VB_LIMIT_REGIONS 0 /* The regions that are there. */
+#define VB_LIMIT_MADE 1 /* The regions that were ever made. */
+#define VB_LIMIT_SPACES 2 /* The address spaces. */
+#define VB_LIMIT_LISTENERS 3 /* The listeners. */
+#define VB_LIMIT_ENTRIES 4 /* The translations of a region. */
+#define VB_LIMIT_EVENTS 5 /* The ioeventfds of a region. */
+#define VB_LIMIT_CALLS 6 /* The calls of the machine. */
+#define VB_LIMIT_WATCHERS 7 /* The watchers. */
+#define VB_KIND_CONTAINER 0 /* A container, which only groups its children. */
+#define VB_KIND_RAM 1 /* RAM. */
+#define VB_KIND_ROM 2 /* ROM. */
+#define VB_KIND_ROM_DEVICE 3 /* A ROM device. */
+#define VB_KIND_IO 4 /* A device. */
+#define VB_KIND_IOMMU 5 /* An IOMMU region. */
+#define VB_KIND_ALIAS 6 /* An alias. */
+#define VB_KIND_RESERVE 7 /* A reservation. */
+#define VB_KIND_HOST 8 /* Host memory. */
+#define VB_DEVICE_LATCH 0 /* A latch: a register keeps what is written. */
+#define VB_DEVICE_COUNT 1 /* A counter: a read adds one. */
+#define VB_DEVICE_BELL 2 /* A bell: a write sets bits, and a read clears them. */
+#define VB_DEVICE_FAULT 3 /* A fault: it answers with an error. */
+#define VB_DO_BEGIN 0 /* An order: `vb_begin`. */
+#define VB_DO_COMMIT 1 /* An order: `vb_commit`. */
+#define VB_DO_LISTEN 2 /* An order: `vb_listen`. */
+#define VB_DO_UNLISTEN 3 /* An order: `vb_unlisten`. */
+#define VB_DO_REGION 4 /* An order: a region of the kind `kind` is made. */
+#define VB_DO_SPACE 5 /* An order: `vb_space`. */
+#define VB_DO_ADD 6 /* An order: `vb_add`. */
+#define VB_DO_DEL 7 /* An order: `vb_del`. */
+#define VB_DO_MOVE 8 /* An order: `vb_move`. */
+#define VB_DO_RESIZE 9 /* An order: `vb_resize`. */
+#define VB_DO_RETARGET 10 /* An order: `vb_retarget`. */
+#define VB_DO_ENABLE 11 /* An order: `vb_enable`. */
+#define VB_DO_READONLY 12 /* An order: `vb_readonly`. */
+#define VB_DO_NONVOLATILE 13 /* An order: `vb_nonvolatile`. */
+#define VB_DO_UNMERGEABLE 14 /* An order: `vb_unmergeable`. */
+#define VB_DO_ROMD 15 /* An order: `vb_romd`. */
+#define VB_DO_LOG 16 /* An order: `vb_log`. */
+#define VB_DO_GLOBAL 17 /* An order: `vb_global`. */
+#define VB_DO_MAP 18 /* An order: `vb_map`. */
+#define VB_DO_UNMAP 19 /* An order: `vb_unmap`. */
+#define VB_DO_EVENT 20 /* An order: `vb_event`. */
+#define VB_DO_UNEVENT 21 /* An order: `vb_unevent`. */
+#define VB_DO_DROP 22 /* An order: `vb_drop`. */
+#define VB_CLIENT_DISPLAY 0 /* The client `vga` of a script: a display. */
+#define VB_CLIENT_CODE 1 /* The client `code`: translated code. */
+#define VB_CLIENT_MIGRATION 2 /* The client `migration`. */
+#define VB_PERM_NOTHING 0 /* A translation lets nothing through. */
+#define VB_PERM_READ 1 /* A translation lets reads through. */
+#define VB_PERM_WRITE 2 /* A translation lets writes through. */
+#define VB_PERM_BOTH 3 /* A translation lets reads and writes through. */
+#define VB_ACCESS_ERROR 1 /* How an access ended: a device answered with an error. */
+#define VB_ACCESS_DECODE 2 /* How an access ended: nothing answered some byte. */
+#define VB_ACCESS_BEGUN 4 /* Of a write that was given up: a device has taken the first of the callbacks that come next. */
+#define VB_WAY_CHUNKS 0 /* A plan in which each range takes its own bytes. */
+#define VB_WAY_QEMU 1 /* A plan by QEMU's rule: a device takes whole pieces, which the end of its range does not cut. */
+#define VB_REACHED_MEMORY 0 /* An access reaches memory. */
+#define VB_REACHED_CALLBACK 1 /* An access reaches a callback of a device. */
+#define VB_REACHED_NOTIFIER 2 /* An access sets a notifier. */
+#define VB_REACHED_MARK 3 /* An access marks a page. */
+#define VB_REACHED_NOTHING 4 /* Nothing answers. */
+#define VB_TOLD_BEGIN 0 /* A listener is told that a change begins. */
+#define VB_TOLD_DELETE 1 /* A listener is told that a range is gone. */
+#define VB_TOLD_ADD 2 /* A listener is told that a range is there. */
+#define VB_TOLD_KEEP 3 /* A listener is told that a range stays. */
+#define VB_TOLD_LOG_START 4 /* A listener is told that logging starts. */
+#define VB_TOLD_LOG_STOP 5 /* A listener is told that logging stops. */
+#define VB_TOLD_EVENT_ADD 6 /* A listener is told that an ioeventfd is there. */
+#define VB_TOLD_EVENT_DEL 7 /* A listener is told that an ioeventfd is gone. */
+#define VB_TOLD_COMMIT 8 /* A listener is told that the change is whole. */
 
 /* What C keeps of a machine: a pointer, which is null where there is none. */
 typedef struct vb_machine {
+    /* What the library keeps there; a caller leaves it alone. */
     void *at;
 } vb_machine;
 
 /* What C keeps of the desk of a machine that virtual CPUs share: a pointer, which is null where there is none. */
 typedef struct vb_desk {
+    /* What the library keeps there; a caller leaves it alone. */
     void *at;
 } vb_desk;
 
 /* What C keeps of a virtual CPU: a pointer, which is null where there is none. */
 typedef struct vb_cpu {
+    /* What the library keeps there; a caller leaves it alone. */
     void *at;
 } vb_cpu;
 
@@ -141,6 +145,7 @@ typedef struct vb_cpu {
  * above these stand those of the library itself. A refused call changes nothing of the map. The code 28 alone is no refusal: a write was given up
  * after its first bytes. */
 typedef struct vb_answer {
+    /* What came of the call, by `VB_DONE` and those after it. */
     uint32_t code;
     /* Which sort of thing `value` is: of a refusal that may name several, or 1 where a region was made. */
     uint32_t what;
@@ -154,23 +159,36 @@ typedef struct vb_answer {
  *
  * The kinds are 0 latch, 1 counter, 2 bell and 3 fault. */
 typedef struct vb_device {
+    /* What its registers do, by `VB_DEVICE_..`. */
     uint32_t kind;
+    /* How many registers of 8 bytes it has. */
     uint32_t regs;
+    /* The smallest access of a guest, in bytes. */
     uint8_t valid_min;
+    /* The largest access of a guest, in bytes. */
     uint8_t valid_max;
+    /* Whether a guest's access may be unaligned. */
     bool valid_unaligned;
+    /* The smallest callback, in bytes. */
     uint8_t impl_min;
+    /* The largest callback, in bytes. */
     uint8_t impl_max;
+    /* Whether a callback may be unaligned. */
     bool impl_unaligned;
+    /* Whether the first byte of a callback is the highest. */
     bool big;
 } vb_device;
 
 /* An ioeventfd: a write of `size` bytes at `offset` in its device sets the notifier `number`, where it is any write or
  * writes `value`. */
 typedef struct vb_ioevent {
+    /* The offset in its device, in bytes. */
     uint64_t offset;
+    /* The value that counts, where `matched` is set. */
     uint64_t value;
+    /* The notifier, 0 to 63. */
     uint32_t number;
+    /* The size of the write, in bytes. */
     uint8_t size;
     /* Whether only a write of `value` counts. */
     bool matched;
@@ -179,42 +197,57 @@ typedef struct vb_ioevent {
 /* What is asked of a desk. `what` says which of the calls of a machine it is, by `VB_DO_..`; each takes the numbers that it names, and the
  * others are not looked at. */
 typedef struct vb_order {
+    /* An offset in a container, in a target, or in a table, in bytes. */
     uint64_t offset;
     /* In bytes; 2^64 - 1 stands for 2^64. */
     uint64_t size;
     /* Where a translation goes on. */
     uint64_t translated;
+    /* Which call it is, by `VB_DO_..`. */
     uint32_t what;
     /* The kind of a region that is made, by `VB_KIND_..`. */
     uint32_t kind;
+    /* The region, by its number. */
     uint32_t region;
     /* The region that is placed or taken out, the target of an alias, or the root of a space. */
     uint32_t other;
+    /* The address space, by its number. */
     uint32_t space;
+    /* The listener, by its number. */
     uint32_t listener;
     /* Whose logging is switched, by `VB_CLIENT_..`. */
     uint32_t client;
     /* Which accesses a translation lets through, by `VB_PERM_..`. */
     uint32_t perm;
+    /* The priority of a child or of a listener. */
     int32_t priority;
     /* Whether something is switched on. */
     bool on;
+    /* The device of a region that is made. */
     vb_device device;
+    /* The ioeventfd. */
     vb_ioevent event;
 } vb_order;
 
 /* A range of a view: the addresses `start` to `last` inclusive are answered by a region, from `offset` in it on. */
 typedef struct vb_flat_range {
+    /* The first address. */
     uint64_t start;
+    /* The last address, inclusive. */
     uint64_t last;
+    /* The offset of the first address in the region, in bytes. */
     uint64_t offset;
+    /* The region, by its number. */
     uint32_t region;
     /* The logging mask: bits 0 display, 1 code, 2 migration. */
     uint8_t log;
+    /* Whether it is read-only. */
     bool readonly;
+    /* Whether it is non-volatile. */
     bool nonvolatile;
     /* The mode of a ROM device. */
     bool romd;
+    /* Whether it ends where the path to its leaf changes. */
     bool unmergeable;
 } vb_flat_range;
 
@@ -224,15 +257,19 @@ typedef struct vb_found {
     uint64_t last;
     /* The offset in the region, in bytes. */
     uint64_t offset;
+    /* The region, by its number. */
     uint32_t region;
     /* 0 container, 1 RAM, 2 ROM, 3 ROM device, 4 device, 5 IOMMU region, 6 alias, 7 reservation, 8 host memory. */
     uint32_t kind;
     /* The logging mask: bits 0 display, 1 code, 2 migration. */
     uint8_t log;
+    /* Whether it is read-only. */
     bool readonly;
+    /* Whether it is non-volatile. */
     bool nonvolatile;
     /* The mode of a ROM device. */
     bool romd;
+    /* Whether it ends where the path to its leaf changes. */
     bool unmergeable;
     /* Whether some region answers. Where none does, all but `last` is 0. */
     bool is_there;
@@ -245,8 +282,11 @@ typedef struct vb_reached {
     uint64_t offset;
     /* The number that a callback takes. */
     uint64_t value;
+    /* The first byte of the access that it is about. */
     uint64_t at;
+    /* How many bytes of the access it is about. */
     uint64_t len;
+    /* What is reached, by `VB_REACHED_..`. */
     uint32_t what;
     /* The region whose memory, callback or page it is. */
     uint32_t region;
@@ -262,7 +302,9 @@ typedef struct vb_reached {
 
 /* An ioeventfd as a view shows it. Its address is `distance` bytes from 0: below it where a view shows only the end of its bytes. */
 typedef struct vb_live_event {
+    /* How many bytes from 0 its address is. */
     uint64_t distance;
+    /* The value that counts, where `matched` is set. */
     uint64_t value;
     /* The notifier. */
     uint32_t number;
@@ -270,15 +312,20 @@ typedef struct vb_live_event {
     uint8_t size;
     /* Whether only a write of `value` counts. */
     bool matched;
+    /* Whether its address is below 0. */
     bool is_below;
 } vb_live_event;
 
 /* One call of a listener. `what` is 0 begin, 1 a range is gone, 2 it is there, 3 it stays, 4 logging starts, 5 logging stops, 6 an
  * ioeventfd is there, 7 it is gone, 8 commit. */
 typedef struct vb_listener_call {
+    /* What the listener is told, by `VB_TOLD_..`. */
     uint32_t what;
+    /* The listener, by its number. */
     uint32_t listener;
+    /* The range. */
     vb_flat_range range;
+    /* The ioeventfd. */
     vb_live_event event;
     /* The logging mask before, where logging starts or stops. */
     uint8_t from;
@@ -423,6 +470,27 @@ vb_answer vb_desk_range(vb_desk *handle, uint32_t space, size_t index, vb_flat_r
 
 /* What listeners were told, as `vb_delivery` tells it. */
 vb_answer vb_desk_delivery(vb_desk *handle, size_t index, vb_listener_call *out);
+
+/* What a read of `len` bytes of a space reaches in the generation that the virtual CPU is entered in, as `vb_plan_read` tells it of the current
+ * one, in its `way`. No region that is named is released before the virtual CPU leaves the generation, so what a plan names may be used until
+ * then. Where it is in none, it is refused with code 29. It asks no lock, and may be called beside the desk and other virtual CPUs. */
+vb_answer vb_cpu_plan_read(vb_cpu *handle, uint32_t way, uint32_t space, uint64_t addr, size_t len, vb_reached *out, size_t out_len);
+
+/* What a write of bytes to a space reaches in the generation that the virtual CPU is entered in, as `vb_plan_write` tells it of the current one
+ * and `vb_cpu_plan_read` of a read. */
+vb_answer vb_cpu_plan_write(vb_cpu *handle, uint32_t way, uint32_t space, uint64_t addr, const uint8_t *bytes, size_t bytes_len, vb_reached *out, size_t out_len);
+
+/* What an address of a space leads to in the generation that the virtual CPU is entered in, as `vb_find` tells it of the current one. Where it is
+ * in none, it is refused with code 29. It asks no lock. */
+vb_answer vb_cpu_find(vb_cpu *handle, uint32_t space, uint64_t addr, vb_found *out);
+
+/* The range at an index of the view of a space in the generation that the virtual CPU is entered in, as `vb_range` tells it of the current one.
+ * Where it is in none, it is refused with code 29. It asks no lock. */
+vb_answer vb_cpu_range(vb_cpu *handle, uint32_t space, size_t index, vb_flat_range *out);
+
+/* The path on which an address of a space is found in the generation that the virtual CPU is entered in, as `vb_path` tells it of the current
+ * one. Where it is in none, it is refused with code 29. It asks no lock. */
+vb_answer vb_cpu_path(vb_cpu *handle, uint32_t space, uint64_t addr, uint32_t *out, size_t out_len);
 
 /* Forgets the first `count` of the calls that listeners got and that are not forgotten yet, all of them where there are fewer. `value`
  * of the answer is how many it forgot: `vb_delivery` counts from the first that is not forgotten, so an index that a caller keeps is

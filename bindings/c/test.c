@@ -438,6 +438,47 @@ static void test_told(vb_desk *d, uint32_t ram)
     check(told.value == 3 && call.what == VB_TOLD_DELETE && call.range.region == ram, "and is told that RAM is gone");
 }
 
+/* What a virtual CPU asks of the generation that it is entered in, while the map changes under it: RAM stands at 0, and goes to 0x3000 and back. */
+static void test_asked(vb_desk *d, vb_cpu *cpu, uint32_t ram)
+{
+    vb_reached plan[4];
+    vb_found found;
+    vb_flat_range range;
+    uint32_t path[4] = { 7, 7, 7, 7 };
+    uint8_t bytes[2] = { 1, 2 };
+    refused(vb_cpu_plan_read(cpu, VB_WAY_QEMU, 1, 0, 8, plan, 4), VB_NOT_ENTERED, 0, 0, "no plan outside of all generations");
+    refused(vb_cpu_plan_write(cpu, VB_WAY_CHUNKS, 1, 0, bytes, 2, plan, 4), VB_NOT_ENTERED, 0, 0, "nor of a write");
+    refused(vb_cpu_find(cpu, 1, 0, &found), VB_NOT_ENTERED, 0, 0, "no look-up");
+    refused(vb_cpu_range(cpu, 1, 0, &range), VB_NOT_ENTERED, 0, 0, "no range");
+    refused(vb_cpu_path(cpu, 1, 0, path, 4), VB_NOT_ENTERED, 0, 0, "no path");
+    check(path[0] == 7, "and nothing is written");
+    uint64_t entered = vb_cpu_enter(cpu).other;
+    vb_order order = { .what = VB_DO_MOVE, .region = ram, .offset = 0x3000 };
+    done(vb_desk_ask(d, &order), "RAM moves away");
+    refused(vb_cpu_plan_read(cpu, 2, 1, 0, 8, plan, 4), VB_ARGUMENT, 0, 2, "a way that there is not");
+    for (uint32_t way = VB_WAY_CHUNKS; way <= VB_WAY_QEMU; way++) {
+        vb_answer asked = vb_cpu_plan_read(cpu, way, 1, 0xffe, 4, plan, 4);
+        check(asked.code == VB_DONE && asked.value == 2 && asked.other == entered, "two things, in the generation that it entered");
+        check(plan[0].what == VB_REACHED_MEMORY && plan[0].region == ram && plan[0].offset == 0xffe && plan[0].len == 2, "two bytes of RAM");
+        check(plan[1].what == VB_REACHED_NOTHING && plan[1].at == 2 && plan[1].len == 2, "and two of nothing");
+        asked = vb_cpu_plan_write(cpu, way, 1, 0x10, bytes, 2, plan, 4);
+        check(asked.code == VB_DONE && asked.value == 1 && plan[0].region == ram && plan[0].offset == 0x10, "a write reaches RAM");
+    }
+    vb_answer asked = vb_cpu_find(cpu, 1, 0x20, &found);
+    check(asked.code == VB_DONE && asked.other == entered && found.is_there && found.region == ram && found.offset == 0x20, "RAM is found");
+    asked = vb_cpu_range(cpu, 1, 0, &range);
+    check(asked.code == VB_DONE && asked.value == 1 && range.start == 0 && range.last == 0xfff && range.region == ram, "it is the one range");
+    asked = vb_cpu_path(cpu, 1, 0x20, path, 4);
+    check(asked.code == VB_DONE && asked.value == 2 && path[1] == ram && path[2] == 7, "below the container");
+    done(vb_cpu_leave(cpu), "it leaves");
+    vb_cpu_enter(cpu);
+    done(vb_cpu_find(cpu, 1, 0x20, &found), "a look-up in the new generation");
+    check(!found.is_there, "which has nothing there");
+    done(vb_cpu_leave(cpu), "it leaves");
+    order.offset = 0;
+    done(vb_desk_ask(d, &order), "RAM is back");
+}
+
 /* A desk, and virtual CPUs beside it. */
 static void test_desks(void)
 {
@@ -459,6 +500,7 @@ static void test_desks(void)
     refused(vb_cpu_read(&cpu, 0, 0, out, 8), VB_NO_MACHINE, 0, 0, "none reads");
     refused(vb_cpu_write8(&cpu, 0, 0, 1), VB_NO_MACHINE, 0, 0, "none writes");
     refused(vb_cpu_write(&cpu, 0, 0, out, 8, 1), VB_NO_MACHINE, 0, 0, "nor parts of words");
+    refused(vb_cpu_find(&cpu, 0, 0, &found), VB_NO_MACHINE, 0, 0, "none looks up");
     vb_cpu_free(&cpu);
     vb_desk_free(&d);
     refused(vb_desk_new(&d, SIZE_MAX), VB_ARGUMENT, 0, SIZE_MAX, "a pool that is too large");
@@ -490,15 +532,16 @@ static void test_desks(void)
     check(ended.code == VB_NOT_WHOLE && ended.other == 2, "parts of two words are not replaced");
     test_parts(&d, &cpu, ram);
     test_told(&d, ram);
+    test_asked(&d, &cpu, ram);
     ended = vb_cpu_enter(&cpu);
-    check(ended.code == VB_DONE && ended.other == 4, "it enters generation 4");
+    check(ended.code == VB_DONE && ended.other == 6, "it enters generation 6");
     order = (vb_order){ .what = VB_DO_MOVE, .region = ram, .offset = 0x4000 };
     done(vb_desk_ask(&d, &order), "RAM moves");
     ended = vb_cpu_read(&cpu, 1, 0x10, out, 1);
-    check(ended.what == 0 && out[0] == 1 && ended.value == 4, "it sees the old map");
+    check(ended.what == 0 && out[0] == 1 && ended.value == 6, "it sees the old map");
     done(vb_cpu_leave(&cpu), "it leaves");
     ended = vb_cpu_read(&cpu, 1, 0x10, out, 1);
-    check((ended.what & VB_ACCESS_DECODE) != 0 && ended.value == 5, "it sees the new one");
+    check((ended.what & VB_ACCESS_DECODE) != 0 && ended.value == 7, "it sees the new one");
     done(vb_cpu_enter(&cpu), "it enters");
     uint64_t held = 0;
     for (uint64_t i = 0; i < 20 && held == 0; i++) {
@@ -594,6 +637,7 @@ static void test_texts(void)
         { { VB_NOT_WHOLE, 0, 0, 3 }, "only a part of some word would be replaced" },
         { { VB_NO_CPU, 0, 0, 0 }, "all virtual CPUs are handed out" },
         { { VB_CONTENDED, 0, 3, 1 }, "others changed a word each time that it was tried" },
+        { { VB_NOT_ENTERED, 0, 0, 0 }, "the virtual CPU is entered in no generation" },
         { { 99, 0, 0, 0 }, "this is no answer of the library" },
         { { VB_UNKNOWN, 6, 0, 0 }, "this is no answer of the library" },
         { { VB_UNKNOWN, VB_SORT_REGION, 1ull << 32, 0 }, "this is no answer of the library" },

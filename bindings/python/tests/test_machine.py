@@ -1,9 +1,12 @@
 """A machine through the module for Python."""
+import contextlib
+import doctest
 import os
 import sys
 import unittest
 
 sys.path.insert(0, os.path.join(os.path.dirname(os.path.abspath(__file__)), ".."))
+import vobrekan  # noqa: E402
 from vobrekan import Desk, Device, Ioevent, Machine, Refused, WHOLE, run  # noqa: E402
 from vobrekan import declarations as c  # noqa: E402
 
@@ -232,7 +235,13 @@ class Tests(unittest.TestCase):
         number = cpu.enter()
         self.assertEqual(desk.ask(c.VB_DO_MOVE, region=ram, offset=0x4000).other, number + 1)
         self.assertEqual(cpu.read(SPACE, 8, 2), (b"\x02\x01", 0))
+        self.assertEqual([(it.what, it.region, it.offset, it.len) for it in cpu.plan_read(SPACE, 0xFFC, 8)][0], (c.VB_REACHED_MEMORY, ram, 0xFFC, 4))
+        self.assertEqual([(it.region, it.offset) for it in cpu.plan_write(SPACE, 8, b"x", c.VB_WAY_QEMU)], [(ram, 8)])
+        self.assertEqual((cpu.find(SPACE, 8).region, cpu.path(SPACE, 8), [it.last for it in cpu.view(SPACE)]), (ram, [system, ram], [0xFFF]))
         cpu.leave()
+        with self.assertRaises(Refused) as it:
+            cpu.find(SPACE, 8)
+        self.assertEqual(it.exception.code, c.VB_NOT_ENTERED)
         self.assertEqual(cpu.read(SPACE, 8, 2)[1], c.VB_ACCESS_DECODE)
         self.assertEqual([(it.start, it.region) for it in desk.view(SPACE)], [(0x4000, ram)])
         with self.assertRaises(Refused) as it:
@@ -270,6 +279,37 @@ class Tests(unittest.TestCase):
             end += len(told)
         with self.assertRaises(IndexError):
             desk.told()
+
+    def test_what_is_closed_is_freed(self):
+        with Desk(1 << 12) as desk, desk.cpu() as cpu:
+            cpu.enter()
+        for call in (desk.reap, cpu.enter):
+            with self.assertRaises(Refused) as refused:
+                call()
+            self.assertEqual((refused.exception.code, refused.exception.name), (c.VB_NO_MACHINE, "NO_MACHINE"))
+        with contextlib.closing(Machine(64)) as machine:
+            with machine:
+                machine.space(SPACE, machine.container())
+            self.assertEqual(machine.last, 1)
+        self.assertRaises(Refused, machine.container)
+        machine.close()
+
+    def test_a_refusal_has_its_fields(self):
+        machine = Machine(1 << 12)
+        parent, child = machine.container(), machine.ram(0x1000)
+        machine.add(parent, 0, child)
+        with self.assertRaises(Refused) as refused:
+            machine.add(parent, 0x1000, child)
+        told = refused.exception
+        self.assertEqual((told.code, told.name, told.value), (c.VB_HAS_CONTAINER, "HAS_CONTAINER", parent))
+        names = [it[3:] for it in vars(c) if it.startswith("VB_")]
+        self.assertEqual(list(vobrekan.CODES.values()), names[: names.index("SORT_REGION")])
+
+    def test_the_examples_of_the_module(self):
+        for module in (vobrekan, vobrekan.bounds):
+            self.assertEqual(doctest.testmod(module).failed, 0)
+        with open(os.path.join(os.path.dirname(vobrekan.__file__), "..", "pyproject.toml"), encoding="utf-8") as project:
+            self.assertIn(f'version = "{vobrekan.__version__}"', project.read())
 
 
 if __name__ == "__main__":

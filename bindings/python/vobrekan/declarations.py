@@ -1,5 +1,7 @@
 """Made by bindings/declare from crates/libvobrekan/src."""
-from ctypes import POINTER, Structure, c_bool, c_int32, c_size_t, c_uint8, c_uint32, c_uint64, c_void_p
+from ctypes import POINTER, c_bool, c_int32, c_size_t, c_uint8, c_uint32, c_uint64, c_void_p
+
+from .bounds import Numbers
 
 VB_DONE = 0  # It is done.
 VB_UNKNOWN = 1  # Something that the call names is not there: `what` is its sort, `value` its number.
@@ -30,86 +32,87 @@ VB_NO_SCRIPT = 25  # The text is no script: `other` is the number of its first l
 VB_NOT_WHOLE = 26  # Only a part of some word would be replaced, in the generation `other`.
 VB_NO_CPU = 27  # All 16 virtual CPUs are handed out.
 VB_CONTENDED = 28  # Of a write only the first `value` bytes are written, in the generation `other`: a word was changed each time that it was tried.
+VB_NOT_ENTERED = 29  # The virtual CPU is entered in no generation.
 
-VB_SORT_REGION = 0
-VB_SORT_SPACE = 1
-VB_SORT_LISTENER = 2
-VB_SORT_WATCHER = 3
-VB_SORT_ENTRY = 4
-VB_SORT_EVENT = 5
-VB_LIMIT_REGIONS = 0
-VB_LIMIT_MADE = 1
-VB_LIMIT_SPACES = 2
-VB_LIMIT_LISTENERS = 3
-VB_LIMIT_ENTRIES = 4
-VB_LIMIT_EVENTS = 5
-VB_LIMIT_CALLS = 6
-VB_LIMIT_WATCHERS = 7
-VB_KIND_CONTAINER = 0
-VB_KIND_RAM = 1
-VB_KIND_ROM = 2
-VB_KIND_ROM_DEVICE = 3
-VB_KIND_IO = 4
-VB_KIND_IOMMU = 5
-VB_KIND_ALIAS = 6
-VB_KIND_RESERVE = 7
-VB_KIND_HOST = 8
-VB_DEVICE_LATCH = 0
-VB_DEVICE_COUNT = 1
-VB_DEVICE_BELL = 2
-VB_DEVICE_FAULT = 3
-VB_DO_BEGIN = 0
-VB_DO_COMMIT = 1
-VB_DO_LISTEN = 2
-VB_DO_UNLISTEN = 3
-VB_DO_REGION = 4
-VB_DO_SPACE = 5
-VB_DO_ADD = 6
-VB_DO_DEL = 7
-VB_DO_MOVE = 8
-VB_DO_RESIZE = 9
-VB_DO_RETARGET = 10
-VB_DO_ENABLE = 11
-VB_DO_READONLY = 12
-VB_DO_NONVOLATILE = 13
-VB_DO_UNMERGEABLE = 14
-VB_DO_ROMD = 15
-VB_DO_LOG = 16
-VB_DO_GLOBAL = 17
-VB_DO_MAP = 18
-VB_DO_UNMAP = 19
-VB_DO_EVENT = 20
-VB_DO_UNEVENT = 21
-VB_DO_DROP = 22
-VB_CLIENT_DISPLAY = 0
-VB_CLIENT_CODE = 1
-VB_CLIENT_MIGRATION = 2
-VB_PERM_NOTHING = 0
-VB_PERM_READ = 1
-VB_PERM_WRITE = 2
-VB_PERM_BOTH = 3
-VB_ACCESS_ERROR = 1
-VB_ACCESS_DECODE = 2
-VB_ACCESS_BEGUN = 4
-VB_WAY_CHUNKS = 0
-VB_WAY_QEMU = 1
-VB_REACHED_MEMORY = 0
-VB_REACHED_CALLBACK = 1
-VB_REACHED_NOTIFIER = 2
-VB_REACHED_MARK = 3
-VB_REACHED_NOTHING = 4
-VB_TOLD_BEGIN = 0
-VB_TOLD_DELETE = 1
-VB_TOLD_ADD = 2
-VB_TOLD_KEEP = 3
-VB_TOLD_LOG_START = 4
-VB_TOLD_LOG_STOP = 5
-VB_TOLD_EVENT_ADD = 6
-VB_TOLD_EVENT_DEL = 7
-VB_TOLD_COMMIT = 8
+VB_SORT_REGION = 0  # A refusal names a region.
+VB_SORT_SPACE = 1  # A refusal names an address space.
+VB_SORT_LISTENER = 2  # A refusal names a listener.
+VB_SORT_WATCHER = 3  # A refusal names a watcher.
+VB_SORT_ENTRY = 4  # A refusal names a translation, by its offset.
+VB_SORT_EVENT = 5  # A refusal names an ioeventfd, by its offset.
+VB_LIMIT_REGIONS = 0  # The regions that are there.
+VB_LIMIT_MADE = 1  # The regions that were ever made.
+VB_LIMIT_SPACES = 2  # The address spaces.
+VB_LIMIT_LISTENERS = 3  # The listeners.
+VB_LIMIT_ENTRIES = 4  # The translations of a region.
+VB_LIMIT_EVENTS = 5  # The ioeventfds of a region.
+VB_LIMIT_CALLS = 6  # The calls of the machine.
+VB_LIMIT_WATCHERS = 7  # The watchers.
+VB_KIND_CONTAINER = 0  # A container, which only groups its children.
+VB_KIND_RAM = 1  # RAM.
+VB_KIND_ROM = 2  # ROM.
+VB_KIND_ROM_DEVICE = 3  # A ROM device.
+VB_KIND_IO = 4  # A device.
+VB_KIND_IOMMU = 5  # An IOMMU region.
+VB_KIND_ALIAS = 6  # An alias.
+VB_KIND_RESERVE = 7  # A reservation.
+VB_KIND_HOST = 8  # Host memory.
+VB_DEVICE_LATCH = 0  # A latch: a register keeps what is written.
+VB_DEVICE_COUNT = 1  # A counter: a read adds one.
+VB_DEVICE_BELL = 2  # A bell: a write sets bits, and a read clears them.
+VB_DEVICE_FAULT = 3  # A fault: it answers with an error.
+VB_DO_BEGIN = 0  # An order: `vb_begin`.
+VB_DO_COMMIT = 1  # An order: `vb_commit`.
+VB_DO_LISTEN = 2  # An order: `vb_listen`.
+VB_DO_UNLISTEN = 3  # An order: `vb_unlisten`.
+VB_DO_REGION = 4  # An order: a region of the kind `kind` is made.
+VB_DO_SPACE = 5  # An order: `vb_space`.
+VB_DO_ADD = 6  # An order: `vb_add`.
+VB_DO_DEL = 7  # An order: `vb_del`.
+VB_DO_MOVE = 8  # An order: `vb_move`.
+VB_DO_RESIZE = 9  # An order: `vb_resize`.
+VB_DO_RETARGET = 10  # An order: `vb_retarget`.
+VB_DO_ENABLE = 11  # An order: `vb_enable`.
+VB_DO_READONLY = 12  # An order: `vb_readonly`.
+VB_DO_NONVOLATILE = 13  # An order: `vb_nonvolatile`.
+VB_DO_UNMERGEABLE = 14  # An order: `vb_unmergeable`.
+VB_DO_ROMD = 15  # An order: `vb_romd`.
+VB_DO_LOG = 16  # An order: `vb_log`.
+VB_DO_GLOBAL = 17  # An order: `vb_global`.
+VB_DO_MAP = 18  # An order: `vb_map`.
+VB_DO_UNMAP = 19  # An order: `vb_unmap`.
+VB_DO_EVENT = 20  # An order: `vb_event`.
+VB_DO_UNEVENT = 21  # An order: `vb_unevent`.
+VB_DO_DROP = 22  # An order: `vb_drop`.
+VB_CLIENT_DISPLAY = 0  # The client `vga` of a script: a display.
+VB_CLIENT_CODE = 1  # The client `code`: translated code.
+VB_CLIENT_MIGRATION = 2  # The client `migration`.
+VB_PERM_NOTHING = 0  # A translation lets nothing through.
+VB_PERM_READ = 1  # A translation lets reads through.
+VB_PERM_WRITE = 2  # A translation lets writes through.
+VB_PERM_BOTH = 3  # A translation lets reads and writes through.
+VB_ACCESS_ERROR = 1  # How an access ended: a device answered with an error.
+VB_ACCESS_DECODE = 2  # How an access ended: nothing answered some byte.
+VB_ACCESS_BEGUN = 4  # Of a write that was given up: a device has taken the first of the callbacks that come next.
+VB_WAY_CHUNKS = 0  # A plan in which each range takes its own bytes.
+VB_WAY_QEMU = 1  # A plan by QEMU's rule: a device takes whole pieces, which the end of its range does not cut.
+VB_REACHED_MEMORY = 0  # An access reaches memory.
+VB_REACHED_CALLBACK = 1  # An access reaches a callback of a device.
+VB_REACHED_NOTIFIER = 2  # An access sets a notifier.
+VB_REACHED_MARK = 3  # An access marks a page.
+VB_REACHED_NOTHING = 4  # Nothing answers.
+VB_TOLD_BEGIN = 0  # A listener is told that a change begins.
+VB_TOLD_DELETE = 1  # A listener is told that a range is gone.
+VB_TOLD_ADD = 2  # A listener is told that a range is there.
+VB_TOLD_KEEP = 3  # A listener is told that a range stays.
+VB_TOLD_LOG_START = 4  # A listener is told that logging starts.
+VB_TOLD_LOG_STOP = 5  # A listener is told that logging stops.
+VB_TOLD_EVENT_ADD = 6  # A listener is told that an ioeventfd is there.
+VB_TOLD_EVENT_DEL = 7  # A listener is told that an ioeventfd is gone.
+VB_TOLD_COMMIT = 8  # A listener is told that the change is whole.
 
 
-class vb_machine(Structure):
+class vb_machine(Numbers):
     """What C keeps of a machine: a pointer, which is null where there is none."""
 
     _fields_ = [
@@ -117,7 +120,7 @@ class vb_machine(Structure):
     ]
 
 
-class vb_desk(Structure):
+class vb_desk(Numbers):
     """What C keeps of the desk of a machine that virtual CPUs share: a pointer, which is null where there is none."""
 
     _fields_ = [
@@ -125,7 +128,7 @@ class vb_desk(Structure):
     ]
 
 
-class vb_cpu(Structure):
+class vb_cpu(Numbers):
     """What C keeps of a virtual CPU: a pointer, which is null where there is none."""
 
     _fields_ = [
@@ -133,7 +136,7 @@ class vb_cpu(Structure):
     ]
 
 
-class vb_answer(Structure):
+class vb_answer(Numbers):
     """What a call answers: a code, and what it names.
 
     The code is 0 where it is done. 1 to 20 are the refusals of the machine, numbered as the lines of a script number them, and
@@ -148,7 +151,7 @@ class vb_answer(Structure):
     ]
 
 
-class vb_device(Structure):
+class vb_device(Numbers):
     """A device: what its registers do, how many words of 8 bytes they are, and its access sizes in bytes.
 
     The kinds are 0 latch, 1 counter, 2 bell and 3 fault."""
@@ -166,7 +169,7 @@ class vb_device(Structure):
     ]
 
 
-class vb_ioevent(Structure):
+class vb_ioevent(Numbers):
     """An ioeventfd: a write of `size` bytes at `offset` in its device sets the notifier `number`, where it is any write or
     writes `value`."""
 
@@ -179,7 +182,7 @@ class vb_ioevent(Structure):
     ]
 
 
-class vb_order(Structure):
+class vb_order(Numbers):
     """What is asked of a desk. `what` says which of the calls of a machine it is, by `VB_DO_..`; each takes the numbers that it names, and the
     others are not looked at."""
 
@@ -202,7 +205,7 @@ class vb_order(Structure):
     ]
 
 
-class vb_flat_range(Structure):
+class vb_flat_range(Numbers):
     """A range of a view: the addresses `start` to `last` inclusive are answered by a region, from `offset` in it on."""
 
     _fields_ = [
@@ -218,7 +221,7 @@ class vb_flat_range(Structure):
     ]
 
 
-class vb_found(Structure):
+class vb_found(Numbers):
     """What an address leads to: the byte of a region, if there is one, and the last address after it that is answered alike."""
 
     _fields_ = [
@@ -235,7 +238,7 @@ class vb_found(Structure):
     ]
 
 
-class vb_reached(Structure):
+class vb_reached(Numbers):
     """One thing that an access reaches. `what` is 0 memory, 1 a callback of a device, 2 a notifier, 3 a mark of a page, 4 nothing. It is
     about `len` bytes of the access, those from byte `at` of it on; a mark is about none."""
 
@@ -253,7 +256,7 @@ class vb_reached(Structure):
     ]
 
 
-class vb_live_event(Structure):
+class vb_live_event(Numbers):
     """An ioeventfd as a view shows it. Its address is `distance` bytes from 0: below it where a view shows only the end of its bytes."""
 
     _fields_ = [
@@ -266,7 +269,7 @@ class vb_live_event(Structure):
     ]
 
 
-class vb_listener_call(Structure):
+class vb_listener_call(Numbers):
     """One call of a listener. `what` is 0 begin, 1 a range is gone, 2 it is there, 3 it stays, 4 logging starts, 5 logging stops, 6 an
     ioeventfd is there, 7 it is gone, 8 commit."""
 
@@ -319,6 +322,11 @@ FUNCTIONS = {
     "vb_desk_find": ([POINTER(vb_desk), c_uint32, c_uint64, POINTER(vb_found)], vb_answer),
     "vb_desk_range": ([POINTER(vb_desk), c_uint32, c_size_t, POINTER(vb_flat_range)], vb_answer),
     "vb_desk_delivery": ([POINTER(vb_desk), c_size_t, POINTER(vb_listener_call)], vb_answer),
+    "vb_cpu_plan_read": ([POINTER(vb_cpu), c_uint32, c_uint32, c_uint64, c_size_t, POINTER(vb_reached), c_size_t], vb_answer),
+    "vb_cpu_plan_write": ([POINTER(vb_cpu), c_uint32, c_uint32, c_uint64, POINTER(c_uint8), c_size_t, POINTER(vb_reached), c_size_t], vb_answer),
+    "vb_cpu_find": ([POINTER(vb_cpu), c_uint32, c_uint64, POINTER(vb_found)], vb_answer),
+    "vb_cpu_range": ([POINTER(vb_cpu), c_uint32, c_size_t, POINTER(vb_flat_range)], vb_answer),
+    "vb_cpu_path": ([POINTER(vb_cpu), c_uint32, c_uint64, POINTER(c_uint32), c_size_t], vb_answer),
     "vb_forget": ([POINTER(vb_machine), c_size_t], vb_answer),
     "vb_desk_forget": ([POINTER(vb_desk), c_size_t], vb_answer),
     "vb_harvest": ([POINTER(vb_machine), c_uint32, c_uint32, POINTER(c_uint64), c_size_t], vb_answer),

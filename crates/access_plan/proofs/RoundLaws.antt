@@ -1,11 +1,17 @@
 -- Laws of the rounds of QEMU's core.
-use Rattle.std.proofs.Common.{◌≡◌, ℕ, zero, suc, ◌+◌, ◌-◌, ◌<◌, ◌≤◌, Bool, ◌++◌, refl, sym, ap, ◌∙◌, arith}
+use Rattle.std.proofs.Common.{◌≡◌, ℕ, zero, suc, ◌+◌, ◌-◌, ◌<◌, ◌≤◌, Bool, Option, Some, None, ◌++◌, refl, sym, ap, ◌∙◌, arith}
 use Rattle.mem_base.specs.declared.map.ids.SpaceId.{SpaceId}
 use Rattle.mem_base.specs.declared.map.forests.Forest.{Forest}
+use Rattle.mem_base.specs.declared.map.forests.Node.{Node}
+use Rattle.mem_base.specs.declared.map.spots.Spot.{Spot}
 use Rattle.mem_base.specs.declared.access.accesses.Target.{Target}
+use Rattle.mem_base.specs.declared.access.accesses.Target.TheVariants.{Leaf, Unassigned}
+use Rattle.mem_base.specs.map.Region.{node_of}
+use Rattle.mem_base.specs.access.CorePlans.{own_spot, own_target}
+use Rattle.access_base.specs.Leaves.{IsLeafRun, IsTargetRun}
 use Rattle.mem_base.specs.access.AccessSteps.{Transfer, reading, part}
 use Rattle.mem_base.specs.access.Plans.{Answerer}
-use Rattle.access_plan.specs.HostPlans.{taken_at, round_at, rounds_by}
+use Rattle.access_plan.specs.HostPlans.{IsNearEnd, taken_at, round_at, rounds_by}
 
 module _ (who : Target → Answerer) (f : Forest) (w : Bool) (s : SpaceId) (first : ℕ) where
   -- the bytes that belong to a round begin none
@@ -35,3 +41,21 @@ module _ (who : Target → Answerer) (f : Forest) (w : Bool) (s : SpaceId) (firs
   rounds_read m n a (suc left) (suc inside) = rounds_read m n (a + 1) left inside
   rounds_read m n a (suc left) zero =
       ap (λ rs. round_at who f w s a (reading (taken_at who f w s a (suc left))) ++ rs) (rounds_read m n (a + 1) left (taken_at who f w s a (suc left) - 1))
+
+-- a region's own flag changes nothing of where its bytes lie
+
+pub near_own : (f : Forest) (x : Target) → IsNearEnd (own_target f x) → IsNearEnd x
+near_own f Unassigned h = h
+near_own f (Leaf x) h = go (node_of f.nodes x.leaf) h
+  where
+    go : (o : Option Node) → IsNearEnd (Leaf (own_spot o x)) → IsNearEnd (Leaf x)
+    go None h = h
+    go (Some n) h = h
+
+pub run_own : (f : Forest) (x : Target) (bytes : ℕ) → IsTargetRun f x bytes → IsTargetRun f (own_target f x) bytes
+run_own f Unassigned bytes h = h
+run_own f (Leaf x) bytes h = go (node_of f.nodes x.leaf)
+  where
+    go : (o : Option Node) → IsLeafRun f (own_spot o x) bytes
+    go None = h
+    go (Some n) = record { named = h.named; within = h.within }

@@ -2,8 +2,11 @@
 ghost use Rattle.std.specs.Prelude.{◌≡◌, ◌≤◌, ◌<◌, ◌+◌, ◌^◌, IfOk, IfSome, MatchOption, length, true};
 ghost use Rattle.mem_base.specs.access.Pieces.{piece_at};
 ghost use Rattle.mem_base.specs.access.CorePlans.{own_target};
+ghost use Rattle.mem_base.specs.access.Trails.{chunks, first_length, trail_of};
 ghost use Rattle.access_cut.specs.Conditions.{AreGood, IsCut};
+ghost use Rattle.access_base.specs.Leaves.{IsTargetRun};
 ghost use Rattle.access_base.specs.Sizes.{IsSize};
+ghost use Rattle.access_plan.specs.HostPlans.{IsNearEnd};
 ghost use Rattle.access_plan.specs.Lists.{moved};
 ghost use Rattle.access_plan.specs.Rounds.{AddsRound, AddsRounds, IsDeviceAt, TakesRound};
 
@@ -73,6 +76,21 @@ fn own_target(g: &Generation, leads: &Target) -> Target
     }
 }
 
+// Where the first of some bytes leads in QEMU's core, and how many of them share its route.
+fn own_chunk(g: &Generation, space: SpaceId, addr: u64, len: usize, write: bool) -> (Target, usize)
+    requires some { 0 < len }
+    requires within { addr + len ≤ 2 ^ 64 }
+    ensures target { result.0 ≡ own_target g.now.forest (trail_of g.now.forest write space addr).target }
+    ensures near { IsNearEnd result.0 → IsNearEnd (trail_of g.now.forest write space addr).target }
+    ensures len { result.1 ≡ first_length (chunks g.now.forest write space addr len) }
+    ensures some { 0 < result.1 }
+    ensures most { result.1 ≤ len }
+    ensures run { IsTargetRun g.now.forest result.0 result.1 }
+{
+    let (route, count) = first_chunk(g, space, addr, len, write);
+    (own_target(g, &route), count)
+}
+
 /// The next round of QEMU's core at an address, `left` bytes from the end of an access: how many bytes it takes, and who has them.
 ///
 /// `None` where it meets one of the last offsets of a device of 2^64 bytes, where a piece may end past them. QEMU's core, the body of the
@@ -88,8 +106,7 @@ pub fn next_round(
     requires addresses { addr + left ≤ 2 ^ 64 }
     ensures { TakesRound g.now.forest write space addr left result }
 {
-    let (route, count) = first_chunk(g, space, addr, left, write);
-    let leads = own_target(g, &route);
+    let (leads, count) = own_chunk(g, space, addr, left, write);
     let Some((spot, ops)) = device_at(g, &leads, write) else {
         return Some(Round::Route { leads, count });
     };

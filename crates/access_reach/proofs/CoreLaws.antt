@@ -8,7 +8,7 @@ use Rattle.mem_base.specs.access.Plans.{Reached}
 use Rattle.mem_base.specs.access.Trails.{trail_of}
 use Rattle.generation.specs.Published.{Published}
 use Rattle.access_plan.specs.declared.rounds.Round.{Round}
-use Rattle.access_plan.specs.HostPlans.{IsNearEnd, answerer_with_host, round_at, rounds_by, rounds_with_host}
+use Rattle.access_plan.specs.HostPlans.{IsNearEnd, core_answerer_with_host, round_at, rounds_by, rounds_with_host}
 use Rattle.access_plan.specs.Rounds.{IsRoundAt, bytes_in, reached_in}
 use Rattle.access_plan.proofs.RoundLaws.{rounds_then}
 use Rattle.access_reach.specs.Asking.{Outcome, outcome}
@@ -19,7 +19,7 @@ use Rattle.access_reach.proofs.ReachLaws.{AreBusLaws, underway_none, underway_th
 module _ {S : Type 0} (asks : Asks S) (shows : S → Published) (laws : AreBusLaws asks shows) (w : Bool) (s : SpaceId) (addr n : ℕ) (t : Transfer) where
   -- what is left of a plan after some bytes
   abbrev pub later : Forest → ℕ → List Reached
-  later f done = rounds_by (answerer_with_host f w) f w s addr t (addr + done) (n - done) 0
+  later f done = rounds_by (core_answerer_with_host f w) f w s addr t (addr + done) (n - done) 0
 
   -- of a plan nothing is asked at first
   pub rounds_none : (x : S)
@@ -29,7 +29,7 @@ module _ {S : Type 0} (asks : Asks S) (shows : S → Published) (laws : AreBusLa
       let here : addr ≡ addr + 0 = omega arith in
       let left : n ≡ n - 0 = omega arith in
       subst (λ rs. IsUnderway asks x (rounds_with_host f w s addr n t) rs (outcome [] (record { error = false; decode = false })) x)
-      (λ i. rounds_by (answerer_with_host f w) f w s addr t (here i) (left i) 0)
+      (λ i. rounds_by (core_answerer_with_host f w) f w s addr t (here i) (left i) 0)
       (underway_none asks shows laws x (rounds_with_host f w s addr n t))
 
   -- a round more
@@ -44,16 +44,16 @@ module _ {S : Type 0} (asks : Asks S) (shows : S → Published) (laws : AreBusLa
       let count : ℕ = bytes_in round in
       let same : (shows y).forest ≡ f = ap (λ (g : Published). g.forest) (underway_shows asks shows laws x y whole (later f done) (outcome bs r) under) in
       let is : IsRoundAt f w s (addr + done) (n - done) round = subst (λ f. IsRoundAt f w s (addr + done) (n - done) round) same next in
-      let now : List Reached = round_at (answerer_with_host f w) f w s (addr + done) (part done count t) in
+      let now : List Reached = round_at (core_answerer_with_host f w) f w s (addr + done) (part done count t) in
       let here : addr + done + count ≡ addr + (done + count) = omega arith in
       let left : n - done - count ≡ n - (done + count) = omega arith in
       let skipped : addr + done - addr ≡ done = omega arith in
       let list : later f done ≡ now ++ later f (done + count) =
-      rounds_then (answerer_with_host f w) f w s addr t (addr + done) (n - done) count is.taken is.some is.most
-      ∙ (λ i. round_at (answerer_with_host f w) f w s (addr + done) (part (skipped i) count t)
-      ++ rounds_by (answerer_with_host f w) f w s addr t (here i) (left i) 0) in
+      rounds_then (core_answerer_with_host f w) f w s addr t (addr + done) (n - done) count is.taken is.some is.most
+      ∙ (λ i. round_at (core_answerer_with_host f w) f w s (addr + done) (part (skipped i) count t)
+      ++ rounds_by (core_answerer_with_host f w) f w s addr t (here i) (left i) 0) in
       let reached : reached_in (shows y).forest w round u ≡ now =
-      ap (λ f. reached_in f w round u) same ∙ is.is u all ∙ ap (round_at (answerer_with_host f w) f w s (addr + done)) mine in
+      ap (λ f. reached_in f w round u) same ∙ is.is u all ∙ ap (round_at (core_answerer_with_host f w) f w s (addr + done)) mine in
       underway_then asks shows laws x y z whole (later f done) now (later f (done + count)) bs got r q under list
       (subst (λ rs. HasReached asks y rs (outcome got q) z) reached h)
 
@@ -63,7 +63,7 @@ module _ {S : Type 0} (asks : Asks S) (shows : S → Published) (laws : AreBusLa
   rounds_all x y done o under none =
       let f : Forest = (shows x).forest in
       all_reached asks shows laws x y (rounds_with_host f w s addr n t) (later f done) o under
-      (ap (λ m. rounds_by (answerer_with_host f w) f w s addr t (addr + done) m 0) none)
+      (ap (λ m. rounds_by (core_answerer_with_host f w) f w s addr t (addr + done) m 0) none)
 
   -- or one meets the last offsets of a device
   pub rounds_stopped : (x y : S) (done : ℕ) (o : Outcome) → IsUnderway asks x (rounds_with_host (shows x).forest w s addr n t) (later (shows x).forest done) o y

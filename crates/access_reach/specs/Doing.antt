@@ -1,6 +1,6 @@
 -- What memory and devices of one's own did, one request after another.
 use Rattle.std.specs.Prelude.{◌≡◌, List, [], ◌∷◌, ◌++◌, length}
-use Rattle.std.proofs.Common.{arith, refl, subst, sym}
+use Rattle.std.proofs.Common.{arith, subst, sym}
 use Rattle.access_reach.specs.Asking.{Asked, Reply}
 
 -- by what a single request does: each of these was done in the state that the one before it left, and had its reply
@@ -8,11 +8,6 @@ abbrev pub AllDone : {S : Type 0} → (S → Asked → Reply → S → Type 0) �
 AllDone does x [] [] y = x ≡ y
 AllDone {S} does x (e ∷ es) (r ∷ rs) y = (m : S) × does x e r m × AllDone does m es rs y
 AllDone does x _ _ y = ⊥
-
--- a single request
-pub one_done : {S : Type 0} (does : S → Asked → Reply → S → Type 0) (x y : S) (e : Asked) (r : Reply) → does x e r y
-    → AllDone does x (e ∷ []) (r ∷ []) y
-one_done does x y e r h = (y, h, refl)
 
 -- some requests, and others after them, are one list
 pub done_then : {S : Type 0} (does : S → Asked → Reply → S → Type 0) (x y z : S) (es fs : List Asked) (rs qs : List Reply) → length rs ≡ length es

@@ -4,3 +4,4 @@ mod HandLaws
 mod PastLaws
 mod RunLaws
 mod WordLaws
+mod TryingLaws

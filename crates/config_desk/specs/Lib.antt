@@ -1,4 +1,6 @@
 pub mod Configs
 pub mod SeenLaws
+pub mod Settling
+pub mod Tries
 pub mod LawfulDesks
 pub mod HandedOn

@@ -183,13 +183,14 @@ impl Config {
     }
 
     // A private event of the writer: its turn.
-    fn configure(&mut self, event: &Event) -> Result<(Applied, Option<u64>), Refusal>
+    pub(crate) fn configure(&mut self, event: &Event) -> Result<(Applied, Option<u64>), Refusal>
         ensures turn { result ≢ Err Refusal.Memory → IsTurnOf self.old (configure event.now) (answer_by event.now result) self.new }
         ensures number { IfOk result (λ x. x.1 ≡ number_told self.old.part event.now) }
         ensures cause { IfErr result (λ why. why ≢ Refusal.Memory → is_held why ≡ would_publish self.old.part.desk event.now) }
         ensures held { IfErr result (λ why. would_publish self.old.part.desk event.now ≡ true → why ≢ Refusal.Memory
             → held_up self.new.part.generations ≡ Some why) }
         ensures left { OnErr result (self.new.part.desk ≡ self.old.part.desk) }
+        ensures current { OnErr result (self.new.part.generations.current ≡ self.old.part.generations.current) }
         ensures unchanged { result ≡ Err Refusal.Memory → self.new ≡ self.old }
     {
         fits(event);

@@ -10,5 +10,7 @@ mod config;
 mod laws;
 mod loading;
 mod passing;
+mod settling;
 
 pub use config::Config;
+pub use settling::Patience;

@@ -4,3 +4,4 @@ pub mod ReceiptLaws
 pub mod RecordLaws
 pub mod StayLaws
 pub mod HandedOn
+mod SettledLaws

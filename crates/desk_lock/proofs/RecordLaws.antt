@@ -16,7 +16,8 @@ use Rattle.config_desk.specs.Configs.{ConfigState}
 use Rattle.desk_orders.specs.declared.orders.Receipt.{Receipt}
 use Rattle.desk_orders.specs.Records.{RecordState, IsOfOrders, IsRecord, GrewBy, IsLater}
 use Rattle.desk_lock.specs.Records.{record_state, IsUnused}
-use Rattle.desk_orders.specs.Given.{entry_got, given_by, turn_of}
+use Rattle.desk_orders.specs.Given.{entry_got, turn_of}
+use Rattle.desk_orders.proofs.Giving.{given_by}
 use Rattle.desk_lock.specs.Turned.{IsTurned, Takes}
 
 -- lists of orders one after another

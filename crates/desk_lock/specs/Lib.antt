@@ -1,4 +1,5 @@
 pub mod Records
+pub mod Settled
 pub mod Turned
 pub mod Laws
 pub mod HandedOn

@@ -13,9 +13,10 @@ mod laws;
 mod locks;
 mod orderly;
 mod records;
+mod settling;
 mod turning;
 
-pub use config_desk::Config;
+pub use config_desk::{Config, Patience};
 pub use desk_orders::{
     Clerk, Orderly, Receipt, closes_one_way, first_is_empty, later_makes_turns, receipts_stay,
 };

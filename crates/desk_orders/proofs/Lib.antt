@@ -5,3 +5,4 @@ pub mod RecordLaws
 pub mod StayLaws
 pub mod PlaceLaws
 pub mod DifferLaws
+pub mod Giving

@@ -1,14 +1,11 @@
--- An order that was given: as a turn of the writer, and as an entry.
+-- An order: as a turn of the writer, and as an entry.
 use Rattle.std.specs.Prelude.{ℕ, List}
 use Rattle.mem_base.specs.declared.machine.records.DeskOrder.{DeskOrder}
 use Rattle.mem_base.specs.declared.machine.records.DeskEntry.{DeskEntry}
 use Rattle.mem_base.specs.machine.Reaps.{Writer}
-use Rattle.mem_base.specs.machine.Records.{Given, call_of}
+use Rattle.mem_base.specs.machine.Records.{call_of}
 use Rattle.mem_base.specs.machine.Turns.{WriterCall, turn}
 use Rattle.desk_orders.specs.declared.orders.Receipt.{Receipt}
-
-abbrev pub given_by : ℕ → DeskOrder → List ℕ → Given
-given_by who order replies = record { who = who; order = order; replies = replies }
 
 abbrev pub turn_of : Writer → DeskOrder → List ℕ → WriterCall
 turn_of w order replies = turn w (call_of order) replies

@@ -47,6 +47,9 @@ code_no_cpu = 27
 abbrev pub code_contended : ℕ
 code_contended = 28
 
+abbrev pub code_not_entered : ℕ
+code_not_entered = 29
+
 -- it is done, with two numbers
 abbrev pub done : ℕ → ℕ → Answer
 done value other = told code_done 0 value other
@@ -73,6 +76,10 @@ not_whole number = told code_not_whole 0 0 number
 -- all virtual CPUs are handed out
 abbrev pub no_cpu : Answer
 no_cpu = told code_no_cpu 0 0 0
+
+-- the virtual CPU is entered in no generation
+abbrev pub not_entered : Answer
+not_entered = told code_not_entered 0 0 0
 
 -- of a write only this number of the first bytes are written, which ended so, in the generation of this number
 abbrev pub contended : ℕ → ℕ → ℕ → Answer

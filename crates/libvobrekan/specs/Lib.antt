@@ -14,3 +14,4 @@ pub mod Plans
 pub mod Scripts
 pub mod Shown
 pub mod Texts
+pub mod Entered

@@ -100,7 +100,8 @@ text_of_code code =
     (if code == 25 then codes "the text is no script" else
     (if code == 26 then codes "only a part of some word would be replaced" else
     (if code == 27 then codes "all virtual CPUs are handed out" else
-    (if code == 28 then codes "others changed a word each time that it was tried" else codes "this is no answer of the library")))))))
+    (if code == 28 then codes "others changed a word each time that it was tried" else
+    (if code == 29 then codes "the virtual CPU is entered in no generation" else codes "this is no answer of the library"))))))))
 
 -- what an answer says
 abbrev pub text_where : Option Refusal → ℕ → List ℕ

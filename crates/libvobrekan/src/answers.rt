@@ -1,6 +1,6 @@
 // What a call answers to C.
 ghost use Rattle.std.specs.Prelude.{◌≡◌};
-ghost use Rattle.libvobrekan.specs.Answers.{bad_argument, call_told, commit_told, contended, done, has_machine, no_cpu, no_machine, no_script, not_whole};
+ghost use Rattle.libvobrekan.specs.Answers.{bad_argument, call_told, commit_told, contended, done, has_machine, no_cpu, no_machine, no_script, not_entered, not_whole};
 ghost use Rattle.libvobrekan.specs.Answers.{number_of, number_of_user, plain_told, published, refusal_told, sort_of, sort_of_limit, sort_of_user, told};
 
 use mem_base::{Applied, Refusal, RegionId, User, What, Which};
@@ -84,6 +84,13 @@ pub(crate) fn no_cpu() -> Answer
     ensures { result ≡ no_cpu }
 {
     told(27, 0, 0, 0)
+}
+
+/// The virtual CPU is entered in no generation.
+pub(crate) fn not_entered() -> Answer
+    ensures { result ≡ not_entered }
+{
+    told(29, 0, 0, 0)
 }
 
 /// Only this number of the first bytes of a write are written.

@@ -16,6 +16,7 @@ mod cpus;
 mod deliveries;
 mod desk_handle;
 mod desks;
+mod entered;
 mod forgetting;
 mod handle;
 mod kept;

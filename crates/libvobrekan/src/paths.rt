@@ -44,8 +44,8 @@ fn path_of(
     Ok(path)
 }
 
-// The path at an address of a space, into a buffer.
-fn path_in(
+/// The path at an address of a space, into a buffer.
+pub(crate) fn path_in(
     alloc: Global,
     generation: &Generation,
     space: SpaceId,

@@ -218,8 +218,8 @@ fn told(
     }
 }
 
-// What a read reaches in a generation.
-fn read_in(
+/// What a read reaches in a generation.
+pub(crate) fn read_in(
     alloc: Global,
     g: &Generation,
     core: bool,
@@ -234,8 +234,8 @@ fn read_in(
     told(list, g.number(), out)
 }
 
-// What a write reaches in a generation.
-fn write_in(
+/// What a write reaches in a generation.
+pub(crate) fn write_in(
     alloc: Global,
     g: &Generation,
     core: bool,

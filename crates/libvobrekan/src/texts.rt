@@ -135,6 +135,7 @@ fn text_of_code(code: u32) -> &'static str
         26 => "only a part of some word would be replaced",
         27 => "all virtual CPUs are handed out",
         28 => "others changed a word each time that it was tried",
+        29 => "the virtual CPU is entered in no generation",
         _ => "this is no answer of the library",
     }
 }

@@ -11,7 +11,7 @@ use Rattle.mem_base.specs.declared.access.accesses.Target.{Target}
 use Rattle.mem_base.specs.declared.access.accesses.Target.TheVariants.{Leaf, Unassigned}
 use Rattle.mem_base.specs.map.Region.{node_of}
 use Rattle.mem_base.specs.access.Trails.{Hop, trail_of, chunks, first_length}
-use Rattle.mem_base.specs.access.AccessSteps.{Transfer, reading, writing, is_write, length_of, part}
+use Rattle.mem_base.specs.access.AccessSteps.{Transfer, reading, writing, is_write, part}
 use Rattle.mem_base.specs.access.Plans.{Reached, Answerer, answerer, answerer_at, answerer_in, by_memory, by_device_of}
 use Rattle.mem_base.specs.access.CorePlans as core
 use Rattle.mem_base.specs.access.CorePlans.{core_answerer, own_spot, own_target, taken_by, reached_at_once}

@@ -23,7 +23,7 @@ use Rattle.race_laws.proofs.OutsideLaws.{orders_fit}
 use Rattle.race_laws.proofs.StoppedEnds.{stopped_race_goes_on}
 use Rattle.desk_orders.specs.declared.orders.Receipt.{Receipt}
 use Rattle.desk_orders.specs.Records.{GrewBy, RecordState}
-use Rattle.desk_orders.specs.Given.{given_by}
+use Rattle.desk_orders.proofs.Giving.{given_by}
 use Rattle.desk_lock.specs.Turned.{Takes}
 use Rattle.desk_lock.proofs.RecordLaws.{grew_one}
 use Rattle.race_lines.specs.declared.tasks.LineTask.{LineTask}

@@ -31,7 +31,8 @@ use Rattle.race_laws.proofs.OutsideLaws.{orders_fit}
 use Rattle.desk_orders.specs.declared.orders.Receipt.{Receipt}
 use Rattle.desk_orders.specs.Receipts.{HandsOut}
 use Rattle.desk_orders.specs.Records.{GrewBy, RecordState}
-use Rattle.desk_orders.specs.Given.{given_by, turn_of}
+use Rattle.desk_orders.specs.Given.{turn_of}
+use Rattle.desk_orders.proofs.Giving.{given_by}
 use Rattle.desk_lock.specs.Turned.{Takes}
 use Rattle.desk_orders.proofs.RecordLaws.{grew_on}
 use Rattle.desk_lock.proofs.RecordLaws.{grew_one}

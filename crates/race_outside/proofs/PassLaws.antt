@@ -43,7 +43,7 @@ use Rattle.pass_lines.specs.Doing.{IsInItsGeneration}
 use Rattle.pass_lines.specs.Texts.{answer_text}
 use Rattle.pass_lines.proofs.DoneLaws.{lines_are_done, published_prefix}
 use Rattle.desk_orders.specs.Records.{GrewBy, RecordState, turns_given}
-use Rattle.desk_orders.specs.Given.{given_by}
+use Rattle.desk_orders.proofs.Giving.{given_by}
 use Rattle.desk_orders.proofs.RecordLaws.{grew_on, append_cancel}
 use Rattle.desk_lock.proofs.RecordLaws.{grew_one}
 use Rattle.race_lines.specs.declared.passes.PassSaid.{PassSaid}

@@ -24,7 +24,14 @@ use Rattle.race_block.specs.Lines as passes
 use Rattle.race_block.specs.Resolving.{AreTasksOf, IsPassLine, copy_room}
 use Rattle.race_seats.specs.declared.rooms.Work.{Work}
 use Rattle.race_seats.specs.Rooms.{AreAll, AreIdle, AreOwn, ArePrepared, AreWorksOf, HasDesksWork, HasOwn}
-use Rattle.race_seats.specs.Rooms.{IsPrepared, TakesLines, most_actors}
+use Rattle.race_seats.specs.Rooms.{IsPrepared, most_actors}
+
+-- the actor of a number takes these lines, and no other does
+pub record TakesLines (lines : List Line) (who : ℕ) (works after : List Work) : Type 0 where
+  pub later : Work
+  pub set_at : after ≡ slice_set works who later
+  pub put : lines_meant later.own.items ≡ lines_meant (get_or works who later).own.items ++ lines
+  pub bounce : later.bounce ≡ (get_or works who later).bounce
 
 -- numbers of actors
 

@@ -1,6 +1,6 @@
 -- What is ready before a block starts: the lines of its actors, and room for them.
 use Rattle.std.specs.Prelude.{◌≡◌, ℕ, ◌+◌, ◌<◌, ◌≤◌, Bool, true, All, List, [], ◌∷◌, ◌++◌, length, map, nat_le, slice_index_or}
-use Rattle.std.specs.Prelude.{slice_set, vec_capacity}
+use Rattle.std.specs.Prelude.{vec_capacity}
 use Rattle.mem_base.specs.map.Limits.{most_passes}
 use Rattle.mem_base.specs.script.Scripts.{Line}
 use Rattle.mem_base.specs.script.Tasks.{Known}
@@ -29,13 +29,6 @@ pub record IsIdle (work : Work) : Type 0 where
 pub record AreIdle (works : List Work) : Type 0 where
   pub all : length works ≡ most_actors
   pub each : (p : ℕ) (d : Work) → p < length works → IsIdle (slice_index_or works p d)
-
--- the actor of a number takes these lines, and no other does
-pub record TakesLines (lines : List Line) (who : ℕ) (works after : List Work) : Type 0 where
-  pub later : Work
-  pub set_at : after ≡ slice_set works who later
-  pub put : lines_meant later.own.items ≡ lines_meant (slice_index_or works who later).own.items ++ lines
-  pub bounce : later.bounce ≡ (slice_index_or works who later).bounce
 
 -- the actor of a number has its lines of the block, and a bounce in which there is room for what they copy
 pub record HasOwn (lines : List Line) (p : ℕ) (work : Work) : Type 0 where

@@ -1,5 +1,5 @@
 // A virtual CPU that owns a share of its cabinet.
-ghost use Rattle.std.specs.Prelude.{◌≡◌, [], length, Some, MatchResult};
+ghost use Rattle.std.specs.Prelude.{◌≡◌, [], length, None, Some, MatchOption, MatchResult};
 ghost use Rattle.std.specs.Arc.{arc_value};
 ghost use mathlib.Core.List.{IsPrefix};
 ghost use Rattle.mem_base.specs.access.AccessSteps.{reading};
@@ -64,6 +64,21 @@ impl Cpu {
         match pass {
             Some(pass) => pass,
             None => unreachable!(),
+        }
+    }
+
+    /// The generation that it is entered in; `None` where it is in none. What it names stays as long as the virtual CPU stays in it: no reap
+    /// releases a region that a held generation names. It asks no lock.
+    pub fn generation(&self) -> Option<&Generation>
+        ensures { MatchOption result (self.now.edition ≡ None) (λ g. self.now.edition ≡ Some g.now) }
+    {
+        let Some(pass) = &self.pass else {
+            unreachable!()
+        };
+        if self.cabinet.entered(pass) {
+            Some(self.cabinet.generation(pass))
+        } else {
+            None
         }
     }
 

@@ -1,5 +1,5 @@
 // The writer's desk with its share of the cabinet.
-ghost use Rattle.std.specs.Prelude.{◌≡◌, ◌≢◌, ◌+◌, ◌≤◌, Err, IfErr, IfOk, None, [], drop, false, replicate};
+ghost use Rattle.std.specs.Prelude.{◌≡◌, ◌≢◌, ℕ, ◌+◌, ◌≤◌, Err, IfErr, IfOk, None, [], drop, false, replicate, true};
 ghost use Rattle.std.specs.Arc.{arc_value};
 ghost use mathlib.Core.List.{IsPrefix};
 ghost use Rattle.mem_base.specs.declared.map.calls.Config.TheVariants as configs;
@@ -12,11 +12,13 @@ ghost use Rattle.mem_base.specs.machine.Reaps.{first_writer};
 ghost use Rattle.epoch_rule.specs.Rule.{KeepsHome};
 ghost use Rattle.epoch_rule.specs.Wrote.{Wrote, longer};
 ghost use Rattle.writer_run.specs.Turns.{answer_by};
+ghost use Rattle.config_desk.specs.HandedOn.{is_held};
 ghost use Rattle.config_desk.specs.Configs.{IsTurnOf, with_calls};
+ghost use Rattle.config_desk.specs.Settling.{HeldTurns, IsSettledBy, tries_of};
 ghost use Rattle.shared_machine.specs.Desks.{HandsOut, handed};
 
 use crate::cpu::Cpu;
-use config_desk::Config;
+use config_desk::{Config, Patience};
 use epoch_rule::{Cabinet, Note};
 use generation::Generation;
 use mem_base::{
@@ -25,7 +27,7 @@ use mem_base::{
 };
 use std::alloc::{AllocError, Global};
 use std::marker::Model;
-use std::sync::Arc;
+use std::sync::{Arc, Wait};
 
 /// The writer's desk of the running machine, with its share of the cabinet. It is seen as the desk.
 #[derive(Drop)]
@@ -89,6 +91,25 @@ impl Desk {
         ensures unchanged { result ≡ Err Refusal.Memory → self.new ≡ self.old }
     {
         configure(&mut self.config, event)
+    }
+
+    /// The same, and where a virtual CPU holds the publish up, it is tried again as `patience` says. It is refused with `Held` only where
+    /// each try was held up, and names the virtual CPU that held up the last.
+    pub fn configure_settled<R: Wait>(
+        &mut self,
+        rt: &R,
+        event: &Event,
+        patience: &Patience,
+    ) -> Result<(Applied, Option<u64>), Refusal>
+        ensures nested { event.now ≡ configs.Begin → IfErr result (λ why. why ≡ Refusal.TooNested) }
+        ensures settled { result ≢ Err Refusal.Memory
+            → (n : ℕ) × (n ≤ tries_of patience.now) × IsSettledBy n self.old (configure event.now) (answer_by event.now result) self.new }
+        ensures held { IfErr result (λ why. is_held why ≡ true
+            → IsSettledBy (tries_of patience.now) self.old (configure event.now) (answer_by event.now result) self.new) }
+        ensures memory { result ≡ Err Refusal.Memory
+            → (n : ℕ) × (n ≤ tries_of patience.now) × HeldTurns n self.old (configure event.now) self.new }
+    {
+        configure_settled(rt, &mut self.config, event, patience)
     }
 
     /// Releases the dropped regions that no generation in use names; they are answered, ascending.
@@ -183,6 +204,27 @@ fn configure(config: &mut Config, event: &Event) -> Result<(Applied, Option<u64>
             priority,
         } => done(config.listen(listener, space, priority)),
         Event::Unlisten(listener) => done(config.unlisten(listener)),
+    }
+}
+
+// A private event that is tried again where its publish is held up. A transaction is opened without memory, and publishes nothing.
+fn configure_settled<R: Wait>(
+    rt: &R,
+    config: &mut Config,
+    event: &Event,
+    patience: &Patience,
+) -> Result<(Applied, Option<u64>), Refusal>
+    ensures nested { event.now ≡ configs.Begin → IfErr result (λ why. why ≡ Refusal.TooNested) }
+    ensures settled { result ≢ Err Refusal.Memory
+        → (n : ℕ) × (n ≤ tries_of patience.now) × IsSettledBy n config.old (configure event.now) (answer_by event.now result) config.new }
+    ensures held { IfErr result (λ why. is_held why ≡ true
+        → IsSettledBy (tries_of patience.now) config.old (configure event.now) (answer_by event.now result) config.new) }
+    ensures memory { result ≡ Err Refusal.Memory
+        → (n : ℕ) × (n ≤ tries_of patience.now) × HeldTurns n config.old (configure event.now) config.new }
+{
+    match *event {
+        Event::Begin => done(config.begin()),
+        _ => config.configure_settled(rt, event, patience),
     }
 }
 

@@ -22,7 +22,7 @@ mod tables;
 mod transactions;
 
 pub use access_reach::{Answers, Board, Bus, Parts, Takes};
-pub use config_desk::Config;
+pub use config_desk::{Config, Patience};
 pub use desk_lock::{Clerk, DeskLock, Receipt, Record};
 pub use epoch_rule::{Cabinet, Note, Pass};
 pub use generation::Generation;

@@ -75,6 +75,13 @@ fn main() {
     println!("{:8.0}  the plan of a read of 8 bytes of memory", least(500_000, |_| _ = black_box(machine.plan_read(Way::Chunks, SPACE, 8, 8))));
     let mut desk = shared_map(2_000);
     let mut cpu = desk.cpu().unwrap();
+    let mut planned = |way, addr| {
+        cpu.enter().unwrap();
+        _ = black_box(cpu.plan_read(way, SPACE, addr, 8));
+        cpu.leave().unwrap();
+    };
+    println!("{:8.0}  the plan of a read of 8 bytes of a device, by a virtual CPU that enters and leaves for it", least(500_000, |_| planned(Way::Qemu, 0x2000)));
+    println!("{:8.0}  the plan of a read of 8 bytes of memory, by a virtual CPU that enters and leaves for it", least(500_000, |_| planned(Way::Chunks, 8)));
     println!("{:8.0}  read a word of memory, by a virtual CPU", least(500_000, |_| _ = black_box(cpu.read(SPACE, 8, &mut [0; 8]))));
     cpu.enter().unwrap();
     println!("{:8.0}  the same while it is entered", least(500_000, |_| _ = black_box(cpu.read(SPACE, 8, &mut [0; 8]))));

@@ -87,87 +87,242 @@ pub const VB_NO_CPU: u32 = 27;
 /// Of a write only the first `value` bytes are written, in the generation `other`: a word was changed each time that it was tried.
 pub const VB_CONTENDED: u32 = 28;
 
+/// The virtual CPU is entered in no generation.
+pub const VB_NOT_ENTERED: u32 = 29;
+
+/// A refusal names a region.
 pub const VB_SORT_REGION: u32 = 0;
+
+/// A refusal names an address space.
 pub const VB_SORT_SPACE: u32 = 1;
+
+/// A refusal names a listener.
 pub const VB_SORT_LISTENER: u32 = 2;
+
+/// A refusal names a watcher.
 pub const VB_SORT_WATCHER: u32 = 3;
+
+/// A refusal names a translation, by its offset.
 pub const VB_SORT_ENTRY: u32 = 4;
+
+/// A refusal names an ioeventfd, by its offset.
 pub const VB_SORT_EVENT: u32 = 5;
+
+/// The regions that are there.
 pub const VB_LIMIT_REGIONS: u32 = 0;
+
+/// The regions that were ever made.
 pub const VB_LIMIT_MADE: u32 = 1;
+
+/// The address spaces.
 pub const VB_LIMIT_SPACES: u32 = 2;
+
+/// The listeners.
 pub const VB_LIMIT_LISTENERS: u32 = 3;
+
+/// The translations of a region.
 pub const VB_LIMIT_ENTRIES: u32 = 4;
+
+/// The ioeventfds of a region.
 pub const VB_LIMIT_EVENTS: u32 = 5;
+
+/// The calls of the machine.
 pub const VB_LIMIT_CALLS: u32 = 6;
+
+/// The watchers.
 pub const VB_LIMIT_WATCHERS: u32 = 7;
+
+/// A container, which only groups its children.
 pub const VB_KIND_CONTAINER: u32 = 0;
+
+/// RAM.
 pub const VB_KIND_RAM: u32 = 1;
+
+/// ROM.
 pub const VB_KIND_ROM: u32 = 2;
+
+/// A ROM device.
 pub const VB_KIND_ROM_DEVICE: u32 = 3;
+
+/// A device.
 pub const VB_KIND_IO: u32 = 4;
+
+/// An IOMMU region.
 pub const VB_KIND_IOMMU: u32 = 5;
+
+/// An alias.
 pub const VB_KIND_ALIAS: u32 = 6;
+
+/// A reservation.
 pub const VB_KIND_RESERVE: u32 = 7;
+
+/// Host memory.
 pub const VB_KIND_HOST: u32 = 8;
+
+/// A latch: a register keeps what is written.
 pub const VB_DEVICE_LATCH: u32 = 0;
+
+/// A counter: a read adds one.
 pub const VB_DEVICE_COUNT: u32 = 1;
+
+/// A bell: a write sets bits, and a read clears them.
 pub const VB_DEVICE_BELL: u32 = 2;
+
+/// A fault: it answers with an error.
 pub const VB_DEVICE_FAULT: u32 = 3;
+
+/// An order: `vb_begin`.
 pub const VB_DO_BEGIN: u32 = 0;
+
+/// An order: `vb_commit`.
 pub const VB_DO_COMMIT: u32 = 1;
+
+/// An order: `vb_listen`.
 pub const VB_DO_LISTEN: u32 = 2;
+
+/// An order: `vb_unlisten`.
 pub const VB_DO_UNLISTEN: u32 = 3;
+
+/// An order: a region of the kind `kind` is made.
 pub const VB_DO_REGION: u32 = 4;
+
+/// An order: `vb_space`.
 pub const VB_DO_SPACE: u32 = 5;
+
+/// An order: `vb_add`.
 pub const VB_DO_ADD: u32 = 6;
+
+/// An order: `vb_del`.
 pub const VB_DO_DEL: u32 = 7;
+
+/// An order: `vb_move`.
 pub const VB_DO_MOVE: u32 = 8;
+
+/// An order: `vb_resize`.
 pub const VB_DO_RESIZE: u32 = 9;
+
+/// An order: `vb_retarget`.
 pub const VB_DO_RETARGET: u32 = 10;
+
+/// An order: `vb_enable`.
 pub const VB_DO_ENABLE: u32 = 11;
+
+/// An order: `vb_readonly`.
 pub const VB_DO_READONLY: u32 = 12;
+
+/// An order: `vb_nonvolatile`.
 pub const VB_DO_NONVOLATILE: u32 = 13;
+
+/// An order: `vb_unmergeable`.
 pub const VB_DO_UNMERGEABLE: u32 = 14;
+
+/// An order: `vb_romd`.
 pub const VB_DO_ROMD: u32 = 15;
+
+/// An order: `vb_log`.
 pub const VB_DO_LOG: u32 = 16;
+
+/// An order: `vb_global`.
 pub const VB_DO_GLOBAL: u32 = 17;
+
+/// An order: `vb_map`.
 pub const VB_DO_MAP: u32 = 18;
+
+/// An order: `vb_unmap`.
 pub const VB_DO_UNMAP: u32 = 19;
+
+/// An order: `vb_event`.
 pub const VB_DO_EVENT: u32 = 20;
+
+/// An order: `vb_unevent`.
 pub const VB_DO_UNEVENT: u32 = 21;
+
+/// An order: `vb_drop`.
 pub const VB_DO_DROP: u32 = 22;
+
+/// The client `vga` of a script: a display.
 pub const VB_CLIENT_DISPLAY: u32 = 0;
+
+/// The client `code`: translated code.
 pub const VB_CLIENT_CODE: u32 = 1;
+
+/// The client `migration`.
 pub const VB_CLIENT_MIGRATION: u32 = 2;
+
+/// A translation lets nothing through.
 pub const VB_PERM_NOTHING: u32 = 0;
+
+/// A translation lets reads through.
 pub const VB_PERM_READ: u32 = 1;
+
+/// A translation lets writes through.
 pub const VB_PERM_WRITE: u32 = 2;
+
+/// A translation lets reads and writes through.
 pub const VB_PERM_BOTH: u32 = 3;
+
+/// How an access ended: a device answered with an error.
 pub const VB_ACCESS_ERROR: u32 = 1;
+
+/// How an access ended: nothing answered some byte.
 pub const VB_ACCESS_DECODE: u32 = 2;
+
+/// Of a write that was given up: a device has taken the first of the callbacks that come next.
 pub const VB_ACCESS_BEGUN: u32 = 4;
+
+/// A plan in which each range takes its own bytes.
 pub const VB_WAY_CHUNKS: u32 = 0;
+
+/// A plan by QEMU's rule: a device takes whole pieces, which the end of its range does not cut.
 pub const VB_WAY_QEMU: u32 = 1;
+
+/// An access reaches memory.
 pub const VB_REACHED_MEMORY: u32 = 0;
+
+/// An access reaches a callback of a device.
 pub const VB_REACHED_CALLBACK: u32 = 1;
+
+/// An access sets a notifier.
 pub const VB_REACHED_NOTIFIER: u32 = 2;
+
+/// An access marks a page.
 pub const VB_REACHED_MARK: u32 = 3;
+
+/// Nothing answers.
 pub const VB_REACHED_NOTHING: u32 = 4;
+
+/// A listener is told that a change begins.
 pub const VB_TOLD_BEGIN: u32 = 0;
+
+/// A listener is told that a range is gone.
 pub const VB_TOLD_DELETE: u32 = 1;
+
+/// A listener is told that a range is there.
 pub const VB_TOLD_ADD: u32 = 2;
+
+/// A listener is told that a range stays.
 pub const VB_TOLD_KEEP: u32 = 3;
+
+/// A listener is told that logging starts.
 pub const VB_TOLD_LOG_START: u32 = 4;
+
+/// A listener is told that logging stops.
 pub const VB_TOLD_LOG_STOP: u32 = 5;
+
+/// A listener is told that an ioeventfd is there.
 pub const VB_TOLD_EVENT_ADD: u32 = 6;
+
+/// A listener is told that an ioeventfd is gone.
 pub const VB_TOLD_EVENT_DEL: u32 = 7;
+
+/// A listener is told that the change is whole.
 pub const VB_TOLD_COMMIT: u32 = 8;
 
 /// What C keeps of a machine: a pointer, which is null where there is none.
 #[repr(C)]
 #[derive(Debug)]
 pub struct vb_machine {
+    /// What the library keeps there; a caller leaves it alone.
     pub at: *mut core::ffi::c_void,
 }
 
@@ -175,6 +330,7 @@ pub struct vb_machine {
 #[repr(C)]
 #[derive(Debug)]
 pub struct vb_desk {
+    /// What the library keeps there; a caller leaves it alone.
     pub at: *mut core::ffi::c_void,
 }
 
@@ -182,6 +338,7 @@ pub struct vb_desk {
 #[repr(C)]
 #[derive(Debug)]
 pub struct vb_cpu {
+    /// What the library keeps there; a caller leaves it alone.
     pub at: *mut core::ffi::c_void,
 }
 
@@ -193,6 +350,7 @@ pub struct vb_cpu {
 #[repr(C)]
 #[derive(Clone, Copy, Debug, Default, PartialEq, Eq)]
 pub struct vb_answer {
+    /// What came of the call, by `VB_DONE` and those after it.
     pub code: u32,
     /// Which sort of thing `value` is: of a refusal that may name several, or 1 where a region was made.
     pub what: u32,
@@ -208,14 +366,23 @@ pub struct vb_answer {
 #[repr(C)]
 #[derive(Clone, Copy, Debug, Default, PartialEq, Eq)]
 pub struct vb_device {
+    /// What its registers do, by `VB_DEVICE_..`.
     pub kind: u32,
+    /// How many registers of 8 bytes it has.
     pub regs: u32,
+    /// The smallest access of a guest, in bytes.
     pub valid_min: u8,
+    /// The largest access of a guest, in bytes.
     pub valid_max: u8,
+    /// Whether a guest's access may be unaligned.
     pub valid_unaligned: bool,
+    /// The smallest callback, in bytes.
     pub impl_min: u8,
+    /// The largest callback, in bytes.
     pub impl_max: u8,
+    /// Whether a callback may be unaligned.
     pub impl_unaligned: bool,
+    /// Whether the first byte of a callback is the highest.
     pub big: bool,
 }
 
@@ -224,9 +391,13 @@ pub struct vb_device {
 #[repr(C)]
 #[derive(Clone, Copy, Debug, Default, PartialEq, Eq)]
 pub struct vb_ioevent {
+    /// The offset in its device, in bytes.
     pub offset: u64,
+    /// The value that counts, where `matched` is set.
     pub value: u64,
+    /// The notifier, 0 to 63.
     pub number: u32,
+    /// The size of the write, in bytes.
     pub size: u8,
     /// Whether only a write of `value` counts.
     pub matched: bool,
@@ -237,27 +408,35 @@ pub struct vb_ioevent {
 #[repr(C)]
 #[derive(Clone, Copy, Debug, Default, PartialEq, Eq)]
 pub struct vb_order {
+    /// An offset in a container, in a target, or in a table, in bytes.
     pub offset: u64,
     /// In bytes; 2^64 - 1 stands for 2^64.
     pub size: u64,
     /// Where a translation goes on.
     pub translated: u64,
+    /// Which call it is, by `VB_DO_..`.
     pub what: u32,
     /// The kind of a region that is made, by `VB_KIND_..`.
     pub kind: u32,
+    /// The region, by its number.
     pub region: u32,
     /// The region that is placed or taken out, the target of an alias, or the root of a space.
     pub other: u32,
+    /// The address space, by its number.
     pub space: u32,
+    /// The listener, by its number.
     pub listener: u32,
     /// Whose logging is switched, by `VB_CLIENT_..`.
     pub client: u32,
     /// Which accesses a translation lets through, by `VB_PERM_..`.
     pub perm: u32,
+    /// The priority of a child or of a listener.
     pub priority: i32,
     /// Whether something is switched on.
     pub on: bool,
+    /// The device of a region that is made.
     pub device: vb_device,
+    /// The ioeventfd.
     pub event: vb_ioevent,
 }
 
@@ -265,16 +444,23 @@ pub struct vb_order {
 #[repr(C)]
 #[derive(Clone, Copy, Debug, Default, PartialEq, Eq)]
 pub struct vb_flat_range {
+    /// The first address.
     pub start: u64,
+    /// The last address, inclusive.
     pub last: u64,
+    /// The offset of the first address in the region, in bytes.
     pub offset: u64,
+    /// The region, by its number.
     pub region: u32,
     /// The logging mask: bits 0 display, 1 code, 2 migration.
     pub log: u8,
+    /// Whether it is read-only.
     pub readonly: bool,
+    /// Whether it is non-volatile.
     pub nonvolatile: bool,
     /// The mode of a ROM device.
     pub romd: bool,
+    /// Whether it ends where the path to its leaf changes.
     pub unmergeable: bool,
 }
 
@@ -286,15 +472,19 @@ pub struct vb_found {
     pub last: u64,
     /// The offset in the region, in bytes.
     pub offset: u64,
+    /// The region, by its number.
     pub region: u32,
     /// 0 container, 1 RAM, 2 ROM, 3 ROM device, 4 device, 5 IOMMU region, 6 alias, 7 reservation, 8 host memory.
     pub kind: u32,
     /// The logging mask: bits 0 display, 1 code, 2 migration.
     pub log: u8,
+    /// Whether it is read-only.
     pub readonly: bool,
+    /// Whether it is non-volatile.
     pub nonvolatile: bool,
     /// The mode of a ROM device.
     pub romd: bool,
+    /// Whether it ends where the path to its leaf changes.
     pub unmergeable: bool,
     /// Whether some region answers. Where none does, all but `last` is 0.
     pub is_there: bool,
@@ -309,8 +499,11 @@ pub struct vb_reached {
     pub offset: u64,
     /// The number that a callback takes.
     pub value: u64,
+    /// The first byte of the access that it is about.
     pub at: u64,
+    /// How many bytes of the access it is about.
     pub len: u64,
+    /// What is reached, by `VB_REACHED_..`.
     pub what: u32,
     /// The region whose memory, callback or page it is.
     pub region: u32,
@@ -328,7 +521,9 @@ pub struct vb_reached {
 #[repr(C)]
 #[derive(Clone, Copy, Debug, Default, PartialEq, Eq)]
 pub struct vb_live_event {
+    /// How many bytes from 0 its address is.
     pub distance: u64,
+    /// The value that counts, where `matched` is set.
     pub value: u64,
     /// The notifier.
     pub number: u32,
@@ -336,6 +531,7 @@ pub struct vb_live_event {
     pub size: u8,
     /// Whether only a write of `value` counts.
     pub matched: bool,
+    /// Whether its address is below 0.
     pub is_below: bool,
 }
 
@@ -344,9 +540,13 @@ pub struct vb_live_event {
 #[repr(C)]
 #[derive(Clone, Copy, Debug, Default, PartialEq, Eq)]
 pub struct vb_listener_call {
+    /// What the listener is told, by `VB_TOLD_..`.
     pub what: u32,
+    /// The listener, by its number.
     pub listener: u32,
+    /// The range.
     pub range: vb_flat_range,
+    /// The ioeventfd.
     pub event: vb_live_event,
     /// The logging mask before, where logging starts or stops.
     pub from: u8,
@@ -487,6 +687,27 @@ unsafe extern "C" {
 
     /// What listeners were told, as `vb_delivery` tells it.
     pub fn vb_desk_delivery(handle: *mut vb_desk, index: usize, out: *mut vb_listener_call) -> vb_answer;
+
+    /// What a read of `len` bytes of a space reaches in the generation that the virtual CPU is entered in, as `vb_plan_read` tells it of the current
+    /// one, in its `way`. No region that is named is released before the virtual CPU leaves the generation, so what a plan names may be used until
+    /// then. Where it is in none, it is refused with code 29. It asks no lock, and may be called beside the desk and other virtual CPUs.
+    pub fn vb_cpu_plan_read(handle: *mut vb_cpu, way: u32, space: u32, addr: u64, len: usize, out: *mut vb_reached, out_len: usize) -> vb_answer;
+
+    /// What a write of bytes to a space reaches in the generation that the virtual CPU is entered in, as `vb_plan_write` tells it of the current one
+    /// and `vb_cpu_plan_read` of a read.
+    pub fn vb_cpu_plan_write(handle: *mut vb_cpu, way: u32, space: u32, addr: u64, bytes: *const u8, bytes_len: usize, out: *mut vb_reached, out_len: usize) -> vb_answer;
+
+    /// What an address of a space leads to in the generation that the virtual CPU is entered in, as `vb_find` tells it of the current one. Where it is
+    /// in none, it is refused with code 29. It asks no lock.
+    pub fn vb_cpu_find(handle: *mut vb_cpu, space: u32, addr: u64, out: *mut vb_found) -> vb_answer;
+
+    /// The range at an index of the view of a space in the generation that the virtual CPU is entered in, as `vb_range` tells it of the current one.
+    /// Where it is in none, it is refused with code 29. It asks no lock.
+    pub fn vb_cpu_range(handle: *mut vb_cpu, space: u32, index: usize, out: *mut vb_flat_range) -> vb_answer;
+
+    /// The path on which an address of a space is found in the generation that the virtual CPU is entered in, as `vb_path` tells it of the current
+    /// one. Where it is in none, it is refused with code 29. It asks no lock.
+    pub fn vb_cpu_path(handle: *mut vb_cpu, space: u32, addr: u64, out: *mut u32, out_len: usize) -> vb_answer;
 
     /// Forgets the first `count` of the calls that listeners got and that are not forgotten yet, all of them where there are fewer. `value`
     /// of the answer is how many it forgot: `vb_delivery` counts from the first that is not forgotten, so an index that a caller keeps is

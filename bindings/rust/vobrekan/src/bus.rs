@@ -3,6 +3,48 @@ use crate::{Access, Client, Machine, Reached, Refusal, RegionId, SpaceId, Way};
 use vobrekan_sys as sys;
 
 /// The memory of the host and the devices of a monitor. Offsets are in the region.
+///
+/// ```
+/// use std::collections::BTreeMap;
+/// use vobrekan::*;
+///
+/// /// Memory by its bytes, and one device that answers the offset at which it is read.
+/// #[derive(Default)]
+/// struct Mine(BTreeMap<u64, u8>);
+///
+/// impl Bus for Mine {
+///     fn read_memory(&mut self, _: RegionId, offset: u64, out: &mut [u8]) {
+///         for (at, byte) in (offset..).zip(out) {
+///             *byte = self.0.get(&at).copied().unwrap_or(0);
+///         }
+///     }
+///
+///     fn write_memory(&mut self, _: RegionId, offset: u64, bytes: &[u8]) {
+///         self.0.extend((offset..).zip(bytes.iter().copied()));
+///     }
+///
+///     fn read_device(&mut self, _: RegionId, offset: u64, _: u8) -> Option<u64> {
+///         Some(offset)
+///     }
+///
+///     fn write_device(&mut self, _: RegionId, _: u64, _: u8, _: u64) -> bool {
+///         true
+///     }
+/// }
+///
+/// let mut machine = Machine::new(1 << 10)?;
+/// let device = Device { regs: 1, valid_min: 1, valid_max: 4, impl_min: 1, impl_max: 4, ..Device::default() };
+/// let (board, memory) = (machine.region(Kind::Container, WHOLE)?, machine.region(Kind::Host, 1 << 32)?);
+/// let port = machine.region(Kind::Io(device), 0x100)?;
+/// machine.space(SpaceId(0), board)?;
+/// machine.add(board, 0, memory, 0)?;
+/// machine.add(board, 0x1000, port, 1)?;
+/// let (mut mine, mut bytes) = (Mine::default(), [0; 4]);
+/// machine.write_to(&mut mine, Way::Qemu, SpaceId(0), 0xffc, &[1, 2, 3, 4])?;
+/// machine.read_from(&mut mine, Way::Qemu, SpaceId(0), 0xffe, &mut bytes)?; // two bytes of memory, two of the device
+/// assert_eq!(bytes[..2], [3, 4]);
+/// # Ok::<(), Refusal>(())
+/// ```
 pub trait Bus {
     /// Reads bytes of a region's memory.
     fn read_memory(&mut self, region: RegionId, offset: u64, out: &mut [u8]);
@@ -84,27 +126,42 @@ impl Machine {
 
     /// What a read of `len` bytes of a space reaches, in order, and the number of the generation in which it does.
     pub fn plan_read(&mut self, way: Way, space: SpaceId, addr: u64, len: usize) -> Result<(Vec<Reached>, u64), Refusal> {
-        self.plan(|at, out| unsafe { sys::vb_plan_read(at, way as u32, space.0, addr, len, out.as_mut_ptr(), out.len()) })
+        // SAFETY: the handle and the slices are borrowed for the call, and each pointer comes with the length of its slice.
+        planned(|out| unsafe { sys::vb_plan_read(&mut self.handle, way as u32, space.0, addr, len, out.as_mut_ptr(), out.len()) })
     }
 
     /// What a write of bytes to a space reaches, in order, and the number of the generation in which it does.
+    ///
+    /// ```
+    /// # use vobrekan::*;
+    /// # let mut machine = Machine::new(1 << 16)?;
+    /// # let (board, ram) = (machine.region(Kind::Container, WHOLE)?, machine.region(Kind::Ram, 0x2000)?);
+    /// # machine.space(SpaceId(0), board)?;
+    /// # machine.add(board, 0, ram, 0)?;
+    /// machine.log(ram, Client::Migration, true)?;
+    /// let (plan, generation) = machine.plan_write(Way::Chunks, SpaceId(0), 0x10, &[1, 2])?;
+    /// assert_eq!(plan.iter().map(|it| it.what).collect::<Vec<_>>(), [sys::VB_REACHED_MEMORY, sys::VB_REACHED_MARK]);
+    /// assert_eq!(generation, 3);
+    /// # Ok::<(), Refusal>(())
+    /// ```
     pub fn plan_write(&mut self, way: Way, space: SpaceId, addr: u64, bytes: &[u8]) -> Result<(Vec<Reached>, u64), Refusal> {
-        self.plan(|at, out| unsafe {
-            sys::vb_plan_write(at, way as u32, space.0, addr, bytes.as_ptr(), bytes.len(), out.as_mut_ptr(), out.len())
+        // SAFETY: the handle and the slices are borrowed for the call, and each pointer comes with the length of its slice.
+        planned(|out| unsafe {
+            sys::vb_plan_write(&mut self.handle, way as u32, space.0, addr, bytes.as_ptr(), bytes.len(), out.as_mut_ptr(), out.len())
         })
     }
+}
 
-    /// A plan, with as much room as it asks for.
-    fn plan(&mut self, ask: impl Fn(*mut sys::vb_machine, &mut [Reached]) -> sys::vb_answer) -> Result<(Vec<Reached>, u64), Refusal> {
-        let mut list = vec![Reached::default(); 8];
-        loop {
-            let answer = crate::refusal::accepted(ask(&mut self.handle, &mut list))?;
-            let count = answer.value as usize;
-            if count <= list.len() {
-                list.truncate(count);
-                return Ok((list, answer.other));
-            }
-            list.resize(count, Reached::default());
+/// A plan, with as much room as it asks for.
+pub(crate) fn planned(mut ask: impl FnMut(&mut [Reached]) -> sys::vb_answer) -> Result<(Vec<Reached>, u64), Refusal> {
+    let mut list = vec![Reached::default(); 8];
+    loop {
+        let answer = crate::refusal::accepted(ask(&mut list))?;
+        let count = answer.value as usize;
+        if count <= list.len() {
+            list.truncate(count);
+            return Ok((list, answer.other));
         }
+        list.resize(count, Reached::default());
     }
 }

@@ -1,3 +1,4 @@
+//! Refusals.
 use std::error::Error;
 use std::fmt;
 use vobrekan_sys as sys;
@@ -5,10 +6,25 @@ use vobrekan_sys as sys;
 use crate::{ListenerId, PassId, RegionId, SpaceId};
 
 /// What is not there, or is there already.
+///
+/// ```
+/// # use vobrekan::*;
+/// # let mut machine = Machine::new(1 << 16)?;
+/// # let (board, ram) = (machine.region(Kind::Container, WHOLE)?, machine.region(Kind::Ram, 0x2000)?);
+/// # machine.space(SpaceId(0), board)?;
+/// # machine.add(board, 0, ram, 0)?;
+/// let nothing = machine.enable(RegionId(9), true);
+/// assert_eq!(nothing, Err(Refusal::Unknown(What::Region(RegionId(9)))));
+/// # Ok::<(), Refusal>(())
+/// ```
+#[non_exhaustive]
 #[derive(Clone, Copy, Debug, PartialEq, Eq)]
 pub enum What {
+    /// A region.
     Region(RegionId),
+    /// An address space.
     Space(SpaceId),
+    /// A listener.
     Listener(ListenerId),
     /// The translation at this offset.
     Entry(u64),
@@ -19,6 +35,19 @@ pub enum What {
 }
 
 /// Why a call is refused. A refused call changes nothing of the map.
+///
+/// ```
+/// # use vobrekan::*;
+/// # let mut machine = Machine::new(1 << 16)?;
+/// # let (board, ram) = (machine.region(Kind::Container, WHOLE)?, machine.region(Kind::Ram, 0x2000)?);
+/// # machine.space(SpaceId(0), board)?;
+/// # machine.add(board, 0, ram, 0)?;
+/// let refusal = machine.add(board, 0, ram, 0).unwrap_err();
+/// assert_eq!(refusal, Refusal::HasContainer(board));
+/// assert_eq!(refusal.to_string(), "the region is in region 0 already");
+/// # Ok::<(), Refusal>(())
+/// ```
+#[non_exhaustive]
 #[derive(Clone, Copy, Debug, PartialEq, Eq)]
 pub enum Refusal {
     /// Something that the call names is not there.
@@ -71,6 +100,8 @@ pub enum Refusal {
     NotWhole(u64),
     /// All 16 virtual CPUs are handed out.
     NoCpu,
+    /// The virtual CPU is entered in no generation.
+    NotEntered,
     /// What listeners were told is forgotten up to this index.
     Forgotten(u64),
     /// A code that this crate does not know.
@@ -119,6 +150,7 @@ pub(crate) fn accepted(answer: sys::vb_answer) -> Result<sys::vb_answer, Refusal
         sys::VB_NO_MACHINE => Refusal::NoMachine,
         sys::VB_NOT_WHOLE => Refusal::NotWhole(other),
         sys::VB_NO_CPU => Refusal::NoCpu,
+        sys::VB_NOT_ENTERED => Refusal::NotEntered,
         _ => Refusal::Other(code),
     })
 }
@@ -164,6 +196,7 @@ impl fmt::Display for Refusal {
             Refusal::NoMachine => write!(f, "the handle has no machine"),
             Refusal::NotWhole(_) => write!(f, "only a part of some word would be replaced"),
             Refusal::NoCpu => write!(f, "all virtual CPUs are handed out"),
+            Refusal::NotEntered => write!(f, "the virtual CPU is entered in no generation"),
             Refusal::Forgotten(until) => write!(f, "what listeners were told is forgotten up to {until}"),
             Refusal::Other(code) => write!(f, "code {code}"),
         }

@@ -1,6 +1,6 @@
 use Rattle.std.proofs.Common.{◌≤◌, ◌+◌, ◌-◌, length, take, false}
 use Rattle.mem_base.specs.access.AccessSteps.{reading}
-use Rattle.access_plan.specs.HostPlans.{answerer_with_host, rounds_by, rounds_with_host}
+use Rattle.access_plan.specs.HostPlans.{core_answerer_with_host, rounds_by, rounds_with_host}
 use Rattle.access_reach.specs.Asking.{outcome}
 use Rattle.access_reach.specs.Reaching.{IsUnderway}
 use Rattle.access_reach.proofs.cores.core_read.Given as goal
@@ -10,7 +10,7 @@ invariant-loop-done g l =
     let f = (g.B.Bus.shows l.initial.bus).forest in
     let n = length l.initial.out in
     (l.done ≤ n) × IsUnderway g.B.Bus.asks l.initial.bus (rounds_with_host f false l.space l.addr n (reading n))
-    (rounds_by (answerer_with_host f false) f false l.space l.addr (reading n) (l.addr + l.done) (n - l.done) 0) (outcome (take l.done l.out) l.result) l.bus
+    (rounds_by (core_answerer_with_host f false) f false l.space l.addr (reading n) (l.addr + l.done) (n - l.done) 0) (outcome (take l.done l.out) l.result) l.bus
 
 abbrev pub decreases-loop-done : goal.decreases-loop-done
 decreases-loop-done g l = length l.initial.out - l.done

@@ -1,5 +1,5 @@
 use Rattle.std.proofs.Common.{[], ◌∷◌, refl}
-use Rattle.bounded_write.specs.TryLaws.{tried_one, tried_still}
+use Rattle.bounded_write.proofs.TryingLaws.{tried_one, tried_still}
 use Rattle.bounded_write.proofs.devices.TryingPassWrites.mark_page.Goals as goal
 
 pub returns-then-not-self : goal.returns-then-not-self

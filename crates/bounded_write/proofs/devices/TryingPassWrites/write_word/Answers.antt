@@ -1,5 +1,5 @@
 use Rattle.std.proofs.Common.{[], ◌∷◌, refl}
-use Rattle.bounded_write.specs.TryLaws.{tried_still, tried_stop}
+use Rattle.bounded_write.proofs.TryingLaws.{tried_still, tried_stop}
 use Rattle.bounded_write.proofs.RunLaws.{in_vain}
 use Rattle.bounded_write.proofs.devices.TryingPassWrites.write_word.Goals as goal
 

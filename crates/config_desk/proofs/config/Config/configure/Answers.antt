@@ -5,11 +5,13 @@ use Rattle.mem_base.specs.declared.map.refusals.Refusal.{Refusal}
 use Rattle.mem_base.specs.declared.map.refusals.Refusal.TheVariants.{Memory}
 use Rattle.mem_base.specs.machine.Orders.{configure}
 use Rattle.mem_base.specs.machine.Publishing.{held_up, would_publish}
+use Rattle.mem_base.specs.machine.Reaps.{Writer}
 use Rattle.writer_desk.specs.Writers.{is_held}
 use Rattle.writer_run.specs.Turns.{IsTurn, answer_by, number_told}
 use Rattle.seat_run.specs.Written.{HasWritten}
 use Rattle.config_desk.specs.Configs.{ConfigState, part_at}
 use Rattle.config_desk.proofs.ConfigLaws.{still_config}
+use Rattle.config_desk.proofs.RefusedLaws.{stays_current}
 use Rattle.config_desk.proofs.config.Config.configure.Goals.{in-Ok, in-Err+in-Memory, in-Err+in_default}
 use Rattle.config_desk.proofs.config.Config.configure.Goals as goal
 
@@ -90,3 +92,25 @@ returns-clause-left c =
     subst (λ (r : Result (Applied × Option ℕ) Refusal). OnErr r ((part_at c.configure.new.desk c.configure.new.hand.seat).desk ≡ c.args.self.now.part.desk)) same
     (subst (λ (x : ConfigState). OnErr c.configure.result ((part_at c.configure.new.desk c.configure.new.hand.seat).desk ≡ x.part.desk)) c.self.view_is
     c.configure.ensures.left)
+
+pub returns-clause-current : goal.returns-clause-current
+returns-clause-current c =
+    let i = c.self.inside in
+    let same : c.configure.result ≡ c.match-configure.result =
+    elim c.match-configure.branch [
+      | in-Ok w ↦ w.in-Ok.is ∙ sym w.result-is
+      | in-Err+in-Memory w ↦ w.in-Err.is ∙ ap (λ z. Err z) w.in-Memory.is ∙ sym w.result-is
+      | in-Err+in_default w ↦ w.in-Err.is ∙ sym w.result-is
+    ] in
+    let either : (c.configure.result ≡ Err Memory) ⊎ (c.configure.result ≢ Err Memory) =
+    elim c.match-configure.branch [
+      | in-Ok w ↦ inr (λ e. let is : c.configure.result ≡ Ok w.in-Ok.answer = w.in-Ok.is in cc)
+      | in-Err+in-Memory w ↦ inl (let is : c.configure.result ≡ Err w.in-Err.why = w.in-Err.is in is ∙ ap (λ z. Err z) w.in-Memory.is)
+      | in-Err+in_default w ↦ inr (λ e. let is : c.configure.result ≡ Err w.in-Err.why = w.in-Err.is in
+          let memory : w.in-Err.why ≡ Memory = cc in w.in_default.not-Memory memory)
+    ] in
+    let now : Writer = part_at c.configure.new.desk c.configure.new.hand.seat in
+    subst (λ (r : Result (Applied × Option ℕ) Refusal). OnErr r (now.generations.current ≡ c.args.self.now.part.generations.current)) same
+    (subst (λ (x : ConfigState). OnErr c.configure.result (now.generations.current ≡ x.part.generations.current)) c.self.view_is
+    (stays_current (part_at i.desk i.hand.seat) now c.args.event.now (λ xs. HasWritten i.hand.seat xs c.configure.new.hand.seat) c.configure.result
+    c.self.invariant.parts.idle c.configure.ensures.turn (λ e. (c.configure.ensures.unchanged e).0) either))
