@@ -7,7 +7,6 @@ use std::alloc::{AllocError, Global};
 use std::io::{self, ErrorKind, Read, Write};
 use std::process::ExitCode;
 use std::sync::Wait;
-use std::test::Fail;
 use std::thread::Threads;
 use top_call::{Ending, exit_code};
 
@@ -99,9 +98,8 @@ fn drips(alloc: Global) -> Result<bool, AllocError> {
 }
 
 #[test]
-fn a_byte_a_call_gives_the_same_text(rt: HostRuntime) -> Result<(), Fail> {
-    assert!(rt; drips(rt.alloc())?);
-    Ok(())
+fn a_byte_a_call_gives_the_same_text(rt: HostRuntime) {
+    assert!(rt; drips(rt.alloc()) == Ok(true));
 }
 
 /// Whether a writer that takes one byte a call gets the whole text.
@@ -114,9 +112,8 @@ fn goes_slowly(alloc: Global) -> Result<bool, AllocError> {
 }
 
 #[test]
-fn a_writer_that_takes_a_byte_a_call_gets_the_same_text(rt: HostRuntime) -> Result<(), Fail> {
-    assert!(rt; goes_slowly(rt.alloc())?);
-    Ok(())
+fn a_writer_that_takes_a_byte_a_call_gets_the_same_text(rt: HostRuntime) {
+    assert!(rt; goes_slowly(rt.alloc()) == Ok(true));
 }
 
 /// Whether nothing is written where a reader breaks after these bytes.
@@ -137,10 +134,9 @@ fn first_unbroken(alloc: Global) -> Result<Option<usize>, AllocError> {
 }
 
 #[test]
-fn a_reader_that_breaks_after_any_byte_has_nothing_written(rt: HostRuntime) -> Result<(), Fail> {
-    let count = first_unbroken(rt.alloc())?;
-    assert!(rt; count.is_none(), "{count:?} bytes");
-    Ok(())
+fn a_reader_that_breaks_after_any_byte_has_nothing_written(rt: HostRuntime) {
+    let count = first_unbroken(rt.alloc());
+    assert!(rt; count == Ok(None), "{count:?} bytes");
 }
 
 /// How the script ends over a writer that has this room and no more.
@@ -163,14 +159,16 @@ fn fills_all(alloc: Global, room: &mut Vec<u8>) -> Result<bool, AllocError> {
     Ok(ending == Ending::Done && room.as_slice() == TEXT.as_bytes())
 }
 
+/// The same from no room on.
+fn fills(alloc: Global) -> Result<bool, AllocError> {
+    let mut room = Vec::new(alloc);
+    let is_so = fills_all(alloc, &mut room);
+    is_so
+}
+
 #[test]
-fn a_writer_that_is_full_after_any_byte_has_the_text_up_to_there(
-    rt: HostRuntime,
-) -> Result<(), Fail> {
-    let mut room = Vec::new(rt.alloc());
-    let is_so = fills_all(rt.alloc(), &mut room)?;
-    assert!(rt; is_so);
-    Ok(())
+fn a_writer_that_is_full_after_any_byte_has_the_text_up_to_there(rt: HostRuntime) {
+    assert!(rt; fills(rt.alloc()) == Ok(true));
 }
 
 /// The number of the read that fails, that of the write that fails, the room, the ending, and how many bytes are written. Calls are
@@ -224,24 +222,21 @@ fn first_other(alloc: Global, rows: &[Row]) -> Result<Option<usize>, AllocError>
 }
 
 #[test]
-fn with_a_read_that_fails_nothing_is_written(rt: HostRuntime) -> Result<(), Fail> {
-    let other = first_other(rt.alloc(), &READS)?;
-    assert!(rt; other.is_none(), "row {other:?}");
-    Ok(())
+fn with_a_read_that_fails_nothing_is_written(rt: HostRuntime) {
+    let other = first_other(rt.alloc(), &READS);
+    assert!(rt; other == Ok(None), "row {other:?}");
 }
 
 #[test]
-fn a_write_that_fails_leaves_the_lines_before_it(rt: HostRuntime) -> Result<(), Fail> {
-    let other = first_other(rt.alloc(), &WRITES)?;
-    assert!(rt; other.is_none(), "row {other:?}");
-    Ok(())
+fn a_write_that_fails_leaves_the_lines_before_it(rt: HostRuntime) {
+    let other = first_other(rt.alloc(), &WRITES);
+    assert!(rt; other == Ok(None), "row {other:?}");
 }
 
 #[test]
-fn a_line_beyond_the_room_is_not_written(rt: HostRuntime) -> Result<(), Fail> {
-    let other = first_other(rt.alloc(), &ROOMS)?;
-    assert!(rt; other.is_none(), "row {other:?}");
-    Ok(())
+fn a_line_beyond_the_room_is_not_written(rt: HostRuntime) {
+    let other = first_other(rt.alloc(), &ROOMS);
+    assert!(rt; other == Ok(None), "row {other:?}");
 }
 
 /// A faulty script, where it is at fault, and what is told of it.
@@ -305,10 +300,9 @@ fn first_untold(alloc: Global) -> Result<Option<usize>, AllocError> {
 }
 
 #[test]
-fn a_faulty_script_is_told_unless_the_write_fails(rt: HostRuntime) -> Result<(), Fail> {
-    let other = first_untold(rt.alloc())?;
-    assert!(rt; other.is_none(), "row {other:?}");
-    Ok(())
+fn a_faulty_script_is_told_unless_the_write_fails(rt: HostRuntime) {
+    let other = first_untold(rt.alloc());
+    assert!(rt; other == Ok(None), "row {other:?}");
 }
 
 static CALM: [&str; 4] = [
@@ -329,10 +323,9 @@ fn first_loud(alloc: Global) -> Result<Option<usize>, AllocError> {
 }
 
 #[test]
-fn a_script_may_be_empty_or_lack_its_last_line_feed(rt: HostRuntime) -> Result<(), Fail> {
-    let other = first_loud(rt.alloc())?;
-    assert!(rt; other.is_none(), "row {other:?}");
-    Ok(())
+fn a_script_may_be_empty_or_lack_its_last_line_feed(rt: HostRuntime) {
+    let other = first_loud(rt.alloc());
+    assert!(rt; other == Ok(None), "row {other:?}");
 }
 
 /// How `run` ends of this script.
@@ -367,10 +360,9 @@ fn first_misjudged(alloc: Global) -> Result<Option<usize>, AllocError> {
 }
 
 #[test]
-fn each_prefix_of_a_script_runs_or_is_faulty_in_its_last_line(rt: HostRuntime) -> Result<(), Fail> {
-    let count = first_misjudged(rt.alloc())?;
-    assert!(rt; count.is_none(), "the first {count:?} bytes");
-    Ok(())
+fn each_prefix_of_a_script_runs_or_is_faulty_in_its_last_line(rt: HostRuntime) {
+    let count = first_misjudged(rt.alloc());
+    assert!(rt; count == Ok(None), "the first {count:?} bytes");
 }
 
 /// Whether one comment of 1,048,576 bytes is a script, and one byte more is too long.
@@ -388,9 +380,8 @@ fn has_its_length(alloc: Global) -> Result<bool, AllocError> {
 }
 
 #[test]
-fn a_text_has_at_most_1048576_bytes(rt: HostRuntime) -> Result<(), Fail> {
-    assert!(rt; has_its_length(rt.alloc())?);
-    Ok(())
+fn a_text_has_at_most_1048576_bytes(rt: HostRuntime) {
+    assert!(rt; has_its_length(rt.alloc()) == Ok(true));
 }
 
 /// Words that have no meaning, a line each; of the first line there are none.
@@ -420,10 +411,9 @@ fn first_used(alloc: Global) -> Result<Option<usize>, AllocError> {
 }
 
 #[test]
-fn other_words_are_told_the_usage(rt: HostRuntime) -> Result<(), Fail> {
-    let other = first_used(rt.alloc())?;
-    assert!(rt; other.is_none(), "line {other:?}");
-    Ok(())
+fn other_words_are_told_the_usage(rt: HostRuntime) {
+    let other = first_used(rt.alloc());
+    assert!(rt; other == Ok(None), "line {other:?}");
 }
 
 /// Whether a word is answered so, and a machine is kept or not.
@@ -444,12 +434,11 @@ fn keeps<R: Threads + Wait + Sync>(
 }
 
 #[test]
-fn the_top_call_keeps_the_machine_of_a_race_alone(rt: HostRuntime) -> Result<(), Fail> {
+fn the_top_call_keeps_the_machine_of_a_race_alone(rt: HostRuntime) {
     let done = (Ending::Done, "at S 0 X @0 io\n");
-    assert!(rt; keeps(&rt, rt.alloc(), "run", done, false)?);
-    assert!(rt; keeps(&rt, rt.alloc(), "race", done, true)?);
-    assert!(rt; keeps(&rt, rt.alloc(), "races", (Ending::Usage, USAGE), false)?);
-    Ok(())
+    assert!(rt; keeps(&rt, rt.alloc(), "run", done, false) == Ok(true));
+    assert!(rt; keeps(&rt, rt.alloc(), "race", done, true) == Ok(true));
+    assert!(rt; keeps(&rt, rt.alloc(), "races", (Ending::Usage, USAGE), false) == Ok(true));
 }
 
 /// Whether a generated script begins and ends as defined.
@@ -464,9 +453,8 @@ fn is_generated(alloc: Global) -> Result<bool, AllocError> {
 }
 
 #[test]
-fn a_generated_script_begins_and_ends_as_defined(rt: HostRuntime) -> Result<(), Fail> {
-    assert!(rt; is_generated(rt.alloc())?);
-    Ok(())
+fn a_generated_script_begins_and_ends_as_defined(rt: HostRuntime) {
+    assert!(rt; is_generated(rt.alloc()) == Ok(true));
 }
 
 /// What the program writes of this source for these words.
@@ -525,9 +513,8 @@ fn is_summed_up(alloc: Global) -> Result<bool, AllocError> {
 }
 
 #[test]
-fn demo_counts_the_lines_that_the_run_of_its_script_writes(rt: HostRuntime) -> Result<(), Fail> {
-    assert!(rt; is_summed_up(rt.alloc())?);
-    Ok(())
+fn demo_counts_the_lines_that_the_run_of_its_script_writes(rt: HostRuntime) {
+    assert!(rt; is_summed_up(rt.alloc()) == Ok(true));
 }
 
 /// Whether the process exits with this status; calls are counted from 1, so call 0 never fails.
@@ -548,7 +535,7 @@ fn exits<R: Threads + Wait + Sync>(
 }
 
 #[test]
-fn the_exit_code_is_that_of_the_ending(rt: HostRuntime) -> Result<(), Fail> {
+fn the_exit_code_is_that_of_the_ending(rt: HostRuntime) {
     for (asked, fails, status) in [
         (("run", SCRIPT), (0, 0), 0),
         (("runs", SCRIPT), (0, 0), 2),
@@ -556,7 +543,9 @@ fn the_exit_code_is_that_of_the_ending(rt: HostRuntime) -> Result<(), Fail> {
         (("run", SCRIPT), (1, 0), 4),
         (("run", SCRIPT), (0, 1), 5),
     ] {
-        assert!(rt; exits(&rt, rt.alloc(), asked, fails, status)?, "{status}");
+        assert!(rt;
+            exits(&rt, rt.alloc(), asked, fails, status) == Ok(true),
+            "{status}"
+        );
     }
-    Ok(())
 }

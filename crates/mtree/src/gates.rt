@@ -7,7 +7,6 @@ use std::alloc::{AllocError, Global};
 use std::hint;
 use std::sync::Wait;
 use std::sync::atomic::{AtomicU64, Ordering};
-use std::test::Fail;
 use std::thread::Threads;
 use top_call::Ending;
 
@@ -127,16 +126,11 @@ fn two_holds() -> Holds {
     ])
 }
 
-// The pass after the first.
-fn second() -> PassId {
-    let Some(pass) = PassId::new(1) else {
-        unreachable!();
-    };
-    pass
-}
-
 /// Holds the second line of each of three actors until all three have arrived at it.
 fn three_holds() -> Holds {
+    let Some(second) = PassId::new(1) else {
+        unreachable!();
+    };
     Holds::new([
         Hold {
             actor: Actor::Pass(PassId::FIRST),
@@ -145,7 +139,7 @@ fn three_holds() -> Holds {
             until: 7,
         },
         Hold {
-            actor: Actor::Pass(second()),
+            actor: Actor::Pass(second),
             line: 14,
             sets: 2,
             until: 7,
@@ -174,10 +168,9 @@ fn passes<R: Threads + Wait + Sync>(
 }
 
 #[test]
-fn the_actors_of_a_block_go_on_beside_each_other(rt: HostRuntime) -> Result<(), Fail> {
+fn the_actors_of_a_block_go_on_beside_each_other(rt: HostRuntime) {
     let two = "v0 g1 write ok\nv0 g3 read 11 ok\n";
     let three = "v0 g? read 00 ok\nv0 g? read 00 ok\nv1 g? read 00 ok\nv1 g? read 00 ok\n";
-    assert!(rt; passes(&rt, rt.alloc(), &two_holds(), TWO_ACTORS, two)?);
-    assert!(rt; passes(&rt, rt.alloc(), &three_holds(), THREE_ACTORS, three)?);
-    Ok(())
+    assert!(rt; passes(&rt, rt.alloc(), &two_holds(), TWO_ACTORS, two) == Ok(true));
+    assert!(rt; passes(&rt, rt.alloc(), &three_holds(), THREE_ACTORS, three) == Ok(true));
 }

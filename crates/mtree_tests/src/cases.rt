@@ -9,7 +9,7 @@ use std::alloc::Global;
 use tree_find::find;
 
 /// How many kinds of things a trial may count.
-const KINDS: usize = 7;
+pub(crate) const KINDS: usize = 7;
 
 /// One forest, kept twice, and what draws the calls that make it.
 #[derive(Drop)]
@@ -20,10 +20,22 @@ pub(crate) struct Case {
     pub(crate) seed: u64,
     /// How many calls were refused.
     pub(crate) refused: u64,
-    counts: [u64; KINDS],
+    pub(crate) counts: [u64; KINDS],
 }
 
 impl Case {
+    /// An empty map, with what was counted before.
+    pub(crate) fn new(alloc: Global, seed: u64, counts: [u64; KINDS]) -> Case {
+        Case {
+            tree: Tree::new(alloc),
+            plain: Plain::new(alloc),
+            rng: Lcg64Xsh32::new(seed, 54),
+            seed,
+            refused: 0,
+            counts,
+        }
+    }
+
     /// Does a call in the tree, and in the plain program where the tree accepts it.
     pub(crate) fn call(&mut self, call: &Call) -> Result<(), Refusal> {
         match self.tree.apply(call) {
@@ -53,58 +65,6 @@ fn add_to(counts: &mut [u64; KINDS], kind: usize, more: usize) {
     if let Some(count) = counts.get_mut(kind) {
         *count = count.saturating_add(more as u64);
     }
-}
-
-/// Whether a trial of the map of a seed, which is empty at first, comes out; it adds to what was counted before.
-fn is_so<F: Fn(Global, &mut Case) -> Result<bool, Refusal>>(
-    alloc: Global,
-    seed: u64,
-    trial: &F,
-    counts: &mut [u64; KINDS],
-) -> bool
-    requires { F.IsAlwaysCallable trial.now }
-{
-    let mut case = Case {
-        tree: Tree::new(alloc),
-        plain: Plain::new(alloc),
-        rng: Lcg64Xsh32::new(seed, 54),
-        seed,
-        refused: 0,
-        counts: *counts,
-    };
-    let is_so = trial(alloc, &mut case);
-    *counts = case.counts;
-    is_so == Ok(true)
-}
-
-/// What a trial counts over the maps of this many seeds; or the first seed of which it does not come out.
-pub(crate) fn over<F: Fn(Global, &mut Case) -> Result<bool, Refusal>>(
-    alloc: Global,
-    seeds: u64,
-    trial: F,
-) -> Result<[u64; KINDS], u64>
-    requires { F.IsAlwaysCallable trial }
-{
-    let mut counts = [0; KINDS];
-    for seed in 0..seeds {
-        if !is_so(alloc, seed, &trial, &mut counts) {
-            return Err(seed);
-        }
-    }
-    Ok(counts)
-}
-
-/// Whether no seed failed, and more than this many things of each of the first kinds were counted.
-pub(crate) fn exceeds(found: &Result<[u64; KINDS], u64>, kinds: usize, least: u64) -> bool {
-    let Ok(counts) = found else {
-        return false;
-    };
-    for (kind, count) in counts.iter().enumerate() {
-        if kind < kinds && *count <= least {
-            return false;
-        }
-    }
-    true
 }
 
 /// What some ranges show at an address.

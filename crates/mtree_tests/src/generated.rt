@@ -1,5 +1,5 @@
 // Small maps by drawn calls, accepted and refused ones of every kind.
-use crate::cases::{Case, agree, exceeds, over};
+use crate::cases::{Case, agree};
 use crate::draws::any_call;
 use crate::grid::plain_view;
 use crate::maps::{region, space};
@@ -8,9 +8,7 @@ use mem_base::{Call, FlatRange, Kind, Refusal, SpaceId};
 use region_tree::Tree;
 use std::alloc::{AllocError, Global};
 
-/// How many maps are drawn, and of how many calls each.
-const MAPS: u64 = 10_000;
-
+/// How many calls a map is drawn of.
 const CALLS: u32 = 60;
 
 /// Makes a space over a container of 16 pages, and does drawn calls.
@@ -49,7 +47,7 @@ pub(crate) fn is_shown(alloc: Global, case: &mut Case, at: SpaceId) -> Result<bo
 }
 
 /// The same of all three spaces of a drawn map.
-fn are_shown(alloc: Global, case: &mut Case) -> Result<bool, Refusal> {
+pub(crate) fn are_all_shown(alloc: Global, case: &mut Case) -> Result<bool, Refusal> {
     draw_map(case)?;
     for at in [SpaceId(0), SpaceId(1), SpaceId(2)] {
         if !is_shown(alloc, case, at)? {
@@ -57,12 +55,6 @@ fn are_shown(alloc: Global, case: &mut Case) -> Result<bool, Refusal> {
         }
     }
     Ok(true)
-}
-
-#[test]
-fn drawn_maps_show_what_the_plain_program_finds(rt: HostRuntime) {
-    let ranges = over(rt.alloc(), MAPS, are_shown);
-    assert!(rt; exceeds(&ranges, 1, 25_000), "{ranges:?}");
 }
 
 /// All that is known of a forest, as text.
@@ -85,7 +77,7 @@ fn is_refused(alloc: Global, tree: &mut Tree, call: &Call) -> Result<bool, Alloc
 }
 
 /// Whether each drawn call that is refused leaves the forest as it was; these are counted.
-fn leave_it(alloc: Global, case: &mut Case) -> Result<bool, Refusal> {
+pub(crate) fn leave_it(alloc: Global, case: &mut Case) -> Result<bool, Refusal> {
     for _ in 0..CALLS {
         let call = next_call(case);
         if case.tree.refusal_of(&call)?.is_none() {
@@ -97,10 +89,4 @@ fn leave_it(alloc: Global, case: &mut Case) -> Result<bool, Refusal> {
         }
     }
     Ok(true)
-}
-
-#[test]
-fn refused_calls_leave_the_forest_as_it_was(rt: HostRuntime) {
-    let refused = over(rt.alloc(), 100, leave_it);
-    assert!(rt; exceeds(&refused, 1, 500), "{refused:?}");
 }

@@ -1,6 +1,6 @@
 // Host memory in the map: it is found, merged and logged as RAM is, by the rules worked out on paper.
 use crate::maps::{add, region, resize, space};
-use crate::trees::{is_so, run, viewed};
+use crate::trees::{run, viewed};
 use mem_base::{Applied, Attrs, Call, Client, FlatRange, Kind, Refusal, RegionId, SpaceId};
 use region_tree::Tree;
 use std::alloc::{AllocError, Global};
@@ -57,7 +57,7 @@ fn shows(alloc: Global, tree: &Tree, host: u8, ram: u8) -> Result<bool, AllocErr
     Ok(view.as_slice() == expected.as_slice())
 }
 
-fn is_shown_as_ram(alloc: Global, tree: &mut Tree) -> Result<bool, Refusal> {
+pub(crate) fn is_shown_as_ram(alloc: Global, tree: &mut Tree) -> Result<bool, Refusal> {
     build(tree)?;
     let unlogged = shows(alloc, tree, 0, 0)?;
     tree.apply(&log(Client::Vga))?;
@@ -67,33 +67,18 @@ fn is_shown_as_ram(alloc: Global, tree: &mut Tree) -> Result<bool, Refusal> {
     Ok(unlogged && logged && global)
 }
 
-#[test]
-fn host_memory_is_shown_as_ram_is(rt: HostRuntime) {
-    assert!(rt; is_so(rt.alloc(), is_shown_as_ram));
-}
-
-fn keeps_its_size(_alloc: Global, tree: &mut Tree) -> Result<bool, Refusal> {
+pub(crate) fn keeps_its_size(tree: &mut Tree) -> Result<bool, Refusal> {
     build(tree)?;
     let resized = tree.apply(&resize(1, 0x1000));
     let logged = tree.apply(&log(Client::Code));
     Ok(resized == Err(Refusal::WrongKind(HOST)) && logged == Ok(Applied::Done))
 }
 
-#[test]
-fn host_memory_keeps_its_size(rt: HostRuntime) {
-    assert!(rt; is_so(rt.alloc(), keeps_its_size));
-}
-
 // Sizes of new host memory that are no whole pages, and that of a whole space.
-fn is_whole_pages(_alloc: Global, tree: &mut Tree) -> Result<bool, Refusal> {
+pub(crate) fn is_whole_pages(tree: &mut Tree) -> Result<bool, Refusal> {
     let none = tree.apply(&region(Kind::Host, 0));
     let odd = tree.apply(&region(Kind::Host, 0x1001));
     let whole = tree.apply(&region(Kind::Host, 0x1_0000_0000_0000_0000));
     let are_refused = none == Err(Refusal::BadSize) && odd == Err(Refusal::BadSize);
     Ok(are_refused && whole == Ok(Applied::Made(RegionId(0))))
-}
-
-#[test]
-fn host_memory_is_whole_pages_and_may_be_a_whole_space(rt: HostRuntime) {
-    assert!(rt; is_so(rt.alloc(), is_whole_pages));
 }

@@ -1,35 +1,37 @@
 // What a tree keeps of depth, weight and children, call by call, and the regions that a space reaches.
-use crate::cases::{Case, exceeds, over};
+use crate::cases::Case;
 use crate::draws::{building, draw, shifting};
 use crate::generated::{has_text, text};
 use crate::maps::{add, alias, del, latch, region, resize, space};
 use crate::paths::are_judged;
-use crate::trees::{is_so, run};
+use crate::trees::run;
 use mem_base::{Call, Kind, Refusal, RegionId, SpaceId};
 use rand_pcg::Lcg64Xsh32;
 use region_tree::Tree;
 use std::alloc::{AllocError, Global};
 
-/// The regions that the plain walk reaches from the root of space 0, by ascending id.
-fn plain_reach(alloc: Global, case: &Case) -> Result<Vec<RegionId>, AllocError> {
-    let mut list = Vec::new(alloc);
+/// Whether these are the regions that the plain walk reaches from the root of space 0, by ascending id.
+fn are_reached(case: &Case, reach: &[RegionId]) -> bool {
     let Some(root) = case.tree.root(SpaceId(0)) else {
-        return Ok(list);
+        return reach.is_empty();
     };
+    let mut at: usize = 0;
     for number in 0..case.plain.made() {
         let id = RegionId(number);
         if case.tree.node(id).is_some() && case.plain.reaches(root, id) {
-            list.push(id)?;
+            if reach.get(at) != Some(&id) {
+                return false;
+            }
+            at = at.saturating_add(1);
         }
     }
-    Ok(list)
+    at == reach.len()
 }
 
 /// Whether the regions that space 0 reaches are those.
-fn is_reach(alloc: Global, case: &Case) -> Result<bool, AllocError> {
+fn is_reach(case: &Case) -> Result<bool, AllocError> {
     let reach = case.tree.reach(SpaceId(0))?;
-    let want = plain_reach(alloc, case)?;
-    Ok(reach.as_slice() == want.as_slice())
+    Ok(are_reached(case, reach.as_slice()))
 }
 
 /// Whether a call is one after which less may stand above a region, or other regions.
@@ -62,21 +64,14 @@ fn goes_on(case: &mut Case) -> Result<(), Refusal> {
 
 /// Whether depth and weight of all regions are those of the plain walk after each drawn call, and the regions that space 0 reaches in
 /// the end.
-fn are_kept(alloc: Global, case: &mut Case) -> Result<bool, Refusal> {
+pub(crate) fn are_kept(case: &mut Case) -> Result<bool, Refusal> {
     for _ in 0..100_u32 {
         goes_on(case)?;
         if !are_judged(case) {
             return Ok(false);
         }
     }
-    let is_so = is_reach(alloc, case)?;
-    Ok(is_so)
-}
-
-#[test]
-fn depth_weight_and_reach_after_each_call(rt: HostRuntime) {
-    let taken = over(rt.alloc(), 100, are_kept);
-    assert!(rt; exceeds(&taken, 1, 300), "{taken:?}");
+    Ok(is_reach(case)?)
 }
 
 const MEGABYTES: u128 = 0x10_0000;
@@ -172,16 +167,11 @@ fn keeps(alloc: Global, tree: &mut Tree, copy: &Tree) -> Result<bool, Refusal> {
 }
 
 /// Whether a copy of the worked PC is as the tree was, and stays so when the tree changes.
-fn is_copied(alloc: Global, tree: &mut Tree) -> Result<bool, Refusal> {
+pub(crate) fn is_copied(alloc: Global, tree: &mut Tree) -> Result<bool, Refusal> {
     build_pc(tree)?;
     let copy = tree.try_copy()?;
     let is_so = keeps(alloc, tree, &copy);
     is_so
-}
-
-#[test]
-fn a_copy_of_the_worked_pc(rt: HostRuntime) {
-    assert!(rt; is_so(rt.alloc(), is_copied));
 }
 
 static CHILDREN: [(u32, u64, u64, i32); 4] = [
@@ -207,16 +197,11 @@ fn reached(tree: &Tree, space: u32) -> Result<usize, AllocError> {
 
 /// Whether the children of system memory are as they should be, before and after a resize of one of them, and all regions are
 /// reached from there.
-fn are_children(_alloc: Global, tree: &mut Tree) -> Result<bool, Refusal> {
+pub(crate) fn are_children(tree: &mut Tree) -> Result<bool, Refusal> {
     build_pc(tree)?;
     let before = are_placed(tree, &CHILDREN);
     let (all, nothing) = (reached(tree, 0)?, reached(tree, 1)?);
     tree.apply(&resize(7, 0x1_0000))?;
     let after = are_placed(tree, &RESIZED);
     Ok(before && all == 8 && nothing == 0 && after)
-}
-
-#[test]
-fn children_of_the_worked_pc_in_the_order_of_search(rt: HostRuntime) {
-    assert!(rt; is_so(rt.alloc(), are_children));
 }

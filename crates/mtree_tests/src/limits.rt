@@ -1,9 +1,7 @@
 // What no script reaches of a tree's limits: their numbers, and the questions before a call.
 use crate::maps::{add, alias, latch, region, space};
-use crate::trees::is_so;
 use mem_base::{Applied, Call, Kind, Perm, Refusal, RegionId, Size, SpaceId, Which};
 use region_tree::Tree;
-use std::alloc::Global;
 
 /// A call that puts a page at this iova into the table of region 0.
 fn page(iova: u64) -> Call {
@@ -21,19 +19,14 @@ fn page(iova: u64) -> Call {
 }
 
 /// Whether 512 MiB of ROM are made, and no more of it.
-fn has_largest(_alloc: Global, tree: &mut Tree) -> Result<bool, Refusal> {
+pub(crate) fn has_largest(tree: &mut Tree) -> Result<bool, Refusal> {
     let largest = tree.apply(&region(Kind::Rom, 0x2000_0000))?;
     let larger = tree.refusal_of(&region(Kind::Rom, 0x2000_1000))?;
     Ok(largest == Applied::Made(RegionId(0)) && larger == Some(Refusal::BadSize))
 }
 
-#[test]
-fn rom_of_512_mebibytes_is_the_largest(rt: HostRuntime) {
-    assert!(rt; is_so(rt.alloc(), has_largest));
-}
-
 /// Puts 4,096 pages into a table; whether one more is refused.
-fn fills_a_table(_alloc: Global, tree: &mut Tree) -> Result<bool, Refusal> {
+pub(crate) fn fills_a_table(tree: &mut Tree) -> Result<bool, Refusal> {
     tree.apply(&region(Kind::Iommu, 0x1000))?;
     tree.apply(&space(0, 0))?;
     for number in 0..4096_u64 {
@@ -43,23 +36,13 @@ fn fills_a_table(_alloc: Global, tree: &mut Tree) -> Result<bool, Refusal> {
     Ok(refusal == Some(Refusal::LimitReached(Which::Entries, 4096)))
 }
 
-#[test]
-fn a_table_has_4096_pages(rt: HostRuntime) {
-    assert!(rt; is_so(rt.alloc(), fills_a_table));
-}
-
 /// Makes 4,096 regions; whether one more is refused.
-fn fills_a_tree(_alloc: Global, tree: &mut Tree) -> Result<bool, Refusal> {
+pub(crate) fn fills_a_tree(tree: &mut Tree) -> Result<bool, Refusal> {
     for _ in 0..4096 {
         tree.apply(&region(Kind::Container, 0x1000))?;
     }
     let refusal = tree.refusal_of(&region(Kind::Container, 0x1000))?;
     Ok(refusal == Some(Refusal::LimitReached(Which::Regions, 4096)))
-}
-
-#[test]
-fn a_tree_has_4096_regions(rt: HostRuntime) {
-    assert!(rt; is_so(rt.alloc(), fills_a_tree));
 }
 
 /// Puts 32 containers each into the one before it, and makes one more.
@@ -74,7 +57,7 @@ fn nests(tree: &mut Tree) -> Result<(), Refusal> {
 }
 
 /// Whether one more goes into the 31st of 32 nested containers and not into the last, and an alias of the first is too deep.
-fn is_deep(_alloc: Global, tree: &mut Tree) -> Result<bool, Refusal> {
+pub(crate) fn is_deep(tree: &mut Tree) -> Result<bool, Refusal> {
     nests(tree)?;
     let deep = Some(Refusal::TooDeep(33));
     let (inside, below) = (add(30, 0, 32, 0), add(31, 0, 32, 0));
@@ -82,11 +65,6 @@ fn is_deep(_alloc: Global, tree: &mut Tree) -> Result<bool, Refusal> {
     let placed = tree.refusal_of(&below)?;
     let aliased = tree.refusal_of(&alias(0x1000, 0, 0))?;
     Ok(accepts && placed == deep && aliased == deep)
-}
-
-#[test]
-fn a_33rd_region_is_too_deep(rt: HostRuntime) {
-    assert!(rt; is_so(rt.alloc(), is_deep));
 }
 
 /// Makes a container, which is region `number`, and two aliases of a region; the first is put into it.
@@ -113,7 +91,7 @@ fn widens(tree: &mut Tree) -> Result<u32, Refusal> {
 }
 
 /// Whether the weight after 14 doublings is 65,533, so that a 15th is too wide, though another container may have the last.
-fn is_wide(_alloc: Global, tree: &mut Tree) -> Result<bool, Refusal> {
+pub(crate) fn is_wide(tree: &mut Tree) -> Result<bool, Refusal> {
     let last = widens(tree)?;
     let heavy = tree.node(RegionId(last)).is_some() && tree.weight(RegionId(last)) == 65_533;
     let next = last.saturating_add(3);
@@ -125,22 +103,12 @@ fn is_wide(_alloc: Global, tree: &mut Tree) -> Result<bool, Refusal> {
     Ok(heavy && refusal == Some(Refusal::TooWide(131_069)) && accepts)
 }
 
-#[test]
-fn aliases_grow_too_wide(rt: HostRuntime) {
-    assert!(rt; is_so(rt.alloc(), is_wide));
-}
-
 /// Puts 2,000 containers into one; it is here for its time, since each add looks at all regions.
-fn gathers(_alloc: Global, tree: &mut Tree) -> Result<bool, Refusal> {
+pub(crate) fn gathers(tree: &mut Tree) -> Result<bool, Refusal> {
     tree.apply(&region(Kind::Container, 0x1000))?;
     for number in 1..2001 {
         tree.apply(&region(Kind::Container, 0x1000))?;
         tree.apply(&add(0, 0, number, 0))?;
     }
     Ok(tree.node(RegionId(0)).is_some() && tree.depth(RegionId(0)) == 2)
-}
-
-#[test]
-fn many_under_one_container(rt: HostRuntime) {
-    assert!(rt; is_so(rt.alloc(), gathers));
 }

@@ -1,11 +1,11 @@
 // Look-ups against a plain search by halving over the same view.
 ghost use Rattle.std.specs.Prelude.{◌≡◌, ◌<◌};
 
-use crate::cases::{Case, exceeds, over};
+use crate::cases::Case;
 use crate::draws::draw;
 use crate::maps::{add, alias, latch, region, space};
 use crate::plain_walks::{plain_at, plain_run_to};
-use crate::trees::{is_so, run, viewed};
+use crate::trees::{run, viewed};
 use crate::walks::{begin, change};
 use flat_lookup::Atlas;
 use mem_base::{Kind, Refusal, SpaceId, Spot};
@@ -111,7 +111,7 @@ fn answers(atlas: &Atlas, rows: &[Row]) -> bool {
 }
 
 /// Whether a PC does, of which space 0 shows RAM, VGA, RAM, a ROM, RAM, and the whole ROM below 4 GiB.
-fn pc_answers(alloc: Global, tree: &mut Tree) -> Result<bool, Refusal> {
+pub(crate) fn pc_answers(alloc: Global, tree: &mut Tree) -> Result<bool, Refusal> {
     run(
         tree,
         &[
@@ -132,29 +132,11 @@ fn pc_answers(alloc: Global, tree: &mut Tree) -> Result<bool, Refusal> {
 }
 
 /// Whether an empty map does.
-fn nothing_answers(alloc: Global, tree: &mut Tree) -> Result<bool, Refusal> {
+pub(crate) fn nothing_answers(alloc: Global, tree: &mut Tree) -> Result<bool, Refusal> {
     run(tree, &[region(Kind::Container, 0x1000), space(0, 0)])?;
     let atlas = atlas(alloc, tree)?;
     Ok(answers(&atlas, &NOTHING))
 }
-
-#[test]
-fn runs_of_a_pc_and_of_an_empty_map(rt: HostRuntime) {
-    assert!(rt; is_so(rt.alloc(), pc_answers));
-    assert!(rt; is_so(rt.alloc(), nothing_answers));
-}
-
-/// The seed of a crowded map, how many devices it has, and how many ranges at most.
-type Crowd = (u64, u32, usize);
-
-const CROWDS: [Crowd; 6] = [
-    (0, 1, 3),
-    (1, 16, 16),
-    (2, 8, 17),
-    (3, 20, 20),
-    (4, 150, 301),
-    (5, 300, 300),
-];
 
 /// Makes a RAM of 0x40000 bytes, in every second map, and over it devices of 0x100 bytes, most of them apart.
 fn crowd(tree: &mut Tree, seed: u64, devices: u32) -> Result<(), Refusal> {
@@ -179,20 +161,17 @@ fn crowd(tree: &mut Tree, seed: u64, devices: u32) -> Result<(), Refusal> {
 }
 
 /// Whether a crowded map has more than half of its number of ranges and at most these, and is looked up as by halving.
-fn is_crowd_halved(alloc: Global, tree: &mut Tree, row: Crowd) -> Result<bool, Refusal> {
-    let (seed, devices, most) = row;
+pub(crate) fn is_crowd_halved(
+    alloc: Global,
+    tree: &mut Tree,
+    seed: u64,
+    devices: u32,
+    most: usize,
+) -> Result<bool, Refusal> {
     crowd(tree, seed, devices)?;
     let atlas = atlas(alloc, tree)?;
     let count = atlas.view().as_slice().len();
     Ok(count <= most && count > most / 2 && is_halved(&atlas))
-}
-
-#[test]
-fn crowded_maps_are_looked_up_as_by_halving(rt: HostRuntime) {
-    for row in CROWDS {
-        let trial = |alloc: Global, tree: &mut Tree| is_crowd_halved(alloc, tree, row);
-        assert!(rt; is_so(rt.alloc(), trial), "{row:?}");
-    }
 }
 
 /// Whether a map is looked up as by halving after eight drawn calls; its ranges are counted.
@@ -204,7 +183,7 @@ fn is_next_halved(alloc: Global, case: &mut Case) -> Result<bool, Refusal> {
 }
 
 /// Whether five drawn maps are, each of which is the one before after these calls.
-fn are_halved(alloc: Global, case: &mut Case) -> Result<bool, Refusal> {
+pub(crate) fn are_halved(alloc: Global, case: &mut Case) -> Result<bool, Refusal> {
     begin(case)?;
     for _ in 0..5 {
         if !is_next_halved(alloc, case)? {
@@ -212,10 +191,4 @@ fn are_halved(alloc: Global, case: &mut Case) -> Result<bool, Refusal> {
         }
     }
     Ok(true)
-}
-
-#[test]
-fn drawn_maps_are_looked_up_as_by_halving(rt: HostRuntime) {
-    let ranges = over(rt.alloc(), 40, are_halved);
-    assert!(rt; exceeds(&ranges, 1, 400), "{ranges:?}");
 }

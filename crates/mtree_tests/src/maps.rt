@@ -1,7 +1,7 @@
 // The calls of the tests.
 ghost use Rattle.std.specs.Prelude.{◌≤◌, ◌^◌};
 
-use mem_base::{Call, Device, DeviceKind, Kind, RegionId, Size, SpaceId};
+use mem_base::{Call, Device, DeviceKind, Kind, Listener, ListenerId, RegionId, Size, SpaceId};
 
 /// A device of one register.
 pub(crate) fn latch() -> Kind {
@@ -43,6 +43,15 @@ pub(crate) fn del(child: u32) -> Call {
     Call::Del {
         parent: RegionId(0),
         child: RegionId(child),
+    }
+}
+
+/// Who listens to a space.
+pub(crate) fn listener(number: u32) -> Listener {
+    Listener {
+        listener: ListenerId(number),
+        space: SpaceId(number),
+        priority: 0,
     }
 }
 

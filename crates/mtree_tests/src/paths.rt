@@ -1,9 +1,9 @@
 // How deep and how wide regions are, and which of them lead to one another, against a plain walk.
-use crate::cases::{Case, exceeds, over};
+use crate::cases::Case;
 use crate::generated::draw_map;
 use crate::maps::add;
 use mem_base::{Refusal, RegionId};
-use std::alloc::{AllocError, Global};
+use std::alloc::AllocError;
 
 /// Whether depth and weight of all regions are those of the plain walk.
 pub(crate) fn are_judged(case: &Case) -> bool {
@@ -60,17 +60,11 @@ fn leading(case: &Case) -> Result<Option<usize>, AllocError> {
 }
 
 /// Whether all regions of a drawn map are judged as by the plain walk; those that lead to more than themselves are counted.
-fn is_judged(_alloc: Global, case: &mut Case) -> Result<bool, Refusal> {
+pub(crate) fn is_judged(case: &mut Case) -> Result<bool, Refusal> {
     draw_map(case)?;
     match leading(case)? {
         Some(count) => case.count(0, count),
         None => return Ok(false),
     }
     Ok(are_judged(case))
-}
-
-#[test]
-fn depth_weight_and_loops_by_a_plain_walk(rt: HostRuntime) {
-    let leading = over(rt.alloc(), 200, is_judged);
-    assert!(rt; exceeds(&leading, 1, 400), "{leading:?}");
 }

@@ -1,7 +1,7 @@
 // The paths of the picture of QEMU's manual, "The memory API", "Overlapping regions and priority", in the search and in the
 // rendering.
 use crate::maps::{add, latch, region, space};
-use crate::trees::{is_so, rendered, run};
+use crate::trees::{rendered, run};
 use mem_base::{Kind, Path, Pieces, Refusal, SpaceId};
 use region_tree::Tree;
 use std::alloc::Global;
@@ -41,7 +41,7 @@ static FOUND: [(u64, Option<(u32, u32, u32)>); 4] = [
 ];
 
 /// Whether each address is found on its path.
-fn are_found(_alloc: Global, tree: &mut Tree) -> Result<bool, Refusal> {
+pub(crate) fn are_found(tree: &mut Tree) -> Result<bool, Refusal> {
     build(tree)?;
     for (addr, want) in &FOUND {
         let found = match find_path(tree, SpaceId(0), *addr) {
@@ -53,11 +53,6 @@ fn are_found(_alloc: Global, tree: &mut Tree) -> Result<bool, Refusal> {
         }
     }
     Ok(true)
-}
-
-#[test]
-fn the_paths_of_the_picture(rt: HostRuntime) {
-    assert!(rt; is_so(rt.alloc(), are_found));
 }
 
 /// Pieces: first and last address, leaf, offset in it, and the second region of the path.
@@ -83,13 +78,9 @@ fn are_pieces(pieces: &Pieces) -> bool {
     pieces.ranges().len() == PIECES.len()
 }
 
-fn are_rendered(alloc: Global, tree: &mut Tree) -> Result<bool, Refusal> {
+/// Whether the picture is rendered so.
+pub(crate) fn are_rendered(alloc: Global, tree: &mut Tree) -> Result<bool, Refusal> {
     build(tree)?;
     let pieces = rendered(alloc, tree, SpaceId(0))?;
     Ok(are_pieces(&pieces))
-}
-
-#[test]
-fn the_ranges_of_the_picture_with_their_paths(rt: HostRuntime) {
-    assert!(rt; is_so(rt.alloc(), are_rendered));
 }

@@ -20,38 +20,54 @@ fn same_in(ranges: &[FlatRange], range: &FlatRange) -> Option<FlatRange> {
     None
 }
 
-/// A range that is kept, and how its logging mask changes.
-fn kept(steps: &mut Vec<RangeEvent>, from: u8, range: FlatRange) -> Result<(), AllocError> {
-    let to = range.attrs.log;
-    steps.push(RangeEvent::Keep(range))?;
-    if to & !from != 0 {
-        steps.push(RangeEvent::LogStart { range, from, to })?;
-    }
-    if from & !to != 0 {
-        steps.push(RangeEvent::LogStop { range, from, to })?;
-    }
-    Ok(())
+/// Steps that were told, which of them the plain program comes to next, and whether all before it were as they have to be.
+#[derive(Drop)]
+struct Told<'a> {
+    steps: &'a [RangeEvent],
+    at: usize,
+    good: bool,
 }
 
-/// The walk from one view to another: each old range is looked for in the new view, and then each new one in the old.
-pub(crate) fn plain_walk(
-    alloc: Global,
-    old: &[FlatRange],
-    new: &[FlatRange],
-) -> Result<Vec<RangeEvent>, AllocError> {
-    let mut steps = Vec::new(alloc);
+impl Told<'_> {
+    /// The next step has to be this one.
+    fn next(&mut self, step: &RangeEvent) {
+        self.good = self.good && self.steps.get(self.at) == Some(step);
+        self.at = self.at.saturating_add(1);
+    }
+
+    /// A range that is kept, and how its logging mask changes.
+    fn keep(&mut self, from: u8, range: FlatRange) {
+        let to = range.attrs.log;
+        self.next(&RangeEvent::Keep(range));
+        if to & !from != 0 {
+            self.next(&RangeEvent::LogStart { range, from, to });
+        }
+        if from & !to != 0 {
+            self.next(&RangeEvent::LogStop { range, from, to });
+        }
+    }
+}
+
+/// Whether these steps are the walk from one view to another: each old range is looked for in the new view, and then each new one in the
+/// old.
+pub(crate) fn is_plain_walk(steps: &[RangeEvent], old: &[FlatRange], new: &[FlatRange]) -> bool {
+    let mut told = Told {
+        steps,
+        at: 0,
+        good: true,
+    };
     for range in old {
         if same_in(new, range).is_none() {
-            steps.push(RangeEvent::Delete(*range))?;
+            told.next(&RangeEvent::Delete(*range));
         }
     }
     for range in new {
         match same_in(old, range) {
-            Some(other) => kept(&mut steps, other.attrs.log, *range)?,
-            None => steps.push(RangeEvent::Add(*range))?,
+            Some(other) => told.keep(other.attrs.log, *range),
+            None => told.next(&RangeEvent::Add(*range)),
         }
     }
-    Ok(steps)
+    told.good && told.at == steps.len()
 }
 
 /// Whether a range shows one of these bytes of its leaf, byte by byte.
@@ -111,19 +127,18 @@ pub(crate) fn plain_ioeventfds(
     Ok(list)
 }
 
-/// Those of the first list that the second has not.
-pub(crate) fn without(
-    alloc: Global,
-    list: &[Live],
-    others: &[Live],
-) -> Result<Vec<Live>, AllocError> {
-    let mut left = Vec::new(alloc);
+/// Whether these are those of the first list that the second has not.
+pub(crate) fn are_without(found: &[Live], list: &[Live], others: &[Live]) -> bool {
+    let mut at: usize = 0;
     for live in list {
         if !others.contains(live) {
-            left.push(*live)?;
+            if found.get(at) != Some(live) {
+                return false;
+            }
+            at = at.saturating_add(1);
         }
     }
-    Ok(left)
+    at == found.len()
 }
 
 /// How many ranges begin at an address or below it, by halving.

@@ -8,7 +8,6 @@ use mem_base::{Place, Refusal, RegionId};
 use rand_core::utils::NextWord;
 use rand_pcg::Lcg64Xsh32;
 use std::alloc::{AllocError, Global};
-use std::test::Fail;
 
 /// The words of a pool.
 const WORDS: usize = 4096;
@@ -34,24 +33,27 @@ fn plain_fit(taken: &[bool], words: usize) -> Option<usize> {
     None
 }
 
-/// The runs of free words.
-fn plain_holes(alloc: Global, taken: &[bool]) -> Result<Vec<(usize, usize)>, AllocError> {
-    let mut holes = Vec::new(alloc);
+/// Whether these are the runs of free words, each with how many words it has.
+fn are_holes(taken: &[bool], holes: &[(usize, usize)]) -> bool {
+    let mut at: usize = 0;
     let mut free: usize = 0;
     for (word, is_taken) in taken.iter().enumerate() {
-        if *is_taken {
-            if free > 0 {
-                holes.push((word.saturating_sub(free), free))?;
+        if *is_taken && free > 0 {
+            if holes.get(at) != Some(&(word.saturating_sub(free), free)) {
+                return false;
             }
-            free = 0;
-        } else {
-            free = free.saturating_add(1);
+            at = at.saturating_add(1);
         }
+        free = if *is_taken { 0 } else { free.saturating_add(1) };
     }
-    if free > 0 {
-        holes.push((taken.len().saturating_sub(free), free))?;
+    match holes.get(at) {
+        Some(hole) => {
+            *hole == (taken.len().saturating_sub(free), free)
+                && free > 0
+                && holes.len() == at.saturating_add(1)
+        }
+        None => free == 0,
     }
-    Ok(holes)
 }
 
 /// The words of data, registers and marks.
@@ -97,15 +99,14 @@ impl Both {
     }
 
     /// Whether the pool has the plain holes, and the region the plain place.
-    fn agrees(&self, alloc: Global, region: RegionId) -> Result<bool, AllocError> {
-        let holes = plain_holes(alloc, self.taken.as_slice())?;
+    fn agrees(&self, region: RegionId) -> bool {
         let mut place = None;
         for other in &self.places {
             if other.region == region {
                 place = Some(*other);
             }
         }
-        Ok(self.pool.holes() == holes.as_slice() && self.pool.place_of(region) == place)
+        are_holes(self.taken.as_slice(), self.pool.holes()) && self.pool.place_of(region) == place
     }
 
     /// Takes a place, if the region has none, and whether the pool answers as the plain list does; `None` where both
@@ -148,25 +149,25 @@ impl Both {
 }
 
 /// Gives the place at a drawn index back, and whether the pool agrees then.
-fn give_drawn(alloc: Global, both: &mut Both) -> Result<bool, AllocError> {
+fn give_drawn(both: &mut Both) -> bool {
     let count = both.places.len().max(1) as u64;
     let at = u64::from(both.rng.next_word()) % count;
     let region = match both.places.get(at as usize) {
         Some(place) => place.region,
-        None => return Ok(true),
+        None => return true,
     };
-    Ok(both.give(at as usize) && both.agrees(alloc, region)?)
+    both.give(at as usize) && both.agrees(region)
 }
 
 /// Takes a place, where drawn ones are given back until there is room, and whether the pool agrees.
-fn take_drawn(alloc: Global, both: &mut Both, region: RegionId) -> Result<bool, AllocError> {
+fn take_drawn(both: &mut Both, region: RegionId) -> Result<bool, AllocError> {
     let bytes = bytes(&mut both.rng);
     let regs = draw(&mut both.rng, 64) + 1;
     for _ in 0..WORDS {
         if let Some(is_same) = both.take(region, bytes, regs)? {
-            return Ok(is_same && both.agrees(alloc, region)?);
+            return Ok(is_same && both.agrees(region));
         }
-        if !give_drawn(alloc, both)? {
+        if !give_drawn(both) {
             return Ok(false);
         }
     }
@@ -175,21 +176,16 @@ fn take_drawn(alloc: Global, both: &mut Both, region: RegionId) -> Result<bool, 
 
 /// Takes this many places of drawn sizes, and gives a drawn one back after every other; whether the pool agrees after each. The
 /// regions are drawn below a number, or ascend.
-fn are_taken(
-    alloc: Global,
-    both: &mut Both,
-    count: u32,
-    regions: Option<u32>,
-) -> Result<bool, AllocError> {
+fn are_taken(both: &mut Both, count: u32, regions: Option<u32>) -> Result<bool, AllocError> {
     for i in 0..count {
         let region = RegionId(match regions {
             Some(most) => both.rng.next_word() % most.max(1),
             None => i,
         });
-        if !take_drawn(alloc, both, region)? {
+        if !take_drawn(both, region)? {
             return Ok(false);
         }
-        if i % 2 == 1 && !give_drawn(alloc, both)? {
+        if i % 2 == 1 && !give_drawn(both) {
             return Ok(false);
         }
     }
@@ -197,40 +193,33 @@ fn are_taken(
 }
 
 /// Gives all places back; whether the pool agrees after each, and is one hole then.
-fn are_given(alloc: Global, both: &mut Both) -> Result<bool, AllocError> {
+fn are_given(both: &mut Both) -> bool {
     for _ in 0..WORDS {
-        if !give_drawn(alloc, both)? {
-            return Ok(false);
+        if !give_drawn(both) {
+            return false;
         }
     }
-    Ok(both.pool.holes() == [(0, WORDS)].as_slice())
+    both.pool.holes() == [(0, WORDS)].as_slice()
 }
 
 /// Takes places, and gives all back; whether the pool agrees all along.
-fn go(
-    alloc: Global,
-    both: &mut Both,
-    count: u32,
-    regions: Option<u32>,
-) -> Result<bool, AllocError> {
-    Ok(are_taken(alloc, both, count, regions)? && are_given(alloc, both)?)
+fn go(both: &mut Both, count: u32, regions: Option<u32>) -> Result<bool, AllocError> {
+    Ok(are_taken(both, count, regions)? && are_given(both))
 }
 
 /// Whether this many places of drawn sizes are as in a list of words.
 fn is_list(alloc: Global, seed: u64, count: u32, regions: Option<u32>) -> Result<bool, AllocError> {
     let mut both = Both::new(alloc, seed)?;
-    let is_so = go(alloc, &mut both, count, regions);
+    let is_so = go(&mut both, count, regions);
     is_so
 }
 
 #[test]
-fn ten_thousand_drawn_places_are_as_in_a_list_of_words(rt: HostRuntime) -> Result<(), Fail> {
-    assert!(rt; is_list(rt.alloc(), 1, 10_000, None)?);
-    Ok(())
+fn ten_thousand_drawn_places_are_as_in_a_list_of_words(rt: HostRuntime) {
+    assert!(rt; is_list(rt.alloc(), 1, 10_000, None) == Ok(true));
 }
 
 #[test]
-fn regions_in_any_order_have_the_places_of_a_list(rt: HostRuntime) -> Result<(), Fail> {
-    assert!(rt; is_list(rt.alloc(), 2, 2000, Some(100))?);
-    Ok(())
+fn regions_in_any_order_have_the_places_of_a_list(rt: HostRuntime) {
+    assert!(rt; is_list(rt.alloc(), 2, 2000, Some(100)) == Ok(true));
 }

@@ -3,10 +3,38 @@ use mem_base::{
     Attrs, Kind, PassId, Refusal, RegionId, SpaceId, Spot, TxResult, User, WatcherId, What, Which,
 };
 use std::alloc::{AllocError, Global};
-use std::test::Fail;
+use std::fmt::Display;
 
-/// Whether refusals read so.
-fn refusals_read(alloc: Global) -> Result<bool, AllocError> {
+/// Whether a value reads so.
+fn reads<T: Display>(alloc: Global, value: &T, want: &str) -> Result<bool, AllocError> {
+    let text = value.to_string(alloc)?;
+    Ok(text.as_str() == want)
+}
+
+static SPOT: Spot = Spot {
+    leaf: RegionId(4),
+    offset: 0x1f00,
+    attrs: Attrs {
+        readonly: true,
+        nonvolatile: false,
+        romd: false,
+        unmergeable: true,
+        log: 5,
+    },
+};
+
+static WINDOW: Kind = Kind::Alias {
+    target: RegionId(1),
+    offset: 0xc0000,
+};
+
+static ENDED: TxResult = TxResult {
+    error: false,
+    decode: true,
+};
+
+/// Whether refusals read as sentences.
+fn are_sentences(alloc: Global) -> Result<bool, AllocError> {
     let Some(last) = PassId::new(15) else {
         return Ok(false);
     };
@@ -41,62 +69,28 @@ fn refusals_read(alloc: Global) -> Result<bool, AllocError> {
         ),
         (Refusal::Held(last, 7), "pass 15 may still use generation 7"),
     ];
-    for (why, expected) in &refusals {
-        let text = why.to_string(alloc)?;
-        if text.as_str() != *expected {
+    for (why, want) in &refusals {
+        if !reads(alloc, why, want)? {
             return Ok(false);
         }
     }
     Ok(true)
 }
 
-#[test]
-fn refusals_read_as_sentences(rt: HostRuntime) -> Result<(), Fail> {
-    assert!(rt; refusals_read(rt.alloc())?);
-    Ok(())
-}
-
-/// Whether a spot reads so.
-fn spot_reads(alloc: Global) -> Result<bool, AllocError> {
-    let spot = Spot {
-        leaf: RegionId(4),
-        offset: 0x1f00,
-        attrs: Attrs {
-            readonly: true,
-            nonvolatile: false,
-            romd: false,
-            unmergeable: true,
-            log: 5,
-        },
-    };
-    let text = spot.to_string(alloc)?;
-    Ok(text.as_str() == "region 4 at 0x1f00 (read-only, unmergeable, logging mask 5)")
-}
-
-/// Whether a kind reads so.
-fn kind_reads(alloc: Global) -> Result<bool, AllocError> {
-    let window = Kind::Alias {
-        target: RegionId(1),
-        offset: 0xc0000,
-    };
-    let text = window.to_string(alloc)?;
-    Ok(text.as_str() == "alias of region 1 from 0xc0000")
-}
-
-/// Whether the result of an access reads so.
-fn result_reads(alloc: Global) -> Result<bool, AllocError> {
-    let ended = TxResult {
-        error: false,
-        decode: true,
-    };
-    let text = ended.to_string(alloc)?;
-    Ok(text.as_str() == "decode error")
+/// Whether a spot, a kind and the result of an access read so.
+fn are_told(alloc: Global) -> Result<bool, AllocError> {
+    let spot = reads(
+        alloc,
+        &SPOT,
+        "region 4 at 0x1f00 (read-only, unmergeable, logging mask 5)",
+    )?;
+    let kind = reads(alloc, &WINDOW, "alias of region 1 from 0xc0000")?;
+    let ended = reads(alloc, &ENDED, "decode error")?;
+    Ok(spot && kind && ended)
 }
 
 #[test]
-fn spots_kinds_and_results_are_told(rt: HostRuntime) -> Result<(), Fail> {
-    assert!(rt; spot_reads(rt.alloc())?);
-    assert!(rt; kind_reads(rt.alloc())?);
-    assert!(rt; result_reads(rt.alloc())?);
-    Ok(())
+fn refusals_spots_kinds_and_results_are_told(rt: HostRuntime) {
+    assert!(rt; are_sentences(rt.alloc()) == Ok(true));
+    assert!(rt; are_told(rt.alloc()) == Ok(true));
 }

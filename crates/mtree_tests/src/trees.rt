@@ -19,18 +19,6 @@ pub(crate) fn run(tree: &mut Tree, calls: &[Call]) -> Result<(), Refusal> {
     Ok(())
 }
 
-/// Whether a trial of a tree that is empty at first comes out.
-pub(crate) fn is_so<F: FnOnce(Global, &mut Tree) -> Result<bool, Refusal>>(
-    alloc: Global,
-    trial: F,
-) -> bool
-    requires { F.IsAlwaysCallable trial }
-{
-    let mut tree = Tree::new(alloc);
-    let is_so = trial(alloc, &mut tree);
-    is_so == Ok(true)
-}
-
 /// The ranges of a space, with a counter of their own.
 fn counted<L: Ledger>(
     alloc: Global,

@@ -1,20 +1,19 @@
 // Drawn maps that are changed by drawn calls: what is told of each change, and the ioeventfds that are shown after it, against programs
 // that compare everything with everything.
-use crate::cases::{Case, exceeds, over};
+use crate::cases::Case;
 use crate::changes::{any_call, building};
 use crate::draws::draw;
 use crate::maps::{add, latch, region, space};
-use crate::plain_walks::{plain_ioeventfds, plain_walk, without};
+use crate::plain_walks::{are_without, is_plain_walk, plain_ioeventfds};
 use crate::trees::viewed;
 use ioevents::{differ, live};
 use mem_base::{Kind, Live, Lives, RangeEvent, Refusal, SpaceId, View};
 use region_tree::Tree;
 use std::alloc::{AllocError, Global};
+use std::mem;
 use view_walk::walk;
 
-/// How many maps are drawn, and how often each is changed.
-const MAPS: u64 = 100;
-
+/// How often each map is changed.
 const CHANGES: u32 = 20;
 
 /// Makes a container of 16 pages with two RAMs and two devices, and does drawn calls that build.
@@ -87,11 +86,10 @@ fn kind_of(step: &RangeEvent) -> usize {
 /// Whether the walk from one view to another is told as by membership; its steps are counted.
 fn is_told(alloc: Global, case: &mut Case, old: &View, new: &View) -> Result<bool, AllocError> {
     let told = walk(alloc, old, new)?;
-    let want = plain_walk(alloc, old.as_slice(), new.as_slice())?;
     for step in told.as_slice() {
         case.count(kind_of(step), 1);
     }
-    Ok(told.as_slice() == want.as_slice())
+    Ok(is_plain_walk(told.as_slice(), old.as_slice(), new.as_slice()))
 }
 
 /// Whether two lists have the same members, each of them once.
@@ -116,11 +114,10 @@ fn is_difference(
 ) -> Result<bool, AllocError> {
     let (old, new) = (old.as_slice(), new.as_slice());
     let change = differ(alloc, old, new)?;
-    let gone = without(alloc, old, new)?;
-    let come = without(alloc, new, old)?;
-    case.count(5, gone.len());
-    case.count(6, come.len());
-    Ok(change.lost.as_slice() == gone.as_slice() && change.gained.as_slice() == come.as_slice())
+    let (lost, gained) = (change.lost.as_slice(), change.gained.as_slice());
+    case.count(5, lost.len());
+    case.count(6, gained.len());
+    Ok(are_without(lost, old, new) && are_without(gained, new, old))
 }
 
 /// Whether all of that is so of what was shown before a change and after it.
@@ -141,7 +138,7 @@ fn goes_on(alloc: Global, case: &mut Case, before: &mut Shown) -> Result<bool, R
     change_some(case)?;
     let after = look_at(alloc, &case.tree)?;
     let is_so = is_right(alloc, case, before, &after);
-    *before = after;
+    drop(mem::replace(before, after));
     Ok(is_so?)
 }
 
@@ -156,15 +153,9 @@ fn go_on(alloc: Global, case: &mut Case, before: &mut Shown) -> Result<bool, Ref
 }
 
 /// Whether that is so of all changes of a drawn map.
-fn are_right(alloc: Global, case: &mut Case) -> Result<bool, Refusal> {
+pub(crate) fn are_right(alloc: Global, case: &mut Case) -> Result<bool, Refusal> {
     begin(case)?;
     let mut before = look_at(alloc, &case.tree)?;
     let is_so = go_on(alloc, case, &mut before);
     is_so
-}
-
-#[test]
-fn drawn_changes_are_told_as_by_membership_and_ioeventfds_met_byte_by_byte(rt: HostRuntime) {
-    let told = over(rt.alloc(), MAPS, are_right);
-    assert!(rt; exceeds(&told, 7, 100), "{told:?}");
 }

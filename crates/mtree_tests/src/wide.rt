@@ -1,5 +1,5 @@
 // Containers of many regions side by side, upwards, downwards and in any order, against the plain program.
-use crate::cases::{Case, exceeds, over};
+use crate::cases::Case;
 use crate::draws::draw;
 use crate::generated::is_shown;
 use crate::maps::{add, alias, latch, region, resize, space};
@@ -7,9 +7,7 @@ use mem_base::{Kind, Refusal, SpaceId};
 use rand_pcg::Lcg64Xsh32;
 use std::alloc::Global;
 
-/// How many maps are drawn, and of how many regions in one container each.
-const MAPS: u64 = 600;
-
+/// How many regions one container has.
 const REGIONS: u32 = 18;
 
 /// The page at which a region is placed: upwards, downwards, or any.
@@ -53,7 +51,7 @@ fn resize_some(case: &mut Case) -> Result<(), Refusal> {
 }
 
 /// Whether all agree on a map with 18 devices, of which a few have two pages in every other map, and no call is refused.
-fn are_shown(alloc: Global, case: &mut Case) -> Result<bool, Refusal> {
+pub(crate) fn is_wide(alloc: Global, case: &mut Case) -> Result<bool, Refusal> {
     build(case)?;
     for step in 0..REGIONS {
         place(case, step)?;
@@ -63,10 +61,4 @@ fn are_shown(alloc: Global, case: &mut Case) -> Result<bool, Refusal> {
     }
     let is_so = is_shown(alloc, case, SpaceId(0))?;
     Ok(is_so && case.refused == 0)
-}
-
-#[test]
-fn wide_containers_show_what_the_plain_program_finds(rt: HostRuntime) {
-    let ranges = over(rt.alloc(), MAPS, are_shown);
-    assert!(rt; exceeds(&ranges, 1, 12_000), "{ranges:?}");
 }

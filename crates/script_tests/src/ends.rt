@@ -5,7 +5,6 @@ use outside::{
 };
 use std::alloc::{AllocError, Global};
 use std::io::{self, ErrorKind, Read, Write};
-use std::test::Fail;
 
 /// A reader that gives one byte a call.
 #[derive(Drop)]
@@ -86,12 +85,10 @@ const GIVEN: [(&[u8], usize, Option<ReadStop>); 5] = [
 ];
 
 #[test]
-fn read_all_gives_all_bytes_or_says_that_there_are_more(rt: HostRuntime) -> Result<(), Fail> {
+fn read_all_gives_all_bytes_or_says_that_there_are_more(rt: HostRuntime) {
     for (given, most, stop) in GIVEN {
-        let is_so = reads(rt.alloc(), given, most, stop)?;
-        assert!(rt; is_so);
+        assert!(rt; reads(rt.alloc(), given, most, stop) == Ok(true));
     }
-    Ok(())
 }
 
 /// How reading three bytes stops where the call of this number fails.
@@ -112,10 +109,8 @@ fn is_stopped(alloc: Global) -> Result<bool, AllocError> {
 }
 
 #[test]
-fn a_failing_read_stops_read_all(rt: HostRuntime) -> Result<(), Fail> {
-    let is_so = is_stopped(rt.alloc())?;
-    assert!(rt; is_so);
-    Ok(())
+fn a_failing_read_stops_read_all(rt: HostRuntime) {
+    assert!(rt; is_stopped(rt.alloc()) == Ok(true));
 }
 
 /// What each read of one byte answers, and the byte.
@@ -139,15 +134,16 @@ fn gives(source: &mut MemSource) -> bool {
     true
 }
 
+/// The same of a source of three bytes that fails at the second call and at the fourth.
+fn gives_all(alloc: Global) -> Result<bool, AllocError> {
+    let fails = [2, 4].to_vec(alloc)?;
+    let mut source = MemSource::new(b"abc".to_vec(alloc)?, fails);
+    Ok(gives(&mut source))
+}
+
 #[test]
-fn a_source_in_memory_fails_at_the_listed_calls_and_loses_nothing(
-    rt: HostRuntime,
-) -> Result<(), Fail> {
-    let fails = [2, 4].to_vec(rt.alloc())?;
-    let mut source = MemSource::new(b"abc".to_vec(rt.alloc())?, fails);
-    let is_so = gives(&mut source);
-    assert!(rt; is_so);
-    Ok(())
+fn a_source_in_memory_fails_at_the_listed_calls_and_loses_nothing(rt: HostRuntime) {
+    assert!(rt; gives_all(rt.alloc()) == Ok(true));
 }
 
 /// Pieces, what a sink answers to each, and what it has then.
@@ -170,15 +166,16 @@ fn takes(sink: &mut MemSink) -> bool {
     true
 }
 
+/// The same of a sink with room for four bytes that fails at the second call.
+fn takes_all(alloc: Global) -> Result<bool, AllocError> {
+    let fails = [2].to_vec(alloc)?;
+    let mut sink = MemSink::new(alloc, 4, fails)?;
+    Ok(takes(&mut sink))
+}
+
 #[test]
-fn a_sink_in_memory_fails_at_the_listed_calls_and_beyond_its_room(
-    rt: HostRuntime,
-) -> Result<(), Fail> {
-    let fails = [2].to_vec(rt.alloc())?;
-    let mut sink = MemSink::new(rt.alloc(), 4, fails)?;
-    let is_so = takes(&mut sink);
-    assert!(rt; is_so);
-    Ok(())
+fn a_sink_in_memory_fails_at_the_listed_calls_and_beyond_its_room(rt: HostRuntime) {
+    assert!(rt; takes_all(rt.alloc()) == Ok(true));
 }
 
 /// Whether a calm sink says of each piece that it took all of it, and its buffer of four bytes has the first four.
@@ -192,10 +189,8 @@ fn is_calm(alloc: Global) -> Result<bool, AllocError> {
 }
 
 #[test]
-fn a_calm_sink_keeps_what_its_buffer_has_room_for(rt: HostRuntime) -> Result<(), Fail> {
-    let is_so = is_calm(rt.alloc())?;
-    assert!(rt; is_so);
-    Ok(())
+fn a_calm_sink_keeps_what_its_buffer_has_room_for(rt: HostRuntime) {
+    assert!(rt; is_calm(rt.alloc()) == Ok(true));
 }
 
 /// Whether a buffer gets a whole text, at once and a byte a call.

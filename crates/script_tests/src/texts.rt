@@ -3,7 +3,6 @@
 use mem_base::{BadScript, Cause};
 use script_text::{MOST_TEXT, ParseFault, Script, parse, pool_words, print};
 use std::alloc::{AllocError, Global};
-use std::test::Fail;
 
 // The first line at fault of a text, and its cause.
 fn fault_of(alloc: Global, text: &[u8]) -> Option<BadScript> {
@@ -586,9 +585,8 @@ fn the_first_line_at_fault_is_named(rt: HostRuntime) {
 }
 
 #[test]
-fn commands_are_printed_without_defaults(rt: HostRuntime) -> Result<(), Fail> {
-    assert!(rt; prints(rt.alloc(), WRITTEN, PRINTED)?);
-    Ok(())
+fn commands_are_printed_without_defaults(rt: HostRuntime) {
+    assert!(rt; prints(rt.alloc(), WRITTEN, PRINTED) == Ok(true));
 }
 
 const BLOCK: &str = "machine 4K\n\
@@ -609,9 +607,8 @@ end\n\
 space S A\n";
 
 #[test]
-fn a_script_has_one_block(rt: HostRuntime) -> Result<(), Fail> {
-    assert!(rt; prints(rt.alloc(), BLOCK, PRINTED_BLOCK)?);
-    Ok(())
+fn a_script_has_one_block(rt: HostRuntime) {
+    assert!(rt; prints(rt.alloc(), BLOCK, PRINTED_BLOCK) == Ok(true));
 }
 
 // Whether as many line feeds as a text may have are no commands, and one more is too long.
@@ -627,9 +624,8 @@ fn has_its_length(alloc: Global) -> Result<bool, AllocError> {
 }
 
 #[test]
-fn a_script_is_at_most_a_mebibyte(rt: HostRuntime) -> Result<(), Fail> {
-    assert!(rt; has_its_length(rt.alloc())?);
-    Ok(())
+fn a_script_is_at_most_a_mebibyte(rt: HostRuntime) {
+    assert!(rt; has_its_length(rt.alloc()) == Ok(true));
 }
 
 #[test]

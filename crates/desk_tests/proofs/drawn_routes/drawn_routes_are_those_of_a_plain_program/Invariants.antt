@@ -1,4 +1,0 @@
-use Rattle.desk_tests.proofs.drawn_routes.drawn_routes_are_those_of_a_plain_program.Given as goal
-
-abbrev pub ghosts-first_other : goal.ghosts-first_other
-ghosts-first_other g a = record { name = a.blank.name; parts = a.blank.parts }

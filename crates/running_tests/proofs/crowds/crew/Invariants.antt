@@ -1,5 +1,0 @@
-use Rattle.std.proofs.Common.{◌≡◌}
-use Rattle.running_tests.proofs.crowds.crew.Given as goal
-
-abbrev pub invariant-loop-mine : goal.invariant-loop-mine
-invariant-loop-mine l = l.config.seat.cabinet ≡ l.cabinet.id
