@@ -4,6 +4,7 @@ ghost use Rattle.monitor_text.specs.Rows.{tree_line};
 ghost use Rattle.monitor_text.specs.Texts.{lines_of};
 ghost use Rattle.monitor_import.specs.Drafts.{Explains, IsFault, IsScript, NamesAll, NamesSpaces};
 
+use crate::choices::{Choice, choices_of};
 use crate::draws::{Source, add_machine, add_map, add_regions};
 use crate::faults::{ImportFault, kept};
 use crate::flats::{View, views_of};
@@ -18,15 +19,10 @@ use script_text::{ParseFault, parse};
 use std::alloc::{AllocError, Global};
 
 // Adds the lines of a script to its text.
-fn add_script(
-    alloc: Global,
-    text: &mut Line,
-    source: &Source<'_, '_>,
-    wanted: &[Name],
-) -> Result<(), AllocError> {
+fn add_script(alloc: Global, text: &mut Line, source: &Source<'_, '_>) -> Result<(), AllocError> {
     add_machine(text, source.plans)?;
     add_regions(text, source)?;
-    let spaces = add_spaces(alloc, text, source, wanted)?;
+    let spaces = add_spaces(alloc, text, source)?;
     let done = add_rest(alloc, text, source, &spaces);
     drop(spaces);
     done
@@ -44,10 +40,29 @@ fn add_rest(
 }
 
 // The lines of the script of what was read.
-fn text_of(alloc: Global, source: &Source<'_, '_>, wanted: &[Name]) -> Result<Line, AllocError> {
+fn text_of(alloc: Global, source: &Source<'_, '_>) -> Result<Line, AllocError> {
     let mut text = Line::new(alloc);
-    let done = add_script(alloc, &mut text, source, wanted);
+    let done = add_script(alloc, &mut text, source);
     kept(text, done)
+}
+
+// The lines of the script of these trees and views, with these spaces.
+fn guess_with(
+    alloc: Global,
+    trees: &Trees<'_>,
+    views: &[View<'_>],
+    spaces: &[Choice<'_>],
+) -> Result<Line, AllocError> {
+    let plans = plans_of(alloc, trees, views, spaces)?;
+    let source = Source {
+        trees,
+        views,
+        plans: &plans,
+        spaces,
+    };
+    let text = text_of(alloc, &source);
+    drop(plans);
+    text
 }
 
 // The lines of the script of these trees and views.
@@ -57,14 +72,9 @@ fn guess_by(
     views: &[View<'_>],
     wanted: &[Name],
 ) -> Result<Line, AllocError> {
-    let plans = plans_of(alloc, trees, views)?;
-    let source = Source {
-        trees,
-        views,
-        plans: &plans,
-    };
-    let text = text_of(alloc, &source, wanted);
-    drop(plans);
+    let spaces = choices_of(alloc, trees, views, wanted)?;
+    let text = guess_with(alloc, trees, views, &spaces);
+    drop(spaces);
     text
 }
 
@@ -167,7 +177,8 @@ fn draft_in(
 }
 
 /// A script that may be what QEMU's monitor printed of a machine: `tree` by `info mtree -D`, and `flat` by `info mtree -f`, which may be
-/// empty. Of the spaces of these names, or of all where none are named, it has the first sixteen, those with a view before others.
+/// empty. It has the spaces of these names, or all where none are named; of more than sixteen `memory` and `I/O` first, and those alone that
+/// show what none before them shows.
 pub fn draft(
     alloc: Global,
     tree: &[u8],

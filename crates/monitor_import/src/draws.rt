@@ -1,10 +1,12 @@
 // The lines of a script, added to its text.
 
-use crate::flats::{View, view_of};
+use crate::choices::Choice;
+use crate::flats::View;
 use crate::kinds::Made;
 use crate::loops::Part;
 use crate::orders::tried;
-use crate::plans::{Plan, Plans};
+use crate::plans::{Left, Plan, Plans};
+use crate::stands::Stand;
 use crate::trees::{Node, Trees};
 use mem_base::Name;
 use monitor_text::RowKind;
@@ -17,6 +19,7 @@ pub(crate) struct Source<'s, 'a> {
     pub(crate) trees: &'s Trees<'a>,
     pub(crate) views: &'s [View<'a>],
     pub(crate) plans: &'s Plans,
+    pub(crate) spaces: &'s [Choice<'a>],
 }
 
 /// A comment: `# NAME WORDS`.
@@ -62,6 +65,9 @@ fn add_region(
     node: &Node<'_>,
     plan: &Plan,
 ) -> Result<(), AllocError> {
+    if plan.left == Some(Left::Unreached) {
+        return Ok(());
+    }
     if let Some(left) = plan.left {
         text.counted("# line ", u64::from(node.line))?;
         text.named(": ", node.row.name.as_bytes())?;
@@ -102,6 +108,31 @@ fn add_level(
     Ok(any)
 }
 
+// The lines of a container for a root that does not stand at 0, and of an alias that shows the root there.
+fn add_stand(text: &mut Line, source: &Source<'_, '_>, stand: &Stand) -> Result<(), AllocError> {
+    let Some(plan) = source.plans.kept(stand.root) else {
+        return Ok(());
+    };
+    add_made(text, &stand.top, Made::Container.word(), 1 << 64)?;
+    text.end()?;
+    add_made(text, &stand.window, Made::Alias.word(), plan.size)?;
+    add_target(text, source, stand.root, 0)?;
+    text.end()
+}
+
+// One line for all regions that no space of the script reaches.
+fn add_unreached(text: &mut Line, plans: &Plans) -> Result<(), AllocError> {
+    let count = plans.unreached();
+    if count == 0 {
+        return Ok(());
+    }
+    text.counted(
+        "# regions that are left out, as no space of the script reaches them: ",
+        count,
+    )?;
+    text.end()
+}
+
 /// The lines of all regions: an alias after its target.
 pub(crate) fn add_regions(text: &mut Line, source: &Source<'_, '_>) -> Result<(), AllocError> {
     for steps in 0..source.trees.nodes.len().saturating_add(1) {
@@ -111,9 +142,14 @@ pub(crate) fn add_regions(text: &mut Line, source: &Source<'_, '_>) -> Result<()
     }
     add_level(text, source, None)?;
     for part in source.plans.parts.iter() {
-        add_part(text, source, part)?;
+        if source.plans.kept(part.alias).is_some() {
+            add_part(text, source, part)?;
+        }
     }
-    Ok(())
+    for stand in source.plans.stands.iter() {
+        add_stand(text, source, stand)?;
+    }
+    add_unreached(text, source.plans)
 }
 
 // ` prio N`, where it is not 0.
@@ -174,8 +210,7 @@ fn add_children(
     node: &Node<'_>,
     plan: &Plan,
 ) -> Result<(), AllocError> {
-    let view = view_of(source.views, source.trees, node.tree);
-    let order = tried(alloc, source.trees, view, at)?;
+    let order = tried(alloc, source.trees, source.views, &source.plans.regions, at)?;
     for child in order.iter().rev() {
         add_child(text, source, node, plan, *child)?;
     }
@@ -221,5 +256,10 @@ pub(crate) fn add_map(
         }
     }
     add_parts(text, source.plans)?;
+    for stand in source.plans.stands.iter() {
+        if source.plans.kept(stand.root).is_some() {
+            add_placed(text, &stand.top, stand.start, &stand.window, 0)?;
+        }
+    }
     text.text("commit\n")
 }

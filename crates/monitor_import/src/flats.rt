@@ -3,7 +3,7 @@
 use crate::trees::{Node, Trees};
 use indexmap::IndexMap;
 use mem_base::Name;
-use monitor_text::{FlatLine, FlatRow, RowKind};
+use monitor_text::{FlatLine, FlatRow};
 use std::alloc::{AllocError, Global};
 
 /// A flat view, and the spaces that show it.
@@ -80,6 +80,22 @@ pub(crate) fn view_of<'v, 'a>(
     None
 }
 
+/// The view of a tree, where all views that name the first of its spaces show the same: several spaces may have one name.
+pub(crate) fn sure_view_of<'v, 'a>(
+    views: &'v [View<'a>],
+    trees: &Trees<'_>,
+    tree: usize,
+) -> Option<&'v View<'a>> {
+    let name = trees.trees.get(tree)?.spaces.first()?;
+    let first = view_of(views, trees, tree)?;
+    for view in views {
+        if is_among(&view.spaces, name) && !view.is_same(first) {
+            return None;
+        }
+    }
+    Some(first)
+}
+
 impl<'a> View<'a> {
     /// The range that has an address.
     pub(crate) fn at(&self, addr: u64) -> Option<&'a FlatRow> {
@@ -97,42 +113,81 @@ fn offset_at(row: &FlatRow, addr: u64) -> u64 {
     row.offset.wrapping_add(addr.wrapping_sub(row.start))
 }
 
-/// Whether a node, or what it shows, is what a range shows at an address of the space.
-pub(crate) fn may_be_shown(node: &Node<'_>, row: &FlatRow, addr: u64) -> bool {
+/// Whether a node, or what it shows, may be the region of this name at this offset, at an address of its tree.
+pub(crate) fn may_show(node: &Node<'_>, name: &Name, offset: u64, addr: u64) -> bool {
     if addr < node.row.start || addr > node.row.last {
         return false;
     }
     let inside = addr.wrapping_sub(node.row.start);
     match &node.row.window {
         Some(window) => {
-            window.target.as_bytes() == row.name.as_bytes()
-                && window.first.wrapping_add(inside) == offset_at(row, addr)
+            window.target.as_bytes() == name.as_bytes()
+                && window.first.wrapping_add(inside) == offset
         }
-        None => node.is_named(&row.name) && inside == offset_at(row, addr),
+        None => node.is_named(name) && inside == offset,
     }
 }
 
-// Whether a range may show a window.
-fn is_shown_in(node: &Node<'_>, row: &FlatRow) -> bool {
+/// Whether a node, or what it shows, is what a range shows at an address of the space.
+pub(crate) fn may_be_shown(node: &Node<'_>, row: &FlatRow, addr: u64) -> bool {
+    may_show(node, &row.name, offset_at(row, addr), addr)
+}
+
+/// Whether a node, or one below it, may be what a range shows at an address of the space, which is this one in the node's tree.
+pub(crate) fn shows_at(
+    trees: &Trees<'_>,
+    at: usize,
+    row: &FlatRow,
+    addr: u64,
+    inside: u64,
+) -> bool {
+    let offset = offset_at(row, addr);
+    for node in trees.family(at) {
+        if !node.row.disabled && may_show(node, &row.name, offset, inside) {
+            return true;
+        }
+    }
+    false
+}
+
+/// Whether a range may show a node.
+pub(crate) fn is_shown_in(node: &Node<'_>, row: &FlatRow) -> bool {
     row.last >= node.row.start && may_be_shown(node, row, row.start.max(node.row.start))
 }
 
-/// Whether a view shows a window read-only where its target is RAM: all of its ranges that may show the window are read-only. Where
-/// another window on the same RAM covers a part, that part's range may be either's.
-pub(crate) fn is_readonly(view: &View<'_>, node: &Node<'_>) -> bool {
-    if node.row.window.is_none() || node.row.kind != RowKind::Ram || node.row.disabled {
-        return false;
-    }
-    let mut is_rom = false;
-    for row in view.rows.iter() {
-        if is_shown_in(node, row) {
-            if row.kind != RowKind::Rom {
+// Whether two ranges tell the same.
+fn is_same_row(a: &FlatRow, b: &FlatRow) -> bool {
+    a.start == b.start
+        && a.last == b.last
+        && a.kind == b.kind
+        && a.nonvolatile == b.nonvolatile
+        && a.offset == b.offset
+        && a.name.as_bytes() == b.name.as_bytes()
+}
+
+impl View<'_> {
+    /// Whether it shows what another shows.
+    pub(crate) fn is_same(&self, other: &View<'_>) -> bool {
+        if self.rows.len() != other.rows.len() {
+            return false;
+        }
+        for (a, b) in self.rows.iter().zip(other.rows.iter()) {
+            if !is_same_row(*a, *b) {
                 return false;
             }
-            is_rom = true;
         }
+        true
     }
-    is_rom
+
+    /// Whether one of its ranges may show a node.
+    pub(crate) fn has(&self, node: &Node<'_>) -> bool {
+        for row in self.rows.iter() {
+            if is_shown_in(node, *row) {
+                return true;
+            }
+        }
+        false
+    }
 }
 
 /// Which regions are shown, by name: of all ranges that show a region of that name, the least size that the region has by them.

@@ -1,6 +1,6 @@
 // What the regions of a script are made as.
 
-use crate::flats::Shown;
+use crate::flats::{Shown, View, view_of};
 use crate::trees::{Node, Trees};
 use mem_base::{MOST_BYTES, PAGE_SIZE};
 use monitor_text::RowKind;
@@ -90,13 +90,47 @@ fn has_namesake(trees: &Trees<'_>, at: usize, node: &Node<'_>) -> bool {
     count > 1
 }
 
+// Whether another region has the name of the one for which a node stands.
+fn is_shared(trees: &Trees<'_>, regions: &[usize], at: usize, node: &Node<'_>) -> bool {
+    for (other, region) in trees.nodes.iter().zip(regions.iter()) {
+        if *region != at && other.row.window.is_none() && other.is_named(&node.row.name) {
+            return true;
+        }
+    }
+    false
+}
+
+// Whether the view of its tree shows a node that has others below it; where the tree has no view, or no other region has its name, a region
+// of that name in any view is it.
+fn is_shown(
+    trees: &Trees<'_>,
+    views: &[View<'_>],
+    regions: &[usize],
+    at: usize,
+    node: &Node<'_>,
+) -> bool {
+    match view_of(views, trees, node.tree) {
+        Some(view) => view.has(node) || !is_shared(trees, regions, at, node),
+        None => true,
+    }
+}
+
 // Whether what is printed as `i/o` is a device. A view that shows the region tells that it is, where no other below it has its name;
 // without views, what has others below it only groups them.
-fn is_device(trees: &Trees<'_>, shown: &Option<Shown>, at: usize, node: &Node<'_>) -> bool {
+fn is_device(
+    trees: &Trees<'_>,
+    views: &[View<'_>],
+    shown: &Option<Shown>,
+    regions: &[usize],
+    at: usize,
+    node: &Node<'_>,
+) -> bool {
     match shown {
         Some(shown) => {
             if trees.is_parent(at) {
-                shown.has(&node.row.name, node.size()) && !has_namesake(trees, at, node)
+                shown.has(&node.row.name, node.size())
+                    && !has_namesake(trees, at, node)
+                    && is_shown(trees, views, regions, at, node)
             } else {
                 shown.has(&node.row.name, node.size()) || is_off(trees, at)
             }
@@ -108,7 +142,9 @@ fn is_device(trees: &Trees<'_>, shown: &Option<Shown>, at: usize, node: &Node<'_
 /// What a node's region is made as.
 pub(crate) fn made_as(
     trees: &Trees<'_>,
+    views: &[View<'_>],
     shown: &Option<Shown>,
+    regions: &[usize],
     at: usize,
     node: &Node<'_>,
 ) -> Made {
@@ -116,7 +152,7 @@ pub(crate) fn made_as(
         return Made::Alias;
     }
     match node.row.kind {
-        RowKind::Io if is_device(trees, shown, at, node) => Made::Io,
+        RowKind::Io if is_device(trees, views, shown, regions, at, node) => Made::Io,
         RowKind::Io => Made::Container,
         _ if !may_be_memory(node.size()) => Made::Memory,
         RowKind::Rom => Made::Rom,

@@ -5,8 +5,10 @@
 //! settle what they can. The layer above may rely on it that the text that is made is a script.
 #![tactic(auto)]
 
+mod choices;
 mod drafts;
 mod draws;
+mod evidence;
 mod faults;
 mod flats;
 mod kinds;
@@ -14,8 +16,10 @@ mod loops;
 mod names;
 mod orders;
 mod plans;
+mod reaches;
 mod regions;
 mod spaces;
+mod stands;
 mod targets;
 mod trees;
 mod wanted;

@@ -1,11 +1,15 @@
 // What becomes of each region.
 
+use crate::choices::Choice;
+use crate::evidence::{is_readonly, is_readonly_device};
 use crate::faults::kept;
-use crate::flats::{Shown, View, is_readonly, may_be_shown, view_of};
+use crate::flats::{Shown, View, may_be_shown, view_of};
 use crate::kinds::{Made, made_as};
 use crate::loops::{Part, add_parts, is_inside};
 use crate::names::Given;
+use crate::reaches::{leaves_some, reached_by};
 use crate::regions::regions_of;
+use crate::stands::{Stand, add_stands, stand_of};
 use crate::targets::target_of;
 use crate::trees::{Node, Trees};
 use mem_base::{MOST_BYTES, MOST_REGIONS, Name};
@@ -17,6 +21,8 @@ pub(crate) enum Left {
     NoTarget,
     NoBytes,
     TooMany,
+    /// All of these are told in one line.
+    Unreached,
 }
 
 impl Left {
@@ -26,6 +32,7 @@ impl Left {
             Left::NoTarget => " is left out: its target is not printed",
             Left::NoBytes => " is left out: it has no bytes",
             Left::TooMany => " is left out: a map has at most 4096 regions",
+            Left::Unreached => " is left out: no space of the script reaches it",
         }
     }
 }
@@ -36,7 +43,7 @@ pub(crate) struct Plan {
     pub(crate) name: Name,
     pub(crate) size: u128,
     pub(crate) made: Made,
-    /// Whether it is a window that is shown read-only.
+    /// Whether it is a window or a device that is shown read-only.
     pub(crate) readonly: bool,
     /// The node that stands for an alias's target.
     pub(crate) target: Option<usize>,
@@ -51,16 +58,44 @@ fn words_of(plan: &Option<Plan>) -> u128 {
     }
 }
 
-/// The plans of all regions, each at the number of the node that stands for it; for each node the one that stands for it; and the parts of
-/// aliases that are taken apart.
+/// The plans of all regions, each at the number of the node that stands for it; for each node the one that stands for it; the parts of
+/// aliases that are taken apart; and what shows roots that do not stand at 0.
 #[derive(Debug, Drop)]
 pub(crate) struct Plans {
     pub(crate) regions: Vec<usize>,
     pub(crate) plans: Vec<Option<Plan>>,
     pub(crate) parts: Vec<Part>,
+    pub(crate) stands: Vec<Stand>,
 }
 
 impl Plans {
+    /// What shows the root of a tree, where it takes more than the root.
+    pub(crate) fn stand_of(&self, tree: usize) -> Option<&Stand> {
+        stand_of(&self.stands, tree)
+    }
+
+    /// How many regions no space of the script reaches.
+    pub(crate) fn unreached(&self) -> u64 {
+        let mut count = 0u64;
+        for plan in self.plans.iter() {
+            if let Some(plan) = plan {
+                if plan.left == Some(Left::Unreached) {
+                    count = count.saturating_add(1);
+                }
+            }
+        }
+        count
+    }
+
+    // Leaves out what was not reached.
+    fn leave_unreached(&mut self, reached: &[bool]) {
+        for (at, is_reached) in reached.iter().enumerate() {
+            if !*is_reached {
+                self.leave(at, Left::Unreached);
+            }
+        }
+    }
+
     /// Whether a node stands for its region.
     pub(crate) fn is_region(&self, at: usize) -> bool {
         self.regions.get(at).copied() == Some(at)
@@ -163,28 +198,48 @@ impl Plans {
     }
 }
 
-// Whether the view of its space shows that a region of one byte has none.
-fn has_no_bytes(view: &View<'_>, trees: &Trees<'_>, at: usize, node: &Node<'_>) -> bool {
+// Whether a view shows a region of this name that may have one byte.
+fn is_shown(shown: &Option<Shown>, node: &Node<'_>) -> bool {
+    match shown {
+        Some(shown) => shown.has(&node.row.name, 1),
+        None => false,
+    }
+}
+
+// Whether the view of its space shows that a region of one byte has none: the view has a hole there, or shows another region, where no view
+// shows one of its name.
+fn has_no_bytes(
+    view: &View<'_>,
+    trees: &Trees<'_>,
+    shown: &Option<Shown>,
+    at: usize,
+    node: &Node<'_>,
+) -> bool {
     if node.size() != 1 || node.row.disabled || trees.is_parent(at) {
         return false;
     }
     match view.at(node.row.start) {
-        Some(row) => !may_be_shown(node, row, node.row.start),
+        Some(row) => {
+            !may_be_shown(node, row, node.row.start)
+                && (node.row.window.is_some() || !is_shown(shown, node))
+        }
         None => true,
     }
 }
 
-// Whether the region for which a node stands is left out, and whether it is a window that is shown read-only.
+// Whether the region for which a node stands is left out, and whether it is a window or a device that is shown read-only.
 fn seen_by(
     trees: &Trees<'_>,
     views: &[View<'_>],
+    shown: &Option<Shown>,
     at: usize,
     node: &Node<'_>,
 ) -> (Option<Left>, bool) {
+    let is_device = is_readonly_device(trees, views, at, node);
     match view_of(views, trees, node.tree) {
-        Some(view) if has_no_bytes(view, trees, at, node) => (Some(Left::NoBytes), false),
-        Some(view) => (None, is_readonly(view, node)),
-        None => (None, false),
+        Some(view) if has_no_bytes(view, trees, shown, at, node) => (Some(Left::NoBytes), false),
+        Some(view) => (None, is_device || is_readonly(trees, view, at, node)),
+        None => (None, is_device),
     }
 }
 
@@ -200,11 +255,11 @@ struct Known<'k, 'a> {
 impl Known<'_, '_> {
     // What becomes of the region for which a node stands.
     fn plan_of(self, at: usize, node: &Node<'_>, name: Name) -> Plan {
-        let (left, readonly) = seen_by(self.trees, self.views, at, node);
+        let (left, readonly) = seen_by(self.trees, self.views, self.shown, at, node);
         Plan {
             name,
             size: node.size(),
-            made: made_as(self.trees, self.shown, at, node),
+            made: made_as(self.trees, self.views, self.shown, self.regions, at, node),
             readonly,
             target: self.target_of(node),
             left,
@@ -213,7 +268,7 @@ impl Known<'_, '_> {
 
     // The node that stands for the target of a node that is an alias.
     fn target_of(self, node: &Node<'_>) -> Option<usize> {
-        let target = target_of(self.trees, node)?;
+        let target = target_of(self.trees, self.views, node)?;
         self.regions.get(target).copied()
     }
 
@@ -326,31 +381,39 @@ fn fill(
     alloc: Global,
     trees: &Trees<'_>,
     views: &[View<'_>],
+    spaces: &[Choice<'_>],
     given: &mut Given,
     made: &mut Plans,
 ) -> Result<(), AllocError> {
     made.regions = regions_of(alloc, trees)?;
     make_plans(alloc, trees, views, given, made)?;
     take_apart(alloc, trees, given, made)?;
+    add_stands(alloc, trees, given, spaces, &mut made.stands)?;
+    if leaves_some(trees, spaces) {
+        let reached = reached_by(alloc, trees, made, spaces)?;
+        made.leave_unreached(&reached);
+    }
     made.leave_untargeted();
     made.leave_rest();
     made.fit();
     Ok(())
 }
 
-/// The plans of the regions that some trees print.
+/// The plans of the regions that some trees print, for a script with these spaces.
 pub(crate) fn plans_of(
     alloc: Global,
     trees: &Trees<'_>,
     views: &[View<'_>],
+    spaces: &[Choice<'_>],
 ) -> Result<Plans, AllocError> {
     let mut made = Plans {
         regions: Vec::new(alloc),
         plans: Vec::new(alloc),
         parts: Vec::new(alloc),
+        stands: Vec::new(alloc),
     };
     let mut given = Given::none(alloc);
-    let done = fill(alloc, trees, views, &mut given, &mut made);
+    let done = fill(alloc, trees, views, spaces, &mut given, &mut made);
     drop(given);
     kept(made, done)
 }

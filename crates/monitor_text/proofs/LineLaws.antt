@@ -10,7 +10,7 @@ use Rattle.mem_base.specs.script.Lines.{without_return}
 use Rattle.script_text.proofs.Cuts.{split_first, split_none}
 use Rattle.monitor_text.specs.declared.faults.MonitorFault.{MonitorFault}
 use Rattle.monitor_text.specs.declared.faults.MonitorFault.TheVariants.{Bad, Memory}
-use Rattle.monitor_text.specs.Parts.{until}
+use Rattle.monitor_text.specs.Parts.{target_at, until, until_target}
 use Rattle.monitor_text.specs.Texts.{Given, ReadsText, TakesLine, before_rest, behind_lines, lines_from}
 
 -- the first line of a text
@@ -64,6 +64,10 @@ behind_none lines (Err line) e = refl
 pub until_at : (byte : ℕ) (text front back : List ℕ) (k : ℕ) → position (λ b. b == byte) text ≡ Some k → front ≡ take k text
     → back ≡ drop (k + 1) text → until byte text ≡ Some (front, back)
 until_at byte text front back k e f g = rw (e, f, g) refl
+
+pub until_target_at : (text front back : List ℕ) (k : ℕ) → target_at text ≡ Some k → front ≡ take k text → back ≡ drop (k + 2) text
+    → until_target text ≡ Some (front, back)
+until_target_at text front back k e f g = rw (e, f, g) refl
 
 pub takes_next : {X : Type 0} (n : ℕ) (read : Option X) (x : X) (old new : List (ℕ × X)) → read ≡ Some x → new ≡ old ++ (n, x) ∷ []
     → TakesLine (Ok tt) n read old new

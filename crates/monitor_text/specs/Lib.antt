@@ -1,3 +1,4 @@
+pub mod Addresses
 pub mod Names
 pub mod Parts
 pub mod Reads

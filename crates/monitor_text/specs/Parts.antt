@@ -1,8 +1,8 @@
 -- Parts of a line, each taken from the front: what it says, and the text after it, or none where the text does not begin with one.
-use Rattle.std.specs.Prelude.{ℕ, ◌+◌, ◌-◌, ◌^◌, ◌==◌, ◌&&◌, if◌then◌else◌, nat_le, length, take, drop, position, Option, Some, None}
+use Rattle.std.specs.Prelude.{ℕ, ◌+◌, ◌-◌, ◌^◌, ◌==◌, ◌&&◌, if◌then◌else◌, nat_le, length, take, drop, position, zip, Option, Some, None}
 use Rattle.std.specs.Prelude.{option_and_then, option_map, codes, ℤ, pos, neg_ℤ, Bool, true, false}
 use Rattle.std.specs.Str.{bytes_eq}
-use Rattle.mem_base.specs.script.Spelling.{Text, digits, most_address, last_of}
+use Rattle.mem_base.specs.script.Spelling.{Text, digits, most_address}
 use Rattle.monitor_text.specs.declared.parts.RowHead.{RowHead}
 use Rattle.monitor_text.specs.declared.rows.RowKind.{RowKind}
 use Rattle.monitor_text.specs.declared.rows.RowKind.TheVariants as kinds
@@ -31,6 +31,18 @@ after_word word text = if bytes_eq (take (length word) text) word then Some (dro
 -- what stands before the first byte of this value, which is passed over too
 abbrev pub until : ℕ → Part Text
 until byte text = option_map (λ k. (take k text, drop (k + 1) text)) (position (λ b. b == byte) text)
+
+-- two neighbours are a space and `@`
+abbrev pub is_at_sign : ℕ × ℕ → Bool
+is_at_sign p = (p.0 == 32) && (p.1 == 64)
+
+-- where the first ` @` stands
+abbrev pub target_at : Text → Option ℕ
+target_at text = position is_at_sign (zip text (drop 1 text))
+
+-- what stands before the first ` @`, which is passed over too
+abbrev pub until_target : Part Text
+until_target text = option_map (λ k. (take k text, drop (k + 2) text)) (target_at text)
 
 -- FIRST-LAST
 abbrev pub span : Part (ℕ × ℕ)
@@ -74,15 +86,6 @@ head text =
     (priority_of number))) (after_word (codes " (prio ") t))
 
 -- Ends of a line
-
--- the byte is a space
-abbrev pub is_space : Option ℕ → Bool
-is_space None = false
-is_space (Some b) = b == 32
-
--- without a space at its end
-abbrev pub without_space : Text → Text
-without_space text = if is_space (last_of text) then take (length text - 1) text else text
 
 -- without this word at its end, and whether it stood there
 abbrev pub without_end : Text → Text → Text × Bool

@@ -1,6 +1,7 @@
 -- The lines of the monitor's texts (QEMU 7.2, softmmu/memory.c: mtree_print_mr, mtree_print_flatview, mtree_info_as).
 use Rattle.std.specs.Prelude.{ℕ, ◌-◌, ◌/◌, ◌==◌, ◌||◌, if◌then◌else◌, nat_le, not, length, take, drop, position, Option, Some, None}
 use Rattle.std.specs.Prelude.{option_and_then, option_map, unwrap_or, codes, Bool}
+use Rattle.std.specs.List.{list_any}
 use Rattle.std.specs.Str.{bytes_eq}
 use Rattle.mem_base.specs.script.Spelling.{Text}
 use Rattle.monitor_text.specs.declared.parts.RowHead.{RowHead}
@@ -11,7 +12,7 @@ use Rattle.monitor_text.specs.declared.tree_text.TreeLine.{TreeLine}
 use Rattle.monitor_text.specs.declared.tree_text.TreeLine.TheVariants as tree
 use Rattle.monitor_text.specs.declared.flat_text.FlatLine.{FlatLine}
 use Rattle.monitor_text.specs.declared.flat_text.FlatLine.TheVariants as flat
-use Rattle.monitor_text.specs.Parts.{option_match, address, after_word, head, span, then_part, until, without_end, without_space}
+use Rattle.monitor_text.specs.Parts.{option_match, address, after_word, head, span, then_part, until, until_target, without_end}
 
 -- Trees
 
@@ -40,11 +41,10 @@ window text =
     (offsets (drop (length text - 34) text))
     else None
 
--- NAME @TARGET FIRST-LAST
+-- NAME @TARGET FIRST-LAST: the name may have an `@`, but none after a space
 abbrev pub alias_row : ℕ → RowHead → Text → Bool → Option TreeRow
 alias_row depth h text disabled =
-    then_part (until 64 text) (λ name t.
-    option_map (λ w. record (plain_row depth h (without_space name) disabled) { window = Some w }) (window t))
+    then_part (until_target text) (λ name t. option_map (λ w. record (plain_row depth h name disabled) { window = Some w }) (window t))
 
 -- what stands behind the kind: `alias` and the window, or a name
 abbrev pub named_row : ℕ → RowHead → Text → Bool → Option TreeRow
@@ -64,10 +64,18 @@ spaces_of text = unwrap_or (position (λ b. not (b == 32)) text) (length text)
 abbrev pub without_overflow : Text → Text
 without_overflow text = unwrap_or (after_word (codes "[DETECTED OVERFLOW!] ") text) text
 
+-- a line has an escape code, as each has that the monitor's line editor wrote
+abbrev pub has_escape : Text → Bool
+has_escape text = list_any (λ b. b == 27) text
+
+-- a line is the command that was typed, as it stands or as the line editor wrote it
+unfoldable pub is_echo : Text → Bool
+is_echo text = bytes_eq (take 10 text) (codes "info mtree") || has_escape text
+
 -- a line that says nothing of the map: a blank one, or one on which a command was typed, or with which the monitor greets
 abbrev pub is_other : Text → Bool
 is_other text =
-    (spaces_of text == length text) || bytes_eq (take 6 text) (codes "(qemu)") || bytes_eq (take 5 text) (codes "QEMU ")
+    (spaces_of text == length text) || bytes_eq (take 6 text) (codes "(qemu)") || bytes_eq (take 5 text) (codes "QEMU ") || is_echo text
 
 -- a line of a region
 abbrev pub row_line : Text → Option TreeLine
@@ -95,9 +103,22 @@ name_offset text =
     if nat_le 18 (length text) then option_match (offset_of (drop (length text - 18) text)) (text, 0) (λ n. (take (length text - 18) text, n))
     else (text, 0)
 
+-- without the name of an accelerator at the end, where it stands there (mtree_print_flatview, which tells so what KVM has as a slot)
+unfoldable pub without_mark : Text → Text
+without_mark text =
+    if (without_end (codes " KVM") text).1 then (without_end (codes " KVM") text).0
+    else if (without_end (codes " HVF") text).1 then (without_end (codes " HVF") text).0
+    else if (without_end (codes " WHPX") text).1 then (without_end (codes " WHPX") text).0
+    else if (without_end (codes " NVMM") text).1 then (without_end (codes " NVMM") text).0
+    else (without_end (codes " HAX") text).0
+
+-- without two of them: it stands there once for each space of the accelerator that has the range, and there are two at most
+abbrev pub without_marks : Text → Text
+without_marks text = without_mark (without_mark text)
+
 -- a range of a view
 abbrev pub flat_row : Text → Option FlatRow
-flat_row text = then_part (head text) (λ h t. let n = name_offset t in Some (record {
+flat_row text = then_part (head text) (λ h t. let n = name_offset (without_marks t) in Some (record {
   start = h.start;
   last = h.last;
   priority = h.priority;

@@ -1,6 +1,6 @@
 // A part of a line after another, each taken from the front.
-ghost use Rattle.std.specs.Prelude.{◌≡◌, ◌<◌, ◌==◌, None, Some, IfSome, MatchOption, length, position};
-ghost use Rattle.monitor_text.specs.Parts.{address, after_word, until};
+ghost use Rattle.std.specs.Prelude.{◌≡◌, ◌+◌, ◌<◌, ◌==◌, None, Some, IfSome, MatchOption, length, position};
+ghost use Rattle.monitor_text.specs.Parts.{address, after_word, target_at, until, until_target};
 
 use script_text::digits;
 use std::marker::Model;
@@ -70,6 +70,34 @@ impl<'a> Cursor<'a> {
         self.rest = back;
         Some(front)
     }
+
+    /// What stands before the first ` @`, which is passed over too.
+    pub(crate) fn until_target(&mut self) -> Option<&'a [u8]>
+        ensures { MatchOption result (until_target self.old ≡ None) (λ t. until_target self.old ≡ Some (t.now, self.new)) }
+    {
+        let (front, back) = cut_target(self.rest)?;
+        self.rest = back;
+        Some(front)
+    }
+}
+
+// What stands before the first ` @`, and after it.
+fn cut_target(text: &[u8]) -> Option<(&[u8], &[u8])>
+    ensures { MatchOption result (until_target text.now ≡ None) (λ p. until_target text.now ≡ Some (p.0.now, p.1.now)) }
+{
+    let end = target_at(text)?;
+    let (front, back) = text.split_at(end);
+    Some((front, back.split_at(2).1))
+}
+
+// Where the first ` @` stands.
+fn target_at(text: &[u8]) -> Option<usize>
+    ensures value { result ≡ target_at text.now }
+    ensures bound { IfSome result (λ k. k + 1 < length text.now) }
+{
+    text.iter()
+        .zip(text.iter().skip(1))
+        .position(|pair| *pair.0 == b' ' && *pair.1 == b'@')
 }
 
 // What stands before the first byte of this value, and after it.

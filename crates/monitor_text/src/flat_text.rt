@@ -2,10 +2,11 @@
 ghost use Rattle.std.specs.Prelude.{◌≡◌};
 ghost use Rattle.monitor_text.specs.Reads.{Reads};
 ghost use Rattle.monitor_text.specs.Rows.{flat_line, flat_row, name_offset, named_line, offset_of, range_line, shown_line, space_line};
+ghost use Rattle.monitor_text.specs.Rows.{without_mark, without_marks};
 
 use crate::cursor::Cursor;
 use crate::faults::LineFault;
-use crate::parts::head;
+use crate::parts::{head, without_end};
 use crate::rows::FlatRow;
 use crate::tree_text::{is_other, new_name, spaces_of};
 use mem_base::Name;
@@ -54,6 +55,37 @@ fn name_offset(text: &[u8]) -> (&[u8], u64)
     }
 }
 
+// The text without the name of an accelerator at its end.
+#[tactic(auto, unfolding(crate::specs::Rows::without_mark))]
+fn without_mark(text: &[u8]) -> &[u8]
+    ensures { result.now ≡ without_mark text.now }
+{
+    let (kvm, found) = without_end(b" KVM", text);
+    if found {
+        return kvm;
+    }
+    let (hvf, found) = without_end(b" HVF", text);
+    if found {
+        return hvf;
+    }
+    let (whpx, found) = without_end(b" WHPX", text);
+    if found {
+        return whpx;
+    }
+    let (nvmm, found) = without_end(b" NVMM", text);
+    if found {
+        return nvmm;
+    }
+    without_end(b" HAX", text).0
+}
+
+// The same of two names.
+fn without_marks(text: &[u8]) -> &[u8]
+    ensures { result.now ≡ without_marks text.now }
+{
+    without_mark(without_mark(text))
+}
+
 // A range of a view.
 fn flat_row(alloc: Global, text: &[u8]) -> Result<FlatRow, LineFault>
     ensures { Reads result (flat_row text.now) }
@@ -61,7 +93,7 @@ fn flat_row(alloc: Global, text: &[u8]) -> Result<FlatRow, LineFault>
     let mut cursor = Cursor::new(text);
     match head(&mut cursor) {
         Some(head) => {
-            let (name, offset) = name_offset(cursor.rest());
+            let (name, offset) = name_offset(without_marks(cursor.rest()));
             Ok(FlatRow {
                 start: head.start,
                 last: head.last,

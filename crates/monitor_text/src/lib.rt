@@ -5,6 +5,7 @@
 //! that has none of them is told. What the lines mean is for the layer above.
 #![tactic(auto)]
 
+mod addresses;
 mod cursor;
 mod faults;
 mod flat_text;
@@ -14,6 +15,7 @@ mod parts;
 mod rows;
 mod tree_text;
 
+pub use addresses::address_in;
 pub use faults::{LineFault, MonitorFault};
 pub use flat_text::{FlatLine, flat_line};
 pub use lines::{read_flat, read_tree};

@@ -1,6 +1,6 @@
 // The parts of a line of a region or a range.
 ghost use Rattle.std.specs.Prelude.{◌≡◌, ◌≤◌, ◌^◌, ◌-◌, None, Some, MatchOption, pos, neg_ℤ};
-ghost use Rattle.monitor_text.specs.Parts.{head, kind_of, kind_word, priority_of, span, without_end, without_space};
+ghost use Rattle.monitor_text.specs.Parts.{head, kind_of, kind_word, priority_of, span, without_end};
 
 use crate::cursor::Cursor;
 use crate::rows::RowKind;
@@ -98,17 +98,6 @@ pub(crate) fn head(cursor: &mut Cursor<'_>) -> Option<RowHead>
         nonvolatile,
         kind,
     })
-}
-
-/// The text without a space at its end.
-pub(crate) fn without_space(text: &[u8]) -> &[u8]
-    ensures { result.now ≡ without_space text.now }
-{
-    if text.last() == Some(&b' ') {
-        text.split_at(text.len() - 1).0
-    } else {
-        text
-    }
 }
 
 /// The text without this word at its end, and whether it stood there.

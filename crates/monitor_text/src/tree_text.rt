@@ -2,12 +2,12 @@
 ghost use Rattle.std.specs.Prelude.{◌≡◌, ◌≤◌, ◌<◌, ◌^◌, ◌==◌, IfOk, IfSome, length, not, position, take};
 ghost use Rattle.std.specs.Str.{bytes_eq};
 ghost use Rattle.monitor_text.specs.Reads.{Reads};
-ghost use Rattle.monitor_text.specs.Rows.{alias_row, is_other, named_row, offsets, plain_row, region_line, row_line, spaces_of, tree_line};
+ghost use Rattle.monitor_text.specs.Rows.{alias_row, has_escape, is_echo, is_other, named_row, offsets, plain_row, region_line, row_line, spaces_of, tree_line};
 ghost use Rattle.monitor_text.specs.Rows.{tree_row, window, without_overflow};
 
 use crate::cursor::Cursor;
 use crate::faults::LineFault;
-use crate::parts::{RowHead, head, span, without_end, without_space};
+use crate::parts::{RowHead, head, span, without_end};
 use crate::rows::{TreeRow, Window};
 use mem_base::Name;
 use std::alloc::{AllocError, Global};
@@ -98,10 +98,10 @@ fn alias_row(
     ensures { Reads result (alias_row depth head text.now disabled) }
 {
     let mut cursor = Cursor::new(text);
-    match cursor.until(b'@') {
+    match cursor.until_target() {
         Some(name) => {
             let window = window(alloc, cursor.rest())?;
-            let row = plain_row(alloc, depth, head, without_space(name), disabled)?;
+            let row = plain_row(alloc, depth, head, name, disabled)?;
             Ok(TreeRow {
                 window: Some(window),
                 ..row
@@ -180,11 +180,29 @@ fn begins(word: &[u8], text: &[u8]) -> bool
     Cursor::new(text).word(word).is_some()
 }
 
+// Whether a line has an escape code.
+fn has_escape(text: &[u8]) -> bool
+    ensures { result ≡ has_escape text.now }
+{
+    text.iter().any(|byte| *byte == 27)
+}
+
+// Whether a line is the command that was typed.
+#[tactic(auto, unfolding(crate::specs::Rows::is_echo))]
+fn is_echo(text: &[u8]) -> bool
+    ensures { result ≡ is_echo text.now }
+{
+    begins(b"info mtree", text) || has_escape(text)
+}
+
 /// Whether a line says nothing of the map.
 pub(crate) fn is_other(text: &[u8]) -> bool
     ensures { result ≡ is_other text.now }
 {
-    spaces_of(text) == text.len() || begins(b"(qemu)", text) || begins(b"QEMU ", text)
+    spaces_of(text) == text.len()
+        || begins(b"(qemu)", text)
+        || begins(b"QEMU ", text)
+        || is_echo(text)
 }
 
 // A line of a region.
