@@ -24,7 +24,7 @@ use Rattle.scope_words.specs.declared.requests.Request.{Request}
 use Rattle.scope_words.specs.declared.requests.Request.TheVariants.{Why, Lint, Diff, Slots, Draw, Explain, Import, Check}
 use Rattle.scope_run.specs.Diffs.{is_kept}
 use Rattle.scope_run.specs.Explains.{topic_code}
-use Rattle.scope_run.specs.Requests.{Holding}
+use Rattle.scope_run.specs.Requests.{Holding, called}
 use Rattle.scope_run.specs.Scripts.{TellsAll, left_by, told_by}
 use Rattle.scope_run.specs.Tables.{slot_number}
 use Rattle.scope_values.specs.Findings.{finding_data}
@@ -178,8 +178,8 @@ answers_depth (Slots script) held d something h =
 answers_depth (Draw script space style) held d something h =
     let told = h.0.2.2 in
     let names = (told_by h.0.0 h.0.2.0).names in
-    same_depth d (draw_data space.now names told.rows) 4 told.data_is
-    (answer_depth 3 (codes "draw") (draw_fields space.now names told.rows) (leaf 3, (depth_of_map 2 (row_data names) told.rows (row_depth names), tt)))
+    same_depth d (draw_data (called space.now) names told.rows) 4 told.data_is
+    (answer_depth 3 (codes "draw") (draw_fields (called space.now) names told.rows) (leaf 3, (depth_of_map 2 (row_data names) told.rows (row_depth names), tt)))
     (omega arith)
 answers_depth (Explain what) held d something h = word_depth held what.now (topic_code what.now) d something h
 answers_depth (Import tree flat spaces) held d something h =

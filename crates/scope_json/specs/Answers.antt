@@ -6,7 +6,7 @@ use Rattle.mem_base.specs.script.Spelling.{Text}
 use Rattle.scope_words.specs.declared.requests.Request.{Request}
 use Rattle.scope_words.specs.declared.requests.Request.TheVariants.{Why, Lint, Diff, Slots, Draw, Explain, Import, Check}
 use Rattle.scope_run.specs.Explains.{topic_code}
-use Rattle.scope_run.specs.Requests.{AnswersTo, Holding, IsAddress, OfFile}
+use Rattle.scope_run.specs.Requests.{AnswersTo, Holding, IsAddress, OfFile, called}
 use Rattle.scope_run.specs.Scripts.{OfScript, told_by}
 use Rattle.scope_json.specs.Diffs.{TellsDiff, diff_data}
 use Rattle.scope_json.specs.Draws.{TellsDraw}
@@ -27,7 +27,7 @@ AnswersWord held what None d something =
 abbrev pub AnswersWith : Request → Holding → Data → Bool → Type 0
 AnswersWith (Why script space addr region) held d something =
     OfFile held script.now (λ bytes. (a : ℕ) × IsAddress addr.now a
-    × OfScript bytes (λ lines. TellsWhy (told_by bytes lines) space.now a (option_map (λ r. r.now) region) d)) × (something ≡ false)
+    × OfScript bytes (λ lines. TellsWhy (told_by bytes lines) (called space.now) a (option_map (λ r. called r.now) region) d)) × (something ≡ false)
 AnswersWith (Lint script) held d something =
     OfFile held script.now (λ bytes. OfScript bytes (λ lines. (d ≡ lint_data lines) × (something ≡ lint_mends lines)))
 AnswersWith (Diff first second) held d something =
@@ -37,7 +37,7 @@ AnswersWith (Slots script) held d something =
     OfFile held script.now (λ bytes. OfScript bytes (λ lines. (items : List Data) × TellsSlots bytes lines items × (d ≡ slots_data items)))
     × (something ≡ false)
 AnswersWith (Draw script space style) held d something =
-    OfFile held script.now (λ bytes. OfScript bytes (λ lines. TellsDraw (told_by bytes lines) space.now d)) × (something ≡ false)
+    OfFile held script.now (λ bytes. OfScript bytes (λ lines. TellsDraw (told_by bytes lines) (called space.now) d)) × (something ≡ false)
 AnswersWith (Explain what) held d something = AnswersWord held what.now (topic_code what.now) d something
 AnswersWith (Import tree flat spaces) held d something =
     (text : Text) × AnswersTo (Import tree flat spaces) held text something × (d ≡ import_data text)

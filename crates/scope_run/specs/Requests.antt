@@ -1,7 +1,5 @@
 -- What is asked, and what is answered by what files hold.
 use Rattle.std.specs.Prelude.{◌≡◌, ◌<◌, ℕ, Bool, true, false, is_some, length, [], Option, Some, None, option_map, Ok, Err, ⊤}
-use Rattle.mem_base.specs.script.Operands.{address}
-use Rattle.mem_base.specs.script.Lines.{tokens_of}
 use Rattle.mem_base.specs.script.Scripts.{script_of}
 use Rattle.mem_base.specs.script.Spelling.{Text}
 use Rattle.mem_base.specs.script.States.{space_named}
@@ -22,6 +20,8 @@ use Rattle.scope_run.specs.Scripts.{FailsOn, OfScript, told_by}
 use Rattle.scope_run.specs.Tables.{TellsSlots}
 use Rattle.scope_run.specs.declared.importing.MonitorStop.TheVariants.{BadLine, Long, NoSpaces, Unknown, Made}
 use Rattle.monitor_import.specs.Drafts.{OfTree, has_space, unknown_in}
+use Rattle.monitor_text.specs.Addresses.{address_in}
+use Rattle.monitor_text.specs.Names.{cleaned}
 use Rattle.monitor_text.specs.Rows.{flat_line, tree_line}
 use Rattle.monitor_text.specs.Texts.{lines_of}
 use Rattle.script_check.specs.Checks.{IsChecked}
@@ -35,9 +35,13 @@ Holding = Text → Option Text
 abbrev pub OfFile : Holding → Text → (Text → Type 0) → Type 0
 OfFile held name fact = (bytes : Text) × Tells (held name) bytes × fact bytes
 
--- the word is one token, the address
+-- the name that a script has for what a word names: the word itself, or where it is a name that QEMU prints the one that `import` gives
+abbrev pub called : Text → Text
+called word = cleaned word
+
+-- the word is the address, as QEMU and `mscope` print one, or with a scale after it
 abbrev pub IsAddress : Text → ℕ → Type 0
-IsAddress word a = address (tokens_of word) ≡ Ok (a, [])
+IsAddress word a = address_in word ≡ Some a
 
 -- what `explain` answers: to the number or the word of a refusal or a cause what it means, to another word what is wrong with the file
 abbrev pub AnswersWord : Holding → Text → Option Text → Text → Bool → Type 0
@@ -49,7 +53,7 @@ AnswersWord held what None text something =
 abbrev pub AnswersTo : Request → Holding → Text → Bool → Type 0
 AnswersTo (Why script space addr region) held text something =
     OfFile held script.now (λ bytes. (a : ℕ) × IsAddress addr.now a
-    × OfScript bytes (λ lines. TellsWhy (told_by bytes lines) space.now a (option_map (λ r. r.now) region) text)) × (something ≡ false)
+    × OfScript bytes (λ lines. TellsWhy (told_by bytes lines) (called space.now) a (option_map (λ r. called r.now) region) text)) × (something ≡ false)
 AnswersTo (Lint script) held text something =
     OfFile held script.now (λ bytes. OfScript bytes (λ lines. text ≡ lint_text lines)) × (something ≡ tells_something text)
 AnswersTo (Diff first second) held text something =
@@ -58,7 +62,7 @@ AnswersTo (Diff first second) held text something =
 AnswersTo (Slots script) held text something =
     OfFile held script.now (λ bytes. OfScript bytes (λ lines. TellsSlots bytes lines text)) × (something ≡ false)
 AnswersTo (Draw script space style) held text something =
-    OfFile held script.now (λ bytes. OfScript bytes (λ lines. is_some (space_named (told_by bytes lines) space.now) ≡ true)) × (something ≡ false)
+    OfFile held script.now (λ bytes. OfScript bytes (λ lines. is_some (space_named (told_by bytes lines) (called space.now)) ≡ true)) × (something ≡ false)
 AnswersTo (Explain what) held text something = AnswersWord held what.now (topic_code what.now) text something
 AnswersTo (Import tree flat spaces) held text something = TellsImport text something
 AnswersTo (Check script flat) held text something =
@@ -137,11 +141,11 @@ FailsChecking held failed script flat fault = ⊥
 -- why a request has no answer, by what files hold, and by whether a read failed
 abbrev pub FailsFor : Request → Holding → Type 0 → Fault → Type 0
 FailsFor (Why script space addr region) held failed fault =
-    FailsWhy held failed script.now space.now addr.now (option_map (λ r. r.now) region) fault
+    FailsWhy held failed script.now (called space.now) addr.now (option_map (λ r. called r.now) region) fault
 FailsFor (Lint script) held failed fault = FailsFile held failed script.now None None fault
 FailsFor (Diff first second) held failed fault = FailsDiff held failed first.now second.now fault
 FailsFor (Slots script) held failed fault = FailsFile held failed script.now None None fault
-FailsFor (Draw script space style) held failed fault = FailsFile held failed script.now (Some space.now) None fault
+FailsFor (Draw script space style) held failed fault = FailsFile held failed script.now (Some (called space.now)) None fault
 FailsFor (Explain what) held failed fault = FailsFile held failed what.now None None fault
 FailsFor (Import tree flat spaces) held failed fault =
     FailsImporting held failed tree.now (option_map (λ f. f.now) flat) (option_map (λ s. s.now) spaces) fault

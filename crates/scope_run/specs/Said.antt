@@ -68,7 +68,7 @@ said request (faults.File which) = file_of request which ++ codes ": cannot be r
 said request (faults.Script which bad) = bad_text (file_of request which) bad
 said request faults.NoSpace = space_word request ++ codes ": the script has no space of this name"
 said request faults.NoRegion = region_word request ++ codes ": the script has no region of this name"
-said request faults.NoAddress = address_word request ++ codes ": no address; write 0x1000 or 4096"
+said request faults.NoAddress = address_word request ++ codes ": no address; write c8000, 0xc8000 or 800K"
 said request (faults.Monitor stop) = monitor_said request stop
 said request faults.Memory = codes "out of memory"
 

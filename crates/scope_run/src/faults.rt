@@ -168,7 +168,7 @@ fn add_fault(line: &mut Line, request: &Request<'_>, fault: Fault) -> Result<(),
         Fault::NoAddress => add_word(
             line,
             request.address(),
-            ": no address; write 0x1000 or 4096",
+            ": no address; write c8000, 0xc8000 or 800K",
         ),
         Fault::Monitor(stop) => add_monitor(line, request, stop),
         Fault::Memory => line.text("out of memory"),

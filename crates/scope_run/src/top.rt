@@ -4,7 +4,7 @@ ghost use Rattle.outside.specs.Causes.{Rose};
 ghost use Rattle.outside.specs.Sink.{Takes};
 ghost use Rattle.mem_base.specs.script.Spelling.{Text};
 ghost use Rattle.scope_run.specs.Files.{Tells};
-ghost use Rattle.scope_run.specs.Requests.{AnswersTo, FailsFor, IsAddress, IsUnread, ending_of};
+ghost use Rattle.scope_run.specs.Requests.{AnswersTo, FailsFor, IsAddress, IsUnread, called, ending_of};
 ghost use Rattle.scope_run.specs.Said.{fault_text};
 ghost use Rattle.scope_run.specs.declared.answers.Fault.TheVariants as faults;
 
@@ -20,9 +20,10 @@ use crate::monitor_files::{answer_check, answer_import};
 use crate::slotting::slots;
 use crate::whys::why;
 use mem_base::{BadScript, Cause, Name};
+use monitor_text::{address_in, cleaned};
 use outside::{Failed, ReadStop, Sink, write_all};
 use scope_words::{Request, Style};
-use script_text::{MOST_TEXT, Tokens};
+use script_text::MOST_TEXT;
 use std::alloc::{AllocError, Global};
 
 // What is said of a text that is longer than a script may be: no line of it is named.
@@ -59,16 +60,16 @@ pub fn text_in<F: Files>(
     }
 }
 
-/// A word as a name.
+/// The name that a script has for what a word names: the word itself, or where it is a name that QEMU prints the one that `import` gives.
 pub fn name_of(alloc: Global, word: &str) -> Result<Name, AllocError>
-    ensures { IfOk result (λ name. name ≡ word.now) }
+    ensures { IfOk result (λ name. name ≡ called word.now) }
 {
-    Ok(Name::new(word.as_bytes().to_vec(alloc)?))
+    Ok(Name::new(cleaned(alloc, word.as_bytes())?))
 }
 
 /// The name of a region, where one is asked for.
 pub fn region_of(alloc: Global, word: Option<&str>) -> Result<Option<Name>, AllocError>
-    ensures { IfOk result (λ name. name ≡ option_map (λ w. w.now) word.entry) }
+    ensures { IfOk result (λ name. name ≡ option_map (λ w. called w.now) word.entry) }
 {
     match word {
         Some(word) => Ok(Some(name_of(alloc, word)?)),
@@ -76,19 +77,14 @@ pub fn region_of(alloc: Global, word: Option<&str>) -> Result<Option<Name>, Allo
     }
 }
 
-/// The address that a word is, as the script language spells it. It answers `NoAddress` where the word is none.
+/// The address that a word is, as QEMU and `mscope` print one, or with a scale after it. It answers `NoAddress` where the word is none.
 pub fn address_of(word: &str) -> Result<u64, Fault>
     ensures address { IfOk result (λ a. IsAddress word.now a) }
     ensures none { IfErr result (λ fault. (fault ≡ faults.NoAddress) × ((a : ℕ) → IsAddress word.now a → ⊥)) }
 {
-    let mut tokens = Tokens::new(word.as_bytes());
-    let addr = match tokens.address() {
-        Ok(addr) => addr,
-        Err(_) => return Err(Fault::NoAddress),
-    };
-    match tokens.next() {
-        None => Ok(addr),
-        Some(_) => Err(Fault::NoAddress),
+    match address_in(word.as_bytes()) {
+        Some(addr) => Ok(addr),
+        None => Err(Fault::NoAddress),
     }
 }
 

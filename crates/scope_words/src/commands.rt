@@ -111,7 +111,7 @@ fn why<'a>(alloc: Global) -> Result<Command<'a>, AllocError>
         alloc,
         space,
         "ADDR",
-        "The address, as 0xc8000 or 819200 or 800K",
+        "The address, as c8000 or 0xc8000 or 800K",
     )?;
     with_more(alloc, addr, "REGION", "Tells of this region alone")
 }

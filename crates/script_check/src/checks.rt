@@ -1,12 +1,13 @@
 // The spaces of a script beside the monitor's text.
-ghost use Rattle.std.specs.Prelude.{◌≡◌, ◌++◌, IfErr, IfOk, List, OnOk, ℕ};
+ghost use Rattle.std.specs.Prelude.{◌≡◌, ◌++◌, ◌||◌, IfErr, IfOk, List, OnOk, ℕ};
 ghost use Rattle.script_check.specs.Checks.{Explains, IsChecked, IsToldOf, IsToldOfText, ReadsBlocks, compared_with, is_other, some_differs};
-ghost use Rattle.script_check.specs.Checks.{space_text, space_verdict, spaces_text};
+ghost use Rattle.script_check.specs.Checks.{some_differ, space_text, space_verdict, spaces_text, told_text};
 ghost use Rattle.script_check.specs.declared.faults.CheckFault.TheVariants.{Memory};
 
 use crate::blocks::{Block, blocks_of};
 use crate::faults::CheckFault;
 use crate::lines::add_verdict;
+use crate::missed::add_all_missed;
 use crate::verdicts::{Verdict, verdict_of};
 use mem_base::{RegionId, SpaceId};
 use monitor_text::{MonitorFault, read_flat};
@@ -15,7 +16,7 @@ use script_lines::Line;
 use script_memory::{MapStop, ToldMap, read_told};
 use std::alloc::{AllocError, Global};
 
-/// What is told of all spaces, and whether one is not told as the same.
+/// What is told of all spaces and views, and whether a space is not told as the same, or a view is missed.
 #[derive(Drop)]
 pub struct Checked {
     pub text: Line,
@@ -87,6 +88,13 @@ fn flat_blocks(alloc: Global, flat: &[u8]) -> Result<Vec<Block>, CheckFault>
     }
 }
 
+// Whether one of two holds.
+fn one_of(a: bool, b: bool) -> bool
+    ensures { result ≡ (a || b) }
+{
+    a || b
+}
+
 // What is told of all spaces of a script's map, by its regions that are read as memory.
 fn tell_spaces(
     alloc: Global,
@@ -94,15 +102,19 @@ fn tell_spaces(
     memory: &[RegionId],
     blocks: &[Block],
 ) -> Result<Checked, AllocError>
-    ensures text { let x = compared_with map.now memory.now blocks.now in IfOk result (λ c. c.text ≡ spaces_text x x.forest.spaces) }
-    ensures differs { let x = compared_with map.now memory.now blocks.now in IfOk result (λ c. c.differs ≡ some_differs x x.forest.spaces) }
+    ensures text { let x = compared_with map.now memory.now blocks.now in IfOk result (λ c. c.text ≡ told_text x) }
+    ensures differs { let x = compared_with map.now memory.now blocks.now in IfOk result (λ c. c.differs ≡ some_differ x) }
 {
     let generation = map.generation();
     let forest = generation.forest();
     let spaces = forest.spaces.as_slice();
     let mut text = Line::new(alloc);
     let differs = add_spaces(alloc, &mut text, map, memory, blocks, spaces)?;
-    Ok(Checked { text, differs })
+    let missed = add_all_missed(alloc, &mut text, map, memory, blocks, spaces)?;
+    Ok(Checked {
+        text,
+        differs: one_of(differs, missed),
+    })
 }
 
 // The spaces of a script's map.
@@ -130,9 +142,10 @@ fn check_blocks(alloc: Global, script: &[u8], blocks: &[Block]) -> Result<Checke
     }
 }
 
-/// Whether a script's spaces show what `info mtree -f` printed: a line for each that does, or is not printed, and three for one that differs.
+/// Whether a script's spaces show what `info mtree -f` printed: a line for each that does, or is not printed, and three for one that differs; then a
+/// line for each view that was printed of a space, and that no space of the script has.
 ///
-/// Where all are told as the same, each has, range by range, a view that was printed of a space of its name.
+/// Where nothing differs, each space has, range by range, a view that was printed of a space of its name, and each view is that of a space.
 pub fn check(alloc: Global, script: &[u8], flat: &[u8]) -> Result<Checked, CheckFault>
     ensures told { IfOk result (λ c. IsChecked script.now flat.now c.text c.differs) }
     ensures faults { IfErr result (Explains script.now flat.now) }

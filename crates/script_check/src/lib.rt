@@ -8,6 +8,7 @@ mod blocks;
 mod checks;
 mod faults;
 mod lines;
+mod missed;
 mod verdicts;
 
 pub use blocks::{Block, blocks_of};

@@ -7,13 +7,14 @@ use Rattle.script_check.proofs.checks.tell_spaces.Goals as goal
 pub returns-clause-text : goal.returns-clause-text
 returns-clause-text c =
     let x : Compared = compared_with c.args.map.now c.args.memory.now c.args.blocks.now in
-    text_of_all x c.as_slice-spaces.result.now c.new-text.result c.add_spaces.new.text c.new-text.ensures
+    text_of_all x c.as_slice-spaces.result.now c.new-text.result c.add_spaces.new.text c.add_all_missed.new.text c.new-text.ensures
     (c.as_slice-spaces.ensures ∙ ap (λ f. f.spaces) c.forest-forest.ensures.value ∙ ap (λ (s : Shown). s.forest.spaces) c.generation-generation.ensures.shown)
-    c.in_ok-differs.ensures.text
+    c.in_ok-differs.ensures.text c.in_ok-missed.ensures.text
 
 pub returns-clause-differs : goal.returns-clause-differs
 returns-clause-differs c =
     let x : Compared = compared_with c.args.map.now c.args.memory.now c.args.blocks.now in
-    differs_of_all x c.as_slice-spaces.result.now c.in_ok-differs.differs
+    c.one_of.ensures
+    ∙ differs_of_all x c.as_slice-spaces.result.now c.in_ok-differs.differs c.in_ok-missed.missed
     (c.as_slice-spaces.ensures ∙ ap (λ f. f.spaces) c.forest-forest.ensures.value ∙ ap (λ (s : Shown). s.forest.spaces) c.generation-generation.ensures.shown)
-    c.in_ok-differs.ensures.differs
+    c.in_ok-differs.ensures.differs c.in_ok-missed.ensures.missed
