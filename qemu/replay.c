@@ -17,7 +17,7 @@
 
 #define SPACES 16
 #define WORDS 12
-#define POOL ((size_t)1 << 22)
+#define POOL ((size_t)1 << 26)
 
 /* A range of QEMU's, as the recording has it. */
 struct range {
@@ -293,6 +293,8 @@ static void line(struct replay *r, char *text)
         view(r, word, count);
     } else if (is(word[0], "r")) {
         range(r, word, count);
+    } else if (is(word[0], "left") && count > 1 && decimal(word[1]) < SPACES) {
+        r->views[decimal(word[1])].is_there = false;
     } else if (is(word[0], "check")) {
         r->checks++;
         for (uint32_t space = 0; space < SPACES && r->is_good; space++) {
