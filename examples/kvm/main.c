@@ -101,8 +101,8 @@ static void load(const char *name)
 static void tell(void)
 {
     const struct counts *it = &counts;
-    printf("%u CPUs: exits: %lu memory, %lu ports; reached: %lu memory, %lu callbacks, %lu notifiers, %lu marks, %lu nothing; ", cpu_count, exits[MEMORY],
-        exits[PORTS], reached[0], reached[1], reached[2], reached[3], reached[4]);
+    printf("%u CPUs: exits: %lu memory, %lu ports; reached: %lu memory, %lu callbacks, %lu notifiers, %lu marks, %lu nothing; ", cpu_count,
+        exits[MEMORY], exits[PORTS], reached[0], reached[1], reached[2], reached[3], reached[4]);
     printf("changes %lu, held up %lu; slots set %lu, taken away %lu; pauses %lu; ioeventfds told %lu; rounds %lu, dirty pages %lu; released %lu; %s\n",
         it->changes, it->held, it->slots_set, it->slots_gone, it->pauses, it->events, it->rounds, it->pages, it->released,
         guest_status == 0 ? "nothing wrong" : "WRONG");

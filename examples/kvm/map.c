@@ -1,8 +1,8 @@
 /* The guest's map: a desk of libvobrekan, what the monitor keeps of each region, and what an exit of the guest reaches.
  *
- * Locks: `changing` is held from the begin of a change until KVM has been told of it, and a device's lock for one callback, or by a change while
- * it asks what the device wants. A callback changes nothing of the map: it names a change by `map_later`, and its virtual CPU makes that
- * when it has left its generation and holds no lock. So a publish that waits for a virtual CPU is waited for by none that it waits for. */
+ * Locks: `changing` is held from the begin of a change until KVM has been told of it, and a device's lock for one callback. A callback changes
+ * nothing of the map: it names a change by `map_later`, and its virtual CPU makes that when it has left its generation and holds no lock. So a
+ * publish that waits for a virtual CPU is waited for by none that it waits for. */
 #include <sched.h>
 #include <string.h>
 #include <sys/eventfd.h>
@@ -13,7 +13,7 @@
 enum { MOST_REACHED = 16, MOST_LATER = 8 };     /* of each of at most 8 bytes a plan names what answers it, and a mark */
 
 vb_desk desk = VB_DESK_INIT;
-struct region *regions[MOST_REGIONS];
+struct region *_Atomic regions[MOST_REGIONS];
 _Atomic uint64_t exits[2], reached[5];
 struct counts counts;
 static pthread_mutex_t changing = PTHREAD_MUTEX_INITIALIZER;
@@ -44,9 +44,7 @@ static void forget(uint32_t number)
     struct region *region = regions[number];
     regions[number] = NULL;
     if (region != NULL) {
-        if (region->bytes != NULL) {
-            munmap(region->bytes, region->size);
-        }
+        munmap(region->bytes, region->size);    /* which does nothing where the size is 0 */
         free((void *)region->dirty);
         memset(region, 0xdd, sizeof *region);
         free(region);

@@ -42,7 +42,7 @@ extern int bells[BELLS];                        /* eventfds, by the number of a 
 extern struct cpu cpus[MOST_CPUS];
 extern unsigned cpu_count;
 extern vb_desk desk;                            /* used by who makes a change, and by `main` before and after all threads */
-extern struct region *regions[MOST_REGIONS];    /* by a region's number, which is never used again */
+extern struct region *_Atomic regions[MOST_REGIONS];   /* by a region's number, which is never used again */
 extern _Atomic uint64_t exits[2], reached[5];   /* by space, and by VB_REACHED_.. */
 extern struct counts {
     unsigned long changes, held, slots_set, slots_gone, pauses, events, rounds, pages, released;
