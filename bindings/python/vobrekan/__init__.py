@@ -395,7 +395,7 @@ class Machine:
     # What it shows.
 
     def find(self, space: int, addr: int) -> Found:
-        """What an address leads to."""
+        """What an address leads to. A space that is made in an open transaction is unknown until that is published."""
         found = c.vb_found()
         accepted(LIBRARY.vb_find(self.handle, space, addr, found))
         return found
@@ -419,7 +419,8 @@ class Machine:
 
     def told(self, start: int = 0) -> list[ListenerCall]:
         """The calls that listeners got from this index on, counted from the first that was ever made. An IndexError where the call at
-        this index is forgotten."""
+        this index is forgotten. A call's `range` is told with VB_TOLD_DELETE, _ADD, _KEEP, _LOG_START and _LOG_STOP, `from` and `to` with the last two,
+        `event` with VB_TOLD_EVENT_ADD and _EVENT_DEL; what is not told is 0."""
         return calls_in(self, start, lambda index, it: LIBRARY.vb_delivery(self.handle, index, it))
 
     def forget(self, until: int) -> None:
@@ -429,7 +430,8 @@ class Machine:
     # Accesses.
 
     def read(self, space: int, addr: int, count: int, by: int = 0) -> tuple[bytes, int]:
-        """Bytes of a space, and how the access ended: 1 a device's error, 2 nothing there, 3 both, 0 neither."""
+        """Bytes of a space, and how the access ended: 1 a device's error, 2 nothing there, 3 both, 0 neither. Where no such space is published, nothing is
+        there."""
         out = room_for(count)
         answer = accepted(LIBRARY.vb_read(self.handle, by, space, addr, out, count))
         return bytes(out[:count]), answer.what

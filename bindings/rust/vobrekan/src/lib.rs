@@ -440,7 +440,7 @@ impl Machine {
         Ok(())
     }
 
-    /// What an address of a space leads to, and how far it goes on alike.
+    /// What an address of a space leads to, and how far it goes on alike. A space that is made in an open transaction is unknown until that is published.
     ///
     /// ```
     /// # use vobrekan::*;
@@ -507,6 +507,9 @@ impl Machine {
     /// The calls that listeners got from the index `from` on, counted from the first that was ever made: a caller that goes on from
     /// where it came to misses none. Refused where the call `from` is forgotten.
     ///
+    /// A call's `range` is told with `VB_TOLD_DELETE`, `_ADD`, `_KEEP`, `_LOG_START` and `_LOG_STOP`, `from` and `to` with the last two, `event` with
+    /// `VB_TOLD_EVENT_ADD` and `_EVENT_DEL`; what is not told is 0.
+    ///
     /// ```
     /// # use vobrekan::*;
     /// # let mut machine = Machine::new(1 << 16)?;
@@ -548,7 +551,7 @@ impl Machine {
         Ok(())
     }
 
-    /// Reads bytes of a space, as many as there is room for.
+    /// Reads bytes of a space, as many as there is room for. Where no such space is published, nothing answers.
     pub fn read(&mut self, pass: PassId, space: SpaceId, addr: u64, out: &mut [u8]) -> Result<Access, Refusal> {
         // SAFETY: the handle and the slices are borrowed for the call, and each pointer comes with the length of its slice.
         let answer = unsafe { sys::vb_read(&mut self.handle, pass.0, space.0, addr, out.as_mut_ptr(), out.len()) };

@@ -86,7 +86,7 @@ pub enum Refusal {
     LimitReached(u32, u64),
     /// No hole of the pool has this number of words.
     NoBacking(u64),
-    /// The pass may still use this generation, which a publish would overwrite.
+    /// The pass may still use this generation, which a publish would overwrite; at a desk, the virtual CPU of this number.
     Held(PassId, u64),
     /// The region has this ioeventfd.
     EventTaken,
